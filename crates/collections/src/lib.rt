@@ -1,0 +1,14 @@
+//! Lists and sets that contracts see as lists.
+//!
+//! A `Sequence` owns its items, and any data that holds one is plain data to a contract. The
+//! functions of `ordered` keep a set as a vector that ascends strictly in the order of its items:
+//! each ensures exactly what the set is afterwards.
+#![tactic(auto)]
+
+mod exact_clone;
+mod ordered;
+mod sequence;
+
+pub use exact_clone::ExactClone;
+pub use ordered::{contains_item, insert_item, remove_item};
+pub use sequence::Sequence;

@@ -1,0 +1,4 @@
+pub mod Commits
+pub mod Consistent
+pub mod Events
+pub mod Faults

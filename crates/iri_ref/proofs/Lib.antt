@@ -1,0 +1,7 @@
+pub mod Marks
+pub mod Schemes
+pub mod Prefixes
+pub mod Rounds
+pub mod Joins
+pub mod Dots
+pub mod Delimiters

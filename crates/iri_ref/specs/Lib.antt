@@ -1,0 +1,5 @@
+pub mod Scheme
+pub mod Components
+pub mod DotSegments
+pub mod Resolution
+pub mod Laws

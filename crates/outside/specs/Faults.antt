@@ -1,0 +1,20 @@
+-- Which faults are noted: all but want of memory, each at the end of a list.
+use Rattle.std.specs.Prelude.{◌≡◌, ℕ, List, [], ◌∷◌, ◌++◌}
+use Rattle.outside.specs.declared.files.LoadFault.{LoadFault}
+use Rattle.outside.specs.declared.files.LoadFault.TheVariants as load
+use Rattle.outside.specs.declared.maker.MakeFault.{MakeFault}
+use Rattle.outside.specs.declared.maker.MakeFault.TheVariants as make
+
+-- the name of a load that failed joins the list
+abbrev pub Notes : LoadFault → List (List ℕ) → List ℕ → List (List ℕ) → Type 0
+Notes load.Failed old name new = new ≡ old ++ name ∷ []
+Notes load.Memory old name new = new ≡ old
+
+-- a pattern that was refused, with its flags
+abbrev pub Refusal : Type 0
+Refusal = List ℕ × List ℕ
+
+-- a refused pattern joins the list with its flags
+abbrev pub NotesRefusal : MakeFault → List Refusal → Refusal → List Refusal → Type 0
+NotesRefusal make.Refused old refusal new = new ≡ old ++ refusal ∷ []
+NotesRefusal make.Memory old refusal new = new ≡ old

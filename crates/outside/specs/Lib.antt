@@ -1,0 +1,5 @@
+pub mod Counts
+pub mod Files
+pub mod Faults
+pub mod Patterns
+pub mod Memory

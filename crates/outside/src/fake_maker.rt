@@ -1,0 +1,76 @@
+ghost use Rattle.std.specs.Prelude.{◌≡◌, []};
+
+use crate::request::Request;
+use crate::{MakeFault, Maker};
+use regex::Regex;
+use std::alloc::Global;
+use std::marker::Model;
+
+/// A maker over another one. It refuses the builds with the listed numbers, the first build's being 1,
+/// and answers all others as the maker below; where no number is listed it refuses only what that
+/// maker refuses.
+#[derive(Drop)]
+pub struct FakeMaker<M> {
+    maker: M,
+    refuse: Vec<u64>,
+    calls: u64,
+    refused: Vec<Request>,
+}
+
+impl<M> Model for FakeMaker<M> {
+    ghost use Rattle.outside.specs.Memory.{FakeState};
+
+    ghost Value = { FakeState M };
+
+    ghost view = { λ m. record {
+      maker = m.maker;
+      refuse = m.refuse.items;
+      calls = m.calls;
+      refused = m.refused.items;
+    } };
+}
+
+impl<M> FakeMaker<M> {
+    ghost use Rattle.outside.specs.Memory.{FakeState};
+
+    /// A maker that refuses the builds with the numbers `refuse`. It takes no memory.
+    pub fn new(alloc: Global, maker: M, refuse: Vec<u64>) -> FakeMaker<M>
+        ensures { result ≡ record { maker = maker; refuse = refuse.items; calls = 0; refused = [] } }
+    {
+        FakeMaker {
+            maker,
+            refuse,
+            calls: 0,
+            refused: Vec::new(alloc),
+        }
+    }
+}
+
+impl<M: Maker> Maker for FakeMaker<M> {
+    ghost use Rattle.outside.specs.Counts.{counted};
+    ghost use Rattle.outside.specs.Memory.{BuildsOver};
+
+    ghost refused = { λ m. m.refused };
+
+    ghost build_gives = { λ old pattern flags result new.
+        (new ≡ record old { maker = new.maker; calls = counted old.calls; refused = new.refused })
+        × BuildsOver M.refused M.build_gives old pattern flags result new };
+
+    fn build(&mut self, alloc: Global, pattern: &str, flags: &str) -> Result<Regex, MakeFault> {
+        self.calls = self.calls.saturating_add(1);
+        let request = Request::new(alloc, pattern, flags)?;
+        self.refused.reserve(1)?;
+        if self.refuse.contains(&self.calls) {
+            self.refused.push_reserved(request);
+            return Err(MakeFault::Refused);
+        }
+        match self.maker.build(alloc, pattern, flags) {
+            Ok(regex) => Ok(regex),
+            Err(MakeFault::Memory) => Err(MakeFault::Memory),
+            Err(MakeFault::Refused) => {
+                self.refused.push_reserved(request);
+                Err(MakeFault::Refused)
+            }
+        }
+    }
+}

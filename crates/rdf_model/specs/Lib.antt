@@ -1,0 +1,5 @@
+pub mod Terms
+pub mod Orders
+pub mod Graphs
+pub mod Matching
+pub mod NTriples

@@ -1,0 +1,23 @@
+//! Terms, triples and graphs of RDF 1.1, with their orders, and what is said about them.
+//!
+//! `Term::cmp` and `Triple::cmp` are exactly the orders of `specs/Terms.antt`, total, and equal only
+//! where the terms are. A graph is a list of triples that ascends strictly in that order. A `Net` is the
+//! list of a transaction's changes, and `Pattern::matches` and `Look::reads` say which triples a
+//! pattern and a look ask for.
+#![tactic(auto)]
+
+mod change;
+mod ids;
+mod look;
+mod n_triples;
+mod pattern;
+mod term;
+mod triple;
+
+pub use change::{Change, Net};
+pub use ids::Ids;
+pub use look::Look;
+pub use pattern::Pattern;
+pub use rdf_text::Text;
+pub use term::Term;
+pub use triple::Triple;

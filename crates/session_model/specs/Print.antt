@@ -1,0 +1,43 @@
+-- What a run of session files prints.
+use Rattle.std.specs.Prelude.{◌≡◌, ℕ, ◌+◌, List, [], ◌∷◌, ◌++◌, codes}
+use Rattle.std.specs.List.{flat_map}
+use Rattle.std.specs.Fmt.{decimal}
+use Rattle.rdf_model.specs.NTriples.{triple_text}
+use Rattle.store_model.specs.declared.event.Limits.{Limits}
+use Rattle.session_model.specs.declared.command.Command.{Command}
+use Rattle.session_model.specs.declared.reply.SessionReply.{SessionReply}
+use Rattle.session_model.specs.declared.reply.SessionReply.TheVariants.{AlreadyOpen, NoTransaction, Begun, Added, FullTerms, Committed, ReadOnly, Overtaken, FullGraph}
+use Rattle.session_model.specs.Sessions.{HasReplies}
+
+-- the line of a reply, without its end
+abbrev pub reply_text : SessionReply → List ℕ
+reply_text AlreadyOpen = codes "already open"
+reply_text NoTransaction = codes "no transaction"
+reply_text (Begun version) = codes "begin " ++ decimal version
+reply_text (Added count) = codes "add " ++ decimal count
+reply_text FullTerms = codes "full terms"
+reply_text (Committed number) = codes "commit " ++ decimal number
+reply_text (ReadOnly version) = codes "read only " ++ decimal version
+reply_text (Overtaken commit triple) = codes "conflict " ++ decimal commit ++ codes " " ++ triple_text triple
+reply_text FullGraph = codes "full triples"
+
+abbrev pub line : List ℕ → List ℕ
+line text = text ++ 10 ∷ []
+
+-- `session I` and a line for each reply
+abbrev pub session_text : ℕ → List SessionReply → List ℕ
+session_text i replies = line (codes "session " ++ decimal i) ++ flat_map (λ r. line (reply_text r)) replies
+
+-- the sessions from number i on
+abbrev pub sessions_text : ℕ → List (List SessionReply) → List ℕ
+sessions_text i [] = []
+sessions_text i (replies ∷ more) = session_text i replies ++ sessions_text (i + 1) more
+
+-- `history`, and the session of each event after a space
+abbrev pub history_text : List ℕ → List ℕ
+history_text order = line (codes "history" ++ flat_map (λ i. 32 ∷ decimal i) order)
+
+-- Print: the text of a run of these files in this order, which is valid.
+abbrev pub IsPrint : List (List Command) → Limits → List ℕ → List ℕ → Type 0
+IsPrint files limits order text =
+    (replies : List (List SessionReply)) × HasReplies files limits order replies × (text ≡ sessions_text 1 replies ++ history_text order)

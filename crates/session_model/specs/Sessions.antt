@@ -1,0 +1,142 @@
+-- What the sessions of a run are answered, when their files are walked through the plain store in an order of sessions.
+use Rattle.std.specs.Prelude.{◌≡◌, ℕ, ◌+◌, ◌-◌, ◌≤◌, Bool, true, false, List, [], ◌∷◌, ◌++◌, length, map, set, get_or, Option, Some, None, nat_eq, MatchBool}
+use Rattle.std.specs.List.{flat_map, AllByRecursion}
+use Rattle.rdf_model.specs.declared.term.Term.{Term}
+use Rattle.rdf_model.specs.declared.triple.Triple.{Triple}
+use Rattle.rdf_model.specs.declared.change.Change.{Change}
+use Rattle.rdf_model.specs.declared.change.Change.TheVariants as changes
+use Rattle.store_model.specs.declared.event.Limits.{Limits}
+use Rattle.store_model.specs.declared.commit.Transaction.{Transaction}
+use Rattle.store_model.specs.declared.event.Action.{Action}
+use Rattle.store_model.specs.declared.event.Action.TheVariants as actions
+use Rattle.store_model.specs.declared.event.Reply.{Reply}
+use Rattle.store_model.specs.declared.event.Reply.TheVariants.{Version, Named, Full, Conflict, FullTriples, Done}
+use Rattle.session_model.specs.declared.command.Command.{Command}
+use Rattle.session_model.specs.declared.command.Command.TheVariants.{Begin, Add, Commit}
+use Rattle.session_model.specs.declared.session.OpenTransaction.{OpenTransaction}
+use Rattle.session_model.specs.declared.reply.SessionReply.{SessionReply}
+use Rattle.session_model.specs.declared.reply.SessionReply.TheVariants.{AlreadyOpen, NoTransaction, Begun, Added, FullTerms, Committed, ReadOnly, Overtaken, FullGraph}
+use Rattle.store_model.specs.Store.{State, StepOf, empty_store, terms_of}
+
+-- A session: its open transaction, the commands that are left of its file, and what it was answered.
+pub record SessionState : Type 0 where
+  pub current : Option OpenTransaction
+  pub commands : List Command
+  pub replies : List SessionReply
+
+abbrev pub additions : List Triple → List Change
+additions ts = map changes.Add ts
+
+-- subject, predicate and object of each
+abbrev pub parts_of : List Triple → List Term
+parts_of ts = flat_map terms_of ts
+
+abbrev pub with_additions : OpenTransaction → List Triple → OpenTransaction
+with_additions w ts = record w { transaction = record w.transaction { net = w.transaction.net ++ additions ts } }
+
+-- what a session answers by itself, and its transaction afterwards
+pub record LocalAnswer : Type 0 where
+  pub current : Option OpenTransaction
+  pub reply : SessionReply
+
+abbrev pub answers : SessionReply → Option OpenTransaction → Option LocalAnswer
+answers reply w = Some (record { current = w; reply = reply })
+
+-- a commit without changes and without staged shapes only reads
+abbrev pub local_commit : OpenTransaction → List Change → Option (List Triple) → Option LocalAnswer
+local_commit w [] None = answers (ReadOnly w.transaction.base) None
+local_commit w [] (Some shapes) = None
+local_commit w (c ∷ cs) staged = None
+
+-- LocalReplies: what a session answers with no event; None where the command is an event of the store.
+abbrev pub local_answer : Option OpenTransaction → Command → Option LocalAnswer
+local_answer None Begin = None
+local_answer (Some w) Begin = answers AlreadyOpen (Some w)
+local_answer None (Add ts) = answers NoTransaction None
+local_answer (Some w) (Add ts) = None
+local_answer None Commit = answers NoTransaction None
+local_answer (Some w) Commit = local_commit w w.transaction.net w.transaction.staged
+
+-- The session after the commands that are no events, up to its next event or its end.
+abbrev pub up_to_event_by : Option LocalAnswer → SessionState → (Option OpenTransaction → List SessionReply → SessionState) → SessionState
+up_to_event_by None s more = s
+up_to_event_by (Some a) s more = more a.current (s.replies ++ a.reply ∷ [])
+
+abbrev pub up_to_event : Option OpenTransaction → List Command → List SessionReply → SessionState
+up_to_event w [] replies = record { current = w; commands = []; replies = replies }
+up_to_event w (c ∷ cs) replies = up_to_event_by (local_answer w c) (record { current = w; commands = c ∷ cs; replies = replies }) (λ v more. up_to_event v cs more)
+
+-- The event of a command that is one; a commit takes the newest version first. The other pairs don't come.
+abbrev pub commit_action : Bool → Transaction → Action
+commit_action false x = actions.Head
+commit_action true x = actions.Commit x
+
+abbrev pub action_of : Option OpenTransaction → Command → Action
+action_of None Begin = actions.Begin
+action_of (Some w) Begin = actions.Begin
+action_of (Some w) (Add ts) = actions.Name (parts_of ts)
+action_of (Some w) Commit = commit_action w.head_taken w.transaction
+action_of None (Add ts) = actions.Void
+action_of None Commit = actions.Void
+
+abbrev pub begun : ℕ → List Triple → OpenTransaction
+begun version graph = record { transaction = record { base = version; net = []; staged = None; finds = []; verdict = None }; graph = graph; head_taken = false }
+
+-- The session after the store's reply r to its command c, with cs left, where s was the store before it. The pairs of
+-- the last equation don't come: a commit is refused only where its graph has results, and no shapes are staged yet.
+abbrev pub after_reply : State → Option OpenTransaction → Command → List Command → List SessionReply → Reply → SessionState
+after_reply s w Begin cs replies r = up_to_event (Some (begun (length s.commits) s.graph)) cs (replies ++ Begun (length s.commits) ∷ [])
+after_reply s (Some w) (Add ts) cs replies Named = up_to_event (Some (with_additions w ts)) cs (replies ++ Added (length ts) ∷ [])
+after_reply s (Some w) (Add ts) cs replies (Full n) = up_to_event (Some w) cs (replies ++ FullTerms ∷ [])
+after_reply s (Some w) Commit cs replies (Version n) = record { current = Some (record w { head_taken = true }); commands = Commit ∷ cs; replies = replies }
+after_reply s (Some w) Commit cs replies (Done n why) = up_to_event None cs (replies ++ Committed n ∷ [])
+after_reply s (Some w) Commit cs replies (Conflict n t) = up_to_event None cs (replies ++ Overtaken n t ∷ [])
+after_reply s (Some w) Commit cs replies (FullTriples n) = up_to_event None cs (replies ++ FullGraph ∷ [])
+after_reply s w c cs replies r = up_to_event w cs replies
+
+-- All sessions of a run over one store.
+pub record World : Type 0 where
+  pub state : State
+  pub sessions : List SessionState
+
+abbrev pub world : State → List SessionState → World
+world s sessions = record { state = s; sessions = sessions }
+
+-- the next event of session i, which has one left
+abbrev pub RunsEvent : Limits → World → ℕ → Option OpenTransaction → List Command → List SessionReply → World → Type 0
+RunsEvent l m i w [] replies n = ⊥
+RunsEvent l m i w (c ∷ cs) replies n = (r : Reply) × (t : State) × StepOf l m.state i (action_of w c) r t × (n ≡ record { state = t; sessions = set m.sessions (i - 1) (after_reply m.state w c cs replies r) })
+
+abbrev pub no_session : SessionState
+no_session = record { current = None; commands = []; replies = [] }
+
+abbrev pub session_at : World → ℕ → SessionState
+session_at m i = get_or m.sessions (i - 1) no_session
+
+-- the opening of session i, which has a file
+abbrev pub RunsOpening : Limits → World → ℕ → World → Type 0
+RunsOpening l m i n = (i ≤ length m.sessions) × ((r : Reply) × (t : State) × StepOf l m.state i actions.Open r t × (n ≡ record m { state = t }))
+
+-- A place of an order: the next opening, or the next event of a session that was opened.
+abbrev pub RunsPlace : Limits → World → ℕ → World → Type 0
+RunsPlace l m i n = MatchBool (nat_eq i (m.state.opened + 1)) (RunsOpening l m i n) (RunsEvent l m i (session_at m i).current (session_at m i).commands (session_at m i).replies n)
+
+abbrev pub RunsInOrder : Limits → World → List ℕ → World → Type 0
+RunsInOrder l m [] n = n ≡ m
+RunsInOrder l m (i ∷ order) n = (k : World) × RunsPlace l m i k × RunsInOrder l k order n
+
+-- before the first place, with the commands done that need no event
+abbrev pub start : List (List Command) → World
+start files = record { state = empty_store; sessions = map (λ cs. up_to_event None cs []) files }
+
+-- all sessions were opened, and none has an event left
+pub record IsComplete (m : World) : Type 0 where
+  pub opened : m.state.opened ≡ length m.sessions
+  pub left : AllByRecursion (λ s. s.commands ≡ []) m.sessions
+
+-- The order is valid for these files, and the sessions are answered so.
+pub record HasReplies (files : List (List Command)) (l : Limits) (order : List ℕ) (all : List (List SessionReply)) : Type 0 where
+  pub last : World
+  pub runs : RunsInOrder l (start files) order last
+  pub complete : IsComplete last
+  pub replies : all ≡ map (λ s. s.replies) last.sessions

@@ -1,0 +1,47 @@
+use rdf_model::Triple;
+use std::fmt;
+
+/// What a session is answered on one command.
+#[derive(Debug, Drop)]
+pub enum SessionReply {
+    /// `begin` within a transaction.
+    AlreadyOpen,
+    /// Any other command outside of one.
+    NoTransaction,
+    /// The version at which the transaction begins.
+    Begun(u64),
+    /// How many triples the block had.
+    Added(usize),
+    /// The block would name more terms than the limit allows.
+    FullTerms,
+    /// The number of the accepted commit.
+    Committed(u64),
+    /// A commit without changes, at its transaction's version.
+    ReadOnly(u64),
+    /// The overtaking commit, and its first triple that a find asked for.
+    Overtaken(u64, Triple),
+    /// The graph would have more triples than the limit allows.
+    FullGraph,
+}
+
+impl fmt::Display for SessionReply {
+    ghost use Rattle.std.specs.Prelude.{Some};
+    ghost use Rattle.session_model.specs.Print.{reply_text};
+
+    ghost output = { λ reply. Some (reply_text reply) };
+
+    /// The reply's line, without its end.
+    fn fmt<W: fmt::Write>(&self, f: &mut fmt::Formatter<W>) -> fmt::Result {
+        match self {
+            SessionReply::AlreadyOpen => f.write_str("already open"),
+            SessionReply::NoTransaction => f.write_str("no transaction"),
+            SessionReply::Begun(version) => write!(f, "begin {version}"),
+            SessionReply::Added(count) => write!(f, "add {count}"),
+            SessionReply::FullTerms => f.write_str("full terms"),
+            SessionReply::Committed(number) => write!(f, "commit {number}"),
+            SessionReply::ReadOnly(version) => write!(f, "read only {version}"),
+            SessionReply::Overtaken(commit, triple) => write!(f, "conflict {commit} {triple}"),
+            SessionReply::FullGraph => f.write_str("full triples"),
+        }
+    }
+}

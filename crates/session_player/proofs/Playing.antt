@@ -1,0 +1,158 @@
+-- What each command does to a session.
+use Rattle.std.proofs.Common.{◌≡◌, ◌≢◌, ℕ, ◌+◌, ◌<◌, ◌≤◌, Bool, true, false, nat_lt, List, [], ◌∷◌, ◌++◌, length, Option, Some, None, refl, sym, ap, ◌∙◌, subst, arith, suc, get_or, drop, add-one, drop-cons}
+use Rattle.std.specs.Prelude.{MatchBool, MatchOption}
+use Rattle.std.proofs.lemmas.Bool.Decides.{nat_tests}
+use Rattle.store_model.specs.declared.commit.Overtaker.{Overtaker}
+use Rattle.store_model.specs.declared.event.Limits.{Limits}
+use Rattle.store_model.specs.declared.result.ResultRow.{ResultRow}
+use Rattle.rdf_model.specs.Graphs.{after}
+use Rattle.rdf_model.specs.declared.change.Change.{Change}
+use Rattle.rdf_model.specs.declared.triple.Triple.{Triple}
+use Rattle.store_model.specs.declared.event.Action.{Action}
+use Rattle.store_model.specs.declared.event.Action.TheVariants as actions
+use Rattle.store_model.specs.declared.event.Reply.{Reply}
+use Rattle.store_model.specs.declared.event.Reply.TheVariants.{Session, SessionsFull, Version, Named, Full, Conflict, FullTriples}
+use Rattle.store_model.specs.declared.commit.Transaction.{Transaction}
+use Rattle.session_model.specs.declared.command.Command.{Command}
+use Rattle.session_model.specs.declared.command.Command.TheVariants.{Begin, Add, Commit}
+use Rattle.session_model.specs.declared.session.OpenTransaction.{OpenTransaction}
+use Rattle.session_model.specs.declared.reply.SessionReply.{SessionReply}
+use Rattle.session_model.specs.declared.reply.SessionReply.TheVariants.{Begun, Added, FullTerms, ReadOnly}
+use Rattle.store_model.specs.Store.{State, RecordedStore, OpensNext, OpensNothing, Replies, CommitsByListing, CommitsWithinLimit, CommitsByRows, overtaker, TakesStep, IsOpened, NetNamed, named_with, version}
+use Rattle.session_model.specs.Sessions.{answers, local_answer, local_commit, up_to_event, begun, with_additions, additions, parts_of, action_of, commit_action, after_reply, SessionState}
+use Rattle.session_model.specs.Progress.{Advances}
+use Rattle.session_model.proofs.Advancing.{Advances-then, Advances-local, Advances-event, up_to_event-event}
+use Rattle.session_player.specs.Ready.{IsReady, Performs}
+use Rattle.session_player.proofs.Naming.{NetNamed-additions}
+
+pub obeys_local : (i : ℕ) (s : RecordedStore) (w v : Option OpenTransaction) (c : Command) (replies more : List SessionReply) (t : SessionReply) → local_answer w c ≡ answers t v → more ≡ replies ++ t ∷ [] → IsReady s i v → Performs i s s w v c replies more
+obeys_local i s w v c replies more t l e r = record {
+  ready = r;
+  advances = λ cs. subst (λ (ts : List SessionReply). Advances i s s (up_to_event w (c ∷ cs) replies) (up_to_event v cs ts)) (sym e) (Advances-local i s w v c cs replies t l);
+}
+
+pub performs_begin : (i : ℕ) (s n : RecordedStore) (replies more : List SessionReply) (v : ℕ) (graph : List Triple) → IsOpened s.state i → TakesStep s n (record { session = i; action = actions.Begin; reply = Version v }) → graph ≡ s.state.graph → more ≡ replies ++ Begun v ∷ [] → Performs i s n None (Some (begun v graph)) Begin replies more
+performs_begin i s n replies more v graph g a eg em =
+    let count : v ≡ version s.state = cc (a.step.1.0) in
+    let same : n.state ≡ s.state = a.step.1.1 in
+    record {
+      ready = record {
+        opened = subst (λ (x : State). IsOpened x i) (sym same) g;
+        current = record { base = subst (λ (x : State). v ≤ version x) (sym same) (omega (arith, count)); net = tt; staged = refl; verdict = refl; head_taken = refl };
+      };
+      advances = λ cs.
+          let told_on : replies ++ Begun (version s.state) ∷ [] ≡ more = sym (em ∙ ap (λ (k : ℕ). replies ++ Begun k ∷ []) count) in
+          let on : begun (version s.state) s.state.graph ≡ begun v graph = sym (ap (λ (k : ℕ). begun k graph) count ∙ ap (begun (version s.state)) eg) in
+          subst (λ (ts : List SessionReply). Advances i s n (up_to_event None (Begin ∷ cs) replies) (up_to_event (Some (begun v graph)) cs ts)) told_on
+          (subst (λ (w : OpenTransaction). Advances i s n (up_to_event None (Begin ∷ cs) replies) (up_to_event (Some w) cs (replies ++ Begun (version s.state) ∷ []))) on
+          (Advances-event i s n None Begin cs replies (Version v) g a));
+    }
+
+names_named : (s t : State) (p q : Reply) (m : State) (b : Bool) → p ≢ q → MatchBool b ((q ≡ p) × (t ≡ s)) ((q ≡ q) × (t ≡ m)) → t ≡ m
+names_named s t p q m true ne h = absurd (ne (sym h.0))
+names_named s t p q m false ne h = h.1
+
+pub performs_add : (i : ℕ) (s n : RecordedStore) (w : OpenTransaction) (ts : List Triple) (replies more : List SessionReply) → IsReady s i (Some w) → TakesStep s n (record { session = i; action = actions.Name (parts_of ts); reply = Named }) → more ≡ replies ++ Added (length ts) ∷ [] → Performs i s n (Some w) (Some (with_additions w ts)) (Add ts) replies more
+performs_add i s n w ts replies more r a em =
+    let state : n.state ≡ record s.state { named = named_with s.state.named (parts_of ts) } = names_named s.state n.state (Full _) Named _ _ (λ e. cc) a.step.1 in
+    record {
+      ready = record {
+        opened = subst (λ (x : State). IsOpened x i) (sym state) r.opened;
+        current = record {
+          base = subst (λ (x : State). w.transaction.base ≤ version x) (sym state) r.current.base;
+          net = subst (λ (x : State). NetNamed x.named (w.transaction.net ++ additions ts)) (sym state) (NetNamed-additions s.state.named w.transaction.net ts r.current.net);
+          staged = r.current.staged;
+          verdict = r.current.verdict;
+          head_taken = r.current.head_taken;
+        };
+      };
+      advances = λ cs. subst (λ (x : List SessionReply). Advances i s n (up_to_event (Some w) (Add ts ∷ cs) replies) (up_to_event (Some (with_additions w ts)) cs x)) (sym em) (Advances-event i s n (Some w) (Add ts) cs replies Named r.opened a);
+    }
+
+names_full : (s t : State) (p q : Reply) (m : State) (b : Bool) → q ≢ Named → MatchBool b ((q ≡ p) × (t ≡ s)) ((q ≡ Named) × (t ≡ m)) → t ≡ s
+names_full s t p q m true ne h = h.1
+names_full s t p q m false ne h = absurd (ne h.0)
+
+pub performs_full : (i : ℕ) (s n : RecordedStore) (w : OpenTransaction) (ts : List Triple) (k : ℕ) (replies more : List SessionReply) → IsReady s i (Some w) → TakesStep s n (record { session = i; action = actions.Name (parts_of ts); reply = Full k }) → more ≡ replies ++ FullTerms ∷ [] → Performs i s n (Some w) (Some w) (Add ts) replies more
+performs_full i s n w ts k replies more r a em =
+    let state : n.state ≡ s.state = names_full s.state n.state _ (Full k) _ _ (λ e. cc) a.step.1 in
+    record {
+      ready = record {
+        opened = subst (λ (x : State). IsOpened x i) (sym state) r.opened;
+        current = record {
+          base = subst (λ (x : State). w.transaction.base ≤ version x) (sym state) r.current.base;
+          net = subst (λ (x : State). NetNamed x.named w.transaction.net) (sym state) r.current.net;
+          staged = r.current.staged;
+          verdict = r.current.verdict;
+          head_taken = r.current.head_taken;
+        };
+      };
+      advances = λ cs. subst (λ (x : List SessionReply). Advances i s n (up_to_event (Some w) (Add ts ∷ cs) replies) (up_to_event (Some w) cs x)) (sym em) (Advances-event i s n (Some w) (Add ts) cs replies (Full k) r.opened a);
+    }
+
+-- a commit with changes is an event
+local-net : (w : OpenTransaction) (net : List Change) (staged : Option (List Triple)) → 0 < length net → local_commit w net staged ≡ None
+local-net w [] staged h = absurd (omega arith)
+local-net w (c ∷ cs) staged h = refl
+
+pub local-none : (w : OpenTransaction) (net : List Change) (staged : Option (List Triple)) → length net ≡ 0 → staged ≡ None → local_commit w net staged ≡ answers (ReadOnly w.transaction.base) None
+local-none w [] None h e = refl
+local-none w [] (Some x) h e = cc
+local-none w (c ∷ cs) staged h e = absurd (omega (arith, h))
+
+rows_given : (s t : State) (x : Transaction) (r : Reply) (rows : List ResultRow) → CommitsByRows s x rows r t → t.opened ≡ s.opened
+rows_given s t x r [] h = ap (λ (y : State). y.opened) h.1
+rows_given s t x r (row ∷ rows) h = ap (λ (y : State). y.opened) h.1
+
+weighed_given : (s t : State) (x : Transaction) (p r : Reply) (b : Bool) → MatchBool b (Replies p s r t) (CommitsByListing s x r t) → t.opened ≡ s.opened
+weighed_given s t x p r true h = ap (λ (y : State). y.opened) h.1
+weighed_given s t x p r false h = rows_given s t x r h.0 h.2
+
+commit_given : (l : Limits) (s t : State) (x : Transaction) (r : Reply) (o : Option Overtaker) → MatchOption o (CommitsWithinLimit l s x r t) (λ h. Replies (Conflict h.commit h.triple) s r t) → t.opened ≡ s.opened
+commit_given l s t x r None h = weighed_given s t x (FullTriples (length (after s.graph x.net))) r (nat_lt l.triples (length (after s.graph x.net))) h
+commit_given l s t x r (Some y) h = ap (λ (z : State). z.opened) h.1
+
+given_n : (i : ℕ) (s m n : RecordedStore) (w : OpenTransaction) (v : ℕ) (r : Reply) → IsOpened s.state i → TakesStep s m (record { session = i; action = actions.Head; reply = Version v }) → TakesStep m n (record { session = i; action = actions.Commit w.transaction; reply = r }) → IsOpened n.state i
+given_n i s m n w v r g h a =
+    let one : m.state.opened ≡ s.state.opened = ap (λ (y : State). y.opened) h.step.1.1 in
+    let two = commit_given m.limits m.state n.state w.transaction r (overtaker m.state.commits w.transaction.base w.transaction.finds) a.step.2 in
+    (g.0, subst (λ (k : ℕ). i ≤ k) (sym (two ∙ one)) g.1)
+
+-- the store answered the commit, after its head
+pub performs_commit : (i : ℕ) (s m n : RecordedStore) (w : OpenTransaction) (replies more : List SessionReply) (v : ℕ) (r : Reply) (t : SessionReply) → IsReady s i (Some w) → 0 < length w.transaction.net
+    → TakesStep s m (record { session = i; action = actions.Head; reply = Version v }) → TakesStep m n (record { session = i; action = actions.Commit w.transaction; reply = r })
+    → ((u : OpenTransaction) (cs : List Command) → after_reply m.state (Some u) Commit cs replies r ≡ up_to_event None cs (replies ++ t ∷ [])) → more ≡ replies ++ t ∷ []
+    → Performs i s n (Some w) None Commit replies more
+performs_commit i s m n w replies more v r t ready some h a by em = record {
+  ready = record { opened = given_n i s m n w v r ready.opened h a; current = tt };
+  advances = λ cs.
+      let u : OpenTransaction = record w { head_taken = true } in
+      let head : action_of (Some w) Commit ≡ actions.Head = ap (λ b. commit_action b w.transaction) ready.current.head_taken in
+      let start : up_to_event (Some w) (Commit ∷ cs) replies ≡ record { current = Some w; commands = Commit ∷ cs; replies = replies } = up_to_event-event (Some w) Commit cs replies (local-net w w.transaction.net w.transaction.staged some) in
+      let mid : SessionState = record { current = Some u; commands = Commit ∷ cs; replies = replies } in
+      let one : Advances i s m (record { current = Some w; commands = Commit ∷ cs; replies = replies }) mid =
+      Advances-event i s m (Some w) Commit cs replies (Version v) ready.opened (subst (λ (x : Action). TakesStep s m (record { session = i; action = x; reply = Version v })) (sym head) h) in
+      let given_m : IsOpened m.state i = subst (λ (x : State). IsOpened x i) (sym h.step.1.1) ready.opened in
+      let two : Advances i m n mid (after_reply m.state (Some u) Commit cs replies r) = Advances-event i m n (Some u) Commit cs replies r given_m a in
+      let both : Advances i s n (record { current = Some w; commands = Commit ∷ cs; replies = replies }) (after_reply m.state (Some u) Commit cs replies r) = Advances-then i s m n _ mid _ one two in
+      subst (λ (ts : List SessionReply). Advances i s n (up_to_event (Some w) (Commit ∷ cs) replies) (up_to_event None cs ts)) (sym em)
+      (subst (λ (q : SessionState). Advances i s n (up_to_event (Some w) (Commit ∷ cs) replies) q) (by u cs)
+      (subst (λ (p : SessionState). Advances i s n p (after_reply m.state (Some u) Commit cs replies r)) (sym start) both));
+}
+
+-- below 64 sessions, one more is given out
+opens_one : (s t : State) (b : Bool) → nat_lt s.opened 64 ≡ b → s.opened < 64 → MatchBool b (OpensNext s 0 SessionsFull t) (OpensNothing s 0 SessionsFull t) → ⊥
+opens_one s t true e lt h = let no : SessionsFull ≡ Session (s.opened + 1) = h.1.0 in cc
+opens_one s t false e lt h = let up : nat_lt s.opened 64 ≡ true = grind (arith, nat_tests) in cc (up, e)
+
+pub never_full : (s n : RecordedStore) → s.state.opened < 64 → TakesStep s n (record { session = 0; action = actions.Open; reply = SessionsFull }) → ⊥
+never_full s n lt a = opens_one s.state n.state (nat_lt s.state.opened 64) refl lt a.step
+
+-- so far, and the next command
+pub performs_then : (i : ℕ) (s m n : RecordedStore) (p : SessionState) (w v : Option OpenTransaction) (c : Command) (cs : List Command) (replies more : List SessionReply) → Advances i s m p (up_to_event w (c ∷ cs) replies) → Performs i m n w v c replies more → Advances i s n p (up_to_event v cs more)
+performs_then i s m n p w v c cs replies more g o = Advances-then i s m n p (up_to_event w (c ∷ cs) replies) (up_to_event v cs more) g (o.advances cs)
+
+pub perform_step : (i : ℕ) (s m n : RecordedStore) (p : SessionState) (w v : Option OpenTransaction) (c : Command) (cs : List Command) (k : ℕ) (replies more : List SessionReply) → k < length cs → c ≡ get_or cs k c → Advances i s m p (up_to_event w (drop k cs) replies) → Performs i m n w v c replies more → Advances i s n p (up_to_event v (drop (k + 1) cs) more)
+perform_step i s m n p w v c cs k replies more lt is g o =
+    let e : drop k cs ≡ c ∷ drop (k + 1) cs = rw add-one (drop-cons cs k c lt ∙ ap (λ z. z ∷ drop (suc k) cs) (sym is)) in
+    performs_then i s m n p w v c (drop (k + 1) cs) replies more (subst (λ (ds : List Command). Advances i s m p (up_to_event w ds replies)) e g) o

@@ -1,0 +1,11 @@
+use Rattle.std.proofs.Common.{None, [], drop}
+use Rattle.session_model.specs.Sessions.{up_to_event}
+use Rattle.session_model.specs.Progress.{Advances}
+use Rattle.session_player.specs.Ready.{IsReady}
+use Rattle.session_player.proofs.run.perform_all.Given as goal
+
+abbrev pub invariant-loop-command : goal.invariant-loop-command
+invariant-loop-command l = record {
+  ready : IsReady l.core l.session l.current;
+  advances : Advances l.session l.fn.core l.core (up_to_event None l.commands []) (up_to_event l.current (drop l.command-index l.commands) l.replies);
+}

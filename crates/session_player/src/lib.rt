@@ -1,0 +1,14 @@
+//! Runs the commands of session files over a core.
+//!
+//! `run_all` opens a session for each file, runs the files one after another, and answers each
+//! command as the plain store has it. What it gives is a run of those files in the order of the
+//! core's own history: each session's events once, in the file's order, and none left over. `text_of`
+//! prints such a run.
+#![tactic(auto)]
+
+mod perform;
+mod print;
+mod run;
+
+pub use print::text_of;
+pub use run::{Run, run_all};

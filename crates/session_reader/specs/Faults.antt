@@ -1,0 +1,9 @@
+-- Why a session isn't prepared.
+use Rattle.std.specs.Prelude.{◌≡◌, ℕ, Result, Err}
+use Rattle.session_reader.specs.declared.prepare_fault.PrepareFault.{PrepareFault}
+use Rattle.session_reader.specs.declared.prepare_fault.PrepareFault.TheVariants.{Line, Memory}
+
+-- the fault is what reading gives, unless memory ran out
+abbrev pub Fails : {X : Type 0} → PrepareFault → Result X ℕ → Type 0
+Fails (Line n) reading = reading ≡ Err n
+Fails Memory reading = Unit {0}

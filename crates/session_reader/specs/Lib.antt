@@ -1,0 +1,4 @@
+pub mod BlockLine
+pub mod SessionFile
+pub mod Faults
+pub mod Progress

@@ -1,0 +1,34 @@
+-- How far the reading of a session file has come.
+use Rattle.std.specs.Prelude.{◌≡◌, ℕ, ◌+◌, ◌-◌, ◌≤◌, List, [], ◌∷◌, ◌++◌, take, drop, Option, Some, None, Result, Ok, Err}
+use Rattle.session_model.specs.declared.command.Command.{Command}
+use Rattle.session_reader.specs.SessionFile.{OpenBlock, command_text, session_from}
+use Rattle.session_reader.specs.declared.prepare_fault.PrepareFault.{PrepareFault}
+use Rattle.session_reader.specs.declared.prepare_fault.PrepareFault.TheVariants.{Line, Memory}
+
+-- the first line of those that are left, between commands
+abbrev pub first_text : List (List ℕ) → List ℕ
+first_text [] = []
+first_text (line ∷ lines) = command_text line lines
+
+-- the commands so far, before those of the rest
+abbrev pub with_commands : List Command → Result (List Command) ℕ → Result (List Command) ℕ
+with_commands cs (Ok ds) = Ok (cs ++ ds)
+with_commands cs (Err n) = Err n
+
+-- the block whose first line is at this index, when the line at index i is next; its command is one line before
+abbrev pub block_at : List (List ℕ) → ℕ → Option ℕ → Option OpenBlock
+block_at lines i None = None
+block_at lines i (Some first) = Some (record { start = first; lines = take (i - first) (drop first lines) })
+
+abbrev pub IsBefore : Option ℕ → ℕ → Type 0
+IsBefore None i = Unit {0}
+IsBefore (Some first) i = first ≤ i
+
+-- what the lines from index i on give
+abbrev pub rest_from : List (List ℕ) → ℕ → Option ℕ → Result (List Command) ℕ
+rest_from lines i block = session_from (block_at lines i block) (i + 1) (drop i lines)
+
+-- the block's first line that is no triple, unless memory ran out
+abbrev pub IsBadLine : PrepareFault → Option ℕ → Type 0
+IsBadLine (Line n) bad = bad ≡ Some n
+IsBadLine Memory bad = Unit {0}

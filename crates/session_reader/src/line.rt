@@ -1,0 +1,57 @@
+ghost use Rattle.std.specs.Prelude.{◌≡◌};
+ghost use Rattle.session_reader.specs.SessionFile;
+ghost use Rattle.session_reader.specs.SessionFile.{is_skipped, without_cr};
+
+/// What a line between commands is.
+#[derive(Clone, Copy, Debug, PartialEq, Eq)]
+pub enum LineKind {
+    /// Nothing, or a comment.
+    Skipped,
+    BeginCommand,
+    CommitCommand,
+    /// `add ntriples`, which a block follows.
+    AddBlock,
+    /// No command.
+    Other,
+}
+
+/// A line without the CR at its end.
+pub fn trimmed(line: &[u8]) -> &[u8]
+    ensures { result.now ≡ without_cr line.entry.now }
+{
+    if !line.is_empty() && line[line.len() - 1] == b'\r' {
+        &line[..line.len() - 1]
+    } else {
+        line
+    }
+}
+
+fn is_empty_or_comment(line: &[u8]) -> bool
+    ensures { result ≡ is_skipped line.now }
+{
+    line.is_empty() || line[0] == b'#'
+}
+
+/// What a line between commands is, without its end.
+pub fn kind_of(line: &[u8]) -> LineKind
+    ensures { result ≡ SessionFile.kind_of line.now }
+{
+    if is_empty_or_comment(line) {
+        LineKind::Skipped
+    } else if line == b"begin".as_slice() {
+        LineKind::BeginCommand
+    } else if line == b"commit".as_slice() {
+        LineKind::CommitCommand
+    } else if line == b"add ntriples".as_slice() {
+        LineKind::AddBlock
+    } else {
+        LineKind::Other
+    }
+}
+
+/// Whether a line ends its block.
+pub fn is_block_end(line: &[u8]) -> bool
+    ensures { result ≡ SessionFile.is_block_end line.now }
+{
+    trimmed(line) == b"%%".as_slice()
+}

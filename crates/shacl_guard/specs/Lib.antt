@@ -1,0 +1,4 @@
+pub mod Statuses
+pub mod Due
+pub mod Faults
+pub mod Outcome

@@ -1,0 +1,39 @@
+ghost use Rattle.std.specs.Prelude.{◌≡◌};
+
+/// How the program ends.
+#[derive(Clone, Copy, Debug, PartialEq, Eq)]
+pub enum Status {
+    /// All input was read to its end, and all was written.
+    Done,
+    /// The words aren't those of a command.
+    Usage,
+    /// A file could not be read.
+    ReadFault,
+    /// Standard output failed; what it took is a prefix of what was due.
+    WriteFault,
+    /// The first line of a session that is no command, or the command of a block without its end.
+    BadSession { session: u32, line: u64 },
+    /// Memory ran out.
+    Memory,
+    /// A file has more than 16,777,216 bytes.
+    TooLong { file: u32 },
+}
+
+impl Status {
+    ghost use Rattle.shacl_guard.specs.Statuses.{code_of};
+
+    /// The exit status.
+    pub fn code(&self) -> u8
+        ensures { result ≡ code_of self.now }
+    {
+        match self {
+            Status::Done => 0,
+            Status::Usage => 2,
+            Status::ReadFault => 3,
+            Status::WriteFault => 4,
+            Status::BadSession { .. } => 5,
+            Status::Memory => 6,
+            Status::TooLong { .. } => 7,
+        }
+    }
+}

@@ -1,0 +1,223 @@
+// The worked examples, through `run` with the forms in memory.
+ghost use Rattle.std.specs.Prelude.{◌<◌};
+
+use crate::{Status, run};
+use outside::{MemFile, MemFiles, MemSink, OpenGate, RegexMaker};
+use std::alloc::Global;
+use std::test::Fail;
+
+const FIRST_RUN: &[u8] = b"begin\nadd ntriples\n<e:a> <e:p> <e:b> .\n%%\ncommit\n";
+
+// Runs `run f` on a file f of these bytes, with a sink of this room, so many bytes a call, and its failing calls.
+fn run_file(
+    rt: &HostRuntime,
+    file: &[u8],
+    most: usize,
+    fail: Vec<u64>,
+) -> Result<(Status, MemSink), Fail>
+    requires { 0 < most }
+{
+    let alloc = rt.alloc();
+    let file = MemFile {
+        name: String::from_str(alloc, "f")?,
+        bytes: file.to_vec(alloc)?,
+    };
+    let mut files = MemFiles::new(alloc, vec![in alloc; file]?, Vec::new(alloc));
+    let mut out = MemSink::new(alloc, most, 1000, fail)?;
+    let mut maker = RegexMaker::new(alloc);
+    let words = ["shacl_guard", "run", "f"];
+    let status = run(
+        rt, alloc, &words, &mut files, &mut out, &mut maker, &OpenGate,
+    );
+    Ok((status, out))
+}
+
+#[test]
+fn prints_what_each_session_file_gives(rt: HostRuntime) -> Result<(), Fail> {
+    let rows: [(&[u8], &[u8]); 13] = [
+        // One triple in one commit.
+        (
+            FIRST_RUN,
+            b"session 1\nbegin 0\nadd 1\ncommit 1\nhistory 1 1 1 1 1\n",
+        ),
+        (b"", b"session 1\nhistory 1\n"),
+        // CR before LF on command lines, and after the end of a block.
+        (
+            b"begin\r\nadd ntriples\r\n<e:a> <e:p> <e:b> .\n%%\r\ncommit\r\n",
+            b"session 1\nbegin 0\nadd 1\ncommit 1\nhistory 1 1 1 1 1\n",
+        ),
+        // Comments and empty lines between commands, and a last line without LF.
+        (
+            b"# first\n\nbegin\n\r\n#\ncommit",
+            b"session 1\nbegin 0\nread only 0\nhistory 1 1\n",
+        ),
+        // A block that ends the file, by `%%` and CR without LF.
+        (
+            b"begin\nadd ntriples\n%%\r",
+            b"session 1\nbegin 0\nadd 0\nhistory 1 1 1\n",
+        ),
+        (b"commit\n", b"session 1\nno transaction\nhistory 1\n"),
+        (
+            b"begin\nbegin\n",
+            b"session 1\nbegin 0\nalready open\nhistory 1 1\n",
+        ),
+        (
+            b"add ntriples\n<e:a> <e:p> <e:b> .\n%%\nbegin\n",
+            b"session 1\nno transaction\nbegin 0\nhistory 1 1\n",
+        ),
+        // Two transactions in a row.
+        (
+            b"begin\nadd ntriples\n<e:a> <e:p> <e:b> .\n%%\ncommit\nbegin\nadd ntriples\n<e:a> <e:p> <e:c> .\n%%\ncommit\n",
+            b"session 1\nbegin 0\nadd 1\ncommit 1\nbegin 1\nadd 1\ncommit 2\nhistory 1 1 1 1 1 1 1 1 1\n",
+        ),
+        // A triple counts once.
+        (
+            b"begin\nadd ntriples\n<e:b> <e:p> <e:b> .\n<e:a> <e:p> <e:b> .\n<e:b> <e:p> <e:b> .\n%%\n",
+            b"session 1\nbegin 0\nadd 2\nhistory 1 1 1\n",
+        ),
+        // Two blocks in one transaction.
+        (
+            b"begin\nadd ntriples\n<e:a> <e:p> <e:b> .\n%%\nadd ntriples\n<e:a> <e:p> <e:c> .\n%%\ncommit\n",
+            b"session 1\nbegin 0\nadd 1\nadd 1\ncommit 1\nhistory 1 1 1 1 1 1\n",
+        ),
+        // A transaction that is open at the end is dropped.
+        (
+            b"begin\nadd ntriples\n<e:a> <e:p> <e:b> .\n%%\n",
+            b"session 1\nbegin 0\nadd 1\nhistory 1 1 1\n",
+        ),
+        // An addition of a stored triple is a change.
+        (
+            b"begin\nadd ntriples\n<e:a> <e:p> <e:b> .\n%%\ncommit\nbegin\nadd ntriples\n<e:a> <e:p> <e:b> .\n%%\ncommit\n",
+            b"session 1\nbegin 0\nadd 1\ncommit 1\nbegin 1\nadd 1\ncommit 2\nhistory 1 1 1 1 1 1 1 1 1\n",
+        ),
+    ];
+    for (i, (file, printed)) in rows.iter().enumerate() {
+        let (status, out) = run_file(&rt, file, 1000, Vec::new(rt.alloc()))?;
+        assert_eq!(rt; status, Status::Done, "row {i}");
+        assert_eq!(rt; out.taken(), *printed, "row {i}");
+    }
+    Ok(())
+}
+
+#[test]
+fn names_the_first_line_that_is_no_command(rt: HostRuntime) -> Result<(), Fail> {
+    let rows: [(&[u8], u64, &[u8]); 10] = [
+        (b"begin\nfnd ? ? ?\n", 2, b"error session 1 line 2\n"),
+        // A block without its end is refused at its command.
+        (
+            b"begin\nadd ntriples\n<e:a> <e:p> <e:b> .\n",
+            2,
+            b"error session 1 line 2\n",
+        ),
+        (
+            b"begin\nadd ntriples\nno triple\n",
+            2,
+            b"error session 1 line 2\n",
+        ),
+        // Of a block that ends, the first line that is no triple.
+        (
+            b"begin\nadd ntriples\n<e:a> <e:p> <e:b> .\n<e:a> <p> <e:b> .\n<e:a>\n%%\nfnd\n",
+            4,
+            b"error session 1 line 4\n",
+        ),
+        (
+            b"add ntriples\n<e:a> <e:p> <e:b>  .\n%%\n",
+            2,
+            b"error session 1 line 2\n",
+        ),
+        (
+            b"add ntriples\n<e:a> <e:p> <e:b> .\r\n%%\n",
+            2,
+            b"error session 1 line 2\n",
+        ),
+        (
+            b"add ntriples\n<e:a> <e:\\u0041> <e:b> .\n%%\n",
+            2,
+            b"error session 1 line 2\n",
+        ),
+        (b"begin \n", 1, b"error session 1 line 1\n"),
+        // Without an LF after it, the CR is part of the line.
+        (b"begin\ncommit\r", 2, b"error session 1 line 2\n"),
+        (b"\n\nBEGIN\n", 3, b"error session 1 line 3\n"),
+    ];
+    for (i, (file, line, printed)) in rows.iter().enumerate() {
+        let (status, out) = run_file(&rt, file, 1000, Vec::new(rt.alloc()))?;
+        assert_eq!(rt;
+            status,
+            Status::BadSession {
+                session: 1,
+                line: *line
+            },
+            "row {i}"
+        );
+        assert_eq!(rt; out.taken(), *printed, "row {i}");
+    }
+    Ok(())
+}
+
+#[test]
+fn stops_where_the_sink_fails(rt: HostRuntime) -> Result<(), Fail> {
+    let fail = vec![in rt.alloc(); 3]?;
+    let (status, out) = run_file(&rt, FIRST_RUN, 8, fail)?;
+    assert_eq!(rt; status, Status::WriteFault);
+    assert_eq!(rt; out.taken(), b"session 1\nbegin ".as_slice());
+    assert_eq!(rt; out.faults(), 1);
+    Ok(())
+}
+
+#[test]
+fn takes_a_file_of_the_greatest_length_and_no_longer_one(rt: HostRuntime) -> Result<(), Fail> {
+    let mut file = vec![in rt.alloc(); b'#'; 16_777_216]?;
+    let (status, out) = run_file(&rt, &file, 1000, Vec::new(rt.alloc()))?;
+    assert_eq!(rt; status, Status::Done);
+    assert_eq!(rt; out.taken(), b"session 1\nhistory 1\n".as_slice());
+    file.push(b'#')?;
+    let (status, out) = run_file(&rt, &file, 1000, Vec::new(rt.alloc()))?;
+    assert_eq!(rt; status, Status::TooLong { file: 1 });
+    assert_eq!(rt; out.taken(), b"error file 1 too long\n".as_slice());
+    Ok(())
+}
+
+#[test]
+fn prints_nothing_where_the_load_fails(rt: HostRuntime) -> Result<(), Fail> {
+    let alloc = rt.alloc();
+    let file = MemFile {
+        name: String::from_str(alloc, "f")?,
+        bytes: FIRST_RUN.to_vec(alloc)?,
+    };
+    let mut files = MemFiles::new(alloc, vec![in alloc; file]?, vec![in alloc; 1]?);
+    let mut out = MemSink::new(alloc, 1000, 1000, Vec::new(alloc))?;
+    let mut maker = RegexMaker::new(alloc);
+    let words = ["shacl_guard", "run", "f"];
+    let status = run(
+        &rt, alloc, &words, &mut files, &mut out, &mut maker, &OpenGate,
+    );
+    assert_eq!(rt; status, Status::ReadFault);
+    assert_eq!(rt; out.taken(), b"".as_slice());
+    Ok(())
+}
+
+#[test]
+fn refuses_other_words(rt: HostRuntime) -> Result<(), Fail> {
+    let alloc = rt.alloc();
+    let rows: [&[&str]; 7] = [
+        &[],
+        &["shacl_guard"],
+        &["shacl_guard", "run"],
+        &["shacl_guard", "run", ""],
+        &["shacl_guard", "run", "-f"],
+        &["shacl_guard", "runs", "f"],
+        &["shacl_guard", "run", "f", "f"],
+    ];
+    for words in rows {
+        let mut files = MemFiles::new(alloc, Vec::new(alloc), Vec::new(alloc));
+        let mut out = MemSink::new(alloc, 1000, 1000, Vec::new(alloc))?;
+        let mut maker = RegexMaker::new(alloc);
+        let status = run(
+            &rt, alloc, words, &mut files, &mut out, &mut maker, &OpenGate,
+        );
+        assert_eq!(rt; status, Status::Usage);
+        assert_eq!(rt; out.taken(), b"error usage\n".as_slice());
+    }
+    Ok(())
+}

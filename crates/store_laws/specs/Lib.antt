@@ -1,0 +1,4 @@
+pub mod Graphs
+pub mod Names
+pub mod Runs
+pub mod Verdicts
