@@ -1,0 +1,5 @@
+pub mod DigitLemmas
+pub mod TextLemmas
+pub mod CalendarLemmas
+pub mod OrderLemmas
+pub mod FormLemmas

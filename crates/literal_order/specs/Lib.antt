@@ -1,0 +1,9 @@
+pub mod Datatypes
+pub mod Texts
+pub mod Digits
+pub mod Numerals
+pub mod Calendar
+pub mod Dates
+pub mod Values
+pub mod Order
+pub mod Forms
