@@ -13,7 +13,7 @@ use Rattle.store_model.specs.declared.commit.Overtaker.{Overtaker}
 use Rattle.store_model.specs.declared.result.ResultRow.{ResultRow}
 use Rattle.store_model.specs.declared.commit.Transaction.{Transaction}
 use Rattle.session_model.specs.declared.command.Command.TheVariants as commands
-use Rattle.session_model.specs.declared.command.Command.TheVariants.{Add}
+use Rattle.session_model.specs.declared.command.Command.TheVariants.{Add, BadAdd}
 use Rattle.rdf_model.specs.Graphs.{after}
 use Rattle.store_model.proofs.Steps.{StepIsDeterministic-holds}
 use Rattle.store_model.specs.declared.event.Reply.{Reply}
@@ -120,6 +120,8 @@ not_open false x = refl
 never_open : (w : Option OpenTransaction) (c : Command) → is_open (action_of w c) ≡ false
 never_open None commands.Begin = refl
 never_open (Some w) commands.Begin = refl
+never_open None (BadAdd n kind) = refl
+never_open (Some w) (BadAdd n kind) = refl
 never_open None (Add ts) = refl
 never_open (Some w) (Add ts) = refl
 never_open None commands.Commit = refl

@@ -6,7 +6,7 @@ use Rattle.rdf_model.specs.NTriples.{triple_text}
 use Rattle.store_model.specs.declared.event.Limits.{Limits}
 use Rattle.session_model.specs.declared.command.Command.{Command}
 use Rattle.session_model.specs.declared.reply.SessionReply.{SessionReply}
-use Rattle.session_model.specs.declared.reply.SessionReply.TheVariants.{AlreadyOpen, NoTransaction, Begun, Added, FullTerms, Committed, ReadOnly, Overtaken, FullGraph}
+use Rattle.session_model.specs.declared.reply.SessionReply.TheVariants.{AlreadyOpen, NoTransaction, Begun, Added, AddRefused, FullTerms, Committed, ReadOnly, Overtaken, FullGraph}
 use Rattle.session_model.specs.Sessions.{HasReplies}
 
 -- the line of a reply, without its end
@@ -15,6 +15,7 @@ reply_text AlreadyOpen = codes "already open"
 reply_text NoTransaction = codes "no transaction"
 reply_text (Begun version) = codes "begin " ++ decimal version
 reply_text (Added count) = codes "add " ++ decimal count
+reply_text (AddRefused n kind) = codes "bad add " ++ decimal n ++ codes " " ++ decimal kind
 reply_text FullTerms = codes "full terms"
 reply_text (Committed number) = codes "commit " ++ decimal number
 reply_text (ReadOnly version) = codes "read only " ++ decimal version

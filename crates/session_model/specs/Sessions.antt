@@ -12,10 +12,10 @@ use Rattle.store_model.specs.declared.event.Action.TheVariants as actions
 use Rattle.store_model.specs.declared.event.Reply.{Reply}
 use Rattle.store_model.specs.declared.event.Reply.TheVariants.{Version, Named, Full, Conflict, FullTriples, Done}
 use Rattle.session_model.specs.declared.command.Command.{Command}
-use Rattle.session_model.specs.declared.command.Command.TheVariants.{Begin, Add, Commit}
+use Rattle.session_model.specs.declared.command.Command.TheVariants.{Begin, Add, BadAdd, Commit}
 use Rattle.session_model.specs.declared.session.OpenTransaction.{OpenTransaction}
 use Rattle.session_model.specs.declared.reply.SessionReply.{SessionReply}
-use Rattle.session_model.specs.declared.reply.SessionReply.TheVariants.{AlreadyOpen, NoTransaction, Begun, Added, FullTerms, Committed, ReadOnly, Overtaken, FullGraph}
+use Rattle.session_model.specs.declared.reply.SessionReply.TheVariants.{AlreadyOpen, NoTransaction, Begun, Added, AddRefused, FullTerms, Committed, ReadOnly, Overtaken, FullGraph}
 use Rattle.store_model.specs.Store.{State, StepOf, empty_store, terms_of}
 
 -- A session: its open transaction, the commands that are left of its file, and what it was answered.
@@ -54,6 +54,8 @@ local_answer None Begin = None
 local_answer (Some w) Begin = answers AlreadyOpen (Some w)
 local_answer None (Add ts) = answers NoTransaction None
 local_answer (Some w) (Add ts) = None
+local_answer None (BadAdd n kind) = answers NoTransaction None
+local_answer (Some w) (BadAdd n kind) = answers (AddRefused n kind) (Some w)
 local_answer None Commit = answers NoTransaction None
 local_answer (Some w) Commit = local_commit w w.transaction.net w.transaction.staged
 
@@ -77,6 +79,8 @@ action_of (Some w) Begin = actions.Begin
 action_of (Some w) (Add ts) = actions.Name (parts_of ts)
 action_of (Some w) Commit = commit_action w.head_taken w.transaction
 action_of None (Add ts) = actions.Void
+action_of None (BadAdd n kind) = actions.Void
+action_of (Some w) (BadAdd n kind) = actions.Void
 action_of None Commit = actions.Void
 
 abbrev pub begun : ℕ → List Triple → OpenTransaction

@@ -12,6 +12,8 @@ pub enum SessionReply {
     Begun(u64),
     /// How many triples the block had.
     Added(usize),
+    /// The block can't be read: its line, from 1, and the number of the refusal's kind.
+    AddRefused { line: u64, kind: u8 },
     /// The block would name more terms than the limit allows.
     FullTerms,
     /// The number of the accepted commit.
@@ -37,6 +39,7 @@ impl fmt::Display for SessionReply {
             SessionReply::NoTransaction => f.write_str("no transaction"),
             SessionReply::Begun(version) => write!(f, "begin {version}"),
             SessionReply::Added(count) => write!(f, "add {count}"),
+            SessionReply::AddRefused { line, kind } => write!(f, "bad add {line} {kind}"),
             SessionReply::FullTerms => f.write_str("full terms"),
             SessionReply::Committed(number) => write!(f, "commit {number}"),
             SessionReply::ReadOnly(version) => write!(f, "read only {version}"),

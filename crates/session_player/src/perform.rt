@@ -114,6 +114,30 @@ fn add(
     }
 }
 
+// An addition whose block can't be read changes nothing.
+fn refuse_add(
+    core: &Core,
+    session: u32,
+    current: Option<OpenTransaction>,
+    line: u64,
+    kind: u8,
+    replies: &mut Sequence<SessionReply>,
+) -> Result<Option<OpenTransaction>, AllocError>
+    requires { IsReady core.now session current }
+    ensures { IfOk result (λ next. Performs session core.now core.now current next (Command.BadAdd line kind) replies.old replies.new) }
+{
+    match current {
+        Some(open) => {
+            replies.push(SessionReply::AddRefused { line, kind })?;
+            Ok(Some(open))
+        }
+        None => {
+            replies.push(SessionReply::NoTransaction)?;
+            Ok(None)
+        }
+    }
+}
+
 fn commit(
     alloc: Global,
     core: &mut Core,
@@ -163,6 +187,9 @@ pub fn perform(
     match command {
         Command::Begin => begin(alloc, core, session, current, replies),
         Command::Add(triples) => add(alloc, core, session, current, triples, replies),
+        Command::BadAdd { line, kind } => {
+            refuse_add(core, session, current, *line, *kind, replies)
+        }
         Command::Commit => {
             commit(alloc, core, session, current, replies)?;
             Ok(None)

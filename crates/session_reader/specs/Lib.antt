@@ -1,4 +1,3 @@
-pub mod BlockLine
 pub mod SessionFile
 pub mod Faults
 pub mod Progress

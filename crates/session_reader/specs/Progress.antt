@@ -2,8 +2,6 @@
 use Rattle.std.specs.Prelude.{◌≡◌, ℕ, ◌+◌, ◌-◌, ◌≤◌, List, [], ◌∷◌, ◌++◌, take, drop, Option, Some, None, Result, Ok, Err}
 use Rattle.session_model.specs.declared.command.Command.{Command}
 use Rattle.session_reader.specs.SessionFile.{OpenBlock, command_text, session_from}
-use Rattle.session_reader.specs.declared.prepare_fault.PrepareFault.{PrepareFault}
-use Rattle.session_reader.specs.declared.prepare_fault.PrepareFault.TheVariants.{Line, Memory}
 
 -- the first line of those that are left, between commands
 abbrev pub first_text : List (List ℕ) → List ℕ
@@ -24,11 +22,10 @@ abbrev pub IsBefore : Option ℕ → ℕ → Type 0
 IsBefore None i = Unit {0}
 IsBefore (Some first) i = first ≤ i
 
--- what the lines from index i on give
-abbrev pub rest_from : List (List ℕ) → ℕ → Option ℕ → Result (List Command) ℕ
-rest_from lines i block = session_from (block_at lines i block) (i + 1) (drop i lines)
+-- what the lines from index i on give to session s, whose next blank node has the number first
+abbrev pub rest_from : ℕ → ℕ → List (List ℕ) → ℕ → Option ℕ → Result (List Command) ℕ
+rest_from s first lines i block = session_from s first (block_at lines i block) (i + 1) (drop i lines)
 
--- the block's first line that is no triple, unless memory ran out
-abbrev pub IsBadLine : PrepareFault → Option ℕ → Type 0
-IsBadLine (Line n) bad = bad ≡ Some n
-IsBadLine Memory bad = Unit {0}
+-- what a reading did to the next number of a blank node: no block gives one yet
+abbrev pub KeepsNext : ℕ → ℕ → Type 0
+KeepsNext old new = new ≡ old

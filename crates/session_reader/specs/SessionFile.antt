@@ -1,13 +1,18 @@
 -- The commands of a session file, or the number of its first line that is no command.
-use Rattle.std.specs.Prelude.{Bool, ℕ, ◌+◌, ◌-◌, ◌&&◌, ◌||◌, List, [], ◌∷◌, ◌++◌, length, take, Option, Some, None, Result, Ok, Err, nat_lt, ◌==◌, if◌then◌else◌, slice_index, codes}
-use Rattle.std.specs.List.{slice_split, filter_map}
+use Rattle.std.specs.Prelude.{Bool, ℕ, ◌+◌, ◌-◌, ◌&&◌, ◌||◌, List, [], ◌∷◌, ◌++◌, length, take, Option, Some, None, Result, Ok, Err, nat_lt, nat_eq, ◌==◌, if◌then◌else◌, slice_index, codes}
+use Rattle.std.specs.List.{slice_split, flat_map}
+use lib.Pointwise.{pointwise}
 use Rattle.rdf_model.specs.declared.triple.Triple.{Triple}
-use Rattle.rdf_model.specs.Graphs.{with_each}
 use Rattle.session_model.specs.declared.command.Command.{Command}
-use Rattle.session_model.specs.declared.command.Command.TheVariants.{Begin, Add, Commit}
+use Rattle.session_model.specs.declared.command.Command.TheVariants.{Begin, Add, BadAdd, Commit}
 use Rattle.session_reader.specs.declared.line.LineKind.{LineKind}
 use Rattle.session_reader.specs.declared.line.LineKind.TheVariants.{Skipped, BeginCommand, CommitCommand, AddBlock, Other}
-use Rattle.session_reader.specs.BlockLine.{same_text, triple_in}
+use Rattle.ntriples_text.specs.declared.refusal.RefusalKind.{RefusalKind}
+use Rattle.ntriples_text.specs.Document.{reads}
+use Rattle.ntriples_text.specs.Faults.{number_of}
+
+abbrev pub same_text : List ℕ → List ℕ → Bool
+same_text a b = pointwise nat_eq a b
 
 -- a line without a CR at its end
 abbrev pub without_cr : List ℕ → List ℕ
@@ -38,27 +43,24 @@ pub record OpenBlock : Type 0 where
   pub start : ℕ
   pub lines : List (List ℕ)
 
--- the number of the first line, from number n on, that is no triple
-abbrev pub first_bad_from : ℕ → Option Triple → Option ℕ → Option ℕ
-first_bad_from n None later = Some n
-first_bad_from n (Some t) later = later
+-- the text of a block: its lines, each with its LF
+abbrev pub block_text : List (List ℕ) → List ℕ
+block_text lines = flat_map (λ l. l ++ 10 ∷ []) lines
 
-abbrev pub first_bad : ℕ → List (List ℕ) → Option ℕ
-first_bad n [] = None
-first_bad n (line ∷ lines) = first_bad_from n (triple_in line) (first_bad (n + 1) lines)
+-- what a reading of an addition's block makes of it: its triples, or its refusal
+abbrev pub add_of : Result (List Triple × ℕ) (ℕ × RefusalKind) → Command
+add_of (Ok r) = Add r.0
+add_of (Err e) = BadAdd e.0 (number_of e.1)
 
--- the triples of the lines, each once, ascending
-abbrev pub triples_of : List (List ℕ) → List Triple
-triples_of lines = with_each [] (filter_map triple_in lines)
+-- the next number of a blank node after a reading; a refused text uses none
+abbrev pub next_after : ℕ → Result (List Triple × ℕ) (ℕ × RefusalKind) → ℕ
+next_after first (Ok r) = r.1
+next_after first (Err e) = first
 
 -- one command more before the others
 abbrev pub with_command : Command → Result (List Command) ℕ → Result (List Command) ℕ
 with_command c (Ok cs) = Ok (c ∷ cs)
 with_command c (Err n) = Err n
-
-abbrev pub with_block : Option ℕ → List (List ℕ) → Result (List Command) ℕ → Result (List Command) ℕ
-with_block None lines rest = with_command (Add (triples_of lines)) rest
-with_block (Some n) lines rest = Err n
 
 -- line n between commands, where `more` is what the lines after it give, within a block or not
 abbrev pub command_line : ℕ → LineKind → (Option OpenBlock → Result (List Command) ℕ) → Result (List Command) ℕ
@@ -68,15 +70,16 @@ command_line n CommitCommand more = with_command Commit (more None)
 command_line n AddBlock more = more (Some (record { start = n; lines = [] }))
 command_line n Other more = Err n
 
--- The lines from number n on, within a block or between commands. A block that doesn't end is refused at its command.
-abbrev pub session_from : Option OpenBlock → ℕ → List (List ℕ) → Result (List Command) ℕ
-session_from None n [] = Ok []
-session_from (Some b) n [] = Err b.start
-session_from None n (line ∷ lines) = command_line n (kind_of (command_text line lines)) (λ b. session_from b (n + 1) lines)
-session_from (Some b) n (line ∷ lines) = if is_block_end line
-    then with_block (first_bad (b.start + 1) b.lines) b.lines (session_from None (n + 1) lines)
-    else session_from (Some (record { start = b.start; lines = b.lines ++ line ∷ [] })) (n + 1) lines
+-- The lines from number n on, within a block or between commands; the session's next blank node has the number first.
+-- A block that doesn't end is refused at its command.
+abbrev pub session_from : ℕ → ℕ → Option OpenBlock → ℕ → List (List ℕ) → Result (List Command) ℕ
+session_from s first None n [] = Ok []
+session_from s first (Some b) n [] = Err b.start
+session_from s first None n (line ∷ lines) = command_line n (kind_of (command_text line lines)) (λ b. session_from s first b (n + 1) lines)
+session_from s first (Some b) n (line ∷ lines) = if is_block_end line
+    then with_command (add_of (reads (block_text b.lines) s first)) (session_from s (next_after first (reads (block_text b.lines) s first)) None (n + 1) lines)
+    else session_from s first (Some (record { start = b.start; lines = b.lines ++ line ∷ [] })) (n + 1) lines
 
--- The commands of a file, whose lines end with LF; or its first line that is no command.
-abbrev pub session_of : List ℕ → Result (List Command) ℕ
-session_of bytes = session_from None 1 (slice_split (λ c. c == 10) bytes)
+-- The commands of session s, whose lines end with LF; or its first line that is no command.
+abbrev pub session_of : ℕ → List ℕ → Result (List Command) ℕ
+session_of s bytes = session_from s 1 None 1 (slice_split (λ c. c == 10) bytes)

@@ -1,11 +1,10 @@
 //! Reads session files.
 //!
 //! `prepare` gives exactly the commands of a file, or exactly the number of its first line that is no
-//! command; `specs/SessionFile.antt` says which those are. Blocks are read line by line, each line a
-//! triple of IRIs.
+//! command; `specs/SessionFile.antt` says which those are. Blocks are read as N-Triples; one that can't
+//! be read is a command of its own, which tells its refusal.
 #![tactic(auto)]
 
-mod block_line;
 mod line;
 mod prepare_fault;
 mod session_file;

@@ -1,14 +1,14 @@
 ghost use Rattle.std.specs.Prelude.{◌≡◌, ℕ, ◌+◌, ◌<◌, ◌≤◌, ◌^◌, Ok, None, Some, [], drop, slice_index_or, IfOk, MatchResult, map, length, ◌==◌};
 ghost use Rattle.std.specs.List.{slice_split};
-ghost use Rattle.session_reader.specs.SessionFile.{session_of, first_bad, triples_of};
-ghost use Rattle.session_reader.specs.Progress.{first_text, with_commands, rest_from, IsBefore, IsBadLine};
+ghost use Rattle.ntriples_text.specs.Document.{reads};
+ghost use Rattle.session_reader.specs.SessionFile.{session_of, block_text, add_of, next_after};
+ghost use Rattle.session_reader.specs.Progress.{first_text, with_commands, rest_from, IsBefore, KeepsNext};
 ghost use Rattle.session_reader.specs.Faults.{Fails};
 
-use crate::block_line::triple_of_line;
 use crate::line::{LineKind, is_block_end, kind_of, trimmed};
 use crate::prepare_fault::PrepareFault;
-use collections::{Sequence, insert_item};
-use rdf_model::Triple;
+use collections::Sequence;
+use ntriples_text::ReadFault;
 use session_model::Command;
 use std::alloc::{AllocError, Global};
 
@@ -19,20 +19,41 @@ fn parts<'a>(alloc: Global, bytes: &'a [u8], at: u8) -> Result<Vec<&'a [u8]>, Al
     bytes.split(|byte| *byte == at).collect(alloc)
 }
 
-// The triples of a block's lines, whose first one has this number.
-fn read_block(alloc: Global, number: u64, lines: &[&[u8]]) -> Result<Sequence<Triple>, PrepareFault>
-    requires { number + length lines.now < 2 ^ 64 }
-    ensures { let texts = map (λ l. l.now) lines.now in
-        MatchResult result (λ triples. (first_bad number texts ≡ None) × (triples ≡ triples_of texts)) (λ fault. IsBadLine fault (first_bad number texts)) }
+// The text of a block: its lines, each with its LF.
+fn text_of_block(alloc: Global, lines: &[&[u8]]) -> Result<Vec<u8>, AllocError>
+    ensures { IfOk result (λ text. text.items ≡ block_text (map (λ l. l.now) lines.now)) }
 {
-    let mut triples = Vec::new(alloc);
-    for (i, line) in lines.iter().enumerate() {
-        match triple_of_line(alloc, line)? {
-            Some(triple) => insert_item(&mut triples, triple)?,
-            None => return Err(PrepareFault::Line(number + i as u64)),
-        }
+    let mut text = Vec::new(alloc);
+    for line in lines {
+        text.extend_from_slice(line)?;
+        text.push(b'\n')?;
     }
-    Ok(Sequence::from_vec(triples))
+    Ok(text)
+}
+
+// The command of an addition with this block.
+fn read_block(
+    alloc: Global,
+    session: u32,
+    next: &mut u32,
+    lines: &[&[u8]],
+) -> Result<Command, AllocError>
+    requires session { (1 ≤ session) × (session ≤ 64) }
+    requires next { 1 ≤ next.old }
+    requires room { next.old + length (block_text (map (λ l. l.now) lines.now)) < 2 ^ 32 }
+    ensures command { let reading = reads (block_text (map (λ l. l.now) lines.now)) session next.old in
+        IfOk result (λ command. (command ≡ add_of reading) × (next.new ≡ next_after next.old reading)) }
+    ensures next { KeepsNext next.old next.new }
+{
+    let text = text_of_block(alloc, lines)?;
+    match ntriples_text::read(alloc, session, next, &text) {
+        Ok(triples) => Ok(Command::Add(triples)),
+        Err(ReadFault::Refusal { line, kind }) => Ok(Command::BadAdd {
+            line,
+            kind: kind.number(),
+        }),
+        Err(ReadFault::Memory) => Err(AllocError),
+    }
 }
 
 // The line at an index.
@@ -63,10 +84,10 @@ fn read_command(
     commands: &mut Sequence<Command>,
 ) -> Result<Option<usize>, PrepareFault>
     requires { i < length lines.now }
-    ensures { let texts = map (λ l. l.now) lines.now in let rest = with_commands commands.old (rest_from texts i None) in
+    ensures { let texts = map (λ l. l.now) lines.now in
         MatchResult result
-        (λ next. IsBefore next (i + 1) × (rest ≡ with_commands commands.new (rest_from texts (i + 1) next)))
-        (λ fault. Fails fault rest) }
+        (λ next. IsBefore next (i + 1) × ((s first : ℕ) → with_commands commands.old (rest_from s first texts i None) ≡ with_commands commands.new (rest_from s first texts (i + 1) next)))
+        (λ fault. (s first : ℕ) → Fails fault (with_commands commands.old (rest_from s first texts i None))) }
 {
     match kind_of(command_text(lines, i)) {
         LineKind::Skipped => Ok(None),
@@ -86,56 +107,72 @@ fn read_command(
 // Reads the line at index i of a block, whose first line is given by its index too.
 fn read_in_block(
     alloc: Global,
+    session: u32,
+    next: &mut u32,
     lines: &[&[u8]],
     first: usize,
     i: usize,
     commands: &mut Sequence<Command>,
-) -> Result<Option<usize>, PrepareFault>
+) -> Result<Option<usize>, AllocError>
+    requires session { (1 ≤ session) × (session ≤ 64) }
+    requires next { next.old ≡ 1 }
     requires within { i < length lines.now }
     requires before { first ≤ i }
-    ensures { let texts = map (λ l. l.now) lines.now in let rest = with_commands commands.old (rest_from texts i (Some first)) in
-        MatchResult result
-        (λ next. IsBefore next (i + 1) × (rest ≡ with_commands commands.new (rest_from texts (i + 1) next)))
-        (λ fault. Fails fault rest) }
+    requires room { length (block_text (map (λ l. l.now) lines.now)) < 2 ^ 31 }
+    ensures rest { let texts = map (λ l. l.now) lines.now in
+        IfOk result (λ block. IsBefore block (i + 1) × (with_commands commands.old (rest_from session next.old texts i (Some first)) ≡ with_commands commands.new (rest_from session next.new texts (i + 1) block))) }
+    ensures next { KeepsNext next.old next.new }
 {
     if !is_block_end(line_at(lines, i)) {
         return Ok(Some(first));
     }
-    let triples = read_block(alloc, first as u64 + 1, &lines[first..i])?;
-    commands.push(Command::Add(triples))?;
+    let command = read_block(alloc, session, next, &lines[first..i])?;
+    commands.push(command)?;
     Ok(None)
 }
 
 // Reads the line at index i, and gives the index of the first line of the block that is open then.
 fn read_line(
     alloc: Global,
+    session: u32,
+    next: &mut u32,
     lines: &[&[u8]],
     i: usize,
     block: Option<usize>,
     commands: &mut Sequence<Command>,
 ) -> Result<Option<usize>, PrepareFault>
+    requires session { (1 ≤ session) × (session ≤ 64) }
+    requires next { next.old ≡ 1 }
     requires within { i < length lines.now }
     requires before { IsBefore block i }
-    ensures { let texts = map (λ l. l.now) lines.now in let rest = with_commands commands.old (rest_from texts i block) in
+    requires room { length (block_text (map (λ l. l.now) lines.now)) < 2 ^ 31 }
+    ensures rest { let texts = map (λ l. l.now) lines.now in let rest = with_commands commands.old (rest_from session next.old texts i block) in
         MatchResult result
-        (λ next. IsBefore next (i + 1) × (rest ≡ with_commands commands.new (rest_from texts (i + 1) next)))
+        (λ block. IsBefore block (i + 1) × (rest ≡ with_commands commands.new (rest_from session next.new texts (i + 1) block)))
         (λ fault. Fails fault rest) }
+    ensures next { KeepsNext next.old next.new }
 {
     match block {
-        Some(first) => read_in_block(alloc, lines, first, i, commands),
+        Some(first) => {
+            let block = read_in_block(alloc, session, next, lines, first, i, commands)?;
+            Ok(block)
+        }
         None => read_command(lines, i, commands),
     }
 }
 
-/// The commands of a session file.
-pub fn prepare(alloc: Global, bytes: &[u8]) -> Result<Sequence<Command>, PrepareFault>
-    ensures { MatchResult result (λ commands. session_of bytes.now ≡ Ok commands) (λ fault. Fails fault (session_of bytes.now)) }
+/// The commands of the file of a session, 1 to 64.
+pub fn prepare(alloc: Global, session: u32, bytes: &[u8]) -> Result<Sequence<Command>, PrepareFault>
+    requires session { (1 ≤ session) × (session ≤ 64) }
+    requires room { length bytes.now < 2 ^ 30 }
+    ensures { MatchResult result (λ commands. session_of session bytes.now ≡ Ok commands) (λ fault. Fails fault (session_of session bytes.now)) }
 {
     let lines = parts(alloc, bytes, b'\n')?;
     let mut commands = Sequence::new(alloc);
     let mut block = None;
+    let mut next = 1;
     for i in 0..lines.len() {
-        block = read_line(alloc, &lines, i, block, &mut commands)?;
+        block = read_line(alloc, session, &mut next, &lines, i, block, &mut commands)?;
     }
     match block {
         None => Ok(commands),

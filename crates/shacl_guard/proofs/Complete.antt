@@ -26,7 +26,7 @@ complete words (Some held) ReadFault text d h = absurd d
 complete words (Some held) WriteFault text d h = absurd d
 complete words (Some held) (BadSession i n) text d h =
     let e = whole words held d.0 h d.1 in
-    let no : Err n ≡ Ok h.2 = sym d.2.2 ∙ (ap session_of e ∙ h.6) in cc
+    let no : Err n ≡ Ok h.2 = sym d.2.2 ∙ (ap (session_of 1) e ∙ h.6) in cc
 complete words (Some held) (TooLong i) text d h =
     let e = ap length (whole words held d.0 h d.1) in
     absurd (omega (arith, e, d.2.0, h.5))

@@ -28,7 +28,7 @@ IsOutcome Memory words held failed failed' old new = (failed' ≡ failed) × (ne
 -- a file that the words name is there, within its length, and a session file
 abbrev pub HasSession : List (List ℕ) → Option Contents → Type 0
 HasSession words None = ⊥
-HasSession words (Some held) = (name : List ℕ) × (bytes : List ℕ) × (commands : List Command) × (file_of words ≡ Some name) × (held name ≡ Some bytes) × (length bytes < room) × (session_of bytes ≡ Ok commands)
+HasSession words (Some held) = (name : List ℕ) × (bytes : List ℕ) × (commands : List Command) × (file_of words ≡ Some name) × (held name ≡ Some bytes) × (length bytes < room) × (session_of 1 bytes ≡ Ok commands)
 
 abbrev pub IsDoneOrMemory : Status → Type 0
 IsDoneOrMemory Done = Unit {0}

@@ -65,7 +65,7 @@ fn answer_of(alloc: Global, bytes: &[u8]) -> Result<Answer, AllocError>
             text: String::from_str(alloc, "error file 1 too long\n")?,
         });
     }
-    match prepare(alloc, bytes) {
+    match prepare(alloc, 1, bytes) {
         Ok(commands) => Ok(Answer {
             status: Status::Done,
             text: print_session(alloc, commands)?,

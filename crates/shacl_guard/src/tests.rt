@@ -34,7 +34,7 @@ fn run_file(
 
 #[test]
 fn prints_what_each_session_file_gives(rt: HostRuntime) -> Result<(), Fail> {
-    let rows: [(&[u8], &[u8]); 13] = [
+    let rows: [(&[u8], &[u8]); 15] = [
         // One triple in one commit.
         (
             FIRST_RUN,
@@ -70,6 +70,16 @@ fn prints_what_each_session_file_gives(rt: HostRuntime) -> Result<(), Fail> {
             b"begin\nadd ntriples\n<e:a> <e:p> <e:b> .\n%%\ncommit\nbegin\nadd ntriples\n<e:a> <e:p> <e:c> .\n%%\ncommit\n",
             b"session 1\nbegin 0\nadd 1\ncommit 1\nbegin 1\nadd 1\ncommit 2\nhistory 1 1 1 1 1 1 1 1 1\n",
         ),
+        // A block that can't be read is no event, and a later block is added and committed.
+        (
+            b"begin\nadd ntriples\n<e:a> <e:p> <e:b> .\n<e:a> <e:p> <e:c> .\n<e:a> <e:p> \"1\"^^<http://www.w3.org/2001/XMLSchema#double> .\n%%\nadd ntriples\n<e:a> <e:p> <e:b> .\n%%\ncommit\n",
+            b"session 1\nbegin 0\nbad add 3 7\nadd 1\ncommit 1\nhistory 1 1 1 1 1\n",
+        ),
+        // Outside of a transaction it isn't looked at.
+        (
+            b"add ntriples\nnothing\n%%\n",
+            b"session 1\nno transaction\nhistory 1\n",
+        ),
         // A triple counts once.
         (
             b"begin\nadd ntriples\n<e:b> <e:p> <e:b> .\n<e:a> <e:p> <e:b> .\n<e:b> <e:p> <e:b> .\n%%\n",
@@ -100,10 +110,64 @@ fn prints_what_each_session_file_gives(rt: HostRuntime) -> Result<(), Fail> {
 }
 
 #[test]
+fn answers_a_block_that_cannot_be_read(rt: HostRuntime) -> Result<(), Fail> {
+    // The lines of a block, and what its `add` is answered.
+    let rows: [(&[u8], &[u8]); 18] = [
+        (b"", b"add 0"),
+        (b"\n # nothing\n\t\n", b"add 0"),
+        (b"<e:a> <e:p> <e:b> .\r\n", b"add 1"),
+        (b"<e:a>\t<e:p>  <e:b>. # a comment\n", b"add 1"),
+        (b"<e:a> <e:p> \"x\" .\n", b"add 1"),
+        // An xsd:string with its datatype and without it is one term.
+        (
+            b"<e:a> <e:p> \"x\" .\n<e:a> <e:p> \"x\"^^<http://www.w3.org/2001/XMLSchema#string> .\n",
+            b"add 1",
+        ),
+        (b"<e:a> <e:p> \"\xc3\xa9\" .\n", b"add 1"),
+        // Bytes that are no UTF-8 come before an earlier fault.
+        (b"nothing\n<e:a> <e:p> \"\xc3\" .\n", b"bad add 2 1"),
+        (b"<e:a> <e:p> <e:b> .\nnothing\n", b"bad add 2 2"),
+        (b"<e:a> <e:p> <e:\\u0041> .\n", b"bad add 1 2"),
+        (b"<e:a> <e:p> _:b .\n", b"bad add 1 2"),
+        (b"\"x\" <e:p> <e:b> .\n", b"bad add 1 3"),
+        (b"<e:a> <e:p> <e:b> .\n<e:a>\n<e:a> <e:p>\n", b"bad add 2 3"),
+        // A missing dot, on the last line too.
+        (b"<e:a> <e:p> <e:b> .\n<e:a> <e:p> <e:b>\n", b"bad add 2 3"),
+        (b"<e:a> <e:p> <e:b> . <e:a> <e:p> <e:c> .\n", b"bad add 1 3"),
+        (b"<e:a> <p> <e:b> .\n", b"bad add 1 5"),
+        (
+            b"<e:a> <e:p> \"1\"^^<http://www.w3.org/2001/XMLSchema#float> .\n",
+            b"bad add 1 7",
+        ),
+        (
+            b"<e:a> <e:p> \"1\"^^<http://www.w3.org/1999/02/22-rdf-syntax-ns#langString> .\n",
+            b"bad add 1 10",
+        ),
+    ];
+    for (i, (block, reply)) in rows.iter().enumerate() {
+        let mut file = b"begin\nadd ntriples\n".to_vec(rt.alloc())?;
+        file.extend_from_slice(block)?;
+        file.extend_from_slice(b"%%\n")?;
+        let mut printed = b"session 1\nbegin 0\n".to_vec(rt.alloc())?;
+        printed.extend_from_slice(reply)?;
+        let history = if reply.starts_with(b"bad") {
+            b"\nhistory 1 1\n".as_slice()
+        } else {
+            b"\nhistory 1 1 1\n"
+        };
+        printed.extend_from_slice(history)?;
+        let (status, out) = run_file(&rt, &file, 1000, Vec::new(rt.alloc()))?;
+        assert_eq!(rt; status, Status::Done, "row {i}");
+        assert_eq!(rt; out.taken(), printed.as_slice(), "row {i}");
+    }
+    Ok(())
+}
+
+#[test]
 fn names_the_first_line_that_is_no_command(rt: HostRuntime) -> Result<(), Fail> {
-    let rows: [(&[u8], u64, &[u8]); 10] = [
+    let rows: [(&[u8], u64, &[u8]); 7] = [
         (b"begin\nfnd ? ? ?\n", 2, b"error session 1 line 2\n"),
-        // A block without its end is refused at its command.
+        // A block without its end is refused at its command, whatever its lines are.
         (
             b"begin\nadd ntriples\n<e:a> <e:p> <e:b> .\n",
             2,
@@ -114,26 +178,11 @@ fn names_the_first_line_that_is_no_command(rt: HostRuntime) -> Result<(), Fail> 
             2,
             b"error session 1 line 2\n",
         ),
-        // Of a block that ends, the first line that is no triple.
+        // The lines of a block count.
         (
-            b"begin\nadd ntriples\n<e:a> <e:p> <e:b> .\n<e:a> <p> <e:b> .\n<e:a>\n%%\nfnd\n",
+            b"add ntriples\n<e:a>\n%%\nfnd\n",
             4,
             b"error session 1 line 4\n",
-        ),
-        (
-            b"add ntriples\n<e:a> <e:p> <e:b>  .\n%%\n",
-            2,
-            b"error session 1 line 2\n",
-        ),
-        (
-            b"add ntriples\n<e:a> <e:p> <e:b> .\r\n%%\n",
-            2,
-            b"error session 1 line 2\n",
-        ),
-        (
-            b"add ntriples\n<e:a> <e:\\u0041> <e:b> .\n%%\n",
-            2,
-            b"error session 1 line 2\n",
         ),
         (b"begin \n", 1, b"error session 1 line 1\n"),
         // Without an LF after it, the CR is part of the line.

@@ -5,6 +5,7 @@ use Rattle.session_reader.proofs.session_file.prepare.Given as goal
 
 abbrev pub invariant-loop-i : goal.invariant-loop-i
 invariant-loop-i l = record {
+  next : l.next ≡ 1;
   before : IsBefore l.block l.i;
-  rest : with_commands l.commands (rest_from (map (λ t. t.now) l.lines.items) l.i l.block) ≡ session_of l.fn.bytes;
+  rest : with_commands l.commands (rest_from l.session 1 (map (λ t. t.now) l.lines.items) l.i l.block) ≡ session_of l.session l.fn.bytes;
 }

@@ -1,4 +1,4 @@
-use Rattle.std.proofs.Common.{◌∙◌, ap, arith}
+use Rattle.std.proofs.Common.{◌≡◌, ℕ, ◌<◌, ◌≤◌, ◌∙◌, sym, ap, map, length, arith}
 use Rattle.std.proofs.lemmas.List.{length-map}
 use Rattle.session_reader.specs.SessionFile as file
 use Rattle.session_reader.proofs.Lines.{read_skipped, read_begin, read_commit, read_opening, read_other}
@@ -12,12 +12,12 @@ returns-in-Skipped c =
 pub returns-in_ok-push-in-BeginCommand : goal.returns-in_ok-push-in-BeginCommand
 returns-in_ok-push-in-BeginCommand c =
     let count = length-map c.args.lines.now (λ l. l.now) in
-    (tt, rw c.in_ok-push-in-BeginCommand.ensures.ok (read_begin _ c.args.i _ (omega (arith, count, c.requires)) (c.in-BeginCommand.ensures ∙ ap file.kind_of c.command_text.ensures)))
+    (tt, λ s first. rw c.in_ok-push-in-BeginCommand.ensures.ok (read_begin _ c.args.i _ (omega (arith, count, c.requires)) (c.in-BeginCommand.ensures ∙ ap file.kind_of c.command_text.ensures) s first))
 
 pub returns-in_ok-push-in-CommitCommand : goal.returns-in_ok-push-in-CommitCommand
 returns-in_ok-push-in-CommitCommand c =
     let count = length-map c.args.lines.now (λ l. l.now) in
-    (tt, rw c.in_ok-push-in-CommitCommand.ensures.ok (read_commit _ c.args.i _ (omega (arith, count, c.requires)) (c.in-CommitCommand.ensures ∙ ap file.kind_of c.command_text.ensures)))
+    (tt, λ s first. rw c.in_ok-push-in-CommitCommand.ensures.ok (read_commit _ c.args.i _ (omega (arith, count, c.requires)) (c.in-CommitCommand.ensures ∙ ap file.kind_of c.command_text.ensures) s first))
 
 pub returns-in-AddBlock : goal.returns-in-AddBlock
 returns-in-AddBlock c =

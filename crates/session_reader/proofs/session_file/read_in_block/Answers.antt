@@ -1,30 +1,28 @@
-use Rattle.std.proofs.Common.{◌+◌, ◌∙◌, sym, ap, arith}
+use Rattle.std.proofs.Common.{◌≡◌, ℕ, ◌+◌, ◌-◌, ◌<◌, ◌≤◌, ◌∙◌, sym, ap, map, length, get_or, [], arith, Bool, true, false}
 use Rattle.std.proofs.lemmas.List.{length-map}
-use Rattle.std.proofs.lemmas.Result.{err_from_is_err_and}
 use Rattle.session_reader.specs.SessionFile as file
-use Rattle.session_reader.proofs.Lines.{read_inside, read_end, read_bad, body-map, fault_of_block}
+use Rattle.ntriples_text.specs.Document.{reads}
+use Rattle.session_reader.proofs.Lengths.{body_length}
+use Rattle.session_reader.proofs.Lines.{read_inside, read_end, body-map}
 use Rattle.session_reader.proofs.session_file.read_in_block.Goals as goal
 
-pub returns-then-not-is_block_end : goal.returns-then-not-is_block_end
-returns-then-not-is_block_end c =
+pub returns-then-not-is_block_end-clause-rest : goal.returns-then-not-is_block_end-clause-rest
+returns-then-not-is_block_end-clause-rest c =
     let count = length-map c.args.lines.now (λ l. l.now) in
     let end = c.is_block_end.ensures ∙ ap file.is_block_end c.line_at.ensures in
-    (omega (arith, c.requires.before), read_inside _ c.args.first c.args.i _ c.requires.before (omega (arith, count, c.requires.within)) (sym c.if-not-is_block_end.true ∙ end))
+    (omega (arith, c.requires.before), read_inside c.args.session c.args.next.now _ c.args.first c.args.i _ c.requires.before (omega (arith, count, c.requires.within)) (sym c.if-not-is_block_end.true ∙ end))
 
-pub returns-in_err-triples : goal.returns-in_err-triples
-returns-in_err-triples c =
-    let p = err_from_is_err_and c.from_residual.result c.from_residual.ensures.1 in
-    let count = length-map c.args.lines.now (λ l. l.now) in
-    let end = c.is_block_end.ensures ∙ ap file.is_block_end c.line_at.ensures in
-    let same = body-map (λ l. l.now) c.args.lines.now c.args.first c.args.i in
-    rw (p.1, p.2) (fault_of_block c.in_err-triples.field-0.0 _ _ c.in_err-triples.ensures
-    (λ n bad. read_bad _ c.args.first c.args.i n _ (omega (arith, count, c.requires.within)) (sym c.if-not-is_block_end.false ∙ end) (sym (ap (file.first_bad (c.args.first + 1)) same) ∙ bad)))
+pub read_block-requires-clause-room : goal.read_block-requires-clause-room
+read_block-requires-clause-room c =
+    let same = ap (λ ls. length (file.block_text ls)) (body-map (λ l. l.now) c.args.lines.now c.args.first c.args.i) in
+    let shorter = body_length (map (λ l. l.now) c.args.lines.now) c.args.first (c.args.i - c.args.first) in
+    omega (arith, same, shorter, c.requires.room, c.requires.next)
 
-pub returns : goal.returns
-returns c =
+pub returns-clause-rest : goal.returns-clause-rest
+returns-clause-rest c =
     let count = length-map c.args.lines.now (λ l. l.now) in
     let end = c.is_block_end.ensures ∙ ap file.is_block_end c.line_at.ensures in
-    let same = body-map (λ l. l.now) c.args.lines.now c.args.first c.args.i in
-    let good = sym (ap (file.first_bad (c.args.first + 1)) same) ∙ c.in_ok-triples.ensures.0 in
-    let triples = c.in_ok-triples.ensures.1 ∙ ap file.triples_of same in
-    (tt, rw (c.in_ok-push.ensures.ok, triples) (read_end _ c.args.first c.args.i _ (omega (arith, count, c.requires.within)) (sym c.if-not-is_block_end.false ∙ end) good))
+    let reading = ap (λ ls. reads (file.block_text ls) c.args.session c.args.next.now) (body-map (λ l. l.now) c.args.lines.now c.args.first c.args.i) in
+    let command = c.in_ok-command.ensures.command.0 ∙ ap file.add_of reading in
+    let next = c.in_ok-command.ensures.command.1 ∙ ap (file.next_after c.args.next.now) reading in
+    (tt, rw (c.in_ok-push.ensures.ok, command, next) (read_end c.args.session c.args.next.now _ c.args.first c.args.i _ (omega (arith, count, c.requires.within)) (sym c.if-not-is_block_end.false ∙ end)))

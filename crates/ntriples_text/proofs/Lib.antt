@@ -1,0 +1,9 @@
+pub mod Characters
+pub mod Sets
+pub mod Sorting
+pub mod Lines
+pub mod Readings
+pub mod Written
+pub mod ReadAgain
+pub mod RoundTrip
+pub mod Gives

@@ -1,0 +1,38 @@
+-- Readings: what was read, or the kind of the refusal.
+use Rattle.std.specs.Prelude.{◌≡◌, ℕ, Result, Ok, Err}
+use Rattle.ntriples_text.specs.declared.refusal.RefusalKind.{RefusalKind}
+use Rattle.ntriples_text.specs.declared.refusal.RefusalKind.TheVariants.{NotUtf8, NoToken, UnexpectedToken, RelativeIri, FloatingPoint, LanguageString, UnexpectedEnd}
+use Rattle.ntriples_text.specs.declared.refusal.LineFault.{LineFault}
+use Rattle.ntriples_text.specs.declared.refusal.LineFault.TheVariants as line
+use Rattle.ntriples_text.specs.declared.refusal.ReadFault.{ReadFault}
+use Rattle.ntriples_text.specs.declared.refusal.ReadFault.TheVariants as text
+
+-- one reading, and then another
+infixl 10 ◌>>=◌
+abbrev pub ◌>>=◌ : {A B : Type 0} → Result A RefusalKind → (A → Result B RefusalKind) → Result B RefusalKind
+(Ok x) >>= f = f x
+(Err k) >>= f = Err k
+
+-- a function answered what the reading gives, seen by view, unless memory ran out
+abbrev pub Fails : {Y : Type 0} → LineFault → Result Y RefusalKind → Type 0
+Fails line.Memory reading = Unit {0}
+Fails (line.Refused k) reading = reading ≡ Err k
+
+abbrev pub Gives : {X Y : Type 0} → (X → Y) → Result X LineFault → Result Y RefusalKind → Type 0
+Gives view (Ok x) reading = reading ≡ Ok (view x)
+Gives view (Err e) reading = Fails e reading
+
+-- the same, with the line of the refusal
+abbrev pub Refuses : {Y : Type 0} → ReadFault → Result Y (ℕ × RefusalKind) → Type 0
+Refuses text.Memory reading = Unit {0}
+Refuses (text.Refusal n k) reading = reading ≡ Err (n, k)
+
+-- the number by which a refusal of this kind is known
+abbrev pub number_of : RefusalKind → ℕ
+number_of NotUtf8 = 1
+number_of NoToken = 2
+number_of UnexpectedToken = 3
+number_of RelativeIri = 5
+number_of FloatingPoint = 7
+number_of LanguageString = 10
+number_of UnexpectedEnd = 14

@@ -1,0 +1,7 @@
+pub mod Faults
+pub mod Tokens
+pub mod Grammar
+pub mod Document
+pub mod Progress
+pub mod Writing
+pub mod Laws

@@ -1,0 +1,21 @@
+//! N-Triples 1.1 texts, read and written.
+//!
+//! `read` ensures exactly the triples of a text, or exactly the refusal that counts, as
+//! `specs/Document.antt` says; labels, language tags and escapes are no tokens of it yet. `write`
+//! ensures the text of a list of triples, one line each, and `laws` that it is read again.
+#![tactic(auto)]
+
+mod document;
+mod grammar;
+pub mod laws;
+mod order;
+mod refusal;
+#[cfg(test)]
+mod tests;
+mod text_line;
+mod token;
+mod writing;
+
+pub use document::read;
+pub use refusal::{ReadFault, RefusalKind};
+pub use writing::write;

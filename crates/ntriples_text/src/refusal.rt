@@ -1,0 +1,77 @@
+ghost use Rattle.std.specs.Prelude.{◌≡◌};
+ghost use Rattle.ntriples_text.specs.Faults.{number_of};
+
+use std::alloc::AllocError;
+
+/// Why a text is refused.
+#[derive(Clone, Copy, Debug, PartialEq, Eq)]
+pub enum RefusalKind {
+    /// Its bytes are no UTF-8.
+    NotUtf8,
+    /// No token starts here, or an IRIREF or a string meets a character that it may not hold.
+    NoToken,
+    /// The grammar doesn't allow this token here.
+    UnexpectedToken,
+    /// An IRI has no scheme.
+    RelativeIri,
+    /// A literal of xsd:float or xsd:double.
+    FloatingPoint,
+    /// rdf:langString is written as a datatype.
+    LanguageString,
+    /// The text ends within a token or a triple.
+    UnexpectedEnd,
+}
+
+impl RefusalKind {
+    /// The number by which a kind is known.
+    pub fn number(self) -> u8
+        ensures { result ≡ number_of self }
+    {
+        match self {
+            RefusalKind::NotUtf8 => 1,
+            RefusalKind::NoToken => 2,
+            RefusalKind::UnexpectedToken => 3,
+            RefusalKind::RelativeIri => 5,
+            RefusalKind::FloatingPoint => 7,
+            RefusalKind::LanguageString => 10,
+            RefusalKind::UnexpectedEnd => 14,
+        }
+    }
+}
+
+// Why a line is refused, or memory.
+#[derive(Clone, Copy, Debug, PartialEq, Eq)]
+pub enum LineFault {
+    Refused(RefusalKind),
+    Memory,
+}
+
+/// Why a text was not read.
+#[derive(Clone, Copy, Debug, PartialEq, Eq)]
+pub enum ReadFault {
+    /// The refusal that counts, with the line of what is refused, from 1.
+    Refusal { line: u64, kind: RefusalKind },
+    Memory,
+}
+
+impl From<AllocError> for LineFault {
+    ghost use Rattle.ntriples_text.specs.declared.refusal.LineFault.TheVariants as faults;
+    ghost use Rattle.std.specs.Prelude.{◌≡◌};
+
+    ghost from_gives = { λ _ e. e ≡ faults.Memory };
+
+    fn from(_error: AllocError) -> Self {
+        LineFault::Memory
+    }
+}
+
+impl From<AllocError> for ReadFault {
+    ghost use Rattle.ntriples_text.specs.declared.refusal.ReadFault.TheVariants as faults;
+    ghost use Rattle.std.specs.Prelude.{◌≡◌};
+
+    ghost from_gives = { λ _ e. e ≡ faults.Memory };
+
+    fn from(_error: AllocError) -> Self {
+        ReadFault::Memory
+    }
+}

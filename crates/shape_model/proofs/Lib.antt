@@ -1,0 +1,14 @@
+pub mod Chains
+pub mod Ascending
+pub mod Walks
+pub mod Surroundings
+pub mod Covers
+pub mod Changes
+pub mod Verdicts
+pub mod Fuel
+pub mod Listings
+pub mod Bridges
+pub mod NodeLooks
+pub mod Looks
+pub mod WellFormed
+pub mod Examples

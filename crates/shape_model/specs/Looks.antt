@@ -1,0 +1,72 @@
+-- Looks: which triples of a data graph an answer depends on.
+use Rattle.std.specs.Prelude.{◌≡◌, ◌⊎◌, Bool, true, false, not, List, [], ◌∷◌, ◌++◌}
+use Rattle.rdf_model.specs.declared.term.Term.{Term}
+use Rattle.rdf_model.specs.declared.triple.Triple.{Triple}
+use Rattle.rdf_model.specs.declared.look.Look.{Look}
+use Rattle.rdf_model.specs.declared.look.Look.TheVariants.{Out, In, OutAny}
+use Rattle.shape_model.specs.Paths.{Path, Predicate, Inverse, Sequence, Alternative, ZeroOrMore, OneOrMore, ZeroOrOne, Paths, Last, Also}
+
+-- The triple is one that the look asks for: it has the subject and the predicate, the predicate and the object, or
+-- the subject.
+abbrev pub Matches : Look → Triple → Type 0
+Matches (Out x p) t = (t.subject ≡ x) × (t.predicate ≡ p)
+Matches (In p x) t = (t.predicate ≡ p) × (t.object ≡ x)
+Matches (OutAny x) t = t.subject ≡ x
+
+-- the kind of a look, whatever the node that it is made at
+pub data LookKind : Type 0 where
+  ByOut : Term → LookKind
+  ByIn : Term → LookKind
+  ByOutAny : LookKind
+
+abbrev pub look_at : LookKind → Term → Look
+look_at (ByOut p) x = Out x p
+look_at (ByIn p) x = In p x
+look_at ByOutAny x = OutAny x
+
+-- a row of looks: a way from the focus node, and the kind of look at each node to which it leads
+pub record LookRow : Type 0 where
+  pub way : List Path
+  pub kind : LookKind
+
+-- a path, or the way back along it
+abbrev pub turn : Bool → Path → Path
+turn false p = p
+turn true p = Inverse p
+
+abbrev pub turn_all : Bool → Paths → Path
+turn_all false ps = Sequence ps
+turn_all true ps = Inverse (Sequence ps)
+
+-- The rows of a path that is walked (backwards, where turned) after the way q. A predicate has one row, Out, or In
+-- backwards; a later member of a sequence stands after those before it, a repeated path after any number of turns.
+abbrev mutual
+  pub PathLook : Bool → Path → List Path → LookRow → Type 0
+  PathLook false (Predicate p) q row = row ≡ record { way = q; kind = ByOut p }
+  PathLook true (Predicate p) q row = row ≡ record { way = q; kind = ByIn p }
+  PathLook turned (Inverse p) q row = PathLook (not turned) p q row
+  PathLook turned (Sequence ps) q row = ThroughLook turned ps q row
+  PathLook turned (Alternative ps) q row = SomeLook turned ps q row
+  PathLook turned (ZeroOrMore p) q row = PathLook turned p (q ++ ZeroOrMore (turn turned p) ∷ []) row
+  PathLook turned (OneOrMore p) q row = PathLook turned p (q ++ ZeroOrMore (turn turned p) ∷ []) row
+  PathLook turned (ZeroOrOne p) q row = PathLook turned p q row
+
+  -- one member after another; backwards from the last to the first
+  pub ThroughLook : Bool → Paths → List Path → LookRow → Type 0
+  ThroughLook turned (Last p) q row = PathLook turned p q row
+  ThroughLook false (Also p ps) q row = PathLook false p q row ⊎ ThroughLook false ps (q ++ p ∷ []) row
+  ThroughLook true (Also p ps) q row = ThroughLook true ps q row ⊎ PathLook true p (q ++ turn_all true ps ∷ []) row
+
+  -- each member
+  pub SomeLook : Bool → Paths → List Path → LookRow → Type 0
+  SomeLook turned (Last p) q row = PathLook turned p q row
+  SomeLook turned (Also p ps) q row = PathLook turned p q row ⊎ SomeLook turned ps q row
+
+-- the way back along a way, and the rows of walking it
+abbrev pub back : List Path → List Path
+back [] = []
+back (p ∷ ps) = back ps ++ Inverse p ∷ []
+
+abbrev pub BackLook : List Path → LookRow → Type 0
+BackLook [] row = ⊥
+BackLook (p ∷ ps) row = BackLook ps row ⊎ PathLook true p (back ps) row
