@@ -26,4 +26,4 @@ pub use laws::{
 pub use literal_value::{Characters, Instant, Lexical, LiteralValue};
 pub use order::{less, less_or_equal};
 pub use read::{profile, value};
-pub use text::{char_len, lang_matches, str_of};
+pub use text::{char_len, lang_matches, str};

@@ -1,7 +1,7 @@
 //! Rows from the standards: XSD 1.1 Part 2, SPARQL 1.1, RFC 4647. A row's parts stand between blanks.
 
 use crate::literal_value::{Lexical, LiteralValue};
-use crate::{char_len, lang_matches, less, less_or_equal, profile, str_of, value};
+use crate::{char_len, lang_matches, less, less_or_equal, profile, str, value};
 use rdf_model::{Term, Text};
 use std::alloc::{AllocError, Global};
 use std::process::Abort;
@@ -239,9 +239,9 @@ fn texts(rt: HostRuntime) -> Result<(), Fail> {
         session: 1,
         number: 1,
     };
-    assert!(rt; str_of(&blank).is_none());
-    assert_eq!(rt; str_of(&Term::Iri(Text::new(alloc, "e:a")?)), Some("e:a"));
-    assert_eq!(rt; str_of(&literal(alloc, "01", "integer")?), Some("01"));
+    assert!(rt; str(&blank).is_none());
+    assert_eq!(rt; str(&Term::Iri(Text::new(alloc, "e:a")?)), Some("e:a"));
+    assert_eq!(rt; str(&literal(alloc, "01", "integer")?), Some("01"));
     let lang_string = "http://www.w3.org/1999/02/22-rdf-syntax-ns#langString";
     for (language, wanted) in [(None, "tag"), (Some("en"), "none")] {
         let tagged = Term::Literal {

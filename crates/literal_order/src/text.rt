@@ -14,7 +14,7 @@ pub fn char_len(text: &str) -> usize
 
 /// The text of an IRI, or the lexical form of a literal (STR of SPARQL 1.1, section 17.4.2.5).
 /// A blank node has none.
-pub fn str_of(term: &Term) -> Option<&str>
+pub fn str(term: &Term) -> Option<&str>
     ensures { option_map (λ text. text.now) result ≡ Texts.string_value term.now }
 {
     match term {
