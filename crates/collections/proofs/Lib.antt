@@ -1,2 +1,4 @@
 pub mod Ascending
 pub mod Places
+pub mod SortedOnce
+pub mod Members

@@ -3,3 +3,4 @@ pub mod Orders
 pub mod Graphs
 pub mod Matching
 pub mod NTriples
+pub mod Numbers

@@ -7,17 +7,25 @@
 #![tactic(auto)]
 
 mod change;
+mod footprint;
 mod ids;
 mod look;
 mod n_triples;
+mod names;
+mod numbered_look;
 mod pattern;
 mod term;
 mod triple;
+mod triples;
 
 pub use change::{Change, Net};
+pub use footprint::Footprint;
 pub use ids::Ids;
 pub use look::Look;
+pub use names::{ListNames, Names};
+pub use numbered_look::NumberedLook;
 pub use pattern::Pattern;
 pub use rdf_text::Text;
 pub use term::Term;
 pub use triple::Triple;
+pub use triples::{ListGraph, Triples};

@@ -11,7 +11,7 @@ use Rattle.rdf_model.specs.Graphs.{changed, after}
 use Rattle.collections.specs.Ordered.{IsAscending}
 use Rattle.collections.proofs.Ascending.{IsAscending-with_item, IsAscending-without_item}
 use Rattle.shape_model.specs.Touching.{IsChanged}
-use Rattle.shape_model.proofs.Ascending.{has_equal, has_tail, with_same, without_same, with_other, without_other}
+use Rattle.collections.proofs.Members.{has_equal, has_tail, with_same, without_same, with_other, without_other}
 use Rattle.std.proofs.Common.{ap}
 
 ascends : (g : List Triple) (c : Change) → IsAscending triple_cmp g → IsAscending triple_cmp (changed g c)

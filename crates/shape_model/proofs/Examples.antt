@@ -13,7 +13,7 @@ use Rattle.shape_model.specs.TermTests.{IsOfKind, count_of}
 use Rattle.shape_model.specs.Triples.{IsBlank}
 use Rattle.shape_model.specs.Vocabulary.{ShDeactivated, ShMaxLength, ShMinCount, ShPath, ShTargetNode, property_iri, sh, true_literal, xsd_integer}
 use Rattle.shape_model.specs.Walks.{Walk}
-use Rattle.shape_model.proofs.Ascending.{has_cases}
+use Rattle.collections.proofs.Members.{has_cases}
 
 not_kind : sh (codes "IRI") ≡ true_literal → ⊥
 unfolding sh true_literal

@@ -1,5 +1,4 @@
 pub mod Chains
-pub mod Ascending
 pub mod Walks
 pub mod Surroundings
 pub mod Covers

@@ -10,7 +10,7 @@ use Rattle.rdf_model.specs.Terms.{term_cmp}
 use Rattle.rdf_model.specs.Orders.{term_total}
 use Rattle.rdf_model.specs.Graphs.{after}
 use Rattle.shape_model.specs.Laws.{ConformsLaw, CountLaw, ListingLaw, NoShapesLaw, VerdictLaw}
-use Rattle.shape_model.specs.Listings.{IsListing}
+use Rattle.collections.specs.Listings.{IsListing}
 use Rattle.shape_model.specs.Orders.{result_row_total}
 use Rattle.shape_model.specs.Readings.{ValueNode, reading}
 use Rattle.shape_model.specs.Rows.{result_row_cmp}
@@ -18,7 +18,7 @@ use Rattle.shape_model.specs.Targets.{Target}
 use Rattle.shape_model.specs.Validation.{IsResult, Listing, NoResult}
 use Rattle.shape_model.specs.Vocabulary.{ShTargetClass, ShTargetNode, ShTargetObjectsOf, ShTargetSubjectsOf, property_iri, rdf_type}
 use Rattle.shape_model.specs.declared.result_row.ResultRow.{ResultRow}
-use Rattle.shape_model.proofs.Ascending.{same_lists}
+use Rattle.collections.proofs.Members.{same_lists}
 use Rattle.shape_model.proofs.Verdicts.{beside_law}
 
 pub listing_same : {X : Type 0} → (R : X → X → Ordering) (P Q : X → Type 0) → ((x : X) → P x ↔ Q x) → (xs : List X) → IsListing R P xs → IsListing R Q xs

@@ -7,7 +7,7 @@ use Rattle.shape_model.specs.Triples.{Has}
 use Rattle.shape_model.specs.Instances.{Instance}
 use Rattle.shape_model.specs.Readings.{Reading, reading, ValueNode}
 use Rattle.shape_model.specs.Rows.{result_row_cmp}
-use Rattle.shape_model.specs.Listings.{IsListing}
+use Rattle.collections.specs.Listings.{IsListing}
 use Rattle.shape_model.specs.Targets.{Target}
 use Rattle.shape_model.specs.Components.{Surroundings, AtIn}
 

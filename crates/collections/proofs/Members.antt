@@ -54,7 +54,7 @@ module _ {X : Type 0} (R : X → X → Ordering) (total : IsTotalOrder R) where
       cc (head, tail)
 
 -- what stands in a list with one item more
-with_cases : {X : Type 0} → (R : X → X → Ordering) (x : X) (ys : List X) (t : X) → Contains (with_item R x ys) t → (x ≡ t) ⊎ Contains ys t
+pub with_cases : {X : Type 0} → (R : X → X → Ordering) (x : X) (ys : List X) (t : X) → Contains (with_item R x ys) t → (x ≡ t) ⊎ Contains ys t
 with_cases R x [] t c = has_cases x [] t c
 with_cases R x (y ∷ ys) t c = elim (R x y) as (λ o. Contains (match_ordering o (x ∷ y ∷ ys) (y ∷ ys) (y ∷ with_item R x ys)) t → (x ≡ t) ⊎ Contains (y ∷ ys) t) [
   | Less ↦ λ d. has_cases x (y ∷ ys) t d
@@ -65,7 +65,7 @@ with_cases R x (y ∷ ys) t c = elim (R x y) as (λ o. Contains (match_ordering 
   ]
 ] c
 
-with_old : {X : Type 0} → (R : X → X → Ordering) (x : X) (ys : List X) (t : X) → Contains ys t → Contains (with_item R x ys) t
+pub with_old : {X : Type 0} → (R : X → X → Ordering) (x : X) (ys : List X) (t : X) → Contains ys t → Contains (with_item R x ys) t
 with_old R x [] t c = has_tail x [] t c
 with_old R x (y ∷ ys) t c = elim (R x y) as (λ o. Contains (match_ordering o (x ∷ y ∷ ys) (y ∷ ys) (y ∷ with_item R x ys)) t) [
   | Less ↦ has_tail x (y ∷ ys) t c
@@ -74,7 +74,7 @@ with_old R x (y ∷ ys) t c = elim (R x y) as (λ o. Contains (match_ordering o 
 ]
 
 -- what stands in a list with one item less
-without_old : {X : Type 0} → (R : X → X → Ordering) (x : X) (ys : List X) (t : X) → Contains (without_item R x ys) t → Contains ys t
+pub without_old : {X : Type 0} → (R : X → X → Ordering) (x : X) (ys : List X) (t : X) → Contains (without_item R x ys) t → Contains ys t
 without_old R x [] t c = c
 without_old R x (y ∷ ys) t c = elim (R x y) as (λ o. Contains (match_ordering o (y ∷ ys) ys (y ∷ without_item R x ys)) t → Contains (y ∷ ys) t) [
   | Less ↦ λ d. d
@@ -83,7 +83,7 @@ without_old R x (y ∷ ys) t c = elim (R x y) as (λ o. Contains (match_ordering
 ] c
 
 module _ {X : Type 0} (R : X → X → Ordering) (total : IsTotalOrder R) (exact : (a b : X) → R a b ≡ Equal → a ≡ b) where
-  with_new : (x : X) (ys : List X) → Contains (with_item R x ys) x
+  pub with_new : (x : X) (ys : List X) → Contains (with_item R x ys) x
   with_new x [] = has_head x []
   with_new x (y ∷ ys) = elim (R x y) as (λ o. R x y ≡ o → Contains (match_ordering o (x ∷ y ∷ ys) (y ∷ ys) (y ∷ with_item R x ys)) x) [
     | Less ↦ λ h. has_head x (y ∷ ys)
@@ -91,7 +91,7 @@ module _ {X : Type 0} (R : X → X → Ordering) (total : IsTotalOrder R) (exact
     | Greater ↦ λ h. has_tail y (with_item R x ys) x (with_new x ys)
   ] refl
 
-  without_new : (x : X) (ys : List X) (t : X) → Contains ys t → (x ≡ t → ⊥) → Contains (without_item R x ys) t
+  pub without_new : (x : X) (ys : List X) (t : X) → Contains ys t → (x ≡ t → ⊥) → Contains (without_item R x ys) t
   without_new x [] t c n = c
   without_new x (y ∷ ys) t c n = elim (R x y) as (λ o. R x y ≡ o → Contains (match_ordering o (y ∷ ys) ys (y ∷ without_item R x ys)) t) [
     | Less ↦ λ h. c
@@ -102,7 +102,7 @@ module _ {X : Type 0} (R : X → X → Ordering) (total : IsTotalOrder R) (exact
   tied : (x y : X) → y ≡ x → R x y ≡ Equal
   tied x y e = subst (λ w. R x w ≡ Equal) (sym e) (tied_itself total x)
 
-  without_gone : (x : X) (ys : List X) → IsAscending R ys → Contains (without_item R x ys) x → ⊥
+  pub without_gone : (x : X) (ys : List X) → IsAscending R ys → Contains (without_item R x ys) x → ⊥
   without_gone x [] a c = absurd (omega arith)
   without_gone x (y ∷ ys) a c = elim (R x y) as (λ o. R x y ≡ o → Contains (match_ordering o (y ∷ ys) ys (y ∷ without_item R x ys)) x → ⊥) [
     | Less ↦ λ h d. elim (has_cases y ys x d) [ inl e ↦ let k = tied x y e in cc (h, k) | inr i ↦ not_both R total x y h (below R y ys x a.0 i) ]

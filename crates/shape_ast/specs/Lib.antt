@@ -1,0 +1,3 @@
+pub mod Kinds
+pub mod Naming
+pub mod Standing

@@ -1,0 +1,64 @@
+-- Shapes over numbers, with each number read as the term that it has.
+use Rattle.std.specs.Prelude.{◌<◌, ℕ, List, length, map, Option, Some, None, MatchOption}
+use Rattle.std.specs.List.{AllByRecursion}
+use Rattle.rdf_model.specs.declared.term.Term.{Term}
+use Rattle.rdf_model.specs.Numbers.{term_at}
+use Rattle.shape_ast.specs.declared.path.Path.{Path}
+use Rattle.shape_ast.specs.declared.path.Path.TheVariants.{Predicate}
+use Rattle.shape_ast.specs.declared.constraint.Constraint.{Constraint}
+use Rattle.shape_ast.specs.declared.constraint.Constraint.TheVariants.{NodeKind, MinCount, MaxCount}
+use Rattle.shape_ast.specs.declared.shape.Target.{Target}
+use Rattle.shape_ast.specs.declared.shape.Target.TheVariants.{Node, SubjectsOf}
+use Rattle.shape_ast.specs.declared.shape.Shape.{Shape}
+
+abbrev pub named_path : List Term → Path ℕ → Path Term
+named_path terms (Predicate p) = Predicate (term_at terms p)
+
+abbrev pub named_optional_path : List Term → Option (Path ℕ) → Option (Path Term)
+named_optional_path terms None = None
+named_optional_path terms (Some p) = Some (named_path terms p)
+
+abbrev pub named_target : List Term → Target ℕ → Target Term
+named_target terms (Node n) = Node (term_at terms n)
+named_target terms (SubjectsOf p) = SubjectsOf (term_at terms p)
+
+abbrev pub named_constraint : List Term → Constraint ℕ → Constraint Term
+named_constraint terms (NodeKind kind q) = NodeKind kind (term_at terms q)
+named_constraint terms (MinCount count q) = MinCount count (term_at terms q)
+named_constraint terms (MaxCount count q) = MaxCount count (term_at terms q)
+
+abbrev pub named_shape : List Term → Shape ℕ → Shape Term
+named_shape terms s = record {
+  node = term_at terms s.node;
+  path = named_optional_path terms s.path;
+  targets = map (named_target terms) s.targets;
+  constraints = map (named_constraint terms) s.constraints;
+  properties = s.properties;
+}
+
+abbrev pub named_shapes : List Term → List (Shape ℕ) → List (Shape Term)
+named_shapes terms shapes = map (named_shape terms) shapes
+
+-- each number has a term, of so many terms
+abbrev pub path_number : Path ℕ → ℕ
+path_number (Predicate p) = p
+
+abbrev pub target_number : Target ℕ → ℕ
+target_number (Node n) = n
+target_number (SubjectsOf p) = p
+
+abbrev pub constraint_number : Constraint ℕ → ℕ
+constraint_number (NodeKind kind q) = q
+constraint_number (MinCount count q) = q
+constraint_number (MaxCount count q) = q
+
+pub record IsBoundShape (terms shapes : ℕ) (s : Shape ℕ) : Type 0 where
+  pub node : s.node < terms
+  pub path : MatchOption s.path (Unit {0}) (λ p. path_number p < terms)
+  pub targets : AllByRecursion (λ t. target_number t < terms) s.targets
+  pub constraints : AllByRecursion (λ c. constraint_number c < terms) s.constraints
+  -- each property shape is one of so many shapes
+  pub properties : AllByRecursion (λ n. n < shapes) s.properties
+
+abbrev pub AreBound : List Term → List (Shape ℕ) → Type 0
+AreBound terms shapes = AllByRecursion (IsBoundShape (length terms) (length shapes)) shapes

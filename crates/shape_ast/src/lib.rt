@@ -1,0 +1,19 @@
+//! Shapes of SHACL Core as they are compiled, by terms or by the numbers of terms.
+//!
+//! `Shapes` holds the shapes of a shapes graph; `specs/Standing.antt` says when they stand for its
+//! triples. `bind` ensures the same shapes with each term replaced by its number among the names.
+//! The components, their constraints and the rows of results are named here for the crates above.
+#![tactic(auto)]
+
+mod bound;
+mod constraint;
+mod node_kind;
+mod path;
+mod shape;
+
+pub use bound::Bound;
+pub use constraint::Constraint;
+pub use node_kind::NodeKind;
+pub use path::Path;
+pub use shape::{Shape, Shapes, Target};
+pub use shape_model::{Component, ResultRow};
