@@ -1,6 +1,6 @@
 ghost use Rattle.std.specs.Prelude.{◌≡◌};
 
-use collections::ExactClone;
+use collections::{ExactClone, ExactOrder};
 use rdf_text::Text;
 use std::alloc::AllocError;
 use std::cmp::Ordering;
@@ -141,4 +141,10 @@ impl Clone for Term {
 
 impl ExactClone for Term {
     ghost clone_is_equal = { λ source copy is_copy. is_copy };
+}
+
+impl ExactOrder for Term {
+    ghost use Rattle.rdf_model.specs.Orders.{term_exact};
+
+    ghost tied_is_equal = { term_exact };
 }

@@ -1,7 +1,7 @@
 ghost use Rattle.std.specs.Prelude.{◌≡◌};
 
 use crate::Term;
-use collections::ExactClone;
+use collections::{ExactClone, ExactOrder};
 use std::alloc::AllocError;
 use std::cmp::Ordering;
 
@@ -86,4 +86,10 @@ impl Clone for Triple {
 
 impl ExactClone for Triple {
     ghost clone_is_equal = { λ source copy is_copy. is_copy };
+}
+
+impl ExactOrder for Triple {
+    ghost use Rattle.rdf_model.specs.Orders.{triple_exact};
+
+    ghost tied_is_equal = { triple_exact };
 }

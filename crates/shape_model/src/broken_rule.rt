@@ -2,7 +2,7 @@ ghost use Rattle.std.specs.Prelude.{◌≡◌};
 
 use crate::Rule;
 use crate::optional_term::{compare_optional, optional_clone};
-use collections::ExactClone;
+use collections::{ExactClone, ExactOrder};
 use rdf_model::Term;
 use std::alloc::AllocError;
 use std::cmp::Ordering;
@@ -89,4 +89,10 @@ impl Clone for BrokenRule {
 
 impl ExactClone for BrokenRule {
     ghost clone_is_equal = { λ source copy is_copy. is_copy };
+}
+
+impl ExactOrder for BrokenRule {
+    ghost use Rattle.shape_model.specs.Orders.{broken_rule_exact};
+
+    ghost tied_is_equal = { broken_rule_exact };
 }

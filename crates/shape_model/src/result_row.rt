@@ -2,7 +2,7 @@ ghost use Rattle.std.specs.Prelude.{◌≡◌};
 
 use crate::Component;
 use crate::optional_term::{compare_optional, optional_clone};
-use collections::ExactClone;
+use collections::{ExactClone, ExactOrder};
 use rdf_model::Term;
 use std::alloc::AllocError;
 use std::cmp::Ordering;
@@ -105,4 +105,10 @@ impl Clone for ResultRow {
 
 impl ExactClone for ResultRow {
     ghost clone_is_equal = { λ source copy is_copy. is_copy };
+}
+
+impl ExactOrder for ResultRow {
+    ghost use Rattle.shape_model.specs.Orders.{result_row_exact};
+
+    ghost tied_is_equal = { result_row_exact };
 }
