@@ -1,6 +1,6 @@
 -- Shapes over numbers, with each number read as the term that it has.
 use Rattle.std.specs.Prelude.{◌<◌, ℕ, List, length, map, Option, Some, None, MatchOption}
-use Rattle.std.specs.List.{AllByRecursion}
+use Rattle.std.specs.List.{All, Contains}
 use Rattle.rdf_model.specs.declared.term.Term.{Term}
 use Rattle.rdf_model.specs.Numbers.{term_at}
 use Rattle.shape_ast.specs.declared.path.Path.{Path}
@@ -39,7 +39,19 @@ named_shape terms s = record {
 abbrev pub named_shapes : List Term → List (Shape ℕ) → List (Shape Term)
 named_shapes terms shapes = map (named_shape terms) shapes
 
--- each number has a term, of so many terms
+-- the term or the number that a part names
+abbrev pub path_term : Path Term → Term
+path_term (Predicate p) = p
+
+abbrev pub target_term : Target Term → Term
+target_term (Node n) = n
+target_term (SubjectsOf p) = p
+
+abbrev pub constraint_term : Constraint Term → Term
+constraint_term (NodeKind kind q) = q
+constraint_term (MinCount count q) = q
+constraint_term (MaxCount count q) = q
+
 abbrev pub path_number : Path ℕ → ℕ
 path_number (Predicate p) = p
 
@@ -52,13 +64,28 @@ constraint_number (NodeKind kind q) = q
 constraint_number (MinCount count q) = q
 constraint_number (MaxCount count q) = q
 
+-- each number has a term, of so many terms
 pub record IsBoundShape (terms shapes : ℕ) (s : Shape ℕ) : Type 0 where
   pub node : s.node < terms
   pub path : MatchOption s.path (Unit {0}) (λ p. path_number p < terms)
-  pub targets : AllByRecursion (λ t. target_number t < terms) s.targets
-  pub constraints : AllByRecursion (λ c. constraint_number c < terms) s.constraints
+  pub targets : All (λ t. target_number t < terms) s.targets
+  pub constraints : All (λ c. constraint_number c < terms) s.constraints
   -- each property shape is one of so many shapes
-  pub properties : AllByRecursion (λ n. n < shapes) s.properties
+  pub properties : All (λ n. n < shapes) s.properties
 
 abbrev pub AreBound : List Term → List (Shape ℕ) → Type 0
-AreBound terms shapes = AllByRecursion (IsBoundShape (length terms) (length shapes)) shapes
+AreBound terms shapes = All (IsBoundShape (length terms) (length shapes)) shapes
+
+-- each term is one of the terms, and each property shape is one of so many shapes
+abbrev pub IsNamed : List Term → Term → Type 0
+IsNamed terms t = Contains terms t
+
+pub record IsNamedShape (terms : List Term) (shapes : ℕ) (s : Shape Term) : Type 0 where
+  pub node : IsNamed terms s.node
+  pub path : MatchOption s.path (Unit {0}) (λ p. IsNamed terms (path_term p))
+  pub targets : All (λ t. IsNamed terms (target_term t)) s.targets
+  pub constraints : All (λ c. IsNamed terms (constraint_term c)) s.constraints
+  pub properties : All (λ n. n < shapes) s.properties
+
+abbrev pub AreNamed : List Term → List (Shape Term) → Type 0
+AreNamed terms shapes = All (IsNamedShape terms (length shapes)) shapes

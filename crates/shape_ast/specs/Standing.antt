@@ -1,6 +1,6 @@
 -- When compiled shapes stand for a shapes graph: they say of each shape what its triples say.
 use Rattle.std.specs.Prelude.{◌≡◌, ◌<◌, ℕ, List, length, Some, None, slice_get}
-use Rattle.std.specs.List.{AllByRecursion, Contains}
+use Rattle.std.specs.List.{All, Contains}
 use Rattle.std.specs.declared.cmp.Ordering.{Ordering}
 use Rattle.collections.specs.Ordered.{IsAscending}
 use Rattle.rdf_model.specs.declared.term.Term.{Term}
@@ -63,6 +63,6 @@ pub record StandFor (shapes : List (Shape Term)) (s : List Triple) : Type 0 wher
   -- each shape is compiled, once
   pub all : (n : Term) → IsShape s n → (c : Shape Term) × Contains shapes c × (c.node ≡ n)
   pub ascending : IsAscending shape_cmp shapes
-  pub read : (c : Shape Term) → Contains shapes c → AllByRecursion IsRead c.constraints
+  pub read : (c : Shape Term) → Contains shapes c → All IsRead c.constraints
   -- property shapes are named by places in the list
-  pub linked : (c : Shape Term) → Contains shapes c → AllByRecursion (λ n. n < length shapes) c.properties
+  pub linked : (c : Shape Term) → Contains shapes c → All (λ n. n < length shapes) c.properties
