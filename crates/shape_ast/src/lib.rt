@@ -11,7 +11,7 @@ mod node_kind;
 mod path;
 mod shape;
 
-pub use bound::Bound;
+pub use bound::{Bound, bind};
 pub use constraint::Constraint;
 pub use node_kind::NodeKind;
 pub use path::Path;
