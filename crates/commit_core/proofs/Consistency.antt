@@ -8,7 +8,7 @@ use Rattle.rdf_model.specs.Terms.{term_cmp, triple_cmp}
 use Rattle.store_model.specs.declared.event.Limits.{Limits}
 use Rattle.store_model.specs.declared.event.Event.{Event}
 use Rattle.store_model.specs.declared.commit.Overtaker.{Overtaker}
-use Rattle.store_model.specs.declared.result.ResultRow.{ResultRow}
+use Rattle.shape_model.specs.declared.result_row.ResultRow.{ResultRow}
 use Rattle.store_model.specs.declared.commit.Transaction.{Transaction}
 use Rattle.store_model.specs.declared.event.Action.{Action}
 use Rattle.store_model.specs.declared.event.Action.TheVariants.{Open, Begin, Name, Head, Commit, Void}
@@ -16,11 +16,14 @@ use Rattle.store_model.specs.declared.event.Reply.{Reply}
 use Rattle.store_model.specs.declared.event.Reply.TheVariants.{Version, Named, Full, Conflict, FullTriples, Done}
 use Rattle.collections.specs.Ordered.{IsAscending, has_item}
 use Rattle.rdf_model.specs.Graphs.{after, differing}
-use Rattle.store_model.specs.Listings.{Listing, NoResult}
-use Rattle.store_model.specs.Store.{State, RecordedStore, Step, StepOf, Replies, OpensNext, OpensNothing, CommitsWithinLimit, CommitsByListing, CommitsByRows, IsOpened, IsCommittable, empty_store, overtaker, named_with, shapes_under, committed, is_staged}
+use Rattle.shape_model.specs.Validation.{Listing, NoResult}
+use Rattle.store_model.specs.Store.{State, RecordedStore, TakesStep, Step, StepOf, Replies, OpensNext, OpensNothing, CommitsWithinLimit, CommitsByListing, CommitsByRows, IsOpened, IsCommittable, again, empty_store, overtaker, named_with, shapes_under, committed, is_staged}
+use Rattle.shape_model.proofs.Listings.{conforms_law, no_shapes_law}
 use Rattle.store_model.proofs.Histories.{Replays-push, IsAscending-after}
 use Rattle.store_model.specs.declared.commit.Accepted.{Accepted}
+use Rattle.store_model.specs.declared.commit.Again.{Again}
 use Rattle.store_model.specs.declared.commit.Again.TheVariants.{NoVerdict}
+use Rattle.store_model.specs.declared.commit.Verdict.{Verdict}
 use Rattle.store_model.proofs.Steps.{names, names_none, conflicts, overflows, accepts}
 use Rattle.commit_core.specs.Consistent.{IsConsistent}
 
@@ -54,7 +57,7 @@ named_by s t ts p r false h b =
     subst (λ (x : State). Holds x) (sym h.1) (record { ascending = b.ascending; no_result = b.no_result; opened = b.opened; two = two })
 
 by_rows : (s t : State) (x : Transaction) (r : Reply) (rows : List ResultRow) → Listing (after s.graph x.net) (shapes_under s.shapes x.staged) rows → CommitsByRows s x rows r t → Holds s → Holds t
-by_rows s t x r [] l h b = subst (λ (y : State). Holds y) (sym h.1) (record { ascending = IsAscending-after s.graph x.net b.ascending; no_result = l; opened = b.opened; two = b.two })
+by_rows s t x r [] l h b = subst (λ (y : State). Holds y) (sym h.1) (record { ascending = IsAscending-after s.graph x.net b.ascending; no_result = (conforms_law (after s.graph x.net) (shapes_under s.shapes x.staged)).1 l; opened = b.opened; two = b.two })
 by_rows s t x r (row ∷ rows) l h b = subst (λ (y : State). Holds y) (sym h.1) b
 
 weighed : (s t : State) (x : Transaction) (p r : Reply) (many : Bool) → MatchBool many (Replies p s r t) (CommitsByListing s x r t) → Holds s → Holds t
@@ -86,7 +89,7 @@ IsConsistent-step s t e k h =
     }
 
 pub IsConsistent-empty : (l : Limits) → l.terms + 2 < 2 ^ 32 → IsConsistent (record { limits = l; state = empty_store; history = [] })
-IsConsistent-empty l small = record { replays = refl; ascending = tt; no_result = (refl, refl); opened = omega arith; two = omega arith; small = small }
+IsConsistent-empty l small = record { replays = refl; ascending = tt; no_result = (conforms_law [] []).1 ((no_shapes_law [] []).1 refl); opened = omega arith; two = omega arith; small = small }
 
 -- a fact on a value, by the fields that it is the view of
 pub at_fields : (a b : RecordedStore) (P : RecordedStore → Type 0) → a ≡ b → P b → P a
@@ -115,11 +118,15 @@ pub commit_done : (l : Limits) (s : State) (i : ℕ) (x : Transaction) (n : ℕ)
     → StepOf l s i (Commit x) (Done n NoVerdict) (record s { graph = graph; commits = s.commits ++ a ∷ [] })
 commit_done l s i x n graph a g f none staged verdict over le eg ec es en =
     let shapes : s.shapes ≡ shapes_under s.shapes x.staged = sym (ap (shapes_under s.shapes) staged) in
+    let none_under : [] ≡ shapes_under s.shapes x.staged = sym none ∙ shapes in
+    let listing : Listing (after s.graph x.net) (shapes_under s.shapes x.staged) [] = subst (λ (shapes : List Triple). Listing (after s.graph x.net) shapes []) none_under ((no_shapes_law (after s.graph x.net) []).1 refl) in
+    let why : again s.commits x.staged x.verdict ≡ NoVerdict = ap (λ (o : Option (List Triple)). again s.commits o x.verdict) staged ∙ ap (λ (v : Option Verdict). again s.commits None v) verdict in
     let flag : a.staged ≡ is_staged x.staged = es ∙ sym (ap is_staged staged) in
     let state : committed s x ≡ record s { graph = graph; commits = s.commits ++ a ∷ [] } =
     sym (λ j. record { graph = eg j; shapes = shapes j; commits = s.commits ++ record { changed = ec j; staged = flag j } ∷ []; named = s.named; opened = s.opened }) in
     subst (λ (m : ℕ). StepOf l s i (Commit x) (Done m NoVerdict) (record s { graph = graph; commits = s.commits ++ a ∷ [] })) (sym en)
-    (subst (λ (t : State). StepOf l s i (Commit x) (Done (length s.commits + 1) NoVerdict) t) state (accepts l s i x g f over le none staged verdict))
+    (subst (λ (t : State). StepOf l s i (Commit x) (Done (length s.commits + 1) NoVerdict) t) state
+    (subst (λ (a : Again). StepOf l s i (Commit x) (Done (length s.commits + 1) a) (committed s x)) why (accepts l s i x g f over le listing)))
 
 -- what is kept after each method's event: s are the fields, o is the value that the contract speaks of
 abbrev more : RecordedStore → State → Event → RecordedStore
@@ -143,10 +150,24 @@ consistent_conflict s o i x h k v g f e = IsConsistent-step s s.state (record { 
 pub consistent_commit_full : (s o : RecordedStore) (i : ℕ) (x : Transaction) (n : ℕ) → IsConsistent s → s ≡ o → IsOpened o.state i → IsCommittable o.state x → overtaker s.state.commits x.base x.finds ≡ None → s.limits.triples < length (after s.state.graph x.net) → n ≡ length (after s.state.graph x.net) → IsConsistent (more s s.state (record { session = i; action = Commit x; reply = FullTriples n }))
 consistent_commit_full s o i x n k v g f e lt c = IsConsistent-step s s.state (record { session = i; action = Commit x; reply = FullTriples n }) k (commit_full s.limits s.state i x n (opened_inside s o i v g) (at_fields s o (λ y. IsCommittable y.state x) v f) e lt c)
 
-pub consistent_commit : (s o : RecordedStore) (i : ℕ) (x : Transaction) (n : ℕ) (graph : List Triple) (a : Accepted) → IsConsistent s → s ≡ o → IsOpened o.state i → IsCommittable o.state x → x.staged ≡ None → x.verdict ≡ None
+pub consistent_commit : (s o : RecordedStore) (i : ℕ) (x : Transaction) (n : ℕ) (graph : List Triple) (a : Accepted) → IsConsistent s → s.state.shapes ≡ [] → s ≡ o → IsOpened o.state i → IsCommittable o.state x → x.staged ≡ None → x.verdict ≡ None
     → overtaker s.state.commits x.base x.finds ≡ None → length (after s.state.graph x.net) ≤ s.limits.triples → graph ≡ after s.state.graph x.net → a.changed ≡ differing s.state.graph (after s.state.graph x.net) → a.staged ≡ false → n ≡ length (s.state.commits ++ a ∷ [])
     → IsConsistent (more s (record s.state { graph = graph; commits = s.state.commits ++ a ∷ [] }) (record { session = i; action = Commit x; reply = Done n NoVerdict }))
-consistent_commit s o i x n graph a k v g f staged verdict over le eg ec es en =
+consistent_commit s o i x n graph a k none v g f staged verdict over le eg ec es en =
     let count : n ≡ length s.state.commits + 1 = en ∙ simp length-append in
     IsConsistent-step s (record s.state { graph = graph; commits = s.state.commits ++ a ∷ [] }) (record { session = i; action = Commit x; reply = Done n NoVerdict }) k
-    (commit_done s.limits s.state i x n graph a (opened_inside s o i v g) (at_fields s o (λ y. IsCommittable y.state x) v f) k.no_result.0 staged verdict over le eg ec es count)
+    (commit_done s.limits s.state i x n graph a (opened_inside s o i v g) (at_fields s o (λ y. IsCommittable y.state x) v f) none staged verdict over le eg ec es count)
+
+-- the step of a commit that is accepted
+pub takes_commit : (s o : RecordedStore) (i : ℕ) (x : Transaction) (n : ℕ) (graph : List Triple) (a : Accepted) → s.state.shapes ≡ [] → s ≡ o → IsOpened o.state i → IsCommittable o.state x → x.staged ≡ None → x.verdict ≡ None
+    → overtaker s.state.commits x.base x.finds ≡ None → length (after s.state.graph x.net) ≤ s.limits.triples → graph ≡ after s.state.graph x.net → a.changed ≡ differing s.state.graph (after s.state.graph x.net) → a.staged ≡ false → n ≡ length (s.state.commits ++ a ∷ [])
+    → TakesStep o (more s (record s.state { graph = graph; commits = s.state.commits ++ a ∷ [] }) (record { session = i; action = Commit x; reply = Done n NoVerdict })) (record { session = i; action = Commit x; reply = Done n NoVerdict })
+takes_commit s o i x n graph a none v g f staged verdict over le eg ec es en =
+    let count : n ≡ length s.state.commits + 1 = en ∙ simp length-append in
+    let e : Event = record { session = i; action = Commit x; reply = Done n NoVerdict } in
+    let next = more s (record s.state { graph = graph; commits = s.state.commits ++ a ∷ [] }) e in
+    subst (λ (y : RecordedStore). TakesStep y next e) v (record {
+      step = commit_done s.limits s.state i x n graph a (opened_inside s o i v g) (at_fields s o (λ y. IsCommittable y.state x) v f) none staged verdict over le eg ec es count;
+      limits = refl;
+      history = refl;
+    })

@@ -2,7 +2,7 @@
 use Rattle.std.specs.Prelude.{◌+◌, ◌≤◌, ◌<◌, ◌^◌, length}
 use Rattle.rdf_model.specs.Terms.{triple_cmp}
 use Rattle.collections.specs.Ordered.{IsAscending}
-use Rattle.store_model.specs.Listings.{NoResult}
+use Rattle.shape_model.specs.Validation.{NoResult}
 use Rattle.store_model.specs.Store.{RecordedStore, Replays, empty_store}
 
 pub record IsConsistent (s : RecordedStore) : Type 0 where

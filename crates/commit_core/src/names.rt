@@ -1,5 +1,6 @@
 ghost use Rattle.std.specs.Prelude.{◌≡◌, ◌∷◌, [], ◌<◌, ◌^◌, ◌≤◌, length, IfOk};
-ghost use Rattle.store_model.specs.Store.{rdf_type, sub_class_of, named_with, number_of, numbers_of};
+ghost use Rattle.shape_model.specs.Vocabulary.{rdf_type, sub_class_of};
+ghost use Rattle.store_model.specs.Store.{named_with, number_of, numbers_of};
 
 use collections::{Sequence, contains_item};
 use rdf_model::{Term, Text};
@@ -10,7 +11,7 @@ const RDF_TYPE: &str = "http://www.w3.org/1999/02/22-rdf-syntax-ns#type";
 const RDFS_SUB_CLASS_OF: &str = "http://www.w3.org/2000/01/rdf-schema#subClassOf";
 
 /// The two terms that are named from the start.
-#[tactic(auto, unfolding(store_model::specs::Store::rdf_type, store_model::specs::Store::sub_class_of))]
+#[tactic(auto, unfolding(shape_model::specs::Vocabulary::rdf, shape_model::specs::Vocabulary::rdf_type, shape_model::specs::Vocabulary::sub_class_of))]
 pub fn first_names(alloc: Global) -> Result<Vec<Term>, AllocError>
     ensures { IfOk result (λ v. v.items ≡ rdf_type ∷ sub_class_of ∷ []) }
 {

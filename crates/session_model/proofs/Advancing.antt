@@ -10,7 +10,7 @@ use Rattle.rdf_model.specs.declared.term.Term.{Term}
 use Rattle.store_model.specs.declared.event.Action.{Action}
 use Rattle.store_model.specs.declared.event.Action.TheVariants.{Open, Begin, Name, Head, Commit, Void}
 use Rattle.store_model.specs.declared.commit.Overtaker.{Overtaker}
-use Rattle.store_model.specs.declared.result.ResultRow.{ResultRow}
+use Rattle.shape_model.specs.declared.result_row.ResultRow.{ResultRow}
 use Rattle.store_model.specs.declared.commit.Transaction.{Transaction}
 use Rattle.session_model.specs.declared.command.Command.TheVariants as commands
 use Rattle.session_model.specs.declared.command.Command.TheVariants.{Add, BadAdd}

@@ -5,22 +5,21 @@ use Rattle.std.proofs.lemmas.Bool.Decides.{nat_tests}
 use Rattle.rdf_model.specs.declared.term.Term.{Term}
 use Rattle.rdf_model.specs.declared.triple.Triple.{Triple}
 use Rattle.store_model.specs.declared.event.Limits.{Limits}
-use Rattle.store_model.specs.declared.result.ResultRow.{ResultRow}
+use Rattle.shape_model.specs.declared.result_row.ResultRow.{ResultRow}
 use Rattle.store_model.specs.declared.commit.Transaction.{Transaction}
 use Rattle.store_model.specs.declared.commit.Overtaker.{Overtaker}
-use Rattle.store_model.specs.declared.commit.Verdict.{Verdict}
-use Rattle.store_model.specs.declared.commit.Again.TheVariants.{NoVerdict}
 use Rattle.store_model.specs.declared.event.Action.{Action}
 use Rattle.store_model.specs.declared.event.Action.TheVariants.{Open, Begin, Name, Head, Commit, Void}
 use Rattle.store_model.specs.declared.event.Reply.{Reply}
 use Rattle.store_model.specs.declared.event.Reply.TheVariants.{Session, SessionsFull, Named, Full, Conflict, FullTriples, Done}
 use Rattle.rdf_model.specs.Graphs.{after}
-use Rattle.store_model.specs.Listings.{Listing}
+use Rattle.shape_model.specs.Validation.{Listing}
+use Rattle.shape_model.proofs.Listings.{listing_law}
 use Rattle.store_model.specs.Store.{State, version, again, overtaker, named_with, shapes_under, committed, IsOpened, IsCommittable, Replies, OpensNext, OpensNothing, CommitsByRows, CommitsByListing, CommitsWithinLimit, StepOf, StepIsDeterministic}
 
 -- at most one list is a listing
 pub Listing-deterministic : (graph shapes : List Triple) (a b : List ResultRow) → Listing graph shapes a → Listing graph shapes b → b ≡ a
-Listing-deterministic graph shapes a b h k = k.1 ∙ sym h.1
+Listing-deterministic graph shapes a b h k = listing_law graph shapes b a k h
 
 same : (p : Reply) (m : State) (q r : Reply) (t u : State) → Replies p m q t → Replies p m r u → (r ≡ q) × (u ≡ t)
 same p m q r t u h k = (k.0 ∙ sym h.0, k.1 ∙ sym h.1)
@@ -106,11 +105,6 @@ judges l s t i x q g f e le j =
     let b : nat_lt l.triples (length (after s.graph x.net)) ≡ false = grind (arith, nat_tests) in
     weighs_on l s t i x q g f e (subst (λ c. MatchBool c (Replies (FullTriples (length (after s.graph x.net))) s q t) (CommitsByListing s x q t)) (sym b) j)
 
-done : (s : State) (i : ℕ) (x : Transaction) (y : Option (List Triple)) (v : Option Verdict) → y ≡ None → v ≡ None → again s.commits y v ≡ NoVerdict
-done s i x y v e f = ap (λ (o : Option (List Triple)). again s.commits o v) e ∙ ap (λ (o : Option Verdict). again s.commits None o) f
-
--- as long as there are no shapes and no verdicts
-pub accepts : (l : Limits) (s : State) (i : ℕ) (x : Transaction) → IsOpened s i → IsCommittable s x → overtaker s.commits x.base x.finds ≡ None → length (after s.graph x.net) ≤ l.triples → s.shapes ≡ [] → x.staged ≡ None → x.verdict ≡ None → StepOf l s i (Commit x) (Done (version s + 1) NoVerdict) (committed s x)
-accepts l s i x g f e le none staged verdict =
-    judges l s (committed s x) i x (Done (version s + 1) NoVerdict) g f e le
-    ([], (ap (shapes_under s.shapes) staged ∙ none, refl), (ap (Done (version s + 1)) (sym (done s i x x.staged x.verdict staged verdict)), refl))
+-- a graph without results
+pub accepts : (l : Limits) (s : State) (i : ℕ) (x : Transaction) → IsOpened s i → IsCommittable s x → overtaker s.commits x.base x.finds ≡ None → length (after s.graph x.net) ≤ l.triples → Listing (after s.graph x.net) (shapes_under s.shapes x.staged) [] → StepOf l s i (Commit x) (Done (version s + 1) (again s.commits x.staged x.verdict)) (committed s x)
+accepts l s i x g f e le none = judges l s (committed s x) i x (Done (version s + 1) (again s.commits x.staged x.verdict)) g f e le ([], none, (refl, refl))

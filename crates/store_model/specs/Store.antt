@@ -1,8 +1,7 @@
 -- The plain store: its state, its steps and the histories that they make.
-use Rattle.std.specs.Prelude.{◌≡◌, ℕ, ◌+◌, ◌-◌, ◌<◌, ◌≤◌, Bool, true, false, List, [], ◌∷◌, ◌++◌, length, drop, Option, Some, None, map, nat_lt, MatchBool, MatchOption, if◌then◌else◌, codes}
+use Rattle.std.specs.Prelude.{◌≡◌, ℕ, ◌+◌, ◌-◌, ◌<◌, ◌≤◌, Bool, true, false, List, [], ◌∷◌, ◌++◌, length, drop, Option, Some, None, map, nat_lt, MatchBool, MatchOption, if◌then◌else◌}
 use Rattle.std.specs.List.{AllByRecursion}
 use Rattle.rdf_model.specs.declared.term.Term.{Term}
-use Rattle.rdf_model.specs.declared.term.Term.TheVariants.{Iri}
 use Rattle.rdf_model.specs.declared.triple.Triple.{Triple}
 use Rattle.rdf_model.specs.declared.change.Change.{Change}
 use Rattle.rdf_model.specs.declared.change.Change.TheVariants.{Add, Remove}
@@ -11,7 +10,7 @@ use Rattle.store_model.specs.declared.event.Limits.{Limits}
 use Rattle.rdf_model.specs.declared.pattern.Pattern.{Pattern}
 use Rattle.rdf_model.specs.declared.look.Look.{Look}
 use Rattle.rdf_model.specs.declared.look.Look.TheVariants.{Out, In, OutAny}
-use Rattle.store_model.specs.declared.result.ResultRow.{ResultRow}
+use Rattle.shape_model.specs.declared.result_row.ResultRow.{ResultRow}
 use Rattle.store_model.specs.declared.commit.Verdict.{Verdict}
 use Rattle.store_model.specs.declared.commit.Transaction.{Transaction}
 use Rattle.store_model.specs.declared.commit.Accepted.{Accepted}
@@ -26,7 +25,8 @@ use Rattle.store_model.specs.declared.event.Event.{Event}
 use Rattle.collections.specs.Ordered.{has_item}
 use Rattle.rdf_model.specs.Graphs.{after, differing}
 use Rattle.rdf_model.specs.Matching.{same_term, is_found, is_read}
-use Rattle.store_model.specs.Listings.{Listing}
+use Rattle.shape_model.specs.Validation.{Listing}
+use Rattle.shape_model.specs.Vocabulary.{rdf_type, sub_class_of}
 
 -- The named terms with more: each new one goes to the end, so that a term's number, its place, never changes.
 abbrev pub named_with : List Term → List Term → List Term
@@ -55,12 +55,6 @@ looked_at (OutAny x) = x ∷ []
 
 abbrev pub AreNamed : List Term → List Term → Type 0
 AreNamed named ts = AllByRecursion (λ t. has_item term_cmp t named ≡ true) ts
-
-unfoldable pub rdf_type : Term
-rdf_type = Iri (codes "http://www.w3.org/1999/02/22-rdf-syntax-ns#type")
-
-unfoldable pub sub_class_of : Term
-sub_class_of = Iri (codes "http://www.w3.org/2000/01/rdf-schema#subClassOf")
 
 -- What the store keeps. `named` begins with rdf:type and rdfs:subClassOf, which the limit doesn't count;
 -- `opened` is the number of sessions given out.

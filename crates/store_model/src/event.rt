@@ -1,6 +1,7 @@
-use crate::{Again, ResultRow, Transaction};
+use crate::{Again, Transaction};
 use collections::Sequence;
 use rdf_model::{Term, Triple};
+use shape_model::ResultRow;
 
 /// How many terms a store names and how many triples its graph has, at most.
 #[derive(Clone, Copy, Debug, PartialEq, Eq)]

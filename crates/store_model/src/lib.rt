@@ -7,8 +7,7 @@
 
 mod commit;
 mod event;
-mod result;
 
 pub use commit::{Accepted, Again, Overtaker, Transaction, Verdict};
 pub use event::{Action, Event, Limits, Reply};
-pub use result::{Component, ResultRow};
+pub use shape_model::{Component, ResultRow};
