@@ -76,7 +76,7 @@ bridge_law g s entries stands acyclic e i f r =
     }) r in
     (λ a. next.0 (open_at.0 a), λ a. open_at.1 (next.1 a))
 
-makes_shape : (s : List Triple) (shape : Term) → HasTarget (reading s shape) → IsShape s shape
+pub makes_shape : (s : List Triple) (shape : Term) → HasTarget (reading s shape) → IsShape s shape
 makes_shape s shape = elim [
   | inl i ↦ inr (inr (inl (ShTargetNode, i.0, (λ e. cc, λ e. cc), i.1)))
   | inr (inl i) ↦ inr (inr (inl (ShTargetClass, i.0, (λ e. cc, λ e. cc), i.1)))

@@ -6,18 +6,31 @@ use Rattle.shape_model.specs.declared.component.Component.TheVariants as compone
 use Rattle.shape_model.specs.Components.{AtIn, ComponentRow, ConformsTo, ForCount, ForEach, ForEachList, ForEachValue, IsQualified, NoneOf, OneOf, SameSurroundings, Surroundings}
 use Rattle.shape_model.specs.Listings.{Counts}
 use Rattle.shape_model.specs.Readings.{HasMember, HasQualifiedCount, IsCompared, Reading, Refers, SameReading}
+use Rattle.shape_model.specs.ShapeSyntax.{TakesList}
 use Rattle.shape_model.specs.TermTests.{IsFewer, IsMore, IsOfKind}
 use Rattle.shape_model.specs.Triples.{IsMember}
 use Rattle.shape_model.specs.Vocabulary.{ShAnd, ShClass, ShClosed, ShDeactivated, ShDisjoint, ShEquals, ShHasValue, ShIn, ShLessThan, ShLessThanOrEquals, ShMaxCount, ShMinCount, ShNode, ShNodeKind, ShNot, ShOr, ShProperty, ShQualifiedMaxCount, ShQualifiedMinCount, ShQualifiedValueShape, ShXone, ShapeProperty, true_literal}
 use Rattle.shape_model.specs.declared.component.Component.{Component}
 use Rattle.shape_model.specs.declared.result_row.ResultRow.{ResultRow}
 
+takes_and : TakesList ShAnd
+takes_and = inr (inl refl)
+
+takes_or : TakesList ShOr
+takes_or = inr (inr (inl refl))
+
+takes_xone : TakesList ShXone
+takes_xone = inr (inr (inr (inl refl)))
+
+takes_in : TakesList ShIn
+takes_in = inr (inr (inr (inr (inr refl))))
+
 pub reading_itself : (y : Reading) → SameReading y y
 reading_itself y = record {
   path = λ p. (λ i. i, λ i. i);
   is_node_shape = (λ i. i, λ i. i);
   has = λ word v. (λ i. i, λ i. i);
-  has_list = λ word n ms. (λ i. i, λ i. i);
+  has_list = λ word takes n ms. (λ i. i, λ i. i);
   sibling = λ t. (λ i. i, λ i. i);
   allowed = λ p. (λ i. i, λ i. i);
   is_class = (λ i. i, λ i. i);
@@ -28,7 +41,7 @@ reading_back y z e = record {
   path = λ p. ((e.path p).1, (e.path p).0);
   is_node_shape = (e.is_node_shape.1, e.is_node_shape.0);
   has = λ word v. ((e.has word v).1, (e.has word v).0);
-  has_list = λ word n ms. ((e.has_list word n ms).1, (e.has_list word n ms).0);
+  has_list = λ word takes n ms. ((e.has_list word takes n ms).1, (e.has_list word takes n ms).0);
   sibling = λ t. ((e.sibling t).1, (e.sibling t).0);
   allowed = λ p. ((e.allowed p).1, (e.allowed p).0);
   is_class = (e.is_class.1, e.is_class.0);
@@ -46,17 +59,17 @@ module _ (y z : Reading) (e : SameReading y z) where
   count_same : HasQualifiedCount y → HasQualifiedCount z
   count_same h = (h.0, elim h.1 [ inl i ↦ inl ((e.has ShQualifiedMinCount h.0).0 i) | inr i ↦ inr ((e.has ShQualifiedMaxCount h.0).0 i) ])
 
-  list_same : (word : ShapeProperty) (t : Term) → HasMember y word t → HasMember z word t
-  list_same word t h = (h.0, h.1, (e.has_list word h.0 h.1).0 h.2, h.3)
+  list_same : (word : ShapeProperty) → TakesList word → (t : Term) → HasMember y word t → HasMember z word t
+  list_same word takes t h = (h.0, h.1, (e.has_list word takes h.0 h.1).0 h.2, h.3)
 
   pub refers_same : (t : Term) → Refers y t → Refers z t
   refers_same t = elim [
     | inl i ↦ inl ((e.has ShNot t).0 i)
     | inr (inl i) ↦ inr (inl ((e.has ShNode t).0 i))
     | inr (inr (inl i)) ↦ inr (inr (inl ((e.has ShProperty t).0 i)))
-    | inr (inr (inr (inl i))) ↦ inr (inr (inr (inl (list_same ShAnd t i))))
-    | inr (inr (inr (inr (inl i)))) ↦ inr (inr (inr (inr (inl (list_same ShOr t i)))))
-    | inr (inr (inr (inr (inr (inl i))))) ↦ inr (inr (inr (inr (inr (inl (list_same ShXone t i))))))
+    | inr (inr (inr (inl i))) ↦ inr (inr (inr (inl (list_same ShAnd takes_and t i))))
+    | inr (inr (inr (inr (inl i)))) ↦ inr (inr (inr (inr (inl (list_same ShOr takes_or t i)))))
+    | inr (inr (inr (inr (inr (inl i))))) ↦ inr (inr (inr (inr (inr (inl (list_same ShXone takes_xone t i))))))
     | inr (inr (inr (inr (inr (inr (inl i)))))) ↦ inr (inr (inr (inr (inr (inr (inl (count_same i.0, (e.has ShQualifiedValueShape t).0 i.1)))))))
     | inr (inr (inr (inr (inr (inr (inr i)))))) ↦ inr (inr (inr (inr (inr (inr (inr (count_same i.0, (e.sibling t).0 i.1)))))))
   ]
@@ -102,10 +115,10 @@ module _ (shape f : Term) (y z : Reading) (e : SameReading y z) (a b : Surroundi
   counted : (c : Component) (word : ShapeProperty) (P Q : Term → Type 0) (IsWrong : ℕ → Term → Type 0) (r : ResultRow) → ((q : Term) → y.has word q → (v : Term) → P v ↔ Q v) → ForCount y c shape f word P IsWrong r → ForCount z c shape f word Q IsWrong r
   counted c word P Q IsWrong r k h = (h.0, (e.has word h.0).0 h.1, (h.2.0, counts_same P Q h.2.0 (k h.0 h.1) h.2.1, h.2.2, h.2.3))
 
-  of_list : (c : Component) (word : ShapeProperty) (P Q : List Term → Term → Type 0) (r : ResultRow)
+  of_list : (c : Component) (word : ShapeProperty) → TakesList word → (P Q : List Term → Term → Type 0) (r : ResultRow)
       → ((n : Term) (ms : List Term) → y.has_list word n ms → (v : Term) → a.value_node v → P ms v → Q ms v)
       → ForEachList a y c shape f word P r → ForEachList b z c shape f word Q r
-  of_list c word P Q r to h = (h.0, h.1, (e.has_list word h.0 h.1).0 h.2, each c h.0 (P h.1) (Q h.1) r (to h.0 h.1 h.2) h.3)
+  of_list c word takes P Q r to h = (h.0, h.1, (e.has_list word takes h.0 h.1).0 h.2, each c h.0 (P h.1) (Q h.1) r (to h.0 h.1 h.2) h.3)
 
   qualify : (m : Term) → HasQualifiedCount y → y.has ShQualifiedValueShape m → (v : Term) → IsQualified a y m v ↔ IsQualified b z m v
   qualify m n i v = (
@@ -148,11 +161,11 @@ module _ (shape f : Term) (y z : Reading) (e : SameReading y z) (a b : Surroundi
   keep components.LessThan r h = h
   keep components.LessThanOrEquals r h = h
   keep components.Not r h = each_value components.Not ShNot (λ q v. ConformsTo a q v) (λ q v. ConformsTo b q v) r (λ q i v w x. (conform q v (inl i) w).0 x) h
-  keep components.And r h = of_list components.And ShAnd (λ ms v. ((m : Term) → IsMember ms m → ConformsTo a m v) → ⊥) (λ ms v. ((m : Term) → IsMember ms m → ConformsTo b m v) → ⊥) r
+  keep components.And r h = of_list components.And ShAnd takes_and (λ ms v. ((m : Term) → IsMember ms m → ConformsTo a m v) → ⊥) (λ ms v. ((m : Term) → IsMember ms m → ConformsTo b m v) → ⊥) r
       (λ n ms l v w x k. x (λ m i. (conform m v (inr (inr (inr (inl (n, ms, l, i))))) w).1 (k m i))) h
-  keep components.Or r h = of_list components.Or ShOr (λ ms v. NoneOf (λ m. ConformsTo a m v) ms) (λ ms v. NoneOf (λ m. ConformsTo b m v) ms) r
+  keep components.Or r h = of_list components.Or ShOr takes_or (λ ms v. NoneOf (λ m. ConformsTo a m v) ms) (λ ms v. NoneOf (λ m. ConformsTo b m v) ms) r
       (λ n ms l v w x m i k. x m i ((conform m v (inr (inr (inr (inr (inl (n, ms, l, i)))))) w).1 k)) h
-  keep components.Xone r h = of_list components.Xone ShXone (λ ms v. OneOf (λ m. ConformsTo a m v) ms → ⊥) (λ ms v. OneOf (λ m. ConformsTo b m v) ms → ⊥) r
+  keep components.Xone r h = of_list components.Xone ShXone takes_xone (λ ms v. OneOf (λ m. ConformsTo a m v) ms → ⊥) (λ ms v. OneOf (λ m. ConformsTo b m v) ms → ⊥) r
       (λ n ms l v w x k. x (one_same (λ m. ConformsTo b m v) (λ m. ConformsTo a m v) ms
       (λ m i. let c = conform m v (inr (inr (inr (inr (inr (inl (n, ms, l, i))))))) w in (c.1, c.0)) k)) h
   keep components.Node r h = each_value components.Node ShNode (λ q v. ConformsTo a q v → ⊥) (λ q v. ConformsTo b q v → ⊥) r (λ q i v w x k. x ((conform q v (inr (inl i)) w).1 k)) h
@@ -160,7 +173,7 @@ module _ (shape f : Term) (y z : Reading) (e : SameReading y z) (a b : Surroundi
   keep components.QualifiedMaxCount r h = (h.0, (e.has ShQualifiedValueShape h.0).0 h.1, counted components.QualifiedMaxCount ShQualifiedMaxCount (IsQualified a y h.0) (IsQualified b z h.0) IsMore r (λ q i. qualify h.0 (q, inr i) h.1) h.2)
   keep components.Closed r h = ((e.has ShClosed true_literal).0 h.0, (h.1.0, h.1.1, h.1.2, (same.value_node h.1.0).0 h.1.3, (same.triple h.0 h.1.0 h.1.1 h.1.2 h.1.3).0 h.1.4, λ k. h.1.5 ((e.allowed h.1.1).1 k), h.1.6))
   keep components.HasValue r h = (h.0, (e.has ShHasValue h.0).0 h.1, λ k. h.2 ((same.value_node h.0).1 k), h.3)
-  keep components.In r h = of_list components.In ShIn (λ ms v. IsMember ms v → ⊥) (λ ms v. IsMember ms v → ⊥) r (λ n ms l v w x. x) h
+  keep components.In r h = of_list components.In ShIn takes_in (λ ms v. IsMember ms v → ⊥) (λ ms v. IsMember ms v → ⊥) r (λ n ms l v w x. x) h
 
   keep_all : (r : ResultRow) → AtIn a y shape f r → AtIn b z shape f r
   keep_all r h = (

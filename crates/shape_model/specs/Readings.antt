@@ -7,7 +7,7 @@ use Rattle.shape_model.specs.Triples.{IsMember}
 use Rattle.shape_model.specs.Paths.{Path}
 use Rattle.shape_model.specs.Walks.{Walk}
 use Rattle.shape_model.specs.Instances.{Instance}
-use Rattle.shape_model.specs.ShapeSyntax.{HasProperty, ListOf, PathOf, IsShape}
+use Rattle.shape_model.specs.ShapeSyntax.{HasProperty, ListOf, PathOf, IsShape, TakesList}
 
 -- All that a validation asks a shapes graph of one shape, either by its triples or by a form that was made of them.
 pub record Reading : Type 1 where
@@ -111,12 +111,12 @@ References readings a (m ∷ ms) = Refers (readings a) m × References readings 
 abbrev pub IsAcyclic : List Triple → Type 0
 IsAcyclic s = (a : Term) (ms : List Term) → References (reading s) a (ms ++ a ∷ []) → ⊥
 
--- two readings that say the same
+-- two readings that say the same, of lists at the properties that take one
 pub record SameReading (y z : Reading) : Type 0 where
   pub path : (p : Path) → y.path p ↔ z.path p
   pub is_node_shape : y.is_node_shape ↔ z.is_node_shape
   pub has : (p : ShapeProperty) (v : Term) → y.has p v ↔ z.has p v
-  pub has_list : (p : ShapeProperty) (head : Term) (members : List Term) → y.has_list p head members ↔ z.has_list p head members
+  pub has_list : (p : ShapeProperty) → TakesList p → (head : Term) (members : List Term) → y.has_list p head members ↔ z.has_list p head members
   pub sibling : (t : Term) → y.sibling t ↔ z.sibling t
   pub allowed : (p : Term) → y.allowed p ↔ z.allowed p
   pub is_class : y.is_class ↔ z.is_class

@@ -2,7 +2,7 @@
 use Rattle.std.specs.Prelude.{◌≡◌, ◌≢◌, ◌⊎◌, ℕ, List, [], ◌∷◌, codes}
 use Rattle.rdf_model.specs.declared.term.Term.{Term}
 use Rattle.rdf_model.specs.declared.triple.Triple.{Triple}
-use Rattle.shape_model.specs.Vocabulary.{sh, rdf_first, rdf_rest, rdf_nil, ShapeProperty, ShNot, ShAnd, ShOr, ShXone, ShNode, ShProperty, ShQualifiedValueShape, ShDeactivated, ShPath, property_iri}
+use Rattle.shape_model.specs.Vocabulary.{sh, rdf_first, rdf_rest, rdf_nil, ShapeProperty, ShLanguageIn, ShNot, ShAnd, ShOr, ShXone, ShNode, ShProperty, ShQualifiedValueShape, ShIgnoredProperties, ShIn, ShDeactivated, ShPath, property_iri}
 use Rattle.shape_model.specs.Triples.{Has, HasOnly, HasNone, IsBlank, IsIri, IsMember}
 use Rattle.shape_model.specs.Paths.{Path, Predicate, Inverse, Sequence, Alternative, ZeroOrMore, OneOrMore, ZeroOrOne, Paths, Last, Also, AreSeveral}
 use Rattle.shape_model.specs.Instances.{Instance}
@@ -56,6 +56,10 @@ TakesShape p = (p ≡ ShNot) ⊎ (p ≡ ShNode) ⊎ (p ≡ ShProperty) ⊎ (p �
 -- one that takes a list of shapes
 abbrev pub TakesShapes : ShapeProperty → Type 0
 TakesShapes p = (p ≡ ShAnd) ⊎ (p ≡ ShOr) ⊎ (p ≡ ShXone)
+
+-- a property whose values are lists (SHACL 4.4.4, 4.6.2 to 4.6.4, 4.8.1, 4.8.3)
+abbrev pub TakesList : ShapeProperty → Type 0
+TakesList p = (p ≡ ShLanguageIn) ⊎ (p ≡ ShAnd) ⊎ (p ≡ ShOr) ⊎ (p ≡ ShXone) ⊎ (p ≡ ShIgnoredProperties) ⊎ (p ≡ ShIn)
 
 -- The node is a shape (SHACL 2.1): an instance of sh:NodeShape or sh:PropertyShape, the subject of a declaration
 -- of targets or of a parameter, a value of a shape-expecting parameter, or a member of such a list.
