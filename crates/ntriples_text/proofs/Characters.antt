@@ -9,6 +9,7 @@ use Rattle.rdf_model.specs.declared.triple.Triple.{Triple}
 use Rattle.ntriples_text.specs.declared.refusal.RefusalKind.{RefusalKind}
 use Rattle.ntriples_text.specs.declared.refusal.RefusalKind.TheVariants.{NotUtf8}
 use Rattle.ntriples_text.specs.declared.refusal.ReadFault.{ReadFault}
+use Rattle.ntriples_text.specs.declared.statement.Statement.{Statement}
 use Rattle.ntriples_text.specs.Faults.{Refuses}
 use Rattle.ntriples_text.specs.Document.{lines, lines_from, numbered, line_of, reads}
 
@@ -16,20 +17,20 @@ use Rattle.ntriples_text.specs.Document.{lines, lines_from, numbered, line_of, r
 pub fewer_chars : (bs cs : List ℕ) → IsUtf8 bs → cs ≡ chars bs → (cs ≡ chars bs) × (length cs ≤ length bs)
 fewer_chars bs cs u e = (e, subst (λ (xs : List ℕ). length xs ≤ length bs) (sym e) (subst (λ (xs : List ℕ). length (chars bs) ≤ length xs) (encodes-chars bs u) (length-le-encodes (chars bs))))
 
-abbrev reading_of : List ℕ → Result (List Triple) (ℕ × RefusalKind)
+abbrev reading_of : List ℕ → Result (List Statement) (ℕ × RefusalKind)
 reading_of bs = lines_from 1 (lines (chars bs))
 
 abbrev refused : List ℕ → Result (List Triple × ℕ) (ℕ × RefusalKind)
 refused bs = Err (line_of bs (utf8_valid_len bs), NotUtf8)
 
-pub of_text : (bs : List ℕ) (session first : ℕ) → IsUtf8 bs → reads bs session first ≡ numbered first (reading_of bs)
-of_text bs session first u = ap (λ b. cond b (numbered first (reading_of bs)) (refused bs)) (is_utf8-from_IsUtf8 bs u)
+pub of_text : (bs : List ℕ) (session first : ℕ) → IsUtf8 bs → reads bs session first ≡ numbered session first (reading_of bs)
+of_text bs session first u = ap (λ b. cond b (numbered session first (reading_of bs)) (refused bs)) (is_utf8-from_IsUtf8 bs u)
 
 pub of_no_text : (bs : List ℕ) (session first : ℕ) → (IsUtf8 bs → ⊥) → reads bs session first ≡ Err (line_of bs (utf8_valid_len bs), NotUtf8)
-of_no_text bs session first n = ap (λ b. cond b (numbered first (reading_of bs)) (refused bs)) (false_from_ne_true (is_utf8 bs) (λ e. n (IsUtf8-from_is_utf8 bs e)))
+of_no_text bs session first n = ap (λ b. cond b (numbered session first (reading_of bs)) (refused bs)) (false_from_ne_true (is_utf8 bs) (λ e. n (IsUtf8-from_is_utf8 bs e)))
 
-pub whole_text : (r : Result (List Triple) ReadFault) (bs text : List ℕ) (session first : ℕ) → IsUtf8 bs → text ≡ bs
-    → MatchResult r (λ triples. (n : ℕ) → numbered n (reading_of text) ≡ Ok (triples, n)) (λ fault. (n : ℕ) → Refuses fault (numbered n (reading_of text)))
-    → MatchResult r (λ triples. reads bs session first ≡ Ok (triples, first)) (λ fault. Refuses fault (reads bs session first))
-whole_text (Ok ts) bs text session first u e h = of_text bs session first u ∙ ap (λ t. numbered first (reading_of t)) (sym e) ∙ h first
-whole_text (Err f) bs text session first u e h = subst (λ x. Refuses f x) (ap (λ t. numbered first (reading_of t)) e ∙ sym (of_text bs session first u)) (h first)
+pub whole_text : (r : Result (List Triple) ReadFault) (bs text : List ℕ) (session first next : ℕ) → IsUtf8 bs → text ≡ bs
+    → MatchResult r (λ triples. numbered session first (reading_of text) ≡ Ok (triples, next)) (λ fault. Refuses fault (numbered session first (reading_of text)))
+    → MatchResult r (λ triples. reads bs session first ≡ Ok (triples, next)) (λ fault. Refuses fault (reads bs session first))
+whole_text (Ok ts) bs text session first next u e h = of_text bs session first u ∙ ap (λ t. numbered session first (reading_of t)) (sym e) ∙ h
+whole_text (Err f) bs text session first next u e h = subst (λ x. Refuses f x) (ap (λ t. numbered session first (reading_of t)) e ∙ sym (of_text bs session first u)) h

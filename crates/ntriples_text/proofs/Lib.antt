@@ -1,9 +1,11 @@
-pub mod Characters
 pub mod Sets
 pub mod Sorting
 pub mod Lines
-pub mod Readings
+pub mod Pieces
+pub mod Characters
+pub mod Numbers
 pub mod Written
 pub mod ReadAgain
 pub mod RoundTrip
+pub mod Tags
 pub mod Gives

@@ -1,31 +1,80 @@
 -- Reading what was written.
-use Rattle.std.proofs.Common.{◌≡◌, ◌∙◌, ℕ, List, [], ◌∷◌, Some, Ok, refl, sym, ap}
+use Rattle.std.proofs.Common.{◌≡◌, ◌∙◌, ℕ, ◌+◌, List, [], ◌∷◌, map, Ok, refl, sym, ap, arith}
 use Rattle.std.specs.List.{AllByRecursion}
 use Rattle.std.specs.Str.{chars, IsUtf8}
 use Rattle.std.proofs.lemmas.Str.{chars-encodes}
+use Rattle.rdf_model.specs.declared.term.Term.{Term}
+use Rattle.rdf_model.specs.declared.term.Term.TheVariants.{Blank, Iri, Literal}
 use Rattle.rdf_model.specs.declared.triple.Triple.{Triple}
-use Rattle.ntriples_text.specs.Document.{lines, lines_from, number_after, with_line, numbered}
+use Rattle.rdf_model.specs.Terms.{triple_cmp}
+use Rattle.rdf_model.specs.Graphs.{with_each}
+use Rattle.collections.specs.Ordered.{IsAscending}
+use Rattle.ntriples_text.specs.declared.statement.Statement.{Statement}
+use Rattle.ntriples_text.specs.Blanks.{all_labels, once, triple_of}
+use Rattle.ntriples_text.specs.Document.{lines, lines_from, number_after, with_line, with_statement, with_labels, numbered}
 use Rattle.ntriples_text.specs.Writing.{written}
-use Rattle.ntriples_text.specs.Laws.{IsReadable, ReadsAgain}
+use Rattle.ntriples_text.specs.Laws.{IsReadableIri, IsReadableObject, IsReadable, IsNone, ReadsAgain}
 use Rattle.ntriples_text.proofs.Characters.{of_text}
 use Rattle.ntriples_text.proofs.Sorting.{ascending_each}
-use Rattle.ntriples_text.proofs.Written.{all_chars, parts_chars, encodes-all, scalars-all}
-use Rattle.ntriples_text.proofs.ReadAgain.{read_parts, parts_on}
+use Rattle.ntriples_text.proofs.Written.{all_chars, parts_chars, as_iri, encodes-all, scalars-all}
+use Rattle.ntriples_text.proofs.ReadAgain.{plain_statement, read_parts, parts_on}
 
-all_read : (ts : List Triple) (n : ℕ) → AllByRecursion IsReadable ts → lines_from n (lines (all_chars ts)) ≡ Ok ts
+-- the statement of a triple without blank nodes
+abbrev iri_text : Term → List ℕ
+iri_text (Iri a) = a
+iri_text (Blank s n) = []
+iri_text (Literal l d t) = []
+
+abbrev as_statement : Triple → Statement
+as_statement t = plain_statement (iri_text t.subject) (iri_text t.predicate) t.object
+
+is_iri : (t : Term) → IsReadableIri t → t ≡ Iri (iri_text t)
+is_iri (Iri a) r = refl
+is_iri (Blank s n) r = absurd r
+is_iri (Literal l d t) r = absurd r
+
+line_first : (s p o : Term) (rest : List ℕ) (n : ℕ) → IsReadableIri s → IsReadableIri p → IsReadableObject IsNone o
+    → lines_from n (lines (parts_chars s p o rest)) ≡ with_statement (plain_statement (iri_text s) (iri_text p) o) (lines_from (number_after n (parts_chars s p o [])) (lines rest))
+line_first (Iri a) (Iri b) o rest n hs hp ho =
+    let first = parts_chars (Iri a) (Iri b) o [] in
+    ap (lines_from n) (parts_on a b o rest hs hp ho)
+    ∙ ap (λ l. with_line n l (lines_from (number_after n first) (lines rest))) (read_parts a b o hs hp ho)
+line_first (Iri a) (Blank s n) o rest k hs hp ho = absurd hp
+line_first (Iri a) (Literal l d t) o rest k hs hp ho = absurd hp
+line_first (Blank s n) p o rest k hs hp ho = absurd hs
+line_first (Literal l d t) p o rest k hs hp ho = absurd hs
+
+all_read : (ts : List Triple) (n : ℕ) → AllByRecursion (IsReadable IsNone) ts → lines_from n (lines (all_chars ts)) ≡ Ok (map as_statement ts)
 all_read [] n r = refl
 all_read (t ∷ ts) n r =
-    let first = parts_chars t.subject t.predicate t.object [] in
-    ap (lines_from n) (parts_on t.subject t.predicate t.object (all_chars ts) r.0.subject r.0.predicate r.0.object)
-    ∙ (ap (λ l. with_line n l (lines_from (number_after n first) (lines (all_chars ts)))) (read_parts t.subject t.predicate t.object r.0.subject r.0.predicate r.0.object)
-    ∙ ap (with_line n (Ok (Some t))) (all_read ts (number_after n first) r.1))
+    line_first t.subject t.predicate t.object (all_chars ts) n (as_iri t.subject r.0.subject) r.0.predicate r.0.object
+    ∙ ap (with_statement (as_statement t)) (all_read ts (number_after n (parts_chars t.subject t.predicate t.object [])) r.1)
+
+no_labels : (ts : List Triple) → all_labels (map as_statement ts) ≡ []
+no_labels [] = refl
+no_labels (t ∷ ts) = no_labels ts
+
+same_triples : (session first : ℕ) (ts : List Triple) → AllByRecursion (IsReadable IsNone) ts → map (triple_of session first []) (map as_statement ts) ≡ ts
+same_triples session first [] r = refl
+same_triples session first (t ∷ ts) r =
+    let one : triple_of session first [] (as_statement t) ≡ t =
+    λ i. record { subject = sym (is_iri t.subject (as_iri t.subject r.0.subject)) i; predicate = sym (is_iri t.predicate r.0.predicate) i; object = t.object } in
+    ap (λ x. x ∷ map (triple_of session first []) (map as_statement ts)) one ∙ ap (λ xs. t ∷ xs) (same_triples session first ts r.1)
+
+paired : (session first : ℕ) (ts : List Triple) → AllByRecursion (IsReadable IsNone) ts → IsAscending triple_cmp ts → with_labels session first [] (map as_statement ts) ≡ (ts, first)
+paired session first ts r a =
+    let each : with_each [] (map (triple_of session first []) (map as_statement ts)) ≡ ts = ap (with_each []) (same_triples session first ts r) ∙ ascending_each ts a in
+    let last : first + 0 ≡ first = omega arith in
+    ap (λ us. (us, first + 0)) each ∙ ap (λ n. (ts, n)) last
 
 pub reads_again : ReadsAgain
 reads_again ts session first r a =
     let bytes = encodes-all ts r in
     let utf8 : IsUtf8 (written ts) = (all_chars ts, (scalars-all ts r, bytes)) in
     let same : chars (written ts) ≡ all_chars ts = ap chars (sym bytes) ∙ chars-encodes (all_chars ts) (scalars-all ts r) in
+    let statements = map as_statement ts in
     of_text (written ts) session first utf8
-    ∙ (ap (λ cs. numbered first (lines_from 1 (lines cs))) same
-    ∙ (ap (numbered first) (all_read ts 1 r)
-    ∙ ap (λ us. Ok (us, first)) (ascending_each ts a)))
+    ∙ (ap (λ cs. numbered session first (lines_from 1 (lines cs))) same
+    ∙ (ap (numbered session first) (all_read ts 1 r)
+    ∙ (ap (λ (ls : List (List ℕ)). Ok (with_labels session first (once ls) statements)) (no_labels ts)
+    ∙ ap Ok (paired session first ts r a))))

@@ -1,29 +1,39 @@
 -- The characters of written triples, each before what follows it.
-use Rattle.std.proofs.Common.{◌≡◌, ◌∙◌, ℕ, Bool, true, false, cond, List, [], ◌∷◌, ◌++◌, Some, None, refl, sym, ap, append_assoc, codes, arith}
+use Rattle.std.proofs.Common.{◌≡◌, ◌∙◌, ℕ, Bool, true, false, cond, eqb, List, [], ◌∷◌, ◌++◌, Option, Some, None, refl, sym, ap, append_assoc, codes}
 use Rattle.std.specs.Prelude.{encode_utf8}
-use Rattle.std.specs.List.{AllByRecursion, list_all, flat_map}
+use Rattle.std.specs.List.{AllByRecursion, flat_map}
 use Rattle.std.specs.Str.{IsUtf8, chars}
 use Rattle.std.proofs.lemmas.Str.{encodes-chars, encodes-append, scalars-chars}
 use Rattle.std.proofs.lemmas.Bool.{and_parts, and_from}
-use Rattle.std.proofs.lemmas.Bool.Decides.{nat_tests}
 use lib.Utf8.{encodes, encode, scalars, scalar}
 use Rattle.rdf_model.specs.declared.term.Term.{Term}
 use Rattle.rdf_model.specs.declared.term.Term.TheVariants.{Blank, Iri, Literal}
 use Rattle.rdf_model.specs.declared.triple.Triple.{Triple}
 use Rattle.rdf_model.specs.NTriples.{xsd_string, escaped, literal_suffix, term_text}
-use Rattle.ntriples_text.specs.Tokens.{is_string_char}
 use Rattle.ntriples_text.specs.Grammar.{same_text}
 use Rattle.ntriples_text.specs.Writing.{written}
-use Rattle.ntriples_text.specs.Laws.{IsReadableIri, IsReadableObject, IsReadable}
+use Rattle.ntriples_text.specs.Laws.{IsReadableSubject, IsReadableIri, IsReadableObject, IsReadable, IsNone}
 
 abbrev pub in_angles : List ℕ → List ℕ → List ℕ
 in_angles a rest = 60 ∷ (chars a ++ 62 ∷ rest)
 
+-- a character of a string, which is escaped where it must be
+abbrev pub escape_chars : ℕ → List ℕ
+escape_chars c = cond (eqb c 34) (92 ∷ 34 ∷ []) (cond (eqb c 92) (92 ∷ 92 ∷ []) (cond (eqb c 10) (92 ∷ 110 ∷ []) (cond (eqb c 13) (92 ∷ 114 ∷ []) (c ∷ []))))
+
+abbrev pub all_escaped : List ℕ → List ℕ → List ℕ
+all_escaped [] rest = rest
+all_escaped (c ∷ cs) rest = escape_chars c ++ all_escaped cs rest
+
+abbrev pub in_quotes : List ℕ → List ℕ → List ℕ
+in_quotes l rest = 34 ∷ all_escaped (chars l) (34 ∷ rest)
+
 abbrev pub suffix_chars : List ℕ → Bool → List ℕ → List ℕ
 suffix_chars d same rest = cond same rest (94 ∷ 94 ∷ in_angles d rest)
 
-abbrev pub in_quotes : List ℕ → List ℕ → List ℕ
-in_quotes l rest = 34 ∷ (chars l ++ 34 ∷ rest)
+abbrev pub end_chars : List ℕ → Option (List ℕ) → List ℕ → List ℕ
+end_chars d None rest = suffix_chars d (same_text d xsd_string) rest
+end_chars d (Some tag) rest = 64 ∷ (chars tag ++ rest)
 
 abbrev pub iri_chars : Term → List ℕ → List ℕ
 iri_chars (Iri a) rest = in_angles a rest
@@ -33,7 +43,7 @@ iri_chars (Literal l d t) rest = rest
 abbrev pub object_chars : Term → List ℕ → List ℕ
 object_chars (Iri a) rest = in_angles a rest
 object_chars (Blank s n) rest = rest
-object_chars (Literal l d t) rest = in_quotes l (suffix_chars d (same_text d xsd_string) rest)
+object_chars (Literal l d t) rest = in_quotes l (end_chars d t rest)
 
 abbrev pub parts_chars : Term → Term → Term → List ℕ → List ℕ
 parts_chars s p o rest = iri_chars s (32 ∷ iri_chars p (32 ∷ object_chars o (32 ∷ 46 ∷ 10 ∷ rest)))
@@ -42,23 +52,43 @@ abbrev pub all_chars : List Triple → List ℕ
 all_chars [] = []
 all_chars (t ∷ ts) = parts_chars t.subject t.predicate t.object (all_chars ts)
 
+-- without blank nodes a subject is an IRI
+pub as_iri : (t : Term) → IsReadableSubject IsNone t → IsReadableIri t
+as_iri (Iri a) r = r
+as_iri (Blank s n) r = absurd r
+as_iri (Literal l d t) r = absurd r
+
 -- their bytes
 encodes-in_angles : (a rest : List ℕ) → IsUtf8 a → encodes (in_angles a rest) ≡ 60 ∷ (a ++ 62 ∷ encodes rest)
 unfolding encode
 encodes-in_angles a rest u = ap (λ x. 60 ∷ x) (encodes-append (chars a) (62 ∷ rest) ∙ ap (λ b. b ++ 62 ∷ encodes rest) (encodes-chars a u))
 
-encodes-in_quotes : (l rest : List ℕ) → IsUtf8 l → encodes (in_quotes l rest) ≡ 34 ∷ (l ++ 34 ∷ encodes rest)
+encodes-escaped : (c : ℕ) (more : List ℕ) → encodes (escape_chars c ++ more) ≡ escaped c ++ encodes more
 unfolding encode
-encodes-in_quotes l rest u = ap (λ x. 34 ∷ x) (encodes-append (chars l) (34 ∷ rest) ∙ ap (λ b. b ++ 34 ∷ encodes rest) (encodes-chars l u))
+encodes-escaped c more =
+    let last : Bool → List ℕ = λ b. cond b (92 ∷ 114 ∷ []) (c ∷ []) in
+    let last' : Bool → List ℕ = λ b. cond b (92 ∷ 114 ∷ []) (encode_utf8 c) in
+    elim (eqb c 34) as (λ b. encodes (cond b (92 ∷ 34 ∷ []) (cond (eqb c 92) (92 ∷ 92 ∷ []) (cond (eqb c 10) (92 ∷ 110 ∷ []) (last (eqb c 13)))) ++ more) ≡ cond b (92 ∷ 34 ∷ []) (cond (eqb c 92) (92 ∷ 92 ∷ []) (cond (eqb c 10) (92 ∷ 110 ∷ []) (last' (eqb c 13)))) ++ encodes more) [
+      | true ↦ refl
+      | false ↦ elim (eqb c 92) as (λ b. encodes (cond b (92 ∷ 92 ∷ []) (cond (eqb c 10) (92 ∷ 110 ∷ []) (last (eqb c 13))) ++ more) ≡ cond b (92 ∷ 92 ∷ []) (cond (eqb c 10) (92 ∷ 110 ∷ []) (last' (eqb c 13))) ++ encodes more) [
+        | true ↦ refl
+        | false ↦ elim (eqb c 10) as (λ b. encodes (cond b (92 ∷ 110 ∷ []) (last (eqb c 13)) ++ more) ≡ cond b (92 ∷ 110 ∷ []) (last' (eqb c 13)) ++ encodes more) [
+          | true ↦ refl
+          | false ↦ elim (eqb c 13) as (λ b. encodes (last b ++ more) ≡ last' b ++ encodes more) [ true ↦ refl | false ↦ refl ]
+        ]
+      ]
+    ]
 
-plain : (c : ℕ) → is_string_char c ≡ true → escaped c ≡ encode_utf8 c
-plain c h = grind (arith, nat_tests)
+encodes-all_escaped : (cs rest : List ℕ) → encodes (all_escaped cs rest) ≡ flat_map escaped cs ++ encodes rest
+encodes-all_escaped [] rest = refl
+encodes-all_escaped (c ∷ cs) rest =
+    encodes-escaped c (all_escaped cs rest)
+    ∙ (ap (λ x. escaped c ++ x) (encodes-all_escaped cs rest)
+    ∙ sym (append_assoc (escaped c) (flat_map escaped cs) (encodes rest)))
 
-escaped-plain : (cs : List ℕ) → list_all is_string_char cs ≡ true → flat_map escaped cs ≡ encodes cs
-escaped-plain [] h = refl
-escaped-plain (c ∷ cs) h =
-    let p = and_parts (is_string_char c) (list_all is_string_char cs) h in
-    ap (λ x. x ++ flat_map escaped cs) (plain c p.0) ∙ ap (λ x. encode_utf8 c ++ x) (escaped-plain cs p.1)
+encodes-in_quotes : (l rest : List ℕ) → encodes (in_quotes l rest) ≡ 34 ∷ (flat_map escaped (chars l) ++ 34 ∷ encodes rest)
+unfolding encode
+encodes-in_quotes l rest = ap (λ x. 34 ∷ x) (encodes-all_escaped (chars l) (34 ∷ rest))
 
 pub encodes-iri : (t : Term) (rest : List ℕ) → IsReadableIri t → encodes (iri_chars t rest) ≡ term_text t ++ encodes rest
 unfolding encode
@@ -71,22 +101,27 @@ unfolding encode
 encodes-suffix d rest true u = refl
 encodes-suffix d rest false u = ap (λ x. 94 ∷ 94 ∷ x) (encodes-in_angles d rest u ∙ ap (λ x. 60 ∷ x) (sym (append_assoc d (62 ∷ []) (encodes rest))))
 
+encodes-tag : (tag rest : List ℕ) → IsUtf8 tag → encodes (64 ∷ (chars tag ++ rest)) ≡ (codes "@" ++ tag) ++ encodes rest
+unfolding encode
+encodes-tag tag rest u = ap (λ x. 64 ∷ x) (encodes-append (chars tag) rest ∙ ap (λ x. x ++ encodes rest) (encodes-chars tag u))
+
 regroup_quotes : (q x suffix rest : List ℕ) → q ++ (x ++ (q ++ (suffix ++ rest))) ≡ (q ++ x ++ q ++ suffix) ++ rest
 regroup_quotes q x suffix rest = simp append_assoc
 
-pub encodes-object : (t : Term) (rest : List ℕ) → IsReadableObject t → encodes (object_chars t rest) ≡ term_text t ++ encodes rest
+encodes-literal : (l suffix rest : List ℕ) (ends : List ℕ) → encodes ends ≡ suffix ++ encodes rest → encodes (in_quotes l ends) ≡ (codes "\"" ++ flat_map escaped (chars l) ++ codes "\"" ++ suffix) ++ encodes rest
+encodes-literal l suffix rest ends e =
+    encodes-in_quotes l ends
+    ∙ (ap (λ x. 34 ∷ (flat_map escaped (chars l) ++ 34 ∷ x)) e
+    ∙ regroup_quotes (34 ∷ []) (flat_map escaped (chars l)) suffix (encodes rest))
+
+pub encodes-object : (t : Term) (rest : List ℕ) → IsReadableObject IsNone t → encodes (object_chars t rest) ≡ term_text t ++ encodes rest
 unfolding encode
 encodes-object (Iri a) rest r = encodes-in_angles a rest r.0 ∙ ap (λ x. 60 ∷ x) (sym (append_assoc a (62 ∷ []) (encodes rest)))
 encodes-object (Blank s n) rest r = absurd r
-encodes-object (Literal l d None) rest r =
-    let suffix = literal_suffix d None in
-    encodes-in_quotes l (suffix_chars d (same_text d xsd_string) rest) r.0
-    ∙ (ap (λ x. 34 ∷ (l ++ 34 ∷ x)) (encodes-suffix d rest (same_text d xsd_string) r.2.0)
-    ∙ (ap (λ x. 34 ∷ (x ++ 34 ∷ (suffix ++ encodes rest))) (sym (escaped-plain (chars l) r.1 ∙ encodes-chars l r.0))
-    ∙ regroup_quotes (34 ∷ []) (flat_map escaped (chars l)) suffix (encodes rest)))
-encodes-object (Literal l d (Some tag)) rest r = absurd r
+encodes-object (Literal l d None) rest r = encodes-literal l (literal_suffix d None) rest (end_chars d None rest) (encodes-suffix d rest (same_text d xsd_string) r.1.0)
+encodes-object (Literal l d (Some tag)) rest r = encodes-literal l (literal_suffix d (Some tag)) rest (end_chars d (Some tag) rest) (encodes-tag tag rest r.2)
 
-encodes-parts : (s p o : Term) (rest : List ℕ) → IsReadableIri s → IsReadableIri p → IsReadableObject o
+encodes-parts : (s p o : Term) (rest : List ℕ) → IsReadableIri s → IsReadableIri p → IsReadableObject IsNone o
     → encodes (parts_chars s p o rest) ≡ term_text s ++ 32 ∷ (term_text p ++ 32 ∷ (term_text o ++ 32 ∷ 46 ∷ 10 ∷ encodes rest))
 unfolding encode
 encodes-parts s p o rest hs hp ho =
@@ -97,11 +132,11 @@ encodes-parts s p o rest hs hp ho =
 regroup : (s p o rest : List ℕ) → (s ++ codes " " ++ p ++ codes " " ++ o ++ codes " ." ++ codes "\n") ++ rest ≡ s ++ 32 ∷ (p ++ 32 ∷ (o ++ 32 ∷ 46 ∷ 10 ∷ rest))
 regroup s p o rest = simp append_assoc
 
-pub encodes-all : (ts : List Triple) → AllByRecursion IsReadable ts → encodes (all_chars ts) ≡ written ts
+pub encodes-all : (ts : List Triple) → AllByRecursion (IsReadable IsNone) ts → encodes (all_chars ts) ≡ written ts
 unfolding encode
 encodes-all [] r = refl
 encodes-all (t ∷ ts) r =
-    encodes-parts t.subject t.predicate t.object (all_chars ts) r.0.subject r.0.predicate r.0.object
+    encodes-parts t.subject t.predicate t.object (all_chars ts) (as_iri t.subject r.0.subject) r.0.predicate r.0.object
     ∙ (ap (λ x. term_text t.subject ++ 32 ∷ (term_text t.predicate ++ 32 ∷ (term_text t.object ++ 32 ∷ 46 ∷ 10 ∷ x))) (encodes-all ts r.1)
     ∙ sym (regroup (term_text t.subject) (term_text t.predicate) (term_text t.object) (written ts)))
 
@@ -109,6 +144,22 @@ encodes-all (t ∷ ts) r =
 scalars-append : (cs ds : List ℕ) → scalars cs ≡ true → scalars ds ≡ true → scalars (cs ++ ds) ≡ true
 scalars-append [] ds a b = b
 scalars-append (c ∷ cs) ds a b = let p = and_parts (scalar c) (scalars cs) a in and_from (scalar c) (scalars (cs ++ ds)) p.0 (scalars-append cs ds p.1 b)
+
+scalars-escape : (c : ℕ) (more : List ℕ) → scalar c ≡ true → scalars more ≡ true → scalars (escape_chars c ++ more) ≡ true
+scalars-escape c more s h = elim (eqb c 34) as (λ b. scalars (cond b (92 ∷ 34 ∷ []) (cond (eqb c 92) (92 ∷ 92 ∷ []) (cond (eqb c 10) (92 ∷ 110 ∷ []) (cond (eqb c 13) (92 ∷ 114 ∷ []) (c ∷ [])))) ++ more) ≡ true) [
+  | true ↦ h
+  | false ↦ elim (eqb c 92) as (λ b. scalars (cond b (92 ∷ 92 ∷ []) (cond (eqb c 10) (92 ∷ 110 ∷ []) (cond (eqb c 13) (92 ∷ 114 ∷ []) (c ∷ []))) ++ more) ≡ true) [
+    | true ↦ h
+    | false ↦ elim (eqb c 10) as (λ b. scalars (cond b (92 ∷ 110 ∷ []) (cond (eqb c 13) (92 ∷ 114 ∷ []) (c ∷ [])) ++ more) ≡ true) [
+      | true ↦ h
+      | false ↦ elim (eqb c 13) as (λ b. scalars (cond b (92 ∷ 114 ∷ []) (c ∷ []) ++ more) ≡ true) [ true ↦ h | false ↦ and_from (scalar c) (scalars more) s h ]
+    ]
+  ]
+]
+
+scalars-all_escaped : (cs rest : List ℕ) → scalars cs ≡ true → scalars rest ≡ true → scalars (all_escaped cs rest) ≡ true
+scalars-all_escaped [] rest s h = h
+scalars-all_escaped (c ∷ cs) rest s h = let p = and_parts (scalar c) (scalars cs) s in scalars-escape c (all_escaped cs rest) p.0 (scalars-all_escaped cs rest p.1 h)
 
 scalars-iri : (t : Term) (rest : List ℕ) → IsReadableIri t → scalars rest ≡ true → scalars (iri_chars t rest) ≡ true
 scalars-iri (Iri a) rest r h = scalars-append (chars a) (62 ∷ rest) (scalars-chars a r.0) h
@@ -119,15 +170,15 @@ scalars-suffix : (d rest : List ℕ) (same : Bool) → IsUtf8 d → scalars rest
 scalars-suffix d rest true u h = h
 scalars-suffix d rest false u h = scalars-append (chars d) (62 ∷ rest) (scalars-chars d u) h
 
-scalars-object : (t : Term) (rest : List ℕ) → IsReadableObject t → scalars rest ≡ true → scalars (object_chars t rest) ≡ true
+scalars-object : (t : Term) (rest : List ℕ) → IsReadableObject IsNone t → scalars rest ≡ true → scalars (object_chars t rest) ≡ true
 scalars-object (Iri a) rest r h = scalars-append (chars a) (62 ∷ rest) (scalars-chars a r.0) h
 scalars-object (Blank s n) rest r h = absurd r
-scalars-object (Literal l d None) rest r h = scalars-append (chars l) (34 ∷ suffix_chars d (same_text d xsd_string) rest) (scalars-chars l r.0) (scalars-suffix d rest (same_text d xsd_string) r.2.0 h)
-scalars-object (Literal l d (Some tag)) rest r h = absurd r
+scalars-object (Literal l d None) rest r h = scalars-all_escaped (chars l) (34 ∷ end_chars d None rest) (scalars-chars l r.0) (scalars-suffix d rest (same_text d xsd_string) r.1.0 h)
+scalars-object (Literal l d (Some tag)) rest r h = scalars-all_escaped (chars l) (34 ∷ end_chars d (Some tag) rest) (scalars-chars l r.0) (scalars-append (chars tag) rest (scalars-chars tag r.2) h)
 
-pub scalars-all : (ts : List Triple) → AllByRecursion IsReadable ts → scalars (all_chars ts) ≡ true
+pub scalars-all : (ts : List Triple) → AllByRecursion (IsReadable IsNone) ts → scalars (all_chars ts) ≡ true
 scalars-all [] r = refl
 scalars-all (t ∷ ts) r =
     let o = scalars-object t.object (32 ∷ 46 ∷ 10 ∷ all_chars ts) r.0.object (scalars-all ts r.1) in
     let p = scalars-iri t.predicate (32 ∷ object_chars t.object (32 ∷ 46 ∷ 10 ∷ all_chars ts)) r.0.predicate o in
-    scalars-iri t.subject (32 ∷ iri_chars t.predicate (32 ∷ object_chars t.object (32 ∷ 46 ∷ 10 ∷ all_chars ts))) r.0.subject p
+    scalars-iri t.subject (32 ∷ iri_chars t.predicate (32 ∷ object_chars t.object (32 ∷ 46 ∷ 10 ∷ all_chars ts))) (as_iri t.subject r.0.subject) p

@@ -1,5 +1,5 @@
 -- A text of N-Triples 1.1, whole: its triples, or the one refusal that counts.
-use Rattle.std.specs.Prelude.{ℕ, ◌+◌, ◌-◌, List, [], ◌∷◌, length, take, Option, Some, None, Result, Ok, Err, ◌==◌, if◌then◌else◌, slice_index}
+use Rattle.std.specs.Prelude.{ℕ, ◌+◌, ◌-◌, List, [], ◌∷◌, length, take, map, Option, Some, None, Result, Ok, Err, ◌==◌, if◌then◌else◌, slice_index}
 use Rattle.std.specs.List.{onto_first, count_by}
 use Rattle.std.specs.Str.{chars, is_utf8}
 use Rattle.std.specs.Str.Lossy.{utf8_valid_len}
@@ -8,7 +8,9 @@ use Rattle.rdf_model.specs.Graphs.{with_each}
 use Rattle.ntriples_text.specs.declared.refusal.RefusalKind.{RefusalKind}
 use Rattle.ntriples_text.specs.declared.refusal.RefusalKind.TheVariants.{NotUtf8}
 use Rattle.ntriples_text.specs.Tokens.{is_line_end}
+use Rattle.ntriples_text.specs.declared.statement.Statement.{Statement}
 use Rattle.ntriples_text.specs.Grammar.{line}
+use Rattle.ntriples_text.specs.Blanks.{all_labels, once, triple_of}
 
 -- the lines of a text, each with the CR or LF that ends it; the last may have none
 abbrev pub lines : List ℕ → List (List ℕ)
@@ -19,22 +21,28 @@ lines (c ∷ cs) = if is_line_end c then (c ∷ []) ∷ lines cs else onto_first
 abbrev pub number_after : ℕ → List ℕ → ℕ
 number_after n cs = if slice_index cs (length cs - 1) == 10 then n + 1 else n
 
--- what a line adds to the triples of those after it
-abbrev pub with_line : ℕ → Result (Option Triple) RefusalKind → Result (List Triple) (ℕ × RefusalKind) → Result (List Triple) (ℕ × RefusalKind)
+-- what a statement, and what a line, adds to the statements of the lines after it
+abbrev pub with_statement : Statement → Result (List Statement) (ℕ × RefusalKind) → Result (List Statement) (ℕ × RefusalKind)
+with_statement s (Ok ss) = Ok (s ∷ ss)
+with_statement s (Err fault) = Err fault
+
+abbrev pub with_line : ℕ → Result (Option Statement) RefusalKind → Result (List Statement) (ℕ × RefusalKind) → Result (List Statement) (ℕ × RefusalKind)
 with_line n (Err kind) more = Err (n, kind)
 with_line n (Ok None) more = more
-with_line n (Ok (Some t)) (Ok ts) = Ok (t ∷ ts)
-with_line n (Ok (Some t)) (Err fault) = Err fault
+with_line n (Ok (Some s)) more = with_statement s more
 
--- the triples of the lines, the first of which has number n; or the first line that is refused
-abbrev pub lines_from : ℕ → List (List ℕ) → Result (List Triple) (ℕ × RefusalKind)
+-- the statements of the lines, the first of which has number n; or the first line that is refused
+abbrev pub lines_from : ℕ → List (List ℕ) → Result (List Statement) (ℕ × RefusalKind)
 lines_from n [] = Ok []
 lines_from n (l ∷ ls) = with_line n (line l) (lines_from (number_after n l) ls)
 
--- each triple once, ascending, and the next number of a blank node: no label is read, so it stays
-abbrev pub numbered : ℕ → Result (List Triple) (ℕ × RefusalKind) → Result (List Triple × ℕ) (ℕ × RefusalKind)
-numbered first (Ok ts) = Ok (with_each [] ts, first)
-numbered first (Err fault) = Err fault
+-- the triples of statements with these labels, each once, ascending; and the next number of a blank node
+abbrev pub with_labels : ℕ → ℕ → List (List ℕ) → List Statement → List Triple × ℕ
+with_labels session first labels ss = (with_each [] (map (triple_of session first labels) ss), first + length labels)
+
+abbrev pub numbered : ℕ → ℕ → Result (List Statement) (ℕ × RefusalKind) → Result (List Triple × ℕ) (ℕ × RefusalKind)
+numbered session first (Ok ss) = Ok (with_labels session first (once (all_labels ss)) ss)
+numbered session first (Err fault) = Err fault
 
 -- the line of the byte at a place
 abbrev pub line_of : List ℕ → ℕ → ℕ
@@ -43,4 +51,4 @@ line_of bytes at = count_by (λ b. b == 10) (take at bytes) + 1
 -- Reads: the triples of a text of this session, whose blank nodes are numbered from first; or its refusal, with the
 -- line. Bytes that are no UTF-8 come before all else.
 abbrev pub reads : List ℕ → ℕ → ℕ → Result (List Triple × ℕ) (ℕ × RefusalKind)
-reads bytes session first = if is_utf8 bytes then numbered first (lines_from 1 (lines (chars bytes))) else Err (line_of bytes (utf8_valid_len bytes), NotUtf8)
+reads bytes session first = if is_utf8 bytes then numbered session first (lines_from 1 (lines (chars bytes))) else Err (line_of bytes (utf8_valid_len bytes), NotUtf8)

@@ -1,7 +1,7 @@
 -- Readings: what was read, or the kind of the refusal.
 use Rattle.std.specs.Prelude.{◌≡◌, ℕ, Result, Ok, Err}
 use Rattle.ntriples_text.specs.declared.refusal.RefusalKind.{RefusalKind}
-use Rattle.ntriples_text.specs.declared.refusal.RefusalKind.TheVariants.{NotUtf8, NoToken, UnexpectedToken, RelativeIri, FloatingPoint, LanguageString, UnexpectedEnd}
+use Rattle.ntriples_text.specs.declared.refusal.RefusalKind.TheVariants.{NotUtf8, NoToken, UnexpectedToken, RelativeIri, BadEscape, FloatingPoint, LanguageString, BlankPredicate, UnexpectedEnd}
 use Rattle.ntriples_text.specs.declared.refusal.LineFault.{LineFault}
 use Rattle.ntriples_text.specs.declared.refusal.LineFault.TheVariants as line
 use Rattle.ntriples_text.specs.declared.refusal.ReadFault.{ReadFault}
@@ -33,6 +33,8 @@ number_of NotUtf8 = 1
 number_of NoToken = 2
 number_of UnexpectedToken = 3
 number_of RelativeIri = 5
+number_of BadEscape = 6
 number_of FloatingPoint = 7
 number_of LanguageString = 10
+number_of BlankPredicate = 13
 number_of UnexpectedEnd = 14

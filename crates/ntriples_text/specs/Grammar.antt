@@ -3,13 +3,15 @@ use Rattle.std.specs.Prelude.{ℕ, Bool, true, false, ◌||◌, List, Option, So
 use lib.Pointwise.{pointwise}
 use Rattle.rdf_model.specs.declared.term.Term.{Term}
 use Rattle.rdf_model.specs.declared.term.Term.TheVariants.{Iri, Literal}
-use Rattle.rdf_model.specs.declared.triple.Triple.{Triple}
 use Rattle.rdf_model.specs.NTriples.{xsd_string}
 use Rattle.iri_ref.specs.Scheme.{has_scheme}
 use Rattle.ntriples_text.specs.declared.refusal.RefusalKind.{RefusalKind}
-use Rattle.ntriples_text.specs.declared.refusal.RefusalKind.TheVariants.{UnexpectedToken, RelativeIri, FloatingPoint, LanguageString, UnexpectedEnd}
+use Rattle.ntriples_text.specs.declared.refusal.RefusalKind.TheVariants.{UnexpectedToken, RelativeIri, FloatingPoint, LanguageString, BlankPredicate, UnexpectedEnd}
 use Rattle.ntriples_text.specs.declared.token.Token.{Token}
-use Rattle.ntriples_text.specs.declared.token.Token.TheVariants.{IriRef, Quoted, Carets, Dot, LineEnd, TextEnd}
+use Rattle.ntriples_text.specs.declared.token.Token.TheVariants.{IriRef, Quoted, Label, LanguageTag, Carets, Dot, LineEnd, TextEnd}
+use Rattle.ntriples_text.specs.declared.statement.Node.{Node}
+use Rattle.ntriples_text.specs.declared.statement.Node.TheVariants.{Labelled, Plain}
+use Rattle.ntriples_text.specs.declared.statement.Statement.{Statement}
 use Rattle.ntriples_text.specs.Faults.{◌>>=◌}
 use Rattle.ntriples_text.specs.Tokens.{Reading, token}
 
@@ -24,11 +26,13 @@ unexpected _ = UnexpectedToken
 -- an IRIREF, which has a scheme (N-Triples section 2.2: IRIs are absolute)
 abbrev pub iri_of : Token → Result (List ℕ) RefusalKind
 iri_of (IriRef iri) = if has_scheme iri then Ok iri else Err RelativeIri
-iri_of (Quoted text) = Err (unexpected (Quoted text))
-iri_of Carets = Err (unexpected Carets)
-iri_of Dot = Err (unexpected Dot)
-iri_of LineEnd = Err (unexpected LineEnd)
-iri_of TextEnd = Err (unexpected TextEnd)
+iri_of (Quoted text) = Err UnexpectedToken
+iri_of (Label label) = Err UnexpectedToken
+iri_of (LanguageTag tag) = Err UnexpectedToken
+iri_of Carets = Err UnexpectedToken
+iri_of Dot = Err UnexpectedToken
+iri_of LineEnd = Err UnexpectedToken
+iri_of TextEnd = Err UnexpectedEnd
 
 unfoldable pub iri : List ℕ → Reading (List ℕ)
 iri cs = do
@@ -36,17 +40,33 @@ iri cs = do
   iri ← iri_of t.0
   Ok (iri, t.1)
 
--- `^^` IRIREF after a string; without it the datatype is xsd:string
-abbrev pub datatype_at : List ℕ → Token × List ℕ → Reading (List ℕ)
-datatype_at cs (Carets, rest) = iri rest
-datatype_at cs (IriRef x, rest) = Ok (xsd_string, cs)
-datatype_at cs (Quoted x, rest) = Ok (xsd_string, cs)
-datatype_at cs (Dot, rest) = Ok (xsd_string, cs)
-datatype_at cs (LineEnd, rest) = Ok (xsd_string, cs)
-datatype_at cs (TextEnd, rest) = Ok (xsd_string, cs)
+-- subject: an IRIREF or a label
+abbrev pub node_of : Token → Result Node RefusalKind
+node_of (Label label) = Ok (Labelled label)
+node_of (IriRef x) = iri_of (IriRef x) >>= λ a. Ok (Plain (Iri a))
+node_of (Quoted text) = Err UnexpectedToken
+node_of (LanguageTag tag) = Err UnexpectedToken
+node_of Carets = Err UnexpectedToken
+node_of Dot = Err UnexpectedToken
+node_of LineEnd = Err UnexpectedToken
+node_of TextEnd = Err UnexpectedEnd
 
-unfoldable pub datatype : List ℕ → Reading (List ℕ)
-datatype cs = token cs >>= datatype_at cs
+-- predicate: an IRIREF
+abbrev pub predicate_of : Token → Result (List ℕ) RefusalKind
+predicate_of (Label label) = Err BlankPredicate
+predicate_of (IriRef x) = iri_of (IriRef x)
+predicate_of (Quoted text) = Err UnexpectedToken
+predicate_of (LanguageTag tag) = Err UnexpectedToken
+predicate_of Carets = Err UnexpectedToken
+predicate_of Dot = Err UnexpectedToken
+predicate_of LineEnd = Err UnexpectedToken
+predicate_of TextEnd = Err UnexpectedEnd
+
+unfoldable pub predicate : List ℕ → Reading (List ℕ)
+predicate cs = do
+  t ← token cs
+  iri ← predicate_of t.0
+  Ok (iri, t.1)
 
 abbrev pub xsd_float : List ℕ
 xsd_float = codes "http://www.w3.org/2001/XMLSchema#float"
@@ -57,22 +77,38 @@ xsd_double = codes "http://www.w3.org/2001/XMLSchema#double"
 abbrev pub rdf_lang_string : List ℕ
 rdf_lang_string = codes "http://www.w3.org/1999/02/22-rdf-syntax-ns#langString"
 
--- A literal. Those of xsd:float and xsd:double aren't kept in this store, and rdf:langString asks for a tag
--- (RDF 1.1 Concepts section 3.3).
+-- A literal with a datatype. Those of xsd:float and xsd:double aren't kept in this store, and rdf:langString asks for a
+-- tag (RDF 1.1 Concepts section 3.3).
 abbrev pub literal : List ℕ → List ℕ → Result Term RefusalKind
 literal lexical datatype = if same_text datatype xsd_float || same_text datatype xsd_double then Err FloatingPoint else
     (if same_text datatype rdf_lang_string then Err LanguageString else Ok (Literal lexical datatype None))
 
--- object: an IRIREF or a literal
-abbrev pub object_at : Token × List ℕ → Reading Term
-object_at (Quoted lexical, rest) = datatype rest >>= λ d. literal lexical d.0 >>= λ term. Ok (term, d.1)
-object_at (IriRef x, rest) = iri_of (IriRef x) >>= λ a. Ok (Iri a, rest)
+-- literal: a string, and `^^` IRIREF or LANGTAG; with neither the datatype is xsd:string, with LANGTAG rdf:langString
+abbrev pub literal_at : List ℕ → List ℕ → Token × List ℕ → Reading Term
+literal_at lexical cs (Carets, rest) = iri rest >>= λ d. literal lexical d.0 >>= λ term. Ok (term, d.1)
+literal_at lexical cs (LanguageTag tag, rest) = Ok (Literal lexical rdf_lang_string (Some tag), rest)
+literal_at lexical cs (IriRef x, rest) = Ok (Literal lexical xsd_string None, cs)
+literal_at lexical cs (Quoted x, rest) = Ok (Literal lexical xsd_string None, cs)
+literal_at lexical cs (Label x, rest) = Ok (Literal lexical xsd_string None, cs)
+literal_at lexical cs (Dot, rest) = Ok (Literal lexical xsd_string None, cs)
+literal_at lexical cs (LineEnd, rest) = Ok (Literal lexical xsd_string None, cs)
+literal_at lexical cs (TextEnd, rest) = Ok (Literal lexical xsd_string None, cs)
+
+unfoldable pub literal_from : List ℕ → List ℕ → Reading Term
+literal_from lexical cs = token cs >>= literal_at lexical cs
+
+-- object: a literal, or as a subject
+abbrev pub object_at : Token × List ℕ → Reading Node
+object_at (Quoted lexical, rest) = literal_from lexical rest >>= λ r. Ok (Plain r.0, r.1)
+object_at (IriRef x, rest) = node_of (IriRef x) >>= λ n. Ok (n, rest)
+object_at (Label label, rest) = Ok (Labelled label, rest)
+object_at (LanguageTag tag, rest) = Err UnexpectedToken
 object_at (Carets, rest) = Err UnexpectedToken
 object_at (Dot, rest) = Err UnexpectedToken
 object_at (LineEnd, rest) = Err UnexpectedToken
 object_at (TextEnd, rest) = Err UnexpectedEnd
 
-unfoldable pub object : List ℕ → Reading Term
+unfoldable pub object : List ℕ → Reading Node
 object cs = token cs >>= object_at
 
 -- the dot
@@ -80,6 +116,8 @@ abbrev pub dot_at : Token × List ℕ → Result (List ℕ) RefusalKind
 dot_at (Dot, rest) = Ok rest
 dot_at (IriRef x, rest) = Err UnexpectedToken
 dot_at (Quoted x, rest) = Err UnexpectedToken
+dot_at (Label x, rest) = Err UnexpectedToken
+dot_at (LanguageTag x, rest) = Err UnexpectedToken
 dot_at (Carets, rest) = Err UnexpectedToken
 dot_at (LineEnd, rest) = Err UnexpectedToken
 dot_at (TextEnd, rest) = Err UnexpectedEnd
@@ -93,6 +131,8 @@ is_end LineEnd = true
 is_end TextEnd = true
 is_end (IriRef x) = false
 is_end (Quoted x) = false
+is_end (Label x) = false
+is_end (LanguageTag x) = false
 is_end Carets = false
 is_end Dot = false
 
@@ -100,17 +140,17 @@ unfoldable pub end : List ℕ → Result (Unit {0}) RefusalKind
 end cs = token cs >>= λ t. if is_end t.0 then Ok tt else Err UnexpectedToken
 
 -- triple: subject, predicate, object and the dot, and then the line's end; the subject's token has been read
-unfoldable pub triple_from : Token × List ℕ → Result Triple RefusalKind
-triple_from t = do
-  subject ← iri_of t.0
-  predicate ← iri t.1
+unfoldable pub statement_from : Token × List ℕ → Result Statement RefusalKind
+statement_from t = do
+  subject ← node_of t.0
+  predicate ← predicate t.1
   object ← object predicate.1
   rest ← dot object.1
   ended ← end rest
-  Ok (record { subject = Iri subject; predicate = Iri predicate.0; object = object.0 })
+  Ok (record { subject = subject; predicate = predicate.0; object = object.0 })
 
 -- a line has a triple or none
-unfoldable pub line : List ℕ → Result (Option Triple) RefusalKind
+unfoldable pub line : List ℕ → Result (Option Statement) RefusalKind
 line cs = do
   t ← token cs
-  if is_end t.0 then Ok None else (triple_from t >>= λ triple. Ok (Some triple))
+  if is_end t.0 then Ok None else (statement_from t >>= λ s. Ok (Some s))

@@ -1,16 +1,18 @@
 -- Which triples a text can give, and that their text gives them.
-use Rattle.std.specs.Prelude.{◌≡◌, ℕ, true, List, Some, None, Ok}
-use Rattle.std.specs.List.{AllByRecursion, list_all}
+use Rattle.std.specs.Prelude.{◌≡◌, ℕ, ◌<◌, ◌≤◌, true, false, List, [], ◌∷◌, map, length, Some, None, Ok}
+use Rattle.std.specs.List.{AllByRecursion, list_all, list_any}
 use Rattle.std.specs.Str.{IsUtf8, chars}
 use Rattle.iri_ref.specs.Scheme.{has_scheme}
-use Rattle.rdf_lexical.specs.Characters.{is_iri_char}
+use Rattle.rdf_lexical.specs.Characters.{is_iri_char, is_ascii_letter}
 use Rattle.rdf_model.specs.declared.term.Term.{Term}
 use Rattle.rdf_model.specs.declared.term.Term.TheVariants.{Blank, Iri, Literal}
 use Rattle.rdf_model.specs.declared.triple.Triple.{Triple}
 use Rattle.rdf_model.specs.Terms.{triple_cmp}
 use Rattle.collections.specs.Ordered.{IsAscending}
-use Rattle.ntriples_text.specs.Tokens.{is_string_char}
-use Rattle.ntriples_text.specs.Grammar.{literal}
+use Rattle.ntriples_text.specs.Tokens.{lower_case, tag_length}
+use Rattle.ntriples_text.specs.declared.statement.Node.TheVariants.{Labelled}
+use Rattle.ntriples_text.specs.Grammar.{same_text, literal, rdf_lang_string}
+use Rattle.ntriples_text.specs.Blanks.{once, term_of}
 use Rattle.ntriples_text.specs.Document.{reads}
 use Rattle.ntriples_text.specs.Writing.{written}
 
@@ -18,28 +20,57 @@ use Rattle.ntriples_text.specs.Writing.{written}
 abbrev pub IsIriText : List ℕ → Type 0
 IsIriText a = IsUtf8 a × (list_all is_iri_char (chars a) ≡ true) × (has_scheme a ≡ true)
 
--- a subject or a predicate
+-- the characters of a language tag, which are those of one LANGTAG after its `@`, in lower case
+abbrev pub IsTagChars : List ℕ → Type 0
+IsTagChars [] = ⊥
+IsTagChars (c ∷ cs) = (is_ascii_letter c ≡ true) × (tag_length false cs ≡ length cs) × (map lower_case (c ∷ cs) ≡ c ∷ cs)
+
+-- The triples that a text can give, but for the blank nodes, which are those of a given kind.
+
+-- a subject: an IRI or a blank node
+abbrev pub IsReadableSubject : (ℕ → ℕ → Type 0) → Term → Type 0
+IsReadableSubject IsNode (Iri a) = IsIriText a
+IsReadableSubject IsNode (Blank session number) = IsNode session number
+IsReadableSubject IsNode (Literal lexical datatype language) = ⊥
+
+-- a predicate: an IRI
 abbrev pub IsReadableIri : Term → Type 0
 IsReadableIri (Iri a) = IsIriText a
 IsReadableIri (Blank session number) = ⊥
 IsReadableIri (Literal lexical datatype language) = ⊥
 
--- an object: an IRI, or a literal of an allowed datatype whose characters stand for themselves between quotes
-abbrev pub IsReadableObject : Term → Type 0
-IsReadableObject (Iri a) = IsIriText a
-IsReadableObject (Blank session number) = ⊥
-IsReadableObject (Literal lexical datatype None) = IsUtf8 lexical × (list_all is_string_char (chars lexical) ≡ true) × IsIriText datatype × (literal lexical datatype ≡ Ok (Literal lexical datatype None))
-IsReadableObject (Literal lexical datatype (Some tag)) = ⊥
+-- an object: as a subject, or a literal of an allowed datatype or with a tag; its text may have any characters
+abbrev pub IsReadableObject : (ℕ → ℕ → Type 0) → Term → Type 0
+IsReadableObject IsNode (Iri a) = IsIriText a
+IsReadableObject IsNode (Blank session number) = IsNode session number
+IsReadableObject IsNode (Literal lexical datatype None) = IsUtf8 lexical × IsIriText datatype × (literal lexical datatype ≡ Ok (Literal lexical datatype None))
+IsReadableObject IsNode (Literal lexical datatype (Some tag)) = IsUtf8 lexical × (datatype ≡ rdf_lang_string) × IsUtf8 tag × IsTagChars (chars tag)
 
-pub record IsReadable (t : Triple) : Type 0 where
-  pub subject : IsReadableIri t.subject
+pub record IsReadable (IsNode : ℕ → ℕ → Type 0) (t : Triple) : Type 0 where
+  pub subject : IsReadableSubject IsNode t.subject
   pub predicate : IsReadableIri t.predicate
-  pub object : IsReadableObject t.object
+  pub object : IsReadableObject IsNode t.object
 
--- reading what was written gives the same triples
+-- no blank node
+abbrev pub IsNone : ℕ → ℕ → Type 0
+IsNone session number = ⊥
+
+-- one of a session with a number from first up to below next
+abbrev pub IsWithin : ℕ → ℕ → ℕ → ℕ → ℕ → Type 0
+IsWithin session first next s n = (s ≡ session) × (first ≤ n) × (n < next)
+
+-- Reading what was written gives the same triples. Blank nodes are written as labels, which are numbered anew; so this
+-- speaks of triples without them.
 abbrev pub ReadsAgain : Type 0
-ReadsAgain = (triples : List Triple) (session first : ℕ) → AllByRecursion IsReadable triples → IsAscending triple_cmp triples → reads (written triples) session first ≡ Ok (triples, first)
+ReadsAgain = (triples : List Triple) (session first : ℕ) → AllByRecursion (IsReadable IsNone) triples → IsAscending triple_cmp triples → reads (written triples) session first ≡ Ok (triples, first)
 
--- the triples of a text ascend, and each can be written and read again
+-- The triples of a text ascend, and each can stand in one; its blank nodes are the session's, with numbers from first up
+-- to below next.
 abbrev pub GivesReadable : Type 0
-GivesReadable = (bytes : List ℕ) (session first next : ℕ) (triples : List Triple) → reads bytes session first ≡ Ok (triples, next) → AllByRecursion IsReadable triples × IsAscending triple_cmp triples
+GivesReadable = (bytes : List ℕ) (session first next : ℕ) (triples : List Triple) → reads bytes session first ≡ Ok (triples, next)
+    → (first ≤ next) × AllByRecursion (IsReadable (IsWithin session first next)) triples × IsAscending triple_cmp triples
+
+-- two labels of a text are one node only where they are one label
+abbrev pub LabelsStayApart : Type 0
+LabelsStayApart = (session first : ℕ) (labels : List (List ℕ)) (a b : List ℕ) → list_any (same_text a) labels ≡ true → list_any (same_text b) labels ≡ true
+    → term_of session first (once labels) (Labelled a) ≡ term_of session first (once labels) (Labelled b) → a ≡ b

@@ -1,54 +1,82 @@
-ghost use Rattle.std.specs.Prelude.{◌≡◌, ℕ, ◌+◌, ◌<◌, ◌≤◌, ◌^◌, Ok, [], List, Result, length, MatchResult, OnErr};
+ghost use Rattle.std.specs.Prelude.{◌≡◌, ℕ, ◌+◌, ◌<◌, ◌≤◌, ◌^◌, Ok, [], List, Result, length, MatchResult, OnOk, OnErr};
 ghost use Rattle.std.specs.Str.{chars};
-ghost use Rattle.rdf_model.specs.Graphs.{with_each};
-ghost use Rattle.rdf_model.specs.declared.triple.Triple.{Triple as TripleData};
 ghost use Rattle.ntriples_text.specs.declared.refusal.RefusalKind.{RefusalKind as KindData};
+ghost use Rattle.ntriples_text.specs.declared.statement.Statement.{Statement as StatementData};
 ghost use Rattle.ntriples_text.specs.Document;
-ghost use Rattle.ntriples_text.specs.Document.{lines, lines_from, with_line, numbered, reads};
+ghost use Rattle.ntriples_text.specs.Document.{lines, lines_from, with_line, with_statement, numbered, reads};
 ghost use Rattle.ntriples_text.specs.Grammar;
-ghost use Rattle.ntriples_text.specs.Progress.{with_triples};
+ghost use Rattle.ntriples_text.specs.Progress.{going_on};
 ghost use Rattle.ntriples_text.specs.Faults.{Refuses};
 
 use crate::grammar::read_line;
+use crate::labels::Labels;
+use crate::numbering::Numbering;
 use crate::order::sorted_once;
 use crate::refusal::{LineFault, ReadFault, RefusalKind};
+use crate::statement::Statement;
 use crate::text_line::{number_after, split_line};
 use collections::Sequence;
 use rdf_model::Triple;
 use std::alloc::Global;
+
+// Adds the triple of a statement.
+fn add_statement(
+    numbering: &mut Numbering,
+    triples: &mut Sequence<Triple>,
+    statement: Statement,
+) -> Result<(), ReadFault>
+    requires { numbering.old.first + length numbering.old.labels + 1 < 2 ^ 32 }
+    ensures added { (more : Result (List StatementData) (ℕ × KindData)) → let rest = going_on numbering.old.session numbering.old.first triples.old numbering.old.labels (with_statement statement more) in
+        MatchResult result (λ _. rest ≡ going_on numbering.old.session numbering.old.first triples.new numbering.new.labels more) (λ fault. fault ≡ ReadFault.Memory) }
+    ensures same { OnOk result ((numbering.new.session ≡ numbering.old.session) × (numbering.new.first ≡ numbering.old.first)) }
+    ensures room { OnOk result (length numbering.new.labels ≤ length numbering.old.labels + 2) }
+{
+    let triple = numbering.triple(statement)?;
+    triples.push(triple)?;
+    Ok(())
+}
 
 // Adds the triple of a line, if it has one.
 fn add_line(
     alloc: Global,
     number: u64,
     line: &[char],
+    numbering: &mut Numbering,
     triples: &mut Sequence<Triple>,
 ) -> Result<(), ReadFault>
-    ensures { (more : Result (List TripleData) (ℕ × KindData)) → let rest = with_triples triples.old (with_line number (Grammar.line line.now) more) in
-        MatchResult result (λ _. rest ≡ with_triples triples.new more) (λ fault. Refuses fault rest) }
+    requires { numbering.old.first + length numbering.old.labels + length line.now < 2 ^ 32 }
+    ensures added { (more : Result (List StatementData) (ℕ × KindData)) → let rest = going_on numbering.old.session numbering.old.first triples.old numbering.old.labels (with_line number (Grammar.line line.now) more) in
+        MatchResult result (λ _. rest ≡ going_on numbering.old.session numbering.old.first triples.new numbering.new.labels more) (λ fault. Refuses fault rest) }
+    ensures same { OnOk result ((numbering.new.session ≡ numbering.old.session) × (numbering.new.first ≡ numbering.old.first)) }
+    ensures room { OnOk result (length numbering.new.labels ≤ length numbering.old.labels + length line.now) }
 {
     match read_line(alloc, line) {
-        Ok(Some(triple)) => {
-            triples.push(triple)?;
-            Ok(())
-        }
+        Ok(Some(statement)) => add_statement(numbering, triples, statement),
         Ok(None) => Ok(()),
         Err(LineFault::Refused(kind)) => Err(ReadFault::Refusal { line: number, kind }),
         Err(LineFault::Memory) => Err(ReadFault::Memory),
     }
 }
 
-// The triples of the lines of a text, in their order there.
-fn read_lines(alloc: Global, text: &[char]) -> Result<Sequence<Triple>, ReadFault>
-    requires { length text.now < 2 ^ 32 }
-    ensures { MatchResult result (λ triples. lines_from 1 (lines text.now) ≡ Ok triples) (λ fault. Refuses fault (lines_from 1 (lines text.now))) }
+// The triples of the lines of a text, in their order there. Its labels are added to the numbering.
+fn read_lines(
+    alloc: Global,
+    text: &[char],
+    numbering: &mut Numbering,
+) -> Result<Sequence<Triple>, ReadFault>
+    requires labels { numbering.old.labels ≡ [] }
+    requires room { numbering.old.first + length text.now < 2 ^ 32 }
+    ensures read { let reading = going_on numbering.old.session numbering.old.first [] [] (lines_from 1 (lines text.now)) in
+        MatchResult result (λ triples. reading ≡ Ok (triples, numbering.new.labels)) (λ fault. Refuses fault reading) }
+    ensures room { OnOk result (length numbering.new.labels ≤ length text.now) }
+    ensures same { OnOk result (numbering.new.first ≡ numbering.old.first) }
 {
     let mut triples = Sequence::new(alloc);
     let mut rest = text;
     let mut number = 1;
     while !rest.is_empty() {
         let (line, after) = split_line(rest);
-        add_line(alloc, number, line, &mut triples)?;
+        add_line(alloc, number, line, numbering, &mut triples)?;
         number = number_after(number, line);
         rest = after;
     }
@@ -62,15 +90,28 @@ fn characters_of(alloc: Global, text: &str) -> Result<Vec<char>, ReadFault>
     Ok(text.chars().collect(alloc)?)
 }
 
-// The triples of a text, each once, in their order.
-fn read_text(alloc: Global, text: &str) -> Result<Sequence<Triple>, ReadFault>
-    requires { length text.now < 2 ^ 32 }
-    ensures { let reading = lines_from 1 (lines (chars text.now)) in
-        MatchResult result (λ triples. (first : ℕ) → numbered first reading ≡ Ok (triples, first)) (λ fault. (first : ℕ) → Refuses fault (numbered first reading)) }
+// The triples of a text, each once, in their order. Blank nodes are numbered from `next` on.
+fn read_text(
+    alloc: Global,
+    session: u32,
+    next: &mut u32,
+    text: &str,
+) -> Result<Sequence<Triple>, ReadFault>
+    requires { next.old + length text.now < 2 ^ 32 }
+    ensures reads { let reading = numbered session next.old (lines_from 1 (lines (chars text.now))) in
+        MatchResult result (λ triples. reading ≡ Ok (triples, next.new)) (λ fault. Refuses fault reading) }
+    ensures unchanged { OnErr result (next.new ≡ next.old) }
+    ensures room { (next.old ≤ next.new) × (next.new ≤ next.old + length text.now) }
 {
     let characters = characters_of(alloc, text)?;
-    let triples = read_lines(alloc, &characters)?;
+    let mut numbering = Numbering {
+        session,
+        first: *next,
+        labels: Labels::new(alloc),
+    };
+    let triples = read_lines(alloc, &characters, &mut numbering)?;
     let sorted = sorted_once(triples.into_vec())?;
+    *next += numbering.labels.len() as u32;
     Ok(Sequence::from_vec(sorted))
 }
 
@@ -90,8 +131,8 @@ fn line_of(bytes: &[u8], at: usize) -> u64
 }
 
 /// The triples of a text of N-Triples 1.1, each once, in their order. Blank nodes belong to the
-/// session, 1 to 64, and are numbered from `next`, which is then the next number that is free; an
-/// error leaves it as it was.
+/// session, 1 to 64, and are numbered from `next`, which is then the next number that is free, and
+/// has grown by no more than the text is long; an error leaves it as it was.
 ///
 /// The error is the refusal that counts, with its line, or memory.
 pub fn read(
@@ -106,9 +147,10 @@ pub fn read(
     ensures reads { let reading = reads bytes.now session next.old in
         MatchResult result (λ triples. reading ≡ Ok (triples, next.new)) (λ fault. Refuses fault reading) }
     ensures unchanged { OnErr result (next.new ≡ next.old) }
+    ensures room { (next.old ≤ next.new) × (next.new ≤ next.old + length bytes.now) }
 {
     match std::str::from_utf8(bytes) {
-        Ok(text) => read_text(alloc, text),
+        Ok(text) => read_text(alloc, session, next, text),
         Err(error) => Err(ReadFault::Refusal {
             line: line_of(bytes, error.valid_up_to()),
             kind: RefusalKind::NotUtf8,

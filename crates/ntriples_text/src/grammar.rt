@@ -1,11 +1,12 @@
-ghost use Rattle.std.specs.Prelude.{◌≡◌};
+ghost use Rattle.std.specs.Prelude.{◌≡◌, ◌≤◌, ◌<◌, length, IfOk, IsSome};
 ghost use Rattle.ntriples_text.specs.Faults.{Gives};
 ghost use Rattle.ntriples_text.specs.Grammar;
 
 use crate::refusal::{LineFault, RefusalKind};
+use crate::statement::{Node, Statement};
 use crate::token::{Token, next_token};
 use iri_ref::has_scheme;
-use rdf_model::{Term, Triple};
+use rdf_model::Term;
 use rdf_text::Text;
 use std::alloc::Global;
 
@@ -43,22 +44,38 @@ fn iri_of(token: Token) -> Result<Text, LineFault>
 
 #[tactic(auto, unfolding(crate::specs::Grammar::iri))]
 fn read_iri(alloc: Global, characters: &[char]) -> Result<(Text, &[char]), LineFault>
-    ensures { Gives (λ r. (r.0, r.1.now)) result (Grammar.iri characters.now) }
+    ensures iri { Gives (λ r. (r.0, r.1.now)) result (Grammar.iri characters.now) }
+    ensures shorter { IfOk result (λ r. length r.1.now ≤ length characters.now) }
 {
     let (token, rest) = next_token(alloc, characters)?;
     Ok((iri_of(token)?, rest))
 }
 
-// The datatype that follows a string.
-#[tactic(auto, unfolding(crate::specs::Grammar::datatype))]
-fn read_datatype(alloc: Global, characters: &[char]) -> Result<(Text, &[char]), LineFault>
-    ensures { Gives (λ r. (r.0, r.1.now)) result (Grammar.datatype characters.now) }
+fn node_of(token: Token) -> Result<Node, LineFault>
+    ensures { Gives (λ node. node) result (Grammar.node_of token) }
+{
+    match token {
+        Token::Label(label) => Ok(Node::Labelled(label)),
+        other => Ok(Node::Plain(Term::Iri(iri_of(other)?))),
+    }
+}
+
+fn predicate_of(token: Token) -> Result<Text, LineFault>
+    ensures { Gives (λ iri. iri) result (Grammar.predicate_of token) }
+{
+    match token {
+        Token::Label(_) => Err(LineFault::Refused(RefusalKind::BlankPredicate)),
+        other => iri_of(other),
+    }
+}
+
+#[tactic(auto, unfolding(crate::specs::Grammar::predicate))]
+fn read_predicate(alloc: Global, characters: &[char]) -> Result<(Text, &[char]), LineFault>
+    ensures predicate { Gives (λ r. (r.0, r.1.now)) result (Grammar.predicate characters.now) }
+    ensures shorter { IfOk result (λ r. length r.1.now ≤ length characters.now) }
 {
     let (token, rest) = next_token(alloc, characters)?;
-    match token {
-        Token::Carets => read_iri(alloc, rest),
-        _ => Ok((Text::new(alloc, XSD_STRING)?, characters)),
-    }
+    Ok((predicate_of(token)?, rest))
 }
 
 fn make_literal(lexical: Text, datatype: Text) -> Result<Term, LineFault>
@@ -78,24 +95,67 @@ fn make_literal(lexical: Text, datatype: Text) -> Result<Term, LineFault>
     })
 }
 
+// The literal of a string, and of what follows it.
+#[tactic(auto, unfolding(crate::specs::Grammar::literal_from))]
+fn read_literal(
+    alloc: Global,
+    lexical: Text,
+    characters: &[char],
+) -> Result<(Term, &[char]), LineFault>
+    ensures literal { Gives (λ r. (r.0, r.1.now)) result (Grammar.literal_from lexical characters.now) }
+    ensures shorter { IfOk result (λ r. length r.1.now ≤ length characters.now) }
+{
+    let (token, rest) = next_token(alloc, characters)?;
+    match token {
+        Token::Carets => {
+            let (datatype, rest) = read_iri(alloc, rest)?;
+            Ok((make_literal(lexical, datatype)?, rest))
+        }
+        Token::LanguageTag(tag) => {
+            let datatype = Text::new(alloc, RDF_LANG_STRING)?;
+            Ok((
+                Term::Literal {
+                    lexical,
+                    datatype,
+                    language: Some(tag),
+                },
+                rest,
+            ))
+        }
+        _ => {
+            let datatype = Text::new(alloc, XSD_STRING)?;
+            Ok((
+                Term::Literal {
+                    lexical,
+                    datatype,
+                    language: None,
+                },
+                characters,
+            ))
+        }
+    }
+}
+
 #[tactic(auto, unfolding(crate::specs::Grammar::object))]
-fn read_object(alloc: Global, characters: &[char]) -> Result<(Term, &[char]), LineFault>
-    ensures { Gives (λ r. (r.0, r.1.now)) result (Grammar.object characters.now) }
+fn read_object(alloc: Global, characters: &[char]) -> Result<(Node, &[char]), LineFault>
+    ensures object { Gives (λ r. (r.0, r.1.now)) result (Grammar.object characters.now) }
+    ensures shorter { IfOk result (λ r. length r.1.now ≤ length characters.now) }
 {
     let (token, rest) = next_token(alloc, characters)?;
     match token {
         Token::Quoted(lexical) => {
-            let (datatype, rest) = read_datatype(alloc, rest)?;
-            Ok((make_literal(lexical, datatype)?, rest))
+            let (literal, rest) = read_literal(alloc, lexical, rest)?;
+            Ok((Node::Plain(literal), rest))
         }
-        other => Ok((Term::Iri(iri_of(other)?), rest)),
+        other => Ok((node_of(other)?, rest)),
     }
 }
 
 // The dot, and the characters after it.
 #[tactic(auto, unfolding(crate::specs::Grammar::dot))]
 fn skip_dot(alloc: Global, characters: &[char]) -> Result<&[char], LineFault>
-    ensures { Gives (λ rest. rest.now) result (Grammar.dot characters.now) }
+    ensures dot { Gives (λ rest. rest.now) result (Grammar.dot characters.now) }
+    ensures shorter { IfOk result (λ rest. length rest.now < length characters.now) }
 {
     let (token, rest) = next_token(alloc, characters)?;
     match token {
@@ -124,30 +184,32 @@ fn expect_end(alloc: Global, characters: &[char]) -> Result<(), LineFault>
 }
 
 // The triple whose first token has been read.
-#[tactic(auto, unfolding(crate::specs::Grammar::triple_from))]
-fn read_triple(alloc: Global, first: Token, characters: &[char]) -> Result<Triple, LineFault>
-    ensures { Gives (λ triple. triple) result (Grammar.triple_from (first, characters.now)) }
+#[tactic(auto, unfolding(crate::specs::Grammar::statement_from))]
+fn read_statement(alloc: Global, first: Token, characters: &[char]) -> Result<Statement, LineFault>
+    ensures statement { Gives (λ s. s) result (Grammar.statement_from (first, characters.now)) }
+    ensures longer { IfOk result (λ _. 1 ≤ length characters.now) }
 {
-    let subject = iri_of(first)?;
-    let (predicate, rest) = read_iri(alloc, characters)?;
+    let subject = node_of(first)?;
+    let (predicate, rest) = read_predicate(alloc, characters)?;
     let (object, rest) = read_object(alloc, rest)?;
     let rest = skip_dot(alloc, rest)?;
     expect_end(alloc, rest)?;
-    Ok(Triple {
-        subject: Term::Iri(subject),
-        predicate: Term::Iri(predicate),
+    Ok(Statement {
+        subject,
+        predicate,
         object,
     })
 }
 
 /// The triple of a line, if it has one. The characters are those of the line and of its end.
 #[tactic(auto, unfolding(crate::specs::Grammar::line))]
-pub fn read_line(alloc: Global, characters: &[char]) -> Result<Option<Triple>, LineFault>
-    ensures { Gives (λ triple. triple) result (Grammar.line characters.now) }
+pub fn read_line(alloc: Global, characters: &[char]) -> Result<Option<Statement>, LineFault>
+    ensures statement { Gives (λ s. s) result (Grammar.line characters.now) }
+    ensures longer { IfOk result (λ s. IsSome s → 2 ≤ length characters.now) }
 {
     let (first, rest) = next_token(alloc, characters)?;
     if is_end(&first) {
         return Ok(None);
     }
-    Ok(Some(read_triple(alloc, first, rest)?))
+    Ok(Some(read_statement(alloc, first, rest)?))
 }

@@ -1,11 +1,18 @@
-ghost use Rattle.ntriples_text.specs.Laws.{ReadsAgain, GivesReadable};
+ghost use Rattle.ntriples_text.specs.Laws.{ReadsAgain, GivesReadable, LabelsStayApart};
 
-/// Reading what was written gives the same triples, whatever triples a text can give.
+/// Reading what was written gives the same triples, whatever triples without blank nodes a text can
+/// give.
 pub fn read_after_write()
     ensures { ReadsAgain }
 {}
 
-/// What a text gives ascends, and can be written and read again.
+/// What a text gives ascends, and can stand in a text again; its blank nodes are those of the
+/// session whose numbers are from the first free one up to below the next.
 pub fn read_gives_readable()
     ensures { GivesReadable }
+{}
+
+/// Two labels of a text are one node only where they are one label.
+pub fn labels_stay_apart()
+    ensures { LabelsStayApart }
 {}

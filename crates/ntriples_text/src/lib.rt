@@ -1,15 +1,19 @@
 //! N-Triples 1.1 texts, read and written.
 //!
 //! `read` ensures exactly the triples of a text, or exactly the refusal that counts, as
-//! `specs/Document.antt` says; labels, language tags and escapes are no tokens of it yet. `write`
-//! ensures the text of a list of triples, one line each, and `laws` that it is read again.
+//! `specs/Document.antt` says. `write` ensures the text of a list of triples, one line each, and
+//! `laws` that it is read again.
 #![tactic(auto)]
 
 mod document;
+mod enclosed;
 mod grammar;
+mod labels;
 pub mod laws;
+mod numbering;
 mod order;
 mod refusal;
+mod statement;
 #[cfg(test)]
 mod tests;
 mod text_line;

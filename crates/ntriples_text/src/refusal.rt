@@ -14,11 +14,15 @@ pub enum RefusalKind {
     UnexpectedToken,
     /// An IRI has no scheme.
     RelativeIri,
+    /// A backslash begins no escape, or an escape of no character that may stand there.
+    BadEscape,
     /// A literal of xsd:float or xsd:double.
     FloatingPoint,
     /// rdf:langString is written as a datatype.
     LanguageString,
-    /// The text ends within a token or a triple.
+    /// A blank node label where a predicate may stand.
+    BlankPredicate,
+    /// The text ends within a token, an escape or a triple.
     UnexpectedEnd,
 }
 
@@ -32,8 +36,10 @@ impl RefusalKind {
             RefusalKind::NoToken => 2,
             RefusalKind::UnexpectedToken => 3,
             RefusalKind::RelativeIri => 5,
+            RefusalKind::BadEscape => 6,
             RefusalKind::FloatingPoint => 7,
             RefusalKind::LanguageString => 10,
+            RefusalKind::BlankPredicate => 13,
             RefusalKind::UnexpectedEnd => 14,
         }
     }

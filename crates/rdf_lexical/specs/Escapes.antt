@@ -1,4 +1,4 @@
--- Escapes of strings and IRIs (N-Triples 1.1 sections 2.4 and 7, Turtle 1.1 section 6.4).
+-- Escapes of strings and IRIs (N-Triples 1.1 sections 2.3 and 7, Turtle 1.1 section 6.4).
 use Rattle.std.specs.Prelude.{ℕ, ◌+◌, ◌-◌, ◌*◌, List, [], ◌∷◌, Option, Some, None, nat_lt, ◌==◌, ◌||◌, if◌then◌else◌}
 use Rattle.rdf_lexical.specs.Characters.{is_within}
 

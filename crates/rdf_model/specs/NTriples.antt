@@ -11,7 +11,7 @@ use Rattle.rdf_model.specs.declared.triple.Triple.{Triple}
 abbrev pub xsd_string : List ℕ
 xsd_string = codes "http://www.w3.org/2001/XMLSchema#string"
 
--- a character within quotes: the quote, the backslash, LF and CR are escaped (N-Triples section 2.4, ECHAR)
+-- a character within quotes: the quote, the backslash, LF and CR are escaped (N-Triples section 2.3, ECHAR)
 abbrev pub escaped : ℕ → List ℕ
 escaped c = if c == 34 then codes "\\\"" else (if c == 92 then codes "\\\\" else (if c == 10 then codes "\\n" else (if c == 13 then codes "\\r" else encode_utf8 c)))
 

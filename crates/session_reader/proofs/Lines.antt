@@ -109,14 +109,3 @@ first_text-next texts i lt =
     let here : i < length texts = omega arith in
     let more : 0 < length (drop (i + 1) texts) = simp length-drop (omega arith) in
     ap first_text (line_at texts i here) ∙ after_head (get_or texts i []) (drop (i + 1) texts) more
-
--- a text of the cut grammar has no blank nodes
-keeps_numbered : (first : ℕ) (r : Result (List Triple) (ℕ × RefusalKind)) → next_after first (numbered first r) ≡ first
-keeps_numbered first (Ok ts) = refl
-keeps_numbered first (Err e) = refl
-
-pub reads-next : (bytes : List ℕ) (s first : ℕ) → next_after first (reads bytes s first) ≡ first
-reads-next bytes s first = elim (is_utf8 bytes) as (λ b. next_after first (cond b (numbered first (lines_from 1 (document.lines (chars bytes)))) (Err (line_of bytes (utf8_valid_len bytes), NotUtf8))) ≡ first) [
-  | true ↦ keeps_numbered first (lines_from 1 (document.lines (chars bytes)))
-  | false ↦ refl
-]

@@ -1,7 +1,7 @@
 -- How far the reading of a session file has come.
-use Rattle.std.specs.Prelude.{◌≡◌, ℕ, ◌+◌, ◌-◌, ◌≤◌, List, [], ◌∷◌, ◌++◌, take, drop, Option, Some, None, Result, Ok, Err}
+use Rattle.std.specs.Prelude.{◌≡◌, ℕ, ◌+◌, ◌-◌, ◌≤◌, List, [], ◌∷◌, ◌++◌, length, take, drop, Option, Some, None, Result, Ok, Err}
 use Rattle.session_model.specs.declared.command.Command.{Command}
-use Rattle.session_reader.specs.SessionFile.{OpenBlock, command_text, session_from}
+use Rattle.session_reader.specs.SessionFile.{OpenBlock, block_text, command_text, session_from}
 
 -- the first line of those that are left, between commands
 abbrev pub first_text : List (List ℕ) → List ℕ
@@ -22,10 +22,21 @@ abbrev pub IsBefore : Option ℕ → ℕ → Type 0
 IsBefore None i = Unit {0}
 IsBefore (Some first) i = first ≤ i
 
+-- a block that is open has its first line at this index
+abbrev pub OpensAt : Option ℕ → ℕ → Type 0
+OpensAt None i = Unit {0}
+OpensAt (Some first) i = first ≡ i
+
 -- what the lines from index i on give to session s, whose next blank node has the number first
 abbrev pub rest_from : ℕ → ℕ → List (List ℕ) → ℕ → Option ℕ → Result (List Command) ℕ
 rest_from s first lines i block = session_from s first (block_at lines i block) (i + 1) (drop i lines)
 
--- what a reading did to the next number of a blank node: no block gives one yet
-abbrev pub KeepsNext : ℕ → ℕ → Type 0
-KeepsNext old new = new ≡ old
+-- the index of the first line that no finished block has, when the line at index i is next
+abbrev pub finished : ℕ → Option ℕ → ℕ
+finished i None = i
+finished i (Some first) = first
+
+-- The next number of a blank node is no greater than the finished lines allow: each character of a block takes one number
+-- at most.
+abbrev pub IsNextWithin : ℕ → List (List ℕ) → ℕ → Option ℕ → Type 0
+IsNextWithin next lines i block = (1 ≤ next) × (next ≤ 1 + length (block_text (take (finished i block) lines)))

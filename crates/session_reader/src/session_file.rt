@@ -2,7 +2,7 @@ ghost use Rattle.std.specs.Prelude.{◌≡◌, ℕ, ◌+◌, ◌<◌, ◌≤◌,
 ghost use Rattle.std.specs.List.{slice_split};
 ghost use Rattle.ntriples_text.specs.Document.{reads};
 ghost use Rattle.session_reader.specs.SessionFile.{session_of, block_text, add_of, next_after};
-ghost use Rattle.session_reader.specs.Progress.{first_text, with_commands, rest_from, IsBefore, KeepsNext};
+ghost use Rattle.session_reader.specs.Progress.{first_text, with_commands, rest_from, IsBefore, IsNextWithin, OpensAt};
 ghost use Rattle.session_reader.specs.Faults.{Fails};
 
 use crate::line::{LineKind, is_block_end, kind_of, trimmed};
@@ -43,7 +43,7 @@ fn read_block(
     requires room { next.old + length (block_text (map (λ l. l.now) lines.now)) < 2 ^ 32 }
     ensures command { let reading = reads (block_text (map (λ l. l.now) lines.now)) session next.old in
         IfOk result (λ command. (command ≡ add_of reading) × (next.new ≡ next_after next.old reading)) }
-    ensures next { KeepsNext next.old next.new }
+    ensures within { (next.old ≤ next.new) × (next.new ≤ next.old + length (block_text (map (λ l. l.now) lines.now))) }
 {
     let text = text_of_block(alloc, lines)?;
     match ntriples_text::read(alloc, session, next, &text) {
@@ -86,7 +86,7 @@ fn read_command(
     requires { i < length lines.now }
     ensures { let texts = map (λ l. l.now) lines.now in
         MatchResult result
-        (λ next. IsBefore next (i + 1) × ((s first : ℕ) → with_commands commands.old (rest_from s first texts i None) ≡ with_commands commands.new (rest_from s first texts (i + 1) next)))
+        (λ next. OpensAt next (i + 1) × ((s first : ℕ) → with_commands commands.old (rest_from s first texts i None) ≡ with_commands commands.new (rest_from s first texts (i + 1) next)))
         (λ fault. (s first : ℕ) → Fails fault (with_commands commands.old (rest_from s first texts i None))) }
 {
     match kind_of(command_text(lines, i)) {
@@ -115,13 +115,13 @@ fn read_in_block(
     commands: &mut Sequence<Command>,
 ) -> Result<Option<usize>, AllocError>
     requires session { (1 ≤ session) × (session ≤ 64) }
-    requires next { next.old ≡ 1 }
+    requires next { IsNextWithin next.old (map (λ l. l.now) lines.now) i (Some first) }
     requires within { i < length lines.now }
     requires before { first ≤ i }
     requires room { length (block_text (map (λ l. l.now) lines.now)) < 2 ^ 31 }
     ensures rest { let texts = map (λ l. l.now) lines.now in
         IfOk result (λ block. IsBefore block (i + 1) × (with_commands commands.old (rest_from session next.old texts i (Some first)) ≡ with_commands commands.new (rest_from session next.new texts (i + 1) block))) }
-    ensures next { KeepsNext next.old next.new }
+    ensures next { IfOk result (IsNextWithin next.new (map (λ l. l.now) lines.now) (i + 1)) }
 {
     if !is_block_end(line_at(lines, i)) {
         return Ok(Some(first));
@@ -142,7 +142,7 @@ fn read_line(
     commands: &mut Sequence<Command>,
 ) -> Result<Option<usize>, PrepareFault>
     requires session { (1 ≤ session) × (session ≤ 64) }
-    requires next { next.old ≡ 1 }
+    requires next { IsNextWithin next.old (map (λ l. l.now) lines.now) i block }
     requires within { i < length lines.now }
     requires before { IsBefore block i }
     requires room { length (block_text (map (λ l. l.now) lines.now)) < 2 ^ 31 }
@@ -150,7 +150,7 @@ fn read_line(
         MatchResult result
         (λ block. IsBefore block (i + 1) × (rest ≡ with_commands commands.new (rest_from session next.new texts (i + 1) block)))
         (λ fault. Fails fault rest) }
-    ensures next { KeepsNext next.old next.new }
+    ensures next { IfOk result (IsNextWithin next.new (map (λ l. l.now) lines.now) (i + 1)) }
 {
     match block {
         Some(first) => {

@@ -112,7 +112,7 @@ fn prints_what_each_session_file_gives(rt: HostRuntime) -> Result<(), Fail> {
 #[test]
 fn answers_a_block_that_cannot_be_read(rt: HostRuntime) -> Result<(), Fail> {
     // The lines of a block, and what its `add` is answered.
-    let rows: [(&[u8], &[u8]); 18] = [
+    let rows: [(&[u8], &[u8]); 21] = [
         (b"", b"add 0"),
         (b"\n # nothing\n\t\n", b"add 0"),
         (b"<e:a> <e:p> <e:b> .\r\n", b"add 1"),
@@ -127,8 +127,21 @@ fn answers_a_block_that_cannot_be_read(rt: HostRuntime) -> Result<(), Fail> {
         // Bytes that are no UTF-8 come before an earlier fault.
         (b"nothing\n<e:a> <e:p> \"\xc3\" .\n", b"bad add 2 1"),
         (b"<e:a> <e:p> <e:b> .\nnothing\n", b"bad add 2 2"),
-        (b"<e:a> <e:p> <e:\\u0041> .\n", b"bad add 1 2"),
-        (b"<e:a> <e:p> _:b .\n", b"bad add 1 2"),
+        // An escape stands for its character, and a label for a blank node.
+        (
+            b"<e:a> <e:p> <e:\\u0041> .\n<e:a> <e:p> <e:A> .\n",
+            b"add 1",
+        ),
+        (
+            b"_:a <e:p> _:b .\n_:b <e:p> _:a .\n_:a <e:p> _:b .\n",
+            b"add 2",
+        ),
+        (
+            b"<e:a> <e:p> \"x\"@EN .\n<e:a> <e:p> \"x\"@en .\n",
+            b"add 1",
+        ),
+        (b"<e:a> <e:p> \"\\x\" .\n", b"bad add 1 6"),
+        (b"<e:a> _:p <e:b> .\n", b"bad add 1 13"),
         (b"\"x\" <e:p> <e:b> .\n", b"bad add 1 3"),
         (b"<e:a> <e:p> <e:b> .\n<e:a>\n<e:a> <e:p>\n", b"bad add 2 3"),
         // A missing dot, on the last line too.

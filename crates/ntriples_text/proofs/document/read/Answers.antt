@@ -5,7 +5,7 @@ use Rattle.ntriples_text.proofs.Characters.{of_no_text, whole_text}
 use Rattle.ntriples_text.proofs.document.read.Goals as goal
 
 pub returns-in-Ok-clause-reads : goal.returns-in-Ok-clause-reads
-returns-in-Ok-clause-reads c = whole_text c.read_text.result c.args.bytes.now c.in-Ok.text.now c.args.session c.args.next.now c.in-Ok.ensures.cases.1 c.in-Ok.ensures.cases.0 c.read_text.ensures
+returns-in-Ok-clause-reads c = whole_text c.read_text.result c.args.bytes.now c.in-Ok.text.now c.args.session c.args.next.now _ c.in-Ok.ensures.cases.1 c.in-Ok.ensures.cases.0 c.read_text.ensures.reads
 
 pub returns-in-Err-clause-reads : goal.returns-in-Err-clause-reads
 returns-in-Err-clause-reads c =

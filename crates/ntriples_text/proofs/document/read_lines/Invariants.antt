@@ -1,12 +1,14 @@
-use Rattle.std.proofs.Common.{◌≡◌, ◌+◌, ◌≤◌, length}
+use Rattle.std.proofs.Common.{◌≡◌, ◌+◌, ◌≤◌, [], length}
 use Rattle.ntriples_text.specs.Document.{lines, lines_from}
-use Rattle.ntriples_text.specs.Progress.{with_triples}
+use Rattle.ntriples_text.specs.Progress.{going_on}
 use Rattle.ntriples_text.proofs.document.read_lines.Given as goal
 
 abbrev pub invariant-loop-rest : goal.invariant-loop-rest
 invariant-loop-rest l = record {
   bound : l.number + length l.rest ≤ 1 + length l.text;
-  reading : with_triples l.triples (lines_from l.number (lines l.rest)) ≡ lines_from 1 (lines l.text);
+  room : length l.numbering.labels + length l.rest ≤ length l.text;
+  first : l.numbering.first ≡ l.fn.numbering.first;
+  reading : going_on l.numbering.session l.numbering.first l.triples l.numbering.labels (lines_from l.number (lines l.rest)) ≡ going_on l.fn.numbering.session l.fn.numbering.first [] [] (lines_from 1 (lines l.text));
 }
 
 abbrev pub decreases-loop-rest : goal.decreases-loop-rest

@@ -1,4 +1,4 @@
-use Rattle.std.proofs.Common.{◌≡◌, ℕ, ◌<◌, ◌≤◌, ◌∙◌, sym, ap, map, length, arith}
+use Rattle.std.proofs.Common.{◌≡◌, ℕ, ◌<◌, ◌≤◌, ◌∙◌, sym, ap, map, length, arith, refl}
 use Rattle.std.proofs.lemmas.List.{length-map}
 use Rattle.session_reader.specs.SessionFile as file
 use Rattle.session_reader.proofs.Lines.{read_skipped, read_begin, read_commit, read_opening, read_other}
@@ -22,7 +22,7 @@ returns-in_ok-push-in-CommitCommand c =
 pub returns-in-AddBlock : goal.returns-in-AddBlock
 returns-in-AddBlock c =
     let count = length-map c.args.lines.now (λ l. l.now) in
-    (omega arith, read_opening _ c.args.i _ (omega (arith, count, c.requires)) (c.in-AddBlock.ensures ∙ ap file.kind_of c.command_text.ensures))
+    (refl, read_opening _ c.args.i _ (omega (arith, count, c.requires)) (c.in-AddBlock.ensures ∙ ap file.kind_of c.command_text.ensures))
 
 pub returns-in-Other : goal.returns-in-Other
 returns-in-Other c =

@@ -2,7 +2,7 @@ use Rattle.std.proofs.Common.{◌≡◌, ℕ, ◌+◌, ◌-◌, ◌<◌, ◌≤�
 use Rattle.std.proofs.lemmas.List.{length-map}
 use Rattle.session_reader.specs.SessionFile as file
 use Rattle.ntriples_text.specs.Document.{reads}
-use Rattle.session_reader.proofs.Lengths.{body_length}
+use Rattle.session_reader.proofs.Lengths.{before_and_body, all_lines, next_after_block}
 use Rattle.session_reader.proofs.Lines.{read_inside, read_end, body-map}
 use Rattle.session_reader.proofs.session_file.read_in_block.Goals as goal
 
@@ -15,8 +15,9 @@ returns-then-not-is_block_end-clause-rest c =
 pub read_block-requires-clause-room : goal.read_block-requires-clause-room
 read_block-requires-clause-room c =
     let same = ap (λ ls. length (file.block_text ls)) (body-map (λ l. l.now) c.args.lines.now c.args.first c.args.i) in
-    let shorter = body_length (map (λ l. l.now) c.args.lines.now) c.args.first (c.args.i - c.args.first) in
-    omega (arith, same, shorter, c.requires.room, c.requires.next)
+    let texts = map (λ l. l.now) c.args.lines.now in
+    let joined = before_and_body texts c.args.first c.args.i c.requires.before in
+    omega (arith, same, joined, all_lines texts c.args.i, c.requires.room, c.requires.next.1)
 
 pub returns-clause-rest : goal.returns-clause-rest
 returns-clause-rest c =
@@ -26,3 +27,8 @@ returns-clause-rest c =
     let command = c.in_ok-command.ensures.command.0 ∙ ap file.add_of reading in
     let next = c.in_ok-command.ensures.command.1 ∙ ap (file.next_after c.args.next.now) reading in
     (tt, rw (c.in_ok-push.ensures.ok, command, next) (read_end c.args.session c.args.next.now _ c.args.first c.args.i _ (omega (arith, count, c.requires.within)) (sym c.if-not-is_block_end.false ∙ end)))
+
+pub returns-clause-next : goal.returns-clause-next
+returns-clause-next c =
+    let same = ap (λ ls. length (file.block_text ls)) (body-map (λ l. l.now) c.args.lines.now c.args.first c.args.i) in
+    next_after_block (map (λ l. l.now) c.args.lines.now) c.args.first c.args.i c.args.next.now _ c.requires.before c.requires.next c.in_ok-command.ensures.within.0 (omega (arith, same, c.in_ok-command.ensures.within.1))

@@ -1,0 +1,2 @@
+pub mod TargetNumbers
+pub mod Gathering

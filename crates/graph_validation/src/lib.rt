@@ -1,0 +1,13 @@
+//! Validation of a whole graph by compiled shapes, over the numbers of terms.
+//!
+//! `targets` ensures exactly the targets of a shape, and `whole` exactly the listing of the data
+//! graph under each well-formed shapes graph that the shapes stand for.
+#![tactic(auto)]
+
+mod target_nodes;
+#[cfg(test)]
+mod tests;
+mod whole_graph;
+
+pub use target_nodes::targets;
+pub use whole_graph::whole;

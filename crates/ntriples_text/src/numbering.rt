@@ -1,0 +1,61 @@
+ghost use Rattle.std.specs.Prelude.{◌≡◌, ◌+◌, ◌<◌, ◌≤◌, ◌^◌, length, IfOk, OnOk};
+ghost use Rattle.ntriples_text.specs.Blanks.{node_labels, statement_labels, term_of, triple_of};
+ghost use Rattle.ntriples_text.specs.Progress.{with_more};
+
+use crate::labels::Labels;
+use crate::statement::{Node, Statement};
+use rdf_model::{Term, Triple};
+use std::alloc::AllocError;
+
+/// The blank nodes of a text: their session, the number of the first one, and the labels so far.
+#[derive(Debug, Drop)]
+pub struct Numbering {
+    pub session: u32,
+    pub first: u32,
+    pub labels: Labels,
+}
+
+impl Numbering {
+    // The term that a node stands for. A new label takes the next number.
+    fn term(&mut self, node: Node) -> Result<Term, AllocError>
+        requires { self.old.first + length self.old.labels < 2 ^ 32 }
+        ensures term { IfOk result (λ term. term ≡ term_of self.old.session self.old.first self.new.labels node) }
+        ensures labels { OnOk result (self.new.labels ≡ with_more self.old.labels (node_labels node)) }
+        ensures same { OnOk result ((self.new.session ≡ self.old.session) × (self.new.first ≡ self.old.first)) }
+        ensures room { OnOk result (length self.new.labels ≤ length self.old.labels + 1) }
+    {
+        match node {
+            Node::Labelled(label) => {
+                let place = self.labels.place(label)?;
+                Ok(Term::Blank {
+                    session: self.session,
+                    number: self.first + place as u32,
+                })
+            }
+            Node::Plain(term) => Ok(term),
+        }
+    }
+
+    /// The triple of a statement. A new label takes the next number, the subject's before the
+    /// object's.
+    pub fn triple(&mut self, statement: Statement) -> Result<Triple, AllocError>
+        requires { self.old.first + length self.old.labels + 1 < 2 ^ 32 }
+        ensures triple { IfOk result (λ triple. triple ≡ triple_of self.old.session self.old.first self.new.labels statement) }
+        ensures labels { OnOk result (self.new.labels ≡ with_more self.old.labels (statement_labels statement)) }
+        ensures same { OnOk result ((self.new.session ≡ self.old.session) × (self.new.first ≡ self.old.first)) }
+        ensures room { OnOk result (length self.new.labels ≤ length self.old.labels + 2) }
+    {
+        let Statement {
+            subject,
+            predicate,
+            object,
+        } = statement;
+        let subject = self.term(subject)?;
+        let object = self.term(object)?;
+        Ok(Triple {
+            subject,
+            predicate: Term::Iri(predicate),
+            object,
+        })
+    }
+}

@@ -1,0 +1,10 @@
+pub mod FoundItems
+pub mod Values
+pub mod OwnRows
+pub mod PlainRows
+pub mod Terms
+pub mod Digits
+pub mod Finding
+pub mod PathValues
+pub mod Gathered
+pub mod EmptyShapes

@@ -1,0 +1,13 @@
+use Rattle.rdf_model.specs.Terms.{term_cmp}
+use Rattle.shape_model.specs.ShapeSyntax.{HasProperty}
+use Rattle.shape_model.specs.Vocabulary.{ShMaxCount}
+use Rattle.plain_validation.specs.PlainResults.{PlainValue}
+use Rattle.plain_validation.proofs.FoundItems.{finds_at}
+use Rattle.plain_validation.proofs.Gathered.{listing_at, many_found}
+use Rattle.plain_validation.proofs.components.max_count_rows.Goals as goal
+
+pub returns : goal.returns
+returns c = many_found c.args.graph.now c.args.shapes.now c.args.shape.now c.args.focus.now c.as_slice-2.result.now
+    (listing_at term_cmp (PlainValue c.args.graph.now c.args.shapes.now c.args.shape.now c.args.focus.now) c.in_ok-values.values.items c.as_slice-2.result.now c.as_slice-2.ensures.value c.in_ok-values.ensures)
+    c.as_slice.result.now (finds_at (HasProperty c.args.shapes.now c.args.shape.now ShMaxCount) c.in_ok-counts.counts.items c.as_slice.result.now c.as_slice.ensures.value c.in_ok-counts.ensures)
+    c.in_ok-rows_of_many.field-0.items c.in_ok-rows_of_many.ensures

@@ -1,0 +1,18 @@
+//! The results of validating a small graph, straight from the triples of the shapes graph.
+//!
+//! `listing` is the plain, slow form of a validation by SHACL Core (W3C Recommendation of 20 July
+//! 2017): no shape is compiled and no term has a number. It promises the listing that
+//! `shape_model` defines, so faster validations are compared with it in tests.
+#![tactic(auto)]
+
+mod components;
+mod counts;
+mod graph;
+mod results;
+mod rows;
+mod words;
+
+pub use results::listing;
+
+#[cfg(test)]
+mod tests;

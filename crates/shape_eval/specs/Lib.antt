@@ -1,0 +1,4 @@
+pub mod ValueNodes
+pub mod CompiledRows
+pub mod Bounds
+pub mod Results

@@ -1,0 +1,14 @@
+pub mod Classes
+pub mod CompiledWell
+pub mod CountBounds
+pub mod Equals
+pub mod LeastRows
+pub mod Lists
+pub mod NodeKinds
+pub mod Pigeonholes
+pub mod PropertyLists
+pub mod SaidParts
+pub mod Scans
+pub mod ShapeWays
+pub mod ShownRows
+pub mod Values

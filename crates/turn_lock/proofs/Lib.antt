@@ -1,0 +1,11 @@
+pub mod Prefixes
+pub mod Numbers
+pub mod Added
+pub mod Reserved
+pub mod Frame
+pub mod Drawing
+pub mod Looking
+pub mod Ending
+pub mod Splitting
+pub mod Meeting
+pub mod Lasting

@@ -1,0 +1,5 @@
+pub mod History
+pub mod Meaning
+pub mod Callers
+pub mod Steps
+pub mod Rule

@@ -1,0 +1,16 @@
+pub mod Joined
+pub mod EnclosedSteps
+pub mod PlaceSteps
+pub mod Unescaping
+pub mod Runs
+pub mod NumberTokens
+pub mod NumberTexts
+pub mod NameTokens
+pub mod NameTexts
+pub mod EnclosedTokens
+pub mod EnclosedTexts
+pub mod WordTokens
+pub mod Dispatch
+pub mod Reached
+pub mod Sound
+pub mod TokenLaws

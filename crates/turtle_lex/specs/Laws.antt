@@ -1,0 +1,14 @@
+-- What stands at the beginning of a text, and what is found there.
+use Rattle.std.specs.Prelude.{◌≡◌, ℕ, Bool, List, Ok, Err}
+use Rattle.turtle_lex.specs.declared.token.TokenKind.{TokenKind}
+use Rattle.turtle_lex.specs.declared.token.FaultKind.{FaultKind}
+use Rattle.turtle_lex.specs.Tokens.{token_at}
+use Rattle.turtle_lex.specs.Productions.{IsTokenAt, HasNoToken}
+
+-- what is found is the longest token that stands there
+abbrev pub FindsLongest : Type 0
+FindsLongest = (after_string : Bool) (text : List ℕ) (kind : TokenKind) (n : ℕ) → token_at after_string text ≡ Ok (kind, n) → IsTokenAt after_string text kind n
+
+-- where a fault is found no token stands
+abbrev pub MissesNone : Type 0
+MissesNone = (after_string : Bool) (text : List ℕ) (fault : FaultKind) → token_at after_string text ≡ Err fault → HasNoToken after_string text

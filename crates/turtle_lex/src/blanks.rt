@@ -1,0 +1,24 @@
+ghost use Rattle.std.specs.Prelude.{◌≡◌, ◌≤◌, false, length};
+ghost use Rattle.turtle_lex.specs.Blanks;
+
+// How many characters white space and comments have before anything else.
+pub fn blank_length(characters: &[char]) -> usize
+    ensures value { result ≡ Blanks.blank_length false characters.now }
+    ensures bound { result ≤ length characters.now }
+{
+    let mut in_comment = false;
+    let mut count = 0;
+    let mut rest = characters;
+    while let [character, after @ ..] = rest {
+        if in_comment {
+            in_comment = !matches!(character, '\n' | '\r');
+        } else if *character == '#' {
+            in_comment = true;
+        } else if !matches!(character, ' ' | '\t' | '\n' | '\r') {
+            return count;
+        }
+        count += 1;
+        rest = after;
+    }
+    count
+}

@@ -1,0 +1,27 @@
+//! The tokens of Turtle 1.1, with their places, and what they stand for.
+//!
+//! `next_token` gives the longest token that stands behind white space and comments at a place, by
+//! the productions in `specs/Productions.antt`, or None at the end, or the fault, as
+//! `specs/Tokens.antt` says by a token's first characters. It takes no memory: `token_text` has the
+//! characters of a token, and `iri_text`, `string_value`, `split_name` and `local_name` what those
+//! stand for. Characters are counted, not bytes.
+#![tactic(auto)]
+
+mod blanks;
+mod class;
+mod enclosed;
+mod escapes;
+pub mod laws;
+mod lexer;
+mod meanings;
+mod names;
+mod numbers;
+mod places;
+#[cfg(test)]
+mod tests;
+mod token;
+mod words;
+
+pub use lexer::next_token;
+pub use meanings::{iri_text, local_name, plain_text, split_name, string_value, token_text};
+pub use token::{FaultKind, LexFault, Place, Quotes, Token, TokenKind};
