@@ -1,12 +1,12 @@
 -- What an addition leaves under the caller's number.
-use Rattle.std.proofs.Common.{◌≡◌, ℕ, ◌+◌, ◌==◌, suc, Bool, true, false, List, [], ◌∷◌, ◌++◌, ap, sym, subst, ◌∙◌, cond, arith}
+use Rattle.std.proofs.Common.{◌≡◌, ℕ, ◌+◌, ◌==◌, suc, ◌%◌, ◌^◌, Bool, true, false, List, [], ◌∷◌, ◌++◌, ap, sym, subst, ◌∙◌, cond, arith}
 use Rattle.atomic_table.specs.Seated.{TableId}
 use Rattle.turn_lock.specs.History.{has_number, under}
 use Rattle.turn_lock.specs.Callers.{Caller}
 use Rattle.turn_lock.proofs.Added.{under_own}
 use Rattle.turn_lock.proofs.Numbers.{has_later}
 use Rattle.turn_counter.specs.declared.entry.Entry.{Entry}
-use Rattle.turn_counter.specs.Sums.{number_of, additions, Adds}
+use Rattle.turn_counter.specs.Sums.{number_of, additions, total_of, Adds}
 use Rattle.turn_counter.specs.Workers.{HasAdded}
 
 -- the numbers stay the caller's
@@ -25,3 +25,7 @@ added_one lock number times reply before after q r =
       additions_are = ap (λ c. under number_of number c.known.front) r.caller
           ∙ (under_own number_of r.seen e ∙ (ap (λ xs. xs ++ e ∷ []) (r.others.own number q.own ∙ q.additions_are) ∙ ap (additions number) (let n : suc times ≡ times + 1 = omega arith in n)));
     }
+
+-- the reply is the sum of all that the caller has seen by then
+pub replied : {D : Type 0} (before after : Caller Entry D) (e : Entry) (reply : ℕ) → Adds before e after reply → reply ≡ total_of after.known.front % 2 ^ 64
+replied before after e reply r = r.sum ∙ ap (λ c. total_of c.known.front % 2 ^ 64) (sym r.caller)

@@ -1,5 +1,5 @@
 //! Callers with numbers of their own.
-ghost use Rattle.std.specs.Prelude.{◌≡◌, ◌+◌, ◌^◌, ◌<◌, ◌≤◌, OnOk};
+ghost use Rattle.std.specs.Prelude.{◌≡◌, ◌+◌, ◌^◌, ◌<◌, ◌≤◌, OnErr, OnOk};
 ghost use Rattle.turn_counter.specs.Workers.{IsWorker};
 
 use crate::chain::Slip;
@@ -50,6 +50,10 @@ impl Worker {
     ) -> Result<(), AllocError>
         requires { IsWorker turns.now.id self.old }
         ensures done { OnOk result (times ≤ self.new.done) }
+        ensures fewer { OnErr result (self.new.done < times) }
+        ensures grows { self.old.done ≤ self.new.done }
+        // A turn is taken only while there were fewer.
+        ensures most { self.old.done < self.new.done → self.new.done ≤ times }
         ensures worker { IsWorker turns.now.id self.new }
         ensures number { self.new.number ≡ self.old.number }
     {

@@ -18,7 +18,7 @@ loop-worker-preserved c =
     let worker : IsWorker lock c.in-Some.worker = of_last (λ _ w. IsWorker lock w) _ left _ last i.2 in
     let number : c.in-Some.worker.number ≡ length left + 1 = of_last (λ k (w : Worker). w.number ≡ k + 1) _ left _ last i.3 in
     let done : c.in-Some.worker.done ≡ c.args.times = search rules in
-    let has = subst (IsCaller lock c.in-Some.worker.number (c.in-Some.worker.done + 1)) c.unwrap.ensures worker in (
+    let has = subst (IsCaller lock c.in-Some.worker.number (c.in-Some.worker.done + 1)) c.unwrap.ensures worker.0 in (
       search rules,
       search rules,
       all_left (λ _ w. IsWorker lock w) _ left _ last i.2,
