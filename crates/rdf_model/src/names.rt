@@ -15,7 +15,7 @@ pub trait Names {
     fn term(&self, number: u32) -> Option<&Term>
         ensures { MatchOption result (length (terms self.now) ≤ number) (λ term. (number < length (terms self.now)) × (term.now ≡ term_at (terms self.now) number)) };
 
-    /// The first number of a term, if it has one. It takes no memory.
+    /// A number of a term, if it has one. It takes no memory.
     fn id(&self, term: &Term) -> Option<u32>
         ensures { MatchOption result (Contains (terms self.now) term.now → ⊥) (λ number. (number < length (terms self.now)) × (term_at (terms self.now) number ≡ term.now)) };
 }

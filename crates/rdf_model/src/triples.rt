@@ -19,7 +19,7 @@ pub trait Triples {
         requires { AsksForOne look }
         ensures { IfOk result (λ found. IsListing nat_cmp (IsFound look (triples self.now)) found.items) };
 
-    /// Predicate and object of each triple of a subject, each pair once, in no order that is told.
+    /// Predicate and object of each triple of a subject, in no order that is told, maybe several times.
     fn edges(&self, alloc: Global, subject: u32) -> Result<Vec<(u32, u32)>, AllocError>
         ensures { IfOk result (λ edges. (edge : _) → Contains edges.items edge ↔ IsEdge (triples self.now) subject edge) };
 
