@@ -13,34 +13,49 @@ use Rattle.store_model.specs.declared.commit.Transaction.{Transaction}
 use Rattle.store_model.specs.declared.event.Action.{Action}
 use Rattle.store_model.specs.declared.event.Action.TheVariants.{Open, Begin, Name, Head, Commit, Void}
 use Rattle.store_model.specs.declared.event.Reply.{Reply}
-use Rattle.store_model.specs.declared.event.Reply.TheVariants.{Version, Named, Full, Conflict, FullTriples, Done}
+use Rattle.store_model.specs.declared.event.Reply.TheVariants.{Version, Named, Full, Conflict, FullTriples, Refused, Done}
 use Rattle.collections.specs.Ordered.{IsAscending, has_item}
 use Rattle.rdf_model.specs.Graphs.{after, differing}
 use Rattle.shape_model.specs.Validation.{Listing, NoResult}
+use Rattle.term_validation.specs.Named.{AreNamedTriples}
+use Rattle.rdf_model.specs.Numbers.{IsNumbering}
 use Rattle.store_model.specs.Store.{State, RecordedStore, TakesStep, Step, StepOf, Replies, OpensNext, OpensNothing, CommitsWithinLimit, CommitsByListing, CommitsByRows, IsOpened, IsCommittable, again, empty_store, overtaker, named_with, shapes_under, committed, is_staged}
 use Rattle.shape_model.proofs.Listings.{conforms_law, no_shapes_law}
 use Rattle.store_model.proofs.Histories.{Replays-push, IsAscending-after}
 use Rattle.store_model.specs.declared.commit.Accepted.{Accepted}
 use Rattle.store_model.specs.declared.commit.Again.{Again}
-use Rattle.store_model.specs.declared.commit.Again.TheVariants.{NoVerdict}
-use Rattle.store_model.specs.declared.commit.Verdict.{Verdict}
-use Rattle.store_model.proofs.Steps.{names, names_none, conflicts, overflows, accepts}
+use Rattle.store_model.proofs.Steps.{names, names_none, overflows, accepts, refuses}
+use Rattle.commit_core.specs.Commits.{IsWithin}
 use Rattle.commit_core.specs.Consistent.{IsConsistent}
+use Rattle.commit_core.proofs.NamedTerms.{first_numbering, named_after, named_under, numbered_with, triples_stay}
 
-record Holds (s : State) : Type 0 where
+record Holds (l : Limits) (s : State) : Type 0 where
   ascending : IsAscending triple_cmp s.graph
   no_result : NoResult s.graph s.shapes
   opened : s.opened ≤ 64
   two : 2 ≤ length s.named
+  numbering : IsNumbering s.named
+  within : length s.named ≤ l.terms + 2
+  graph : AreNamedTriples s.named s.graph
+  shapes : AreNamedTriples s.named s.shapes
 
-stays : (p r : Reply) (s t : State) → Replies p s r t → Holds s → Holds t
-stays p r s t h b = subst (λ (x : State). Holds x) (sym h.1) b
+stays : (l : Limits) (p r : Reply) (s t : State) → Replies p s r t → Holds l s → Holds l t
+stays l p r s t h b = subst (λ (x : State). Holds l x) (sym h.1) b
 
-opened : (s t : State) (i : ℕ) (r : Reply) (small : Bool) → nat_lt s.opened 64 ≡ small → MatchBool small (OpensNext s i r t) (OpensNothing s i r t) → Holds s → Holds t
-opened s t i r true e h b =
+opened : (l : Limits) (s t : State) (i : ℕ) (r : Reply) (small : Bool) → nat_lt s.opened 64 ≡ small → MatchBool small (OpensNext s i r t) (OpensNothing s i r t) → Holds l s → Holds l t
+opened l s t i r true e h b =
     let lt : s.opened < 64 = grind (arith, nat_tests) in
-    subst (λ (x : State). Holds x) (sym h.1.1) (record { ascending = b.ascending; no_result = b.no_result; opened = omega (arith, lt); two = b.two })
-opened s t i r false e h b = subst (λ (x : State). Holds x) (sym h.1.1) b
+    subst (λ (x : State). Holds l x) (sym h.1.1) (record {
+      ascending = b.ascending;
+      no_result = b.no_result;
+      opened = omega (arith, lt);
+      two = b.two;
+      numbering = b.numbering;
+      within = b.within;
+      graph = b.graph;
+      shapes = b.shapes;
+    })
+opened l s t i r false e h b = subst (λ (x : State). Holds l x) (sym h.1.1) b
 
 longer : (named ts : List Term) → length named ≤ length (named_with named ts)
 longer named [] = omega arith
@@ -49,36 +64,64 @@ longer named (t ∷ ts) = elim (has_item term_cmp t named) as (λ b. length name
   | false ↦ let h = longer (named ++ t ∷ []) ts in let e : length (named ++ t ∷ []) ≡ length named + 1 = simp length-append in omega (arith, h, e)
 ]
 
-named_by : (s t : State) (ts : List Term) (p r : Reply) (many : Bool) → MatchBool many (Replies p s r t) (Replies Named (record s { named = named_with s.named ts }) r t) → Holds s → Holds t
-named_by s t ts p r true h b = stays p r s t h b
-named_by s t ts p r false h b =
+named_by : (l : Limits) (s t : State) (ts : List Term) (p r : Reply) (many : Bool) → nat_lt (l.terms + 2) (length (named_with s.named ts)) ≡ many → MatchBool many (Replies p s r t) (Replies Named (record s { named = named_with s.named ts }) r t) → Holds l s → Holds l t
+named_by l s t ts p r true e h b = stays l p r s t h b
+named_by l s t ts p r false e h b =
     let le = longer s.named ts in
     let two : 2 ≤ length (named_with s.named ts) = omega (arith, le, b.two) in
-    subst (λ (x : State). Holds x) (sym h.1) (record { ascending = b.ascending; no_result = b.no_result; opened = b.opened; two = two })
+    let within : length (named_with s.named ts) ≤ l.terms + 2 = grind (arith, nat_tests) in
+    subst (λ (x : State). Holds l x) (sym h.1) (record {
+      ascending = b.ascending;
+      no_result = b.no_result;
+      opened = b.opened;
+      two = two;
+      numbering = numbered_with s.named ts b.numbering;
+      within = within;
+      graph = triples_stay s.named ts s.graph b.graph;
+      shapes = triples_stay s.named ts s.shapes b.shapes;
+    })
 
-by_rows : (s t : State) (x : Transaction) (r : Reply) (rows : List ResultRow) → Listing (after s.graph x.net) (shapes_under s.shapes x.staged) rows → CommitsByRows s x rows r t → Holds s → Holds t
-by_rows s t x r [] l h b = subst (λ (y : State). Holds y) (sym h.1) (record { ascending = IsAscending-after s.graph x.net b.ascending; no_result = (conforms_law (after s.graph x.net) (shapes_under s.shapes x.staged)).1 l; opened = b.opened; two = b.two })
-by_rows s t x r (row ∷ rows) l h b = subst (λ (y : State). Holds y) (sym h.1) b
+by_rows : (l : Limits) (s t : State) (x : Transaction) (r : Reply) (rows : List ResultRow) → IsCommittable s x → Listing (after s.graph x.net) (shapes_under s.shapes x.staged) rows → CommitsByRows s x rows r t → Holds l s → Holds l t
+by_rows l s t x r [] f k h b = subst (λ (y : State). Holds l y) (sym h.1) (record {
+  ascending = IsAscending-after s.graph x.net b.ascending;
+  no_result = (conforms_law (after s.graph x.net) (shapes_under s.shapes x.staged)).1 k;
+  opened = b.opened;
+  two = b.two;
+  numbering = b.numbering;
+  within = b.within;
+  graph = named_after s.named s.graph x.net b.graph f.net;
+  shapes = named_under s.named s.shapes x.staged b.shapes f.staged;
+})
+by_rows l s t x r (row ∷ rows) f k h b = subst (λ (y : State). Holds l y) (sym h.1) b
 
-weighed : (s t : State) (x : Transaction) (p r : Reply) (many : Bool) → MatchBool many (Replies p s r t) (CommitsByListing s x r t) → Holds s → Holds t
-weighed s t x p r true h b = stays p r s t h b
-weighed s t x p r false h b = by_rows s t x r h.0 h.1 h.2 b
+weighed : (l : Limits) (s t : State) (x : Transaction) (p r : Reply) (many : Bool) → IsCommittable s x → MatchBool many (Replies p s r t) (CommitsByListing s x r t) → Holds l s → Holds l t
+weighed l s t x p r true f h b = stays l p r s t h b
+weighed l s t x p r false f h b = by_rows l s t x r h.0 f h.1 h.2 b
 
-committed_by : (l : Limits) (s t : State) (x : Transaction) (r : Reply) (o : Option Overtaker) → MatchOption o (CommitsWithinLimit l s x r t) (λ h. Replies (Conflict h.commit h.triple) s r t) → Holds s → Holds t
-committed_by l s t x r None h b = weighed s t x (FullTriples (length (after s.graph x.net))) r (nat_lt l.triples (length (after s.graph x.net))) h b
-committed_by l s t x r (Some y) h b = stays (Conflict y.commit y.triple) r s t h b
+committed_by : (l : Limits) (s t : State) (x : Transaction) (r : Reply) (o : Option Overtaker) → IsCommittable s x → MatchOption o (CommitsWithinLimit l s x r t) (λ h. Replies (Conflict h.commit h.triple) s r t) → Holds l s → Holds l t
+committed_by l s t x r None f h b = weighed l s t x (FullTriples (length (after s.graph x.net))) r (nat_lt l.triples (length (after s.graph x.net))) f h b
+committed_by l s t x r (Some y) f h b = stays l (Conflict y.commit y.triple) r s t h b
 
-holds : (l : Limits) (s t : State) (i : ℕ) (a : Action) (r : Reply) → StepOf l s i a r t → Holds s → Holds t
-holds l s t i Open r h b = opened s t i r (nat_lt s.opened 64) refl h b
-holds l s t i Begin r h b = subst (λ (x : State). Holds x) (sym h.1.1) b
-holds l s t i (Name ts) r h b = named_by s t ts (Full (length (named_with s.named ts) - 2)) r (nat_lt (l.terms + 2) (length (named_with s.named ts))) h.1 b
-holds l s t i Head r h b = subst (λ (x : State). Holds x) (sym h.1.1) b
-holds l s t i (Commit x) r h b = committed_by l s t x r (overtaker s.commits x.base x.finds) h.2 b
-holds l s t i Void r h b = subst (λ (x : State). Holds x) (sym h.1.1) b
+holds : (l : Limits) (s t : State) (i : ℕ) (a : Action) (r : Reply) → StepOf l s i a r t → Holds l s → Holds l t
+holds l s t i Open r h b = opened l s t i r (nat_lt s.opened 64) refl h b
+holds l s t i Begin r h b = subst (λ (x : State). Holds l x) (sym h.1.1) b
+holds l s t i (Name ts) r h b = named_by l s t ts (Full (length (named_with s.named ts) - 2)) r (nat_lt (l.terms + 2) (length (named_with s.named ts))) refl h.1 b
+holds l s t i Head r h b = subst (λ (x : State). Holds l x) (sym h.1.1) b
+holds l s t i (Commit x) r h b = committed_by l s t x r (overtaker s.commits x.base x.finds) h.1 h.2 b
+holds l s t i Void r h b = subst (λ (x : State). Holds l x) (sym h.1.1) b
 
 pub IsConsistent-step : (s : RecordedStore) (t : State) (e : Event) → IsConsistent s → Step s.limits s.state e t → IsConsistent (record { limits = s.limits; state = t; history = s.history ++ e ∷ [] })
 IsConsistent-step s t e k h =
-    let b = holds s.limits s.state t e.session e.action e.reply h (record { ascending = k.ascending; no_result = k.no_result; opened = k.opened; two = k.two }) in
+    let b = holds s.limits s.state t e.session e.action e.reply h (record {
+      ascending = k.ascending;
+      no_result = k.no_result;
+      opened = k.opened;
+      two = k.two;
+      numbering = k.numbering;
+      within = k.within;
+      graph = k.graph;
+      shapes = k.shapes;
+    }) in
     record {
       replays = Replays-push s.limits empty_store s.history s.state t e k.replays h;
       ascending = b.ascending;
@@ -86,10 +129,25 @@ IsConsistent-step s t e k h =
       opened = b.opened;
       two = b.two;
       small = k.small;
+      numbering = b.numbering;
+      within = b.within;
+      graph = b.graph;
+      shapes = b.shapes;
     }
 
 pub IsConsistent-empty : (l : Limits) → l.terms + 2 < 2 ^ 32 → IsConsistent (record { limits = l; state = empty_store; history = [] })
-IsConsistent-empty l small = record { replays = refl; ascending = tt; no_result = (conforms_law [] []).1 ((no_shapes_law [] []).1 refl); opened = omega arith; two = omega arith; small = small }
+IsConsistent-empty l small = record {
+  replays = refl;
+  ascending = tt;
+  no_result = (conforms_law [] []).1 ((no_shapes_law [] []).1 refl);
+  opened = omega arith;
+  two = omega arith;
+  small = small;
+  numbering = first_numbering;
+  within = omega arith;
+  graph = λ k d lt. absurd (omega (arith, lt));
+  shapes = λ k d lt. absurd (omega (arith, lt));
+}
 
 -- a fact on a value, by the fields that it is the view of
 pub at_fields : (a b : RecordedStore) (P : RecordedStore → Type 0) → a ≡ b → P b → P a
@@ -112,21 +170,28 @@ name_done l s i ts names' g e le =
 pub commit_full : (l : Limits) (s : State) (i : ℕ) (x : Transaction) (n : ℕ) → IsOpened s i → IsCommittable s x → overtaker s.commits x.base x.finds ≡ None → l.triples < length (after s.graph x.net) → n ≡ length (after s.graph x.net) → StepOf l s i (Commit x) (FullTriples n) s
 commit_full l s i x n g f e lt c = subst (λ (m : ℕ). StepOf l s i (Commit x) (FullTriples m) s) (sym c) (overflows l s i x g f e lt)
 
--- as long as there are no shapes and no verdicts
-pub commit_done : (l : Limits) (s : State) (i : ℕ) (x : Transaction) (n : ℕ) (graph : List Triple) (a : Accepted) → IsOpened s i → IsCommittable s x → s.shapes ≡ [] → x.staged ≡ None → x.verdict ≡ None
-    → overtaker s.commits x.base x.finds ≡ None → length (after s.graph x.net) ≤ l.triples → graph ≡ after s.graph x.net → a.changed ≡ differing s.graph (after s.graph x.net) → a.staged ≡ false → n ≡ length s.commits + 1
-    → StepOf l s i (Commit x) (Done n NoVerdict) (record s { graph = graph; commits = s.commits ++ a ∷ [] })
-commit_done l s i x n graph a g f none staged verdict over le eg ec es en =
-    let shapes : s.shapes ≡ shapes_under s.shapes x.staged = sym (ap (shapes_under s.shapes) staged) in
-    let none_under : [] ≡ shapes_under s.shapes x.staged = sym none ∙ shapes in
-    let listing : Listing (after s.graph x.net) (shapes_under s.shapes x.staged) [] = subst (λ (shapes : List Triple). Listing (after s.graph x.net) shapes []) none_under ((no_shapes_law (after s.graph x.net) []).1 refl) in
-    let why : again s.commits x.staged x.verdict ≡ NoVerdict = ap (λ (o : Option (List Triple)). again s.commits o x.verdict) staged ∙ ap (λ (v : Option Verdict). again s.commits None v) verdict in
-    let flag : a.staged ≡ is_staged x.staged = es ∙ sym (ap is_staged staged) in
-    let state : committed s x ≡ record s { graph = graph; commits = s.commits ++ a ∷ [] } =
-    sym (λ j. record { graph = eg j; shapes = shapes j; commits = s.commits ++ record { changed = ec j; staged = flag j } ∷ []; named = s.named; opened = s.opened }) in
-    subst (λ (m : ℕ). StepOf l s i (Commit x) (Done m NoVerdict) (record s { graph = graph; commits = s.commits ++ a ∷ [] })) (sym en)
-    (subst (λ (t : State). StepOf l s i (Commit x) (Done (length s.commits + 1) NoVerdict) t) state
-    (subst (λ (a : Again). StepOf l s i (Commit x) (Done (length s.commits + 1) a) (committed s x)) why (accepts l s i x g f over le listing)))
+-- a commit whose graph would have results, as long as there are no verdicts
+pub commit_refused : (l : Limits) (s : State) (i : ℕ) (x : Transaction) (shapes : List Triple) (rows recorded : List ResultRow) (why : Again) → IsOpened s i → IsCommittable s x → x.verdict ≡ None → why ≡ again s.commits x.staged None
+    → IsWithin l s.graph s.commits x → shapes ≡ shapes_under s.shapes x.staged → Listing (after s.graph x.net) shapes rows → 0 < length rows → recorded ≡ rows
+    → StepOf l s i (Commit x) (Refused recorded why) s
+commit_refused l s i x shapes rows recorded why g f v e within es listing some er =
+    let under : Listing (after s.graph x.net) (shapes_under s.shapes x.staged) rows = subst (λ (ts : List Triple). Listing (after s.graph x.net) ts rows) es listing in
+    let reason : again s.commits x.staged x.verdict ≡ why = ap (again s.commits x.staged) v ∙ sym e in
+    subst (λ (rs : List ResultRow). StepOf l s i (Commit x) (Refused rs why) s) (sym er)
+    (subst (λ (w : Again). StepOf l s i (Commit x) (Refused rows w) s) reason (refuses l s i x rows g f within.0 within.1 under some))
+
+-- a commit whose graph has none
+pub commit_done : (l : Limits) (s : State) (i : ℕ) (x : Transaction) (n : ℕ) (graph shapes : List Triple) (a : Accepted) (why : Again) → IsOpened s i → IsCommittable s x → x.verdict ≡ None → why ≡ again s.commits x.staged None
+    → IsWithin l s.graph s.commits x → shapes ≡ shapes_under s.shapes x.staged → Listing (after s.graph x.net) shapes [] → graph ≡ after s.graph x.net → a.changed ≡ differing s.graph (after s.graph x.net) → a.staged ≡ is_staged x.staged → n ≡ length s.commits + 1
+    → StepOf l s i (Commit x) (Done n why) (record s { graph = graph; shapes = shapes; commits = s.commits ++ a ∷ [] })
+commit_done l s i x n graph shapes a why g f v e within es listing eg ec flag en =
+    let under : Listing (after s.graph x.net) (shapes_under s.shapes x.staged) [] = subst (λ (ts : List Triple). Listing (after s.graph x.net) ts []) es listing in
+    let reason : again s.commits x.staged x.verdict ≡ why = ap (again s.commits x.staged) v ∙ sym e in
+    let state : committed s x ≡ record s { graph = graph; shapes = shapes; commits = s.commits ++ a ∷ [] } =
+    sym (λ j. record { graph = eg j; shapes = es j; commits = s.commits ++ record { changed = ec j; staged = flag j } ∷ []; named = s.named; opened = s.opened }) in
+    subst (λ (m : ℕ). StepOf l s i (Commit x) (Done m why) (record s { graph = graph; shapes = shapes; commits = s.commits ++ a ∷ [] })) (sym en)
+    (subst (λ (t : State). StepOf l s i (Commit x) (Done (length s.commits + 1) why) t) state
+    (subst (λ (w : Again). StepOf l s i (Commit x) (Done (length s.commits + 1) w) (committed s x)) reason (accepts l s i x g f within.0 within.1 under)))
 
 -- what is kept after each method's event: s are the fields, o is the value that the contract speaks of
 abbrev more : RecordedStore → State → Event → RecordedStore
@@ -144,30 +209,38 @@ consistent_name_full s o i ts ns n k v g e c lt = IsConsistent-step s s.state (r
 pub consistent_name : (s o : RecordedStore) (i : ℕ) (ts names : List Term) → IsConsistent s → s ≡ o → IsOpened o.state i → names ≡ named_with s.state.named ts → length names ≤ s.limits.terms + 2 → IsConsistent (more s (record s.state { named = names }) (record { session = i; action = Name ts; reply = Named }))
 consistent_name s o i ts ns k v g e le = IsConsistent-step s (record s.state { named = ns }) (record { session = i; action = Name ts; reply = Named }) k (name_done s.limits s.state i ts ns (opened_inside s o i v g) e le)
 
-pub consistent_conflict : (s o : RecordedStore) (i : ℕ) (x : Transaction) (h : Overtaker) → IsConsistent s → s ≡ o → IsOpened o.state i → IsCommittable o.state x → overtaker s.state.commits x.base x.finds ≡ Some h → IsConsistent (more s s.state (record { session = i; action = Commit x; reply = Conflict h.commit h.triple }))
-consistent_conflict s o i x h k v g f e = IsConsistent-step s s.state (record { session = i; action = Commit x; reply = Conflict h.commit h.triple }) k (conflicts s.limits s.state i x h (opened_inside s o i v g) (at_fields s o (λ y. IsCommittable y.state x) v f) e)
+-- a commit that changes nothing
+pub consistent_refusal : (s o : RecordedStore) (i : ℕ) (x : Transaction) (r : Reply) → IsConsistent s → s ≡ o → StepOf o.limits o.state i (Commit x) r o.state → IsConsistent (more s s.state (record { session = i; action = Commit x; reply = r }))
+consistent_refusal s o i x r k v h = IsConsistent-step s s.state (record { session = i; action = Commit x; reply = r }) k (at_fields s o (λ y. StepOf y.limits y.state i (Commit x) r y.state) v h)
 
-pub consistent_commit_full : (s o : RecordedStore) (i : ℕ) (x : Transaction) (n : ℕ) → IsConsistent s → s ≡ o → IsOpened o.state i → IsCommittable o.state x → overtaker s.state.commits x.base x.finds ≡ None → s.limits.triples < length (after s.state.graph x.net) → n ≡ length (after s.state.graph x.net) → IsConsistent (more s s.state (record { session = i; action = Commit x; reply = FullTriples n }))
-consistent_commit_full s o i x n k v g f e lt c = IsConsistent-step s s.state (record { session = i; action = Commit x; reply = FullTriples n }) k (commit_full s.limits s.state i x n (opened_inside s o i v g) (at_fields s o (λ y. IsCommittable y.state x) v f) e lt c)
+-- the state after a commit that is accepted
+abbrev accepted_state : State → List Triple → List Triple → Accepted → State
+accepted_state s graph shapes a = record s { graph = graph; shapes = shapes; commits = s.commits ++ a ∷ [] }
 
-pub consistent_commit : (s o : RecordedStore) (i : ℕ) (x : Transaction) (n : ℕ) (graph : List Triple) (a : Accepted) → IsConsistent s → s.state.shapes ≡ [] → s ≡ o → IsOpened o.state i → IsCommittable o.state x → x.staged ≡ None → x.verdict ≡ None
-    → overtaker s.state.commits x.base x.finds ≡ None → length (after s.state.graph x.net) ≤ s.limits.triples → graph ≡ after s.state.graph x.net → a.changed ≡ differing s.state.graph (after s.state.graph x.net) → a.staged ≡ false → n ≡ length (s.state.commits ++ a ∷ [])
-    → IsConsistent (more s (record s.state { graph = graph; commits = s.state.commits ++ a ∷ [] }) (record { session = i; action = Commit x; reply = Done n NoVerdict }))
-consistent_commit s o i x n graph a k none v g f staged verdict over le eg ec es en =
+-- its step, by the fields
+accepts_at : (s o : RecordedStore) (i : ℕ) (x : Transaction) (n : ℕ) (graph shapes : List Triple) (a : Accepted) (why : Again) → s ≡ o → IsOpened o.state i → IsCommittable o.state x → x.verdict ≡ None → why ≡ again s.state.commits x.staged None
+    → IsWithin o.limits o.state.graph o.state.commits x → shapes ≡ shapes_under o.state.shapes x.staged → Listing (after o.state.graph x.net) shapes [] → graph ≡ after o.state.graph x.net → a.changed ≡ differing o.state.graph (after o.state.graph x.net) → a.staged ≡ is_staged x.staged → n ≡ length (s.state.commits ++ a ∷ [])
+    → StepOf s.limits s.state i (Commit x) (Done n why) (accepted_state s.state graph shapes a)
+accepts_at s o i x n graph shapes a why view g f v e within es listing eg ec flag en =
     let count : n ≡ length s.state.commits + 1 = en ∙ simp length-append in
-    IsConsistent-step s (record s.state { graph = graph; commits = s.state.commits ++ a ∷ [] }) (record { session = i; action = Commit x; reply = Done n NoVerdict }) k
-    (commit_done s.limits s.state i x n graph a (opened_inside s o i v g) (at_fields s o (λ y. IsCommittable y.state x) v f) none staged verdict over le eg ec es count)
+    commit_done s.limits s.state i x n graph shapes a why (opened_inside s o i view g) (at_fields s o (λ y. IsCommittable y.state x) view f) v e
+    (at_fields s o (λ y. IsWithin y.limits y.state.graph y.state.commits x) view within)
+    (at_fields s o (λ y. shapes ≡ shapes_under y.state.shapes x.staged) view es)
+    (at_fields s o (λ y. Listing (after y.state.graph x.net) shapes []) view listing)
+    (at_fields s o (λ y. graph ≡ after y.state.graph x.net) view eg)
+    (at_fields s o (λ y. a.changed ≡ differing y.state.graph (after y.state.graph x.net)) view ec)
+    flag count
 
--- the step of a commit that is accepted
-pub takes_commit : (s o : RecordedStore) (i : ℕ) (x : Transaction) (n : ℕ) (graph : List Triple) (a : Accepted) → s.state.shapes ≡ [] → s ≡ o → IsOpened o.state i → IsCommittable o.state x → x.staged ≡ None → x.verdict ≡ None
-    → overtaker s.state.commits x.base x.finds ≡ None → length (after s.state.graph x.net) ≤ s.limits.triples → graph ≡ after s.state.graph x.net → a.changed ≡ differing s.state.graph (after s.state.graph x.net) → a.staged ≡ false → n ≡ length (s.state.commits ++ a ∷ [])
-    → TakesStep o (more s (record s.state { graph = graph; commits = s.state.commits ++ a ∷ [] }) (record { session = i; action = Commit x; reply = Done n NoVerdict })) (record { session = i; action = Commit x; reply = Done n NoVerdict })
-takes_commit s o i x n graph a none v g f staged verdict over le eg ec es en =
-    let count : n ≡ length s.state.commits + 1 = en ∙ simp length-append in
-    let e : Event = record { session = i; action = Commit x; reply = Done n NoVerdict } in
-    let next = more s (record s.state { graph = graph; commits = s.state.commits ++ a ∷ [] }) e in
-    subst (λ (y : RecordedStore). TakesStep y next e) v (record {
-      step = commit_done s.limits s.state i x n graph a (opened_inside s o i v g) (at_fields s o (λ y. IsCommittable y.state x) v f) none staged verdict over le eg ec es count;
-      limits = refl;
-      history = refl;
-    })
+pub consistent_commit : (s o : RecordedStore) (i : ℕ) (x : Transaction) (n : ℕ) (graph shapes : List Triple) (a : Accepted) (why : Again) → IsConsistent s → s ≡ o → IsOpened o.state i → IsCommittable o.state x → x.verdict ≡ None → why ≡ again s.state.commits x.staged None
+    → IsWithin o.limits o.state.graph o.state.commits x → shapes ≡ shapes_under o.state.shapes x.staged → Listing (after o.state.graph x.net) shapes [] → graph ≡ after o.state.graph x.net → a.changed ≡ differing o.state.graph (after o.state.graph x.net) → a.staged ≡ is_staged x.staged → n ≡ length (s.state.commits ++ a ∷ [])
+    → IsConsistent (more s (accepted_state s.state graph shapes a) (record { session = i; action = Commit x; reply = Done n why }))
+consistent_commit s o i x n graph shapes a why k view g f v e within es listing eg ec flag en =
+    IsConsistent-step s (accepted_state s.state graph shapes a) (record { session = i; action = Commit x; reply = Done n why }) k (accepts_at s o i x n graph shapes a why view g f v e within es listing eg ec flag en)
+
+pub takes_commit : (s o : RecordedStore) (i : ℕ) (x : Transaction) (n : ℕ) (graph shapes : List Triple) (a : Accepted) (why : Again) → s ≡ o → IsOpened o.state i → IsCommittable o.state x → x.verdict ≡ None → why ≡ again s.state.commits x.staged None
+    → IsWithin o.limits o.state.graph o.state.commits x → shapes ≡ shapes_under o.state.shapes x.staged → Listing (after o.state.graph x.net) shapes [] → graph ≡ after o.state.graph x.net → a.changed ≡ differing o.state.graph (after o.state.graph x.net) → a.staged ≡ is_staged x.staged → n ≡ length (s.state.commits ++ a ∷ [])
+    → TakesStep o (more s (accepted_state s.state graph shapes a) (record { session = i; action = Commit x; reply = Done n why })) (record { session = i; action = Commit x; reply = Done n why })
+takes_commit s o i x n graph shapes a why view g f v e within es listing eg ec flag en =
+    let event : Event = record { session = i; action = Commit x; reply = Done n why } in
+    let next = more s (accepted_state s.state graph shapes a) event in
+    subst (λ (y : RecordedStore). TakesStep y next event) view (record { step = accepts_at s o i x n graph shapes a why view g f v e within es listing eg ec flag en; limits = refl; history = refl })

@@ -1,1 +1,2 @@
+pub mod NamedTerms
 pub mod Consistency

@@ -1,27 +1,43 @@
 -- What a commit is answered, and what it plans.
-use Rattle.std.specs.Prelude.{◌≡◌, ◌<◌, ◌≤◌, ℕ, false, List, length, Some, None}
+use Rattle.std.specs.Prelude.{◌≡◌, ◌<◌, ◌≤◌, ℕ, List, [], length, Some, None}
 use Rattle.rdf_model.specs.declared.triple.Triple.{Triple}
+use Rattle.rdf_model.specs.Graphs.{after, differing}
+use Rattle.shape_model.specs.Validation.{Listing}
 use Rattle.store_model.specs.declared.event.Limits.{Limits}
 use Rattle.store_model.specs.declared.commit.Accepted.{Accepted}
 use Rattle.store_model.specs.declared.commit.Transaction.{Transaction}
 use Rattle.store_model.specs.declared.event.Action.TheVariants as actions
+use Rattle.store_model.specs.declared.event.Reply.{Reply}
 use Rattle.store_model.specs.declared.event.Reply.TheVariants as replies
-use Rattle.rdf_model.specs.Graphs.{after, differing}
-use Rattle.store_model.specs.Store.{RecordedStore, TakesStep, overtaker}
+use Rattle.store_model.specs.Store.{RecordedStore, TakesStep, is_staged, overtaker, shapes_under}
 use Rattle.commit_core.specs.declared.commit.Commit.{Commit}
-use Rattle.commit_core.specs.declared.commit.Commit.TheVariants.{Done, Conflict, FullTriples, Memory}
+use Rattle.commit_core.specs.declared.commit.Commit.TheVariants.{Done, Conflict, FullTriples, Refused, Memory}
 use Rattle.commit_core.specs.declared.commit.Plan.{Plan}
-use Rattle.commit_core.specs.declared.commit.Plan.TheVariants.{Overtaken, TooLarge, Accept}
+use Rattle.commit_core.specs.declared.commit.Plan.TheVariants.{Overtaken, TooLarge, Refuse, Accept}
 
--- The answer is the plain store's reply to this commit, which the history has; want of memory changes nothing.
+-- the commit is a step with this reply, which the history has
+abbrev pub TakesCommit : RecordedStore → RecordedStore → ℕ → Transaction → Reply → Type 0
+TakesCommit old new i x r = TakesStep old new (record { session = i; action = actions.Commit x; reply = r })
+
+-- The answer is the plain store's reply to this commit; want of memory changes nothing. The rows of a refusal are the
+-- listing of the graph that would be, under the staged shapes or else the newest.
 abbrev pub Answers : Commit → RecordedStore → RecordedStore → ℕ → Transaction → Type 0
-Answers (Done number again) old new i x = TakesStep old new (record { session = i; action = actions.Commit x; reply = replies.Done number again })
-Answers (Conflict commit triple) old new i x = TakesStep old new (record { session = i; action = actions.Commit x; reply = replies.Conflict commit triple })
-Answers (FullTriples count) old new i x = TakesStep old new (record { session = i; action = actions.Commit x; reply = replies.FullTriples count })
+Answers (Done number again) old new i x = TakesCommit old new i x (replies.Done number again)
+Answers (Conflict commit triple) old new i x = TakesCommit old new i x (replies.Conflict commit triple)
+Answers (FullTriples count) old new i x = TakesCommit old new i x (replies.FullTriples count)
+Answers (Refused rows again shapes) old new i x =
+    TakesCommit old new i x (replies.Refused rows again) × (shapes ≡ shapes_under old.state.shapes x.staged) × Listing (after old.state.graph x.net) shapes rows
 Answers (Memory y) old new i x = (y ≡ x) × (new ≡ old)
 
+-- nothing overtook the transaction, and the graph would be within the limit
+abbrev pub IsWithin : Limits → List Triple → List Accepted → Transaction → Type 0
+IsWithin l graph commits x = (overtaker commits x.base x.finds ≡ None) × (length (after graph x.net) ≤ l.triples)
+
 -- the first of a commit's answers that applies, and what is needed to carry it out
-abbrev pub IsPlan : Limits → List Triple → List Accepted → Transaction → Plan → Type 0
-IsPlan l graph commits x (Overtaken o t) = (overtaker commits x.base x.finds ≡ Some o) × (t ≡ o.triple)
-IsPlan l graph commits x (TooLarge n) = (overtaker commits x.base x.finds ≡ None) × (l.triples < length (after graph x.net)) × (n ≡ length (after graph x.net))
-IsPlan l graph commits x (Accept g a) = (overtaker commits x.base x.finds ≡ None) × (length (after graph x.net) ≤ l.triples) × (g.items ≡ after graph x.net) × (a.changed ≡ differing graph (after graph x.net)) × (a.staged ≡ false)
+abbrev pub IsPlan : Limits → List Triple → List Triple → List Accepted → Transaction → Plan → Type 0
+IsPlan l graph shapes commits x (Overtaken o t) = (overtaker commits x.base x.finds ≡ Some o) × (t ≡ o.triple)
+IsPlan l graph shapes commits x (TooLarge n) = (overtaker commits x.base x.finds ≡ None) × (l.triples < length (after graph x.net)) × (n ≡ length (after graph x.net))
+IsPlan l graph shapes commits x (Refuse rows recorded s) =
+    IsWithin l graph commits x × (s ≡ shapes_under shapes x.staged) × Listing (after graph x.net) s rows × (0 < length rows) × (recorded ≡ rows)
+IsPlan l graph shapes commits x (Accept g a s) =
+    IsWithin l graph commits x × (s ≡ shapes_under shapes x.staged) × Listing (after graph x.net) s [] × (g.items ≡ after graph x.net) × (a.changed ≡ differing graph (after graph x.net)) × (a.staged ≡ is_staged x.staged)

@@ -1,18 +1,21 @@
 ghost use Rattle.std.specs.Prelude.{◌≡◌, ◌+◌, ◌≤◌, ◌<◌, ◌^◌, [], ◌∷◌, ◌++◌, None, length, map, IfOk, OnOk, OnErr, MatchResult};
-ghost use Rattle.store_model.specs.Store.{RecordedStore, empty_store, TakesStep, IsOpened, IsCommittable, numbers_of};
-ghost use Rattle.commit_core.specs.Commits.{Answers};
+ghost use Rattle.store_model.specs.Store.{RecordedStore, empty_store, Step, TakesStep, IsOpened, IsCommittable, numbers_of};
+ghost use Rattle.commit_core.specs.Commits.{Answers, IsPlan, TakesCommit};
 ghost use Rattle.commit_core.specs.Faults.{OpensNone, NamesNone};
 
-use crate::commit::{Commit, Plan, make_plan};
+use crate::commit::{Commit, Plan, make_plan, reason};
 use crate::history::{History, sessions_back};
 use crate::names::{first_names, names_with, numbers_in};
 use crate::room::Slip;
 use collections::Sequence;
 use rdf_model::{Term, Triple};
+use shape_eval::Steps;
+use shapes_graph::ShapesGraph;
 use std::alloc::{AllocError, Global};
 use std::boxed::Box;
 use std::marker::Model;
-use store_model::{Accepted, Action, Again, Event, Limits, Overtaker, Reply, Transaction};
+use std::sync::ledger::Ledger;
+use store_model::{Accepted, Action, Event, Limits, Overtaker, Reply, Transaction};
 
 const MOST_SESSIONS: u32 = 64;
 
@@ -104,6 +107,7 @@ fn add_commit(commits: &mut Vec<Accepted>, accepted: Accepted) -> Result<(), All
 pub struct Core {
     limits: Limits,
     graph: Vec<Triple>,
+    shapes: ShapesGraph,
     commits: Vec<Accepted>,
     named: Vec<Term>,
     opened: u32,
@@ -111,15 +115,14 @@ pub struct Core {
 }
 
 impl Model for Core {
-    ghost use Rattle.std.specs.Prelude.{[]};
     ghost use Rattle.store_model.specs.Store.{RecordedStore};
     ghost use Rattle.commit_core.specs.Consistent.{IsConsistent};
 
     ghost Value = { RecordedStore };
 
-    ghost view = { λ c. record { limits = c.limits; state = record { graph = c.graph.items; shapes = []; commits = c.commits.items; named = c.named.items; opened = c.opened }; history = c.history } };
+    ghost view = { λ c. record { limits = c.limits; state = record { graph = c.graph.items; shapes = c.shapes; commits = c.commits.items; named = c.named.items; opened = c.opened }; history = c.history } };
 
-    ghost invariant = { λ c. IsConsistent (record { limits = c.limits; state = record { graph = c.graph.items; shapes = []; commits = c.commits.items; named = c.named.items; opened = c.opened }; history = c.history }) };
+    ghost invariant = { λ c. IsConsistent (record { limits = c.limits; state = record { graph = c.graph.items; shapes = c.shapes; commits = c.commits.items; named = c.named.items; opened = c.opened }; history = c.history }) };
 }
 
 impl Core {
@@ -129,9 +132,11 @@ impl Core {
         ensures { IfOk result (λ core. core ≡ record { limits = limits; state = empty_store; history = [] }) }
     {
         let named = first_names(alloc)?;
+        let shapes = ShapesGraph::empty(alloc)?;
         Ok(Core {
             limits,
             graph: Vec::new(alloc),
+            shapes,
             commits: Vec::new(alloc),
             named,
             opened: 0,
@@ -252,64 +257,122 @@ impl Core {
         Ok(numbers)
     }
 
-    /// Commits a transaction that changes something, whose terms are named and whose base is a version
-    /// of this store. Shapes and verdicts don't come yet.
-    pub fn commit(&mut self, alloc: Global, session: u32, transaction: Transaction) -> Commit
+    // What the commit of the transaction does to this store.
+    fn plan<L: Ledger>(
+        &self,
+        alloc: Global,
+        transaction: &Transaction,
+        steps: &mut Steps<L>,
+    ) -> Result<Plan, AllocError>
+        requires { IsCommittable self.now.state transaction.now }
+        ensures { IfOk result (IsPlan self.now.limits self.now.state.graph self.now.state.shapes self.now.state.commits transaction.now) }
+    {
+        make_plan(
+            alloc,
+            self.limits,
+            &self.named,
+            &self.graph,
+            &self.shapes,
+            &self.commits,
+            transaction,
+            steps,
+        )
+    }
+
+    // Records a commit that changes nothing.
+    fn refuse(&mut self, slip: Slip, session: u32, transaction: Transaction, reply: Reply)
+        requires { Step self.old.limits self.old.state (record { session = session; action = Action.Commit transaction; reply = reply }) self.old.state }
+        ensures { TakesCommit self.old self.new session transaction reply }
+    {
+        self.history.push(
+            slip.room,
+            Event {
+                session,
+                action: Action::Commit(transaction),
+                reply,
+            },
+        );
+    }
+
+    // Puts the next graphs in place, and records the commit that makes them.
+    fn accept(
+        &mut self,
+        slip: Slip,
+        session: u32,
+        transaction: Transaction,
+        graph: Vec<Triple>,
+        accepted: Accepted,
+        shapes: ShapesGraph,
+    ) -> Commit
         requires opened { IsOpened self.old.state session }
         requires committable { IsCommittable self.old.state transaction }
-        requires only_data { transaction.staged ≡ None }
+        requires unchecked { transaction.verdict ≡ None }
+        requires plan { IsPlan self.old.limits self.old.state.graph self.old.state.shapes self.old.state.commits transaction (Plan.Accept graph accepted shapes) }
+        ensures { Answers result self.old self.new session transaction }
+    {
+        let Ok(()) = add_commit(&mut self.commits, accepted) else {
+            return Commit::Memory(transaction);
+        };
+        let number = version_of(&self.commits);
+        let again = reason(&transaction.staged);
+        let recorded = reason(&transaction.staged);
+        self.history.push(
+            slip.room,
+            Event {
+                session,
+                action: Action::Commit(transaction),
+                reply: Reply::Done(number, recorded),
+            },
+        );
+        self.graph = graph;
+        self.shapes = shapes;
+        Commit::Done { number, again }
+    }
+
+    /// Commits a transaction that changes something or stages shapes, whose terms are named and whose
+    /// base is a version of this store. The graph that it would make is validated whole, under the
+    /// staged shapes or else the newest; each evaluation is counted. Verdicts don't come yet.
+    pub fn commit<L: Ledger>(
+        &mut self,
+        alloc: Global,
+        session: u32,
+        transaction: Transaction,
+        steps: &mut Steps<L>,
+    ) -> Commit
+        requires opened { IsOpened self.old.state session }
+        requires committable { IsCommittable self.old.state transaction }
         requires unchecked { transaction.verdict ≡ None }
         ensures { Answers result self.old self.new session transaction }
     {
         let Ok(slip) = slip(alloc) else {
             return Commit::Memory(transaction);
         };
-        match make_plan(alloc, self.limits, &self.graph, &self.commits, &transaction) {
+        match self.plan(alloc, &transaction, steps) {
             Err(_) => Commit::Memory(transaction),
             Ok(Plan::Overtaken(overtaker, triple)) => {
                 let Overtaker {
                     commit,
                     triple: first,
                 } = overtaker;
-                self.history.push(
-                    slip.room,
-                    Event {
-                        session,
-                        action: Action::Commit(transaction),
-                        reply: Reply::Conflict(commit, first),
-                    },
-                );
+                self.refuse(slip, session, transaction, Reply::Conflict(commit, first));
                 Commit::Conflict { commit, triple }
             }
             Ok(Plan::TooLarge(count)) => {
-                self.history.push(
-                    slip.room,
-                    Event {
-                        session,
-                        action: Action::Commit(transaction),
-                        reply: Reply::FullTriples(count),
-                    },
-                );
+                self.refuse(slip, session, transaction, Reply::FullTriples(count));
                 Commit::FullTriples { count }
             }
-            Ok(Plan::Accept(graph, accepted)) => {
-                let Ok(()) = add_commit(&mut self.commits, accepted) else {
-                    return Commit::Memory(transaction);
-                };
-                let number = version_of(&self.commits);
-                self.history.push(
-                    slip.room,
-                    Event {
-                        session,
-                        action: Action::Commit(transaction),
-                        reply: Reply::Done(number, Again::NoVerdict),
-                    },
-                );
-                self.graph = graph;
-                Commit::Done {
-                    number,
-                    again: Again::NoVerdict,
+            Ok(Plan::Refuse(rows, recorded, shapes)) => {
+                let again = reason(&transaction.staged);
+                let why = reason(&transaction.staged);
+                self.refuse(slip, session, transaction, Reply::Refused(recorded, why));
+                Commit::Refused {
+                    rows,
+                    again,
+                    shapes,
                 }
+            }
+            Ok(Plan::Accept(graph, accepted, shapes)) => {
+                self.accept(slip, session, transaction, graph, accepted, shapes)
             }
         }
     }

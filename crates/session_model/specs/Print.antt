@@ -2,25 +2,30 @@
 use Rattle.std.specs.Prelude.{◌≡◌, ℕ, ◌+◌, List, [], ◌∷◌, ◌++◌, codes}
 use Rattle.std.specs.List.{flat_map}
 use Rattle.std.specs.Fmt.{decimal}
-use Rattle.rdf_model.specs.NTriples.{triple_text}
+use Rattle.rdf_model.specs.NTriples.{term_text, triple_text}
+use Rattle.shape_model.specs.Rows.{rule_number}
 use Rattle.store_model.specs.declared.event.Limits.{Limits}
 use Rattle.session_model.specs.declared.command.Command.{Command}
 use Rattle.session_model.specs.declared.reply.SessionReply.{SessionReply}
-use Rattle.session_model.specs.declared.reply.SessionReply.TheVariants.{AlreadyOpen, NoTransaction, Begun, Added, AddRefused, FullTerms, Committed, ReadOnly, Overtaken, FullGraph}
+use Rattle.session_model.specs.declared.reply.SessionReply.TheVariants.{AlreadyOpen, NoTransaction, Begun, Added, AddRefused, ShapesStaged, ShapesRefused, ShapesBroken, FullTerms, Committed, ReadOnly, Overtaken, FullGraph, Refused}
 use Rattle.session_model.specs.Sessions.{HasReplies}
 
--- the line of a reply, without its end
+-- the line of a reply, without its end; the report of a refusal has lines of its own, and `end` after them
 abbrev pub reply_text : SessionReply → List ℕ
 reply_text AlreadyOpen = codes "already open"
 reply_text NoTransaction = codes "no transaction"
 reply_text (Begun version) = codes "begin " ++ decimal version
 reply_text (Added count) = codes "add " ++ decimal count
 reply_text (AddRefused n kind) = codes "bad add " ++ decimal n ++ codes " " ++ decimal kind
+reply_text (ShapesStaged count) = codes "shapes " ++ decimal count
+reply_text (ShapesRefused n kind) = codes "bad shapes line " ++ decimal n ++ codes " " ++ decimal kind
+reply_text (ShapesBroken rule node) = codes "bad shapes " ++ decimal (rule_number rule) ++ codes " " ++ term_text node
 reply_text FullTerms = codes "full terms"
 reply_text (Committed number) = codes "commit " ++ decimal number
 reply_text (ReadOnly version) = codes "read only " ++ decimal version
 reply_text (Overtaken commit triple) = codes "conflict " ++ decimal commit ++ codes " " ++ triple_text triple
 reply_text FullGraph = codes "full triples"
+reply_text (Refused count report) = codes "refused " ++ decimal count ++ codes "\n" ++ report ++ codes "end"
 
 abbrev pub line : List ℕ → List ℕ
 line text = text ++ 10 ∷ []

@@ -10,13 +10,14 @@ use Rattle.store_model.specs.declared.commit.Transaction.{Transaction}
 use Rattle.store_model.specs.declared.event.Action.{Action}
 use Rattle.store_model.specs.declared.event.Action.TheVariants as actions
 use Rattle.store_model.specs.declared.event.Reply.{Reply}
-use Rattle.store_model.specs.declared.event.Reply.TheVariants.{Version, Named, Full, Conflict, FullTriples, Done}
+use Rattle.store_model.specs.declared.event.Reply.TheVariants.{Version, Named, Full, Conflict, FullTriples, Refused, Done}
 use Rattle.session_model.specs.declared.command.Command.{Command}
-use Rattle.session_model.specs.declared.command.Command.TheVariants.{Begin, Add, BadAdd, Commit}
+use Rattle.session_model.specs.declared.command.Command.TheVariants.{Begin, Add, BadAdd, Shapes, BadShapes, BrokenShapes, Commit}
 use Rattle.session_model.specs.declared.session.OpenTransaction.{OpenTransaction}
 use Rattle.session_model.specs.declared.reply.SessionReply.{SessionReply}
-use Rattle.session_model.specs.declared.reply.SessionReply.TheVariants.{AlreadyOpen, NoTransaction, Begun, Added, AddRefused, FullTerms, Committed, ReadOnly, Overtaken, FullGraph}
-use Rattle.store_model.specs.Store.{State, StepOf, empty_store, terms_of}
+use Rattle.session_model.specs.declared.reply.SessionReply.TheVariants.{AlreadyOpen, NoTransaction, Begun, Added, AddRefused, ShapesStaged, ShapesRefused, ShapesBroken, FullTerms, Committed, ReadOnly, Overtaken, FullGraph, Refused as RefusedBy}
+use Rattle.report_writer.specs.Report.{report_text}
+use Rattle.store_model.specs.Store.{State, StepOf, empty_store, shapes_under, terms_of}
 
 -- A session: its open transaction, the commands that are left of its file, and what it was answered.
 pub record SessionState : Type 0 where
@@ -33,6 +34,10 @@ parts_of ts = flat_map terms_of ts
 
 abbrev pub with_additions : OpenTransaction → List Triple → OpenTransaction
 with_additions w ts = record w { transaction = record w.transaction { net = w.transaction.net ++ additions ts } }
+
+-- the shapes graph that was staged last counts
+abbrev pub with_shapes : OpenTransaction → List Triple → OpenTransaction
+with_shapes w ts = record w { transaction = record w.transaction { staged = Some ts } }
 
 -- what a session answers by itself, and its transaction afterwards
 pub record LocalAnswer : Type 0 where
@@ -56,6 +61,12 @@ local_answer None (Add ts) = answers NoTransaction None
 local_answer (Some w) (Add ts) = None
 local_answer None (BadAdd n kind) = answers NoTransaction None
 local_answer (Some w) (BadAdd n kind) = answers (AddRefused n kind) (Some w)
+local_answer None (Shapes ts) = answers NoTransaction None
+local_answer (Some w) (Shapes ts) = None
+local_answer None (BadShapes n kind) = answers NoTransaction None
+local_answer (Some w) (BadShapes n kind) = answers (ShapesRefused n kind) (Some w)
+local_answer None (BrokenShapes rule node) = answers NoTransaction None
+local_answer (Some w) (BrokenShapes rule node) = answers (ShapesBroken rule node) (Some w)
 local_answer None Commit = answers NoTransaction None
 local_answer (Some w) Commit = local_commit w w.transaction.net w.transaction.staged
 
@@ -77,25 +88,35 @@ abbrev pub action_of : Option OpenTransaction → Command → Action
 action_of None Begin = actions.Begin
 action_of (Some w) Begin = actions.Begin
 action_of (Some w) (Add ts) = actions.Name (parts_of ts)
+action_of (Some w) (Shapes ts) = actions.Name (parts_of ts)
 action_of (Some w) Commit = commit_action w.head_taken w.transaction
 action_of None (Add ts) = actions.Void
 action_of None (BadAdd n kind) = actions.Void
 action_of (Some w) (BadAdd n kind) = actions.Void
+action_of None (Shapes ts) = actions.Void
+action_of None (BadShapes n kind) = actions.Void
+action_of (Some w) (BadShapes n kind) = actions.Void
+action_of None (BrokenShapes rule node) = actions.Void
+action_of (Some w) (BrokenShapes rule node) = actions.Void
 action_of None Commit = actions.Void
 
 abbrev pub begun : ℕ → List Triple → OpenTransaction
 begun version graph = record { transaction = record { base = version; net = []; staged = None; finds = []; verdict = None }; graph = graph; head_taken = false }
 
--- The session after the store's reply r to its command c, with cs left, where s was the store before it. The pairs of
--- the last equation don't come: a commit is refused only where its graph has results, and no shapes are staged yet.
+-- The session after the store's reply r to its command c, with cs left, where s was the store before it. A commit that
+-- is refused prints the report of its results, under the shapes graph that they break. The pairs of the last equation
+-- don't come.
 abbrev pub after_reply : State → Option OpenTransaction → Command → List Command → List SessionReply → Reply → SessionState
 after_reply s w Begin cs replies r = up_to_event (Some (begun (length s.commits) s.graph)) cs (replies ++ Begun (length s.commits) ∷ [])
 after_reply s (Some w) (Add ts) cs replies Named = up_to_event (Some (with_additions w ts)) cs (replies ++ Added (length ts) ∷ [])
 after_reply s (Some w) (Add ts) cs replies (Full n) = up_to_event (Some w) cs (replies ++ FullTerms ∷ [])
+after_reply s (Some w) (Shapes ts) cs replies Named = up_to_event (Some (with_shapes w ts)) cs (replies ++ ShapesStaged (length ts) ∷ [])
+after_reply s (Some w) (Shapes ts) cs replies (Full n) = up_to_event (Some w) cs (replies ++ FullTerms ∷ [])
 after_reply s (Some w) Commit cs replies (Version n) = record { current = Some (record w { head_taken = true }); commands = Commit ∷ cs; replies = replies }
 after_reply s (Some w) Commit cs replies (Done n why) = up_to_event None cs (replies ++ Committed n ∷ [])
 after_reply s (Some w) Commit cs replies (Conflict n t) = up_to_event None cs (replies ++ Overtaken n t ∷ [])
 after_reply s (Some w) Commit cs replies (FullTriples n) = up_to_event None cs (replies ++ FullGraph ∷ [])
+after_reply s (Some w) Commit cs replies (Refused rows why) = up_to_event None cs (replies ++ RefusedBy (length rows) (report_text (shapes_under s.shapes w.transaction.staged) rows) ∷ [])
 after_reply s w c cs replies r = up_to_event w cs replies
 
 -- All sessions of a run over one store.

@@ -1,5 +1,7 @@
 use collections::Sequence;
-use rdf_model::Triple;
+use rdf_model::{Term, Triple};
+use shape_model::Rule;
+use shapes_graph::ShapesGraph;
 
 /// A command of a session.
 #[derive(Debug, Drop)]
@@ -9,5 +11,11 @@ pub enum Command {
     Add(Sequence<Triple>),
     /// An addition whose block can't be read: the line of the block, from 1, and the number of the refusal's kind.
     BadAdd { line: u64, kind: u8 },
+    /// Stages the shapes graph of its block.
+    Shapes(ShapesGraph),
+    /// Shapes whose block can't be read: the line of the block, from 1, and the number of the refusal's kind.
+    BadShapes { line: u64, kind: u8 },
+    /// Shapes whose graph isn't well-formed: of the rules that it breaks the one that is reported, and the node that breaks it.
+    BrokenShapes { rule: Rule, node: Term },
     Commit,
 }

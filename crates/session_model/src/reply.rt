@@ -1,4 +1,5 @@
-use rdf_model::Triple;
+use rdf_model::{Term, Text, Triple};
+use shape_model::Rule;
 use std::fmt;
 
 /// What a session is answered on one command.
@@ -14,6 +15,12 @@ pub enum SessionReply {
     Added(usize),
     /// The block can't be read: its line, from 1, and the number of the refusal's kind.
     AddRefused { line: u64, kind: u8 },
+    /// How many triples the shapes graph has that is staged.
+    ShapesStaged(usize),
+    /// The block of shapes can't be read: its line, from 1, and the number of the refusal's kind.
+    ShapesRefused { line: u64, kind: u8 },
+    /// The shapes graph isn't well-formed: the rule that is reported, and the node that breaks it.
+    ShapesBroken { rule: Rule, node: Term },
     /// The block would name more terms than the limit allows.
     FullTerms,
     /// The number of the accepted commit.
@@ -24,6 +31,8 @@ pub enum SessionReply {
     Overtaken(u64, Triple),
     /// The graph would have more triples than the limit allows.
     FullGraph,
+    /// The graph would have so many results, and the report of them.
+    Refused { count: usize, report: Text },
 }
 
 impl fmt::Display for SessionReply {
@@ -32,7 +41,7 @@ impl fmt::Display for SessionReply {
 
     ghost output = { λ reply. Some (reply_text reply) };
 
-    /// The reply's line, without its end.
+    /// The reply's line, without its end; a refusal's report has lines of its own.
     fn fmt<W: fmt::Write>(&self, f: &mut fmt::Formatter<W>) -> fmt::Result {
         match self {
             SessionReply::AlreadyOpen => f.write_str("already open"),
@@ -40,11 +49,19 @@ impl fmt::Display for SessionReply {
             SessionReply::Begun(version) => write!(f, "begin {version}"),
             SessionReply::Added(count) => write!(f, "add {count}"),
             SessionReply::AddRefused { line, kind } => write!(f, "bad add {line} {kind}"),
+            SessionReply::ShapesStaged(count) => write!(f, "shapes {count}"),
+            SessionReply::ShapesRefused { line, kind } => {
+                write!(f, "bad shapes line {line} {kind}")
+            }
+            SessionReply::ShapesBroken { rule, node } => {
+                write!(f, "bad shapes {} {node}", rule.number())
+            }
             SessionReply::FullTerms => f.write_str("full terms"),
             SessionReply::Committed(number) => write!(f, "commit {number}"),
             SessionReply::ReadOnly(version) => write!(f, "read only {version}"),
             SessionReply::Overtaken(commit, triple) => write!(f, "conflict {commit} {triple}"),
             SessionReply::FullGraph => f.write_str("full triples"),
+            SessionReply::Refused { count, report } => write!(f, "refused {count}\n{report}end"),
         }
     }
 }

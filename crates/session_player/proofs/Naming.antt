@@ -1,5 +1,5 @@
 -- The terms of a transaction keep their names.
-use Rattle.std.proofs.Common.{◌≡◌, Bool, true, false, ◌||◌, cond, List, [], ◌∷◌, ◌++◌, refl, ap}
+use Rattle.std.proofs.Common.{◌≡◌, Bool, true, false, ◌||◌, cond, List, [], ◌∷◌, ◌++◌, Option, Some, None, refl, ap}
 use Rattle.std.specs.List.{AllByRecursion}
 use Rattle.std.specs.Ordering.{eq_by_cmp, is_eq}
 use Rattle.std.proofs.lemmas.Cmp.{tied_itself}
@@ -9,7 +9,7 @@ use Rattle.rdf_model.specs.declared.change.Change.{Change}
 use Rattle.rdf_model.specs.Terms.{term_cmp}
 use Rattle.rdf_model.specs.Orders.{term_total}
 use Rattle.collections.specs.Ordered.{has_item}
-use Rattle.store_model.specs.Store.{NetNamed, changed_triple, terms_of, named_with}
+use Rattle.store_model.specs.Store.{NetNamed, StagedNamed, changed_triple, terms_of, named_with}
 use Rattle.session_model.specs.Sessions.{additions, parts_of}
 
 -- whether a term has a name
@@ -66,3 +66,22 @@ pub NetNamed-additions : (named : List Term) (net : List Change) (ts : List Trip
 NetNamed-additions named net ts n =
     let new = named_with named (parts_of ts) in
     NetNamed-append new net (additions ts) (NetNamed-more named new net (IsMore-named_with named (parts_of ts)) n) (NetNamed-add new ts (All-named_with named (parts_of ts)))
+
+pub NetNamed-naming : (named : List Term) (net : List Change) (ts : List Term) → NetNamed named net → NetNamed (named_with named ts) net
+NetNamed-naming named net ts n = NetNamed-more named (named_with named ts) net (IsMore-named_with named ts) n
+
+-- so do those of staged shapes
+AreNamed-more : (named more : List Term) (ts : List Triple) → IsMore named more → AllByRecursion (λ t. AllByRecursion (λ u. has named u ≡ true) (terms_of t)) ts → AllByRecursion (λ t. AllByRecursion (λ u. has more u ≡ true) (terms_of t)) ts
+AreNamed-more named more [] m a = tt
+AreNamed-more named more (t ∷ ts) m a = (All-more_names named more (terms_of t) m a.0, AreNamed-more named more ts m a.1)
+
+pub StagedNamed-naming : (named : List Term) (staged : Option (List Triple)) (ts : List Term) → StagedNamed named staged → StagedNamed (named_with named ts) staged
+StagedNamed-naming named None ts a = tt
+StagedNamed-naming named (Some shapes) ts a = AreNamed-more named (named_with named ts) shapes (IsMore-named_with named ts) a
+
+AreNamed-parts : (named : List Term) (ts : List Triple) → AllByRecursion (λ t. has named t ≡ true) (parts_of ts) → AllByRecursion (λ t. AllByRecursion (λ u. has named u ≡ true) (terms_of t)) ts
+AreNamed-parts named [] a = tt
+AreNamed-parts named (t ∷ ts) a = ((a.0, (a.1.0, (a.1.1.0, tt))), AreNamed-parts named ts a.1.1.1)
+
+pub StagedNamed-shapes : (named : List Term) (ts : List Triple) → StagedNamed (named_with named (parts_of ts)) (Some ts)
+StagedNamed-shapes named ts = AreNamed-parts (named_with named (parts_of ts)) ts (All-named_with named (parts_of ts))

@@ -1,6 +1,9 @@
 -- What each command does to a session.
 use Rattle.std.proofs.Common.{◌≡◌, ◌≢◌, ℕ, ◌+◌, ◌<◌, ◌≤◌, Bool, true, false, nat_lt, List, [], ◌∷◌, ◌++◌, length, Option, Some, None, refl, sym, ap, ◌∙◌, subst, arith, suc, get_or, drop, add-one, drop-cons}
-use Rattle.std.specs.Prelude.{MatchBool, MatchOption}
+use Rattle.std.specs.Prelude.{IfOk, MatchBool, MatchOption, Result, Ok, Err}
+use Rattle.std.specs.declared.alloc.AllocError.{AllocError}
+use Rattle.rdf_model.specs.declared.term.Term.{Term}
+use Rattle.shape_model.specs.declared.rule.Rule.{Rule}
 use Rattle.std.proofs.lemmas.Bool.Decides.{nat_tests}
 use Rattle.store_model.specs.declared.commit.Overtaker.{Overtaker}
 use Rattle.store_model.specs.declared.event.Limits.{Limits}
@@ -14,16 +17,16 @@ use Rattle.store_model.specs.declared.event.Reply.{Reply}
 use Rattle.store_model.specs.declared.event.Reply.TheVariants.{Session, SessionsFull, Version, Named, Full, Conflict, FullTriples}
 use Rattle.store_model.specs.declared.commit.Transaction.{Transaction}
 use Rattle.session_model.specs.declared.command.Command.{Command}
-use Rattle.session_model.specs.declared.command.Command.TheVariants.{Begin, Add, Commit}
+use Rattle.session_model.specs.declared.command.Command.TheVariants.{Begin, Add, BadAdd, Shapes, BadShapes, BrokenShapes, Commit}
 use Rattle.session_model.specs.declared.session.OpenTransaction.{OpenTransaction}
 use Rattle.session_model.specs.declared.reply.SessionReply.{SessionReply}
-use Rattle.session_model.specs.declared.reply.SessionReply.TheVariants.{Begun, Added, FullTerms, ReadOnly}
-use Rattle.store_model.specs.Store.{State, RecordedStore, OpensNext, OpensNothing, Replies, CommitsByListing, CommitsWithinLimit, CommitsByRows, overtaker, TakesStep, IsOpened, NetNamed, named_with, version}
-use Rattle.session_model.specs.Sessions.{answers, local_answer, local_commit, up_to_event, begun, with_additions, additions, parts_of, action_of, commit_action, after_reply, SessionState}
+use Rattle.session_model.specs.declared.reply.SessionReply.TheVariants.{Begun, Added, AddRefused, ShapesStaged, ShapesRefused, ShapesBroken, FullTerms, ReadOnly}
+use Rattle.store_model.specs.Store.{State, RecordedStore, OpensNext, OpensNothing, Replies, CommitsByListing, CommitsWithinLimit, CommitsByRows, overtaker, TakesStep, IsOpened, HasChange, NetNamed, StagedNamed, named_with, version}
+use Rattle.session_model.specs.Sessions.{answers, local_answer, local_commit, up_to_event, begun, with_additions, with_shapes, additions, parts_of, action_of, commit_action, after_reply, SessionState}
 use Rattle.session_model.specs.Progress.{Advances}
 use Rattle.session_model.proofs.Advancing.{Advances-then, Advances-local, Advances-event, up_to_event-event}
-use Rattle.session_player.specs.Ready.{IsReady, Performs}
-use Rattle.session_player.proofs.Naming.{NetNamed-additions}
+use Rattle.session_player.specs.Ready.{IsReady, Performs, answer_in}
+use Rattle.session_player.proofs.Naming.{NetNamed-additions, NetNamed-naming, StagedNamed-naming, StagedNamed-shapes}
 
 pub obeys_local : (i : ℕ) (s : RecordedStore) (w v : Option OpenTransaction) (c : Command) (replies more : List SessionReply) (t : SessionReply) → local_answer w c ≡ answers t v → more ≡ replies ++ t ∷ [] → IsReady s i v → Performs i s s w v c replies more
 obeys_local i s w v c replies more t l e r = record {
@@ -38,7 +41,7 @@ performs_begin i s n replies more v graph g a eg em =
     record {
       ready = record {
         opened = subst (λ (x : State). IsOpened x i) (sym same) g;
-        current = record { base = subst (λ (x : State). v ≤ version x) (sym same) (omega (arith, count)); net = tt; staged = refl; verdict = refl; head_taken = refl };
+        current = record { base = subst (λ (x : State). v ≤ version x) (sym same) (omega (arith, count)); net = tt; staged = tt; verdict = refl; head_taken = refl };
       };
       advances = λ cs.
           let told_on : replies ++ Begun (version s.state) ∷ [] ≡ more = sym (em ∙ ap (λ (k : ℕ). replies ++ Begun k ∷ []) count) in
@@ -61,7 +64,7 @@ performs_add i s n w ts replies more r a em =
         current = record {
           base = subst (λ (x : State). w.transaction.base ≤ version x) (sym state) r.current.base;
           net = subst (λ (x : State). NetNamed x.named (w.transaction.net ++ additions ts)) (sym state) (NetNamed-additions s.state.named w.transaction.net ts r.current.net);
-          staged = r.current.staged;
+          staged = subst (λ (x : State). StagedNamed x.named w.transaction.staged) (sym state) (StagedNamed-naming s.state.named w.transaction.staged (parts_of ts) r.current.staged);
           verdict = r.current.verdict;
           head_taken = r.current.head_taken;
         };
@@ -69,36 +72,93 @@ performs_add i s n w ts replies more r a em =
       advances = λ cs. subst (λ (x : List SessionReply). Advances i s n (up_to_event (Some w) (Add ts ∷ cs) replies) (up_to_event (Some (with_additions w ts)) cs x)) (sym em) (Advances-event i s n (Some w) (Add ts) cs replies Named r.opened a);
     }
 
-names_full : (s t : State) (p q : Reply) (m : State) (b : Bool) → q ≢ Named → MatchBool b ((q ≡ p) × (t ≡ s)) ((q ≡ Named) × (t ≡ m)) → t ≡ s
-names_full s t p q m true ne h = h.1
-names_full s t p q m false ne h = absurd (ne h.0)
-
-pub performs_full : (i : ℕ) (s n : RecordedStore) (w : OpenTransaction) (ts : List Triple) (k : ℕ) (replies more : List SessionReply) → IsReady s i (Some w) → TakesStep s n (record { session = i; action = actions.Name (parts_of ts); reply = Full k }) → more ≡ replies ++ FullTerms ∷ [] → Performs i s n (Some w) (Some w) (Add ts) replies more
-performs_full i s n w ts k replies more r a em =
-    let state : n.state ≡ s.state = names_full s.state n.state _ (Full k) _ _ (λ e. cc) a.step.1 in
+pub performs_stage : (i : ℕ) (s n : RecordedStore) (w : OpenTransaction) (ts : List Triple) (replies more : List SessionReply) → IsReady s i (Some w) → TakesStep s n (record { session = i; action = actions.Name (parts_of ts); reply = Named }) → more ≡ replies ++ ShapesStaged (length ts) ∷ [] → Performs i s n (Some w) (Some (with_shapes w ts)) (Shapes ts) replies more
+performs_stage i s n w ts replies more r a em =
+    let state : n.state ≡ record s.state { named = named_with s.state.named (parts_of ts) } = names_named s.state n.state (Full _) Named _ _ (λ e. cc) a.step.1 in
     record {
       ready = record {
         opened = subst (λ (x : State). IsOpened x i) (sym state) r.opened;
         current = record {
           base = subst (λ (x : State). w.transaction.base ≤ version x) (sym state) r.current.base;
-          net = subst (λ (x : State). NetNamed x.named w.transaction.net) (sym state) r.current.net;
-          staged = r.current.staged;
+          net = subst (λ (x : State). NetNamed x.named w.transaction.net) (sym state) (NetNamed-naming s.state.named w.transaction.net (parts_of ts) r.current.net);
+          staged = subst (λ (x : State). StagedNamed x.named (Some ts)) (sym state) (StagedNamed-shapes s.state.named ts);
           verdict = r.current.verdict;
           head_taken = r.current.head_taken;
         };
       };
-      advances = λ cs. subst (λ (x : List SessionReply). Advances i s n (up_to_event (Some w) (Add ts ∷ cs) replies) (up_to_event (Some w) cs x)) (sym em) (Advances-event i s n (Some w) (Add ts) cs replies (Full k) r.opened a);
+      advances = λ cs. subst (λ (x : List SessionReply). Advances i s n (up_to_event (Some w) (Shapes ts ∷ cs) replies) (up_to_event (Some (with_shapes w ts)) cs x)) (sym em) (Advances-event i s n (Some w) (Shapes ts) cs replies Named r.opened a);
     }
 
--- a commit with changes is an event
-local-net : (w : OpenTransaction) (net : List Change) (staged : Option (List Triple)) → 0 < length net → local_commit w net staged ≡ None
-local-net w [] staged h = absurd (omega arith)
-local-net w (c ∷ cs) staged h = refl
+names_full : (s t : State) (p q : Reply) (m : State) (b : Bool) → q ≢ Named → MatchBool b ((q ≡ p) × (t ≡ s)) ((q ≡ Named) × (t ≡ m)) → t ≡ s
+names_full s t p q m true ne h = h.1
+names_full s t p q m false ne h = absurd (ne h.0)
 
-pub local-none : (w : OpenTransaction) (net : List Change) (staged : Option (List Triple)) → length net ≡ 0 → staged ≡ None → local_commit w net staged ≡ answers (ReadOnly w.transaction.base) None
-local-none w [] None h e = refl
-local-none w [] (Some x) h e = cc
-local-none w (c ∷ cs) staged h e = absurd (omega (arith, h))
+-- too many terms change nothing
+still_ready : (i : ℕ) (s n : RecordedStore) (w : OpenTransaction) (ts : List Triple) (k : ℕ) → IsReady s i (Some w) → TakesStep s n (record { session = i; action = actions.Name (parts_of ts); reply = Full k }) → IsReady n i (Some w)
+still_ready i s n w ts k r a =
+    let state : n.state ≡ s.state = names_full s.state n.state _ (Full k) _ _ (λ e. cc) a.step.1 in
+    record {
+      opened = subst (λ (x : State). IsOpened x i) (sym state) r.opened;
+      current = record {
+        base = subst (λ (x : State). w.transaction.base ≤ version x) (sym state) r.current.base;
+        net = subst (λ (x : State). NetNamed x.named w.transaction.net) (sym state) r.current.net;
+        staged = subst (λ (x : State). StagedNamed x.named w.transaction.staged) (sym state) r.current.staged;
+        verdict = r.current.verdict;
+        head_taken = r.current.head_taken;
+      };
+    }
+
+pub performs_full : (i : ℕ) (s n : RecordedStore) (w : OpenTransaction) (ts : List Triple) (k : ℕ) (replies more : List SessionReply) → IsReady s i (Some w) → TakesStep s n (record { session = i; action = actions.Name (parts_of ts); reply = Full k }) → more ≡ replies ++ FullTerms ∷ [] → Performs i s n (Some w) (Some w) (Add ts) replies more
+performs_full i s n w ts k replies more r a em = record {
+  ready = still_ready i s n w ts k r a;
+  advances = λ cs. subst (λ (x : List SessionReply). Advances i s n (up_to_event (Some w) (Add ts ∷ cs) replies) (up_to_event (Some w) cs x)) (sym em) (Advances-event i s n (Some w) (Add ts) cs replies (Full k) r.opened a);
+}
+
+pub performs_full_shapes : (i : ℕ) (s n : RecordedStore) (w : OpenTransaction) (ts : List Triple) (k : ℕ) (replies more : List SessionReply) → IsReady s i (Some w) → TakesStep s n (record { session = i; action = actions.Name (parts_of ts); reply = Full k }) → more ≡ replies ++ FullTerms ∷ [] → Performs i s n (Some w) (Some w) (Shapes ts) replies more
+performs_full_shapes i s n w ts k replies more r a em = record {
+  ready = still_ready i s n w ts k r a;
+  advances = λ cs. subst (λ (x : List SessionReply). Advances i s n (up_to_event (Some w) (Shapes ts ∷ cs) replies) (up_to_event (Some w) cs x)) (sym em) (Advances-event i s n (Some w) (Shapes ts) cs replies (Full k) r.opened a);
+}
+
+-- a command that changes nothing
+pub performs_answer : (i : ℕ) (s : RecordedStore) (w : Option OpenTransaction) (c : Command) (reply : SessionReply) (replies more : List SessionReply) (r : Result (Option OpenTransaction) AllocError) → ((u : Option OpenTransaction) → local_answer u c ≡ answers (answer_in u reply) u) → IsReady s i w
+    → IfOk r (λ v. (v ≡ w) × (more ≡ replies ++ answer_in w reply ∷ [])) → IfOk r (λ v. Performs i s s w v c replies more)
+performs_answer i s w c reply replies more (Ok v) l ready h =
+    subst (λ (u : Option OpenTransaction). Performs i s s w u c replies more) (sym h.0) (obeys_local i s w w c replies more (answer_in w reply) (l w) h.1 ready)
+performs_answer i s w c reply replies more (Err e) l ready h = tt
+
+pub local-refuse_add : (n k : ℕ) (u : Option OpenTransaction) → local_answer u (BadAdd n k) ≡ answers (answer_in u (AddRefused n k)) u
+local-refuse_add n k None = refl
+local-refuse_add n k (Some w) = refl
+
+pub local-refuse_shapes : (n k : ℕ) (u : Option OpenTransaction) → local_answer u (BadShapes n k) ≡ answers (answer_in u (ShapesRefused n k)) u
+local-refuse_shapes n k None = refl
+local-refuse_shapes n k (Some w) = refl
+
+pub local-refuse_broken : (rule : Rule) (node : Term) (u : Option OpenTransaction) → local_answer u (BrokenShapes rule node) ≡ answers (answer_in u (ShapesBroken rule node)) u
+local-refuse_broken rule node None = refl
+local-refuse_broken rule node (Some w) = refl
+
+-- a commit that changes something or stages shapes is an event
+local-change : (w : OpenTransaction) (net : List Change) (staged : Option (List Triple)) → HasChange net staged → local_commit w net staged ≡ None
+local-change w [] None h = absurd h
+local-change w [] (Some ts) h = refl
+local-change w (c ∷ cs) staged h = refl
+
+pub has_change : (net : List Change) (staged : Option (List Triple)) → 0 < length net → HasChange net staged
+has_change [] staged h = absurd (omega (arith, h))
+has_change (c ∷ cs) staged h = tt
+
+pub stages_change : (net : List Change) (ts : List Triple) → HasChange net (Some ts)
+stages_change [] ts = tt
+stages_change (c ∷ cs) ts = tt
+
+pub no_items : {X : Type 0} (xs : List X) → length xs ≡ 0 → xs ≡ []
+no_items [] h = refl
+no_items (x ∷ xs) h = absurd (omega (arith, h))
+
+pub local-none : (w : OpenTransaction) (net : List Change) (staged : Option (List Triple)) → net ≡ [] → staged ≡ None → local_commit w net staged ≡ answers (ReadOnly w.transaction.base) None
+local-none w net staged en es = ap (λ (cs : List Change). local_commit w cs staged) en ∙ ap (local_commit w []) es
 
 rows_given : (s t : State) (x : Transaction) (r : Reply) (rows : List ResultRow) → CommitsByRows s x rows r t → t.opened ≡ s.opened
 rows_given s t x r [] h = ap (λ (y : State). y.opened) h.1
@@ -119,16 +179,16 @@ given_n i s m n w v r g h a =
     (g.0, subst (λ (k : ℕ). i ≤ k) (sym (two ∙ one)) g.1)
 
 -- the store answered the commit, after its head
-pub performs_commit : (i : ℕ) (s m n : RecordedStore) (w : OpenTransaction) (replies more : List SessionReply) (v : ℕ) (r : Reply) (t : SessionReply) → IsReady s i (Some w) → 0 < length w.transaction.net
+pub performs_commit : (i : ℕ) (s m n : RecordedStore) (w : OpenTransaction) (replies more : List SessionReply) (v : ℕ) (r : Reply) (t : SessionReply) → IsReady s i (Some w) → HasChange w.transaction.net w.transaction.staged
     → TakesStep s m (record { session = i; action = actions.Head; reply = Version v }) → TakesStep m n (record { session = i; action = actions.Commit w.transaction; reply = r })
-    → ((u : OpenTransaction) (cs : List Command) → after_reply m.state (Some u) Commit cs replies r ≡ up_to_event None cs (replies ++ t ∷ [])) → more ≡ replies ++ t ∷ []
+    → ((cs : List Command) → after_reply m.state (Some (record w { head_taken = true })) Commit cs replies r ≡ up_to_event None cs (replies ++ t ∷ [])) → more ≡ replies ++ t ∷ []
     → Performs i s n (Some w) None Commit replies more
 performs_commit i s m n w replies more v r t ready some h a by em = record {
   ready = record { opened = given_n i s m n w v r ready.opened h a; current = tt };
   advances = λ cs.
       let u : OpenTransaction = record w { head_taken = true } in
       let head : action_of (Some w) Commit ≡ actions.Head = ap (λ b. commit_action b w.transaction) ready.current.head_taken in
-      let start : up_to_event (Some w) (Commit ∷ cs) replies ≡ record { current = Some w; commands = Commit ∷ cs; replies = replies } = up_to_event-event (Some w) Commit cs replies (local-net w w.transaction.net w.transaction.staged some) in
+      let start : up_to_event (Some w) (Commit ∷ cs) replies ≡ record { current = Some w; commands = Commit ∷ cs; replies = replies } = up_to_event-event (Some w) Commit cs replies (local-change w w.transaction.net w.transaction.staged some) in
       let mid : SessionState = record { current = Some u; commands = Commit ∷ cs; replies = replies } in
       let one : Advances i s m (record { current = Some w; commands = Commit ∷ cs; replies = replies }) mid =
       Advances-event i s m (Some w) Commit cs replies (Version v) ready.opened (subst (λ (x : Action). TakesStep s m (record { session = i; action = x; reply = Version v })) (sym head) h) in
@@ -136,7 +196,7 @@ performs_commit i s m n w replies more v r t ready some h a by em = record {
       let two : Advances i m n mid (after_reply m.state (Some u) Commit cs replies r) = Advances-event i m n (Some u) Commit cs replies r given_m a in
       let both : Advances i s n (record { current = Some w; commands = Commit ∷ cs; replies = replies }) (after_reply m.state (Some u) Commit cs replies r) = Advances-then i s m n _ mid _ one two in
       subst (λ (ts : List SessionReply). Advances i s n (up_to_event (Some w) (Commit ∷ cs) replies) (up_to_event None cs ts)) (sym em)
-      (subst (λ (q : SessionState). Advances i s n (up_to_event (Some w) (Commit ∷ cs) replies) q) (by u cs)
+      (subst (λ (q : SessionState). Advances i s n (up_to_event (Some w) (Commit ∷ cs) replies) q) (by cs)
       (subst (λ (p : SessionState). Advances i s n p (after_reply m.state (Some u) Commit cs replies r)) (sym start) both));
 }
 

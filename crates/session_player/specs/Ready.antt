@@ -1,17 +1,21 @@
 -- When a session may go on, and what a command does to it.
-use Rattle.std.specs.Prelude.{◌≡◌, ℕ, ◌≤◌, Option, Some, None, false, List, [], ◌∷◌}
+use Rattle.std.specs.Prelude.{◌≡◌, ℕ, ◌≤◌, Bool, true, false, Option, Some, None, List, [], ◌∷◌}
+use Rattle.rdf_model.specs.declared.triple.Triple.{Triple}
+use Rattle.store_model.specs.declared.event.Action.TheVariants as actions
+use Rattle.store_model.specs.declared.event.Reply.TheVariants as replies
 use Rattle.session_model.specs.declared.session.OpenTransaction.{OpenTransaction}
 use Rattle.session_model.specs.declared.command.Command.{Command}
 use Rattle.session_model.specs.declared.reply.SessionReply.{SessionReply}
-use Rattle.store_model.specs.Store.{RecordedStore, IsOpened, NetNamed, version}
-use Rattle.session_model.specs.Sessions.{up_to_event}
+use Rattle.session_model.specs.declared.reply.SessionReply.TheVariants.{NoTransaction}
+use Rattle.store_model.specs.Store.{RecordedStore, TakesStep, IsOpened, NetNamed, StagedNamed, version}
+use Rattle.session_model.specs.Sessions.{parts_of, up_to_event}
 use Rattle.session_model.specs.Progress.{Advances}
 
--- the transaction began at a version of this store, its terms are named, and it stages no shapes and has no verdict
+-- the transaction began at a version of this store, its terms are named, and it has no verdict
 pub record IsCurrent (s : RecordedStore) (w : OpenTransaction) : Type 0 where
   pub base : w.transaction.base ≤ version s.state
   pub net : NetNamed s.state.named w.transaction.net
-  pub staged : w.transaction.staged ≡ None
+  pub staged : StagedNamed s.state.named w.transaction.staged
   pub verdict : w.transaction.verdict ≡ None
   pub head_taken : w.head_taken ≡ false
 
@@ -22,6 +26,16 @@ IsCurrentIn s (Some w) = IsCurrent s w
 pub record IsReady (s : RecordedStore) (session : ℕ) (w : Option OpenTransaction) : Type 0 where
   pub opened : IsOpened s.state session
   pub current : IsCurrentIn s w
+
+-- the terms of the triples were named, or were too many
+abbrev pub NamesAll : Bool → RecordedStore → RecordedStore → ℕ → List Triple → Type 0
+NamesAll true old new i ts = TakesStep old new (record { session = i; action = actions.Name (parts_of ts); reply = replies.Named })
+NamesAll false old new i ts = (n : ℕ) × TakesStep old new (record { session = i; action = actions.Name (parts_of ts); reply = replies.Full n })
+
+-- what a command that changes nothing is answered
+abbrev pub answer_in : Option OpenTransaction → SessionReply → SessionReply
+answer_in None reply = NoTransaction
+answer_in (Some w) reply = reply
 
 -- The session did the command, whatever commands follow it, and may go on.
 pub record Performs (i : ℕ) (old new : RecordedStore) (w v : Option OpenTransaction) (c : Command) (replies more : List SessionReply) : Type 0 where

@@ -9,6 +9,7 @@
 mod perform;
 mod print;
 mod run;
+mod stage;
 
 pub use print::text_of;
 pub use run::{Run, run_all};

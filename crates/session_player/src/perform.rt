@@ -1,37 +1,23 @@
 // What one command does.
-ghost use Rattle.std.specs.Prelude.{◌≡◌, ◌++◌, None, IfOk, OnOk};
-ghost use Rattle.session_model.specs.Sessions.{additions, parts_of};
+ghost use Rattle.std.specs.Prelude.{◌≡◌, List, [], MatchBool, None, IfOk, OnOk, length};
+ghost use Rattle.rdf_model.specs.declared.triple.Triple.{Triple};
+ghost use Rattle.report_writer.specs.Report.{report_text};
+ghost use Rattle.shape_model.specs.Validation.{Listing};
+ghost use Rattle.store_model.specs.Store.{HasChange};
 ghost use Rattle.session_player.specs.Ready.{IsReady, Performs};
 
+use crate::stage::{add, refuse_add, refuse_broken, refuse_shapes, stage};
 use collections::Sequence;
-use commit_core::{Commit, Core, NameFault};
-use rdf_model::{Change, Net, Term, Triple};
+use commit_core::{Commit, Core};
+use rdf_model::{Net, Text};
+use report_writer::report;
 use session_model::{Command, OpenTransaction, SessionReply};
+use shape_eval::Steps;
+use shape_model::ResultRow;
+use shapes_graph::ShapesGraph;
 use std::alloc::{AllocError, Global};
+use std::sync::ledger::Ledger;
 use store_model::Transaction;
-
-// Subject, predicate and object of each triple.
-fn terms_of(alloc: Global, triples: &[Triple]) -> Result<Vec<Term>, AllocError>
-    ensures { IfOk result (λ v. v.items ≡ parts_of triples.now) }
-{
-    let mut terms = Vec::new(alloc);
-    for triple in triples {
-        terms.push(triple.subject.clone()?)?;
-        terms.push(triple.predicate.clone()?)?;
-        terms.push(triple.object.clone()?)?;
-    }
-    Ok(terms)
-}
-
-// The changes with an addition of each triple.
-fn with_additions(mut net: Net, triples: &[Triple]) -> Result<Net, AllocError>
-    ensures { IfOk result (λ n. n ≡ net ++ additions triples.now) }
-{
-    for triple in triples {
-        net.push(Change::Add(triple.clone()?))?;
-    }
-    Ok(net)
-}
 
 fn begin(
     alloc: Global,
@@ -62,88 +48,39 @@ fn begin(
     }))
 }
 
-fn add(
+// Whether a transaction neither changes a triple nor stages shapes.
+fn only_reads(transaction: &Transaction) -> bool
+    ensures { MatchBool result ((transaction.now.net ≡ []) × (transaction.now.staged ≡ None)) (HasChange transaction.now.net transaction.now.staged) }
+{
+    match transaction.staged {
+        Some(_) => false,
+        None => transaction.net.is_empty(),
+    }
+}
+
+// The reply to a commit whose graph has these results under the shapes.
+fn refusal(
     alloc: Global,
-    core: &mut Core,
-    session: u32,
-    current: Option<OpenTransaction>,
-    triples: &Sequence<Triple>,
-    replies: &mut Sequence<SessionReply>,
-) -> Result<Option<OpenTransaction>, AllocError>
-    requires { IsReady core.old session current }
-    ensures { IfOk result (λ next. Performs session core.old core.new current next (Command.Add triples.now) replies.old replies.new) }
+    rows: &Sequence<ResultRow>,
+    shapes: &ShapesGraph,
+) -> Result<SessionReply, AllocError>
+    requires { (graph : List Triple) × Listing graph shapes.now rows.now }
+    ensures { IfOk result (λ reply. reply ≡ SessionReply.Refused (length rows.now) (report_text shapes.now rows.now)) }
 {
-    let Some(open) = current else {
-        replies.push(SessionReply::NoTransaction)?;
-        return Ok(None);
-    };
-    let terms = terms_of(alloc, triples.as_slice())?;
-    match core.name(alloc, session, &terms) {
-        Ok(_) => {
-            let OpenTransaction {
-                transaction,
-                graph,
-                head_taken,
-            } = open;
-            let Transaction {
-                base,
-                net,
-                staged,
-                finds,
-                verdict,
-            } = transaction;
-            let net = with_additions(net, triples.as_slice())?;
-            replies.push(SessionReply::Added(triples.len()))?;
-            Ok(Some(OpenTransaction {
-                transaction: Transaction {
-                    base,
-                    net,
-                    staged,
-                    finds,
-                    verdict,
-                },
-                graph,
-                head_taken,
-            }))
-        }
-        Err(NameFault::Full(_)) => {
-            replies.push(SessionReply::FullTerms)?;
-            Ok(Some(open))
-        }
-        Err(NameFault::Memory) => Err(AllocError),
-    }
+    let text = report(alloc, rows.as_slice(), shapes.shapes())?;
+    Ok(SessionReply::Refused {
+        count: rows.len(),
+        report: Text::from_string(text),
+    })
 }
 
-// An addition whose block can't be read changes nothing.
-fn refuse_add(
-    core: &Core,
-    session: u32,
-    current: Option<OpenTransaction>,
-    line: u64,
-    kind: u8,
-    replies: &mut Sequence<SessionReply>,
-) -> Result<Option<OpenTransaction>, AllocError>
-    requires { IsReady core.now session current }
-    ensures { IfOk result (λ next. Performs session core.now core.now current next (Command.BadAdd line kind) replies.old replies.new) }
-{
-    match current {
-        Some(open) => {
-            replies.push(SessionReply::AddRefused { line, kind })?;
-            Ok(Some(open))
-        }
-        None => {
-            replies.push(SessionReply::NoTransaction)?;
-            Ok(None)
-        }
-    }
-}
-
-fn commit(
+fn commit<L: Ledger>(
     alloc: Global,
     core: &mut Core,
     session: u32,
     current: Option<OpenTransaction>,
     replies: &mut Sequence<SessionReply>,
+    steps: &mut Steps<L>,
 ) -> Result<(), AllocError>
     requires { IsReady core.old session current }
     ensures { OnOk result (Performs session core.old core.new current None Command.Commit replies.old replies.new) }
@@ -151,11 +88,11 @@ fn commit(
     let Some(open) = current else {
         return replies.push(SessionReply::NoTransaction);
     };
-    if open.transaction.net.len() == 0 {
+    if only_reads(&open.transaction) {
         return replies.push(SessionReply::ReadOnly(open.transaction.base));
     }
     core.head(alloc, session)?;
-    match core.commit(alloc, session, open.transaction) {
+    match core.commit(alloc, session, open.transaction, steps) {
         Commit::Done { number, .. } => {
             replies.push(SessionReply::Committed(number))?;
             Ok(())
@@ -168,18 +105,24 @@ fn commit(
             replies.push(SessionReply::FullGraph)?;
             Ok(())
         }
+        Commit::Refused { rows, shapes, .. } => {
+            let reply = refusal(alloc, &rows, &shapes)?;
+            replies.push(reply)?;
+            Ok(())
+        }
         Commit::Memory(_) => Err(AllocError),
     }
 }
 
 /// Does one command of a session, adds its reply, and gives the transaction that is open then.
-pub fn perform(
+pub fn perform<L: Ledger>(
     alloc: Global,
     core: &mut Core,
     session: u32,
     current: Option<OpenTransaction>,
     command: &Command,
     replies: &mut Sequence<SessionReply>,
+    steps: &mut Steps<L>,
 ) -> Result<Option<OpenTransaction>, AllocError>
     requires { IsReady core.old session current }
     ensures { IfOk result (λ next. Performs session core.old core.new current next command.now replies.old replies.new) }
@@ -190,8 +133,15 @@ pub fn perform(
         Command::BadAdd { line, kind } => {
             refuse_add(core, session, current, *line, *kind, replies)
         }
+        Command::Shapes(shapes) => stage(alloc, core, session, current, shapes, replies),
+        Command::BadShapes { line, kind } => {
+            refuse_shapes(core, session, current, *line, *kind, replies)
+        }
+        Command::BrokenShapes { rule, node } => {
+            refuse_broken(core, session, current, *rule, node, replies)
+        }
         Command::Commit => {
-            commit(alloc, core, session, current, replies)?;
+            commit(alloc, core, session, current, replies, steps)?;
             Ok(None)
         }
     }

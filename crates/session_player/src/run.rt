@@ -8,15 +8,19 @@ use crate::perform::perform;
 use collections::Sequence;
 use commit_core::{Core, SessionFault};
 use session_model::{Command, SessionReply};
+use shape_eval::Steps;
 use std::alloc::{AllocError, Global};
+use std::marker::Brand;
+use std::sync::ledger::{Blank, Ledger};
 use store_model::Limits;
 
 // Runs the commands of a session that was given out.
-fn perform_all(
+fn perform_all<L: Ledger>(
     alloc: Global,
     core: &mut Core,
     session: u32,
     commands: &[Command],
+    steps: &mut Steps<L>,
 ) -> Result<Sequence<SessionReply>, AllocError>
     requires { IsOpened core.old.state session }
     ensures { IfOk result (PerformsAll session core.old core.new commands.now) }
@@ -24,7 +28,7 @@ fn perform_all(
     let mut replies = Sequence::new(alloc);
     let mut current = None;
     for command in commands {
-        current = perform(alloc, core, session, current, command, &mut replies)?;
+        current = perform(alloc, core, session, current, command, &mut replies, steps)?;
     }
     Ok(replies)
 }
@@ -51,6 +55,37 @@ pub struct Run {
     pub order: Vec<u32>,
 }
 
+// Runs the files over a new store, in an own ledger of evaluations.
+fn run_in<L: Ledger>(
+    alloc: Global,
+    limits: Limits,
+    files: &[Sequence<Command>],
+    blank: Blank,
+) -> Result<Run, AllocError>
+    requires small { limits.terms + 2 < 2 ^ 32 }
+    requires few { length files.now ≤ 64 }
+    requires name { blank.name ≡ L.name }
+    requires parts { blank.parts ≡ L.parts }
+    requires some { 0 < L.parts }
+    ensures { IfOk result (λ run. HasReplies files.now limits run.order.items run.replies.items) }
+{
+    let mut core = Core::open(alloc, limits)?;
+    let mut steps = Steps::<L>::begin(blank);
+    open_all(alloc, &mut core, files.len())?;
+    let mut all = Vec::new(alloc);
+    let mut session = 0;
+    for commands in files {
+        session += 1;
+        let replies = perform_all(alloc, &mut core, session, commands.as_slice(), &mut steps)?;
+        all.push(replies)?;
+    }
+    let order = core.order(alloc)?;
+    Ok(Run {
+        replies: all,
+        order,
+    })
+}
+
 /// Runs session files one after another over a new store; the I-th file is session I.
 pub fn run_all(
     alloc: Global,
@@ -61,18 +96,5 @@ pub fn run_all(
     requires few { length files.now ≤ 64 }
     ensures { IfOk result (λ run. HasReplies files.now limits run.order.items run.replies.items) }
 {
-    let mut core = Core::open(alloc, limits)?;
-    open_all(alloc, &mut core, files.len())?;
-    let mut all = Vec::new(alloc);
-    let mut session = 0;
-    for commands in files {
-        session += 1;
-        let replies = perform_all(alloc, &mut core, session, commands.as_slice())?;
-        all.push(replies)?;
-    }
-    let order = core.order(alloc)?;
-    Ok(Run {
-        replies: all,
-        order,
-    })
+    run_in::<Brand>(alloc, limits, files, Blank::new(1))
 }

@@ -1,11 +1,12 @@
 -- A block is no longer than its file.
 use Rattle.std.proofs.Common.{ℕ, ◌+◌, ◌-◌, ◌≤◌, suc, Bool, true, false, cond, List, [], ◌∷◌, ◌++◌, length, take, drop, Option, Some, None, refl, sym, ap, ◌∙◌, arith, length-append, append_assoc}
-use Rattle.std.specs.List.{slice_split, onto_first, flat_map}
+use Rattle.std.specs.List.{slice_split, onto_first}
 use Rattle.std.proofs.lemmas.List.{take-append-drop}
 use Rattle.std.proofs.Math.Seq.{take-add}
 use Rattle.session_reader.specs.SessionFile.{block_text}
 use Rattle.std.specs.Prelude.{IfOk, MatchResult, Result, Ok, Err, ◌≡◌}
-use Rattle.session_model.specs.declared.command.Command.{Command}
+use Rattle.session_reader.specs.declared.read_command.ReadCommand.{ReadCommand}
+use Rattle.session_reader.specs.declared.session_file.BlockStart.{BlockStart}
 use Rattle.session_reader.specs.declared.prepare_fault.PrepareFault.{PrepareFault}
 use Rattle.session_reader.specs.Faults.{Fails}
 use Rattle.session_reader.specs.Progress.{IsBefore, IsNextWithin, OpensAt, rest_from, with_commands}
@@ -55,28 +56,28 @@ pub all_lines : (lines : List (List ℕ)) (i : ℕ) → length (block_text (take
 all_lines lines i = omega (arith, part_length (take i lines) (drop i lines) lines (take-append-drop i lines))
 
 -- a block that no number passes leaves the next number within its bound
-pub next_after_block : (lines : List (List ℕ)) (at i old new : ℕ) → at ≤ i → IsNextWithin old lines i (Some at) → old ≤ new → new ≤ old + length (block_text (take (i - at) (drop at lines))) → IsNextWithin new lines (i + 1) None
-next_after_block lines at i old new le w lo hi = (omega (arith, w.0), omega (arith, w.1, before_and_body lines at i le, more_lines lines i (i + 1) (omega arith)))
+pub next_after_block : (lines : List (List ℕ)) (b : BlockStart) (i old new : ℕ) → b.first ≤ i → IsNextWithin old lines i (Some b) → old ≤ new → new ≤ old + length (block_text (take (i - b.first) (drop b.first lines))) → IsNextWithin new lines (i + 1) None
+next_after_block lines b i old new le w lo hi = (omega (arith, w.0), omega (arith, w.1, before_and_body lines b.first i le, more_lines lines i (i + 1) (omega arith)))
 
 -- so does a line between commands
-pub next_after_line : (lines : List (List ℕ)) (i next : ℕ) (block : Option ℕ) → IsNextWithin next lines i None → OpensAt block (i + 1) → IsNextWithin next lines (i + 1) block
+pub next_after_line : (lines : List (List ℕ)) (i next : ℕ) (block : Option BlockStart) → IsNextWithin next lines i None → OpensAt block (i + 1) → IsNextWithin next lines (i + 1) block
 next_after_line lines i next None w o = (w.0, omega (arith, w.1, more_lines lines i (i + 1) (omega arith)))
-next_after_line lines i next (Some first) w o =
-    let at : i ≤ first = omega (arith, o) in
-    (w.0, omega (arith, w.1, more_lines lines i first at))
+next_after_line lines i next (Some b) w o =
+    let at : i ≤ b.first = omega (arith, o) in
+    (w.0, omega (arith, w.1, more_lines lines i b.first at))
 
-pub opens_before : (i : ℕ) (block : Option ℕ) → OpensAt block i → IsBefore block i
+pub opens_before : (i : ℕ) (block : Option BlockStart) → OpensAt block i → IsBefore block i
 opens_before i None o = tt
-opens_before i (Some first) o = omega (arith, o)
+opens_before i (Some b) o = omega (arith, o)
 
 -- what a line between commands gives, to a session and a next number
-pub after_command : (r : Result (Option ℕ) PrepareFault) (s n : ℕ) (texts : List (List ℕ)) (i : ℕ) (old new : List Command)
+pub after_command : (r : Result (Option BlockStart) PrepareFault) (s n : ℕ) (texts : List (List ℕ)) (i : ℕ) (old new : List ReadCommand)
     → MatchResult r (λ next. OpensAt next (i + 1) × ((s first : ℕ) → with_commands old (rest_from s first texts i None) ≡ with_commands new (rest_from s first texts (i + 1) next))) (λ fault. (s first : ℕ) → Fails fault (with_commands old (rest_from s first texts i None)))
     → MatchResult r (λ block. IsBefore block (i + 1) × (with_commands old (rest_from s n texts i None) ≡ with_commands new (rest_from s n texts (i + 1) block))) (λ fault. Fails fault (with_commands old (rest_from s n texts i None)))
 after_command (Ok block) s n texts i old new h = (opens_before (i + 1) block h.0, h.1 s n)
 after_command (Err fault) s n texts i old new h = h s n
 
-pub next_after_command : (r : Result (Option ℕ) PrepareFault) (n : ℕ) (texts : List (List ℕ)) (i : ℕ) (old new : List Command) → IsNextWithin n texts i None
+pub next_after_command : (r : Result (Option BlockStart) PrepareFault) (n : ℕ) (texts : List (List ℕ)) (i : ℕ) (old new : List ReadCommand) → IsNextWithin n texts i None
     → MatchResult r (λ next. OpensAt next (i + 1) × ((s first : ℕ) → with_commands old (rest_from s first texts i None) ≡ with_commands new (rest_from s first texts (i + 1) next))) (λ fault. (s first : ℕ) → Fails fault (with_commands old (rest_from s first texts i None)))
     → IfOk r (IsNextWithin n texts (i + 1))
 next_after_command (Ok block) n texts i old new w h = next_after_line texts i n block w h.0

@@ -1,2 +1,4 @@
+pub mod Checks
 pub mod Lines
 pub mod Lengths
+pub mod OneSession

@@ -1,12 +1,16 @@
 //! Reads session files.
 //!
 //! `prepare` gives exactly the commands of a file, or exactly the number of its first line that is no
-//! command; `specs/SessionFile.antt` says which those are. Blocks are read as N-Triples; one that can't
-//! be read is a command of its own, which tells its refusal.
+//! command; `specs/SessionFile.antt` says which those are. Blocks are read as N-Triples, and those of
+//! shapes as shapes graphs; one that can't be read, or breaks a rule, is a command of its own, which
+//! tells its refusal.
 #![tactic(auto)]
 
+mod checking;
+pub mod laws;
 mod line;
 mod prepare_fault;
+mod read_command;
 mod session_file;
 
 pub use prepare_fault::PrepareFault;

@@ -2,6 +2,15 @@ ghost use Rattle.std.specs.Prelude.{◌≡◌};
 ghost use Rattle.session_reader.specs.SessionFile;
 ghost use Rattle.session_reader.specs.SessionFile.{is_skipped, without_cr};
 
+/// What the block of a command is.
+#[derive(Clone, Copy, Debug, PartialEq, Eq)]
+pub enum BlockKind {
+    /// The triples of `add ntriples`.
+    Add,
+    /// The shapes graph of `shapes ntriples`.
+    Shapes,
+}
+
 /// What a line between commands is.
 #[derive(Clone, Copy, Debug, PartialEq, Eq)]
 pub enum LineKind {
@@ -9,8 +18,8 @@ pub enum LineKind {
     Skipped,
     BeginCommand,
     CommitCommand,
-    /// `add ntriples`, which a block follows.
-    AddBlock,
+    /// A command that a block follows.
+    Block(BlockKind),
     /// No command.
     Other,
 }
@@ -43,7 +52,9 @@ pub fn kind_of(line: &[u8]) -> LineKind
     } else if line == b"commit".as_slice() {
         LineKind::CommitCommand
     } else if line == b"add ntriples".as_slice() {
-        LineKind::AddBlock
+        LineKind::Block(BlockKind::Add)
+    } else if line == b"shapes ntriples".as_slice() {
+        LineKind::Block(BlockKind::Shapes)
     } else {
         LineKind::Other
     }

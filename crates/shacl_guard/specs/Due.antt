@@ -4,7 +4,7 @@ use Rattle.std.specs.Fmt.{decimal}
 use Rattle.store_model.specs.declared.event.Limits.{Limits}
 use Rattle.session_model.specs.declared.command.Command.{Command}
 use Rattle.session_model.specs.Print.{IsPrint, line}
-use Rattle.session_reader.specs.SessionFile.{same_text, session_of}
+use Rattle.session_reader.specs.SessionFile.{IsSession, same_text, session_of}
 use Rattle.outside.specs.Files.{Contents, Loads}
 use Rattle.shacl_guard.specs.declared.status.Status.{Status}
 use Rattle.shacl_guard.specs.declared.status.Status.TheVariants.{Done, Usage, ReadFault, WriteFault, BadSession, Memory, TooLong}
@@ -35,7 +35,7 @@ IsInput words held bytes = (name : List ℕ) × (file_of words ≡ Some name) ×
 
 -- The status of a session file, and its text.
 abbrev pub IsTextOf : Status → List ℕ → List ℕ → Type 0
-IsTextOf Done bytes text = (length bytes < room) × ((commands : List Command) × (order : List ℕ) × (session_of 1 bytes ≡ Ok commands) × IsPrint (commands ∷ []) no_limits order text)
+IsTextOf Done bytes text = (length bytes < room) × ((commands : List Command) × (order : List ℕ) × IsSession 1 bytes commands × IsPrint (commands ∷ []) no_limits order text)
 IsTextOf (BadSession i n) bytes text = (length bytes < room) × (i ≡ 1) × (session_of 1 bytes ≡ Err n) × (text ≡ line (codes "error session 1 line " ++ decimal n))
 IsTextOf (TooLong i) bytes text = (length bytes ≡ room) × (i ≡ 1) × (text ≡ line (codes "error file 1 too long"))
 IsTextOf Usage bytes text = ⊥

@@ -1,6 +1,6 @@
 -- What a status says of the words, the files and the sink.
 use Rattle.std.specs.Prelude.{◌≡◌, ℕ, ◌<◌, List, length, take, Option, Some, None, Ok}
-use Rattle.session_model.specs.declared.command.Command.{Command}
+use Rattle.session_reader.specs.declared.read_command.ReadCommand.{ReadCommand}
 use Rattle.session_reader.specs.SessionFile.{session_of}
 use Rattle.outside.specs.Files.{Contents, grown}
 use Rattle.shacl_guard.specs.declared.status.Status.{Status}
@@ -28,7 +28,7 @@ IsOutcome Memory words held failed failed' old new = (failed' ≡ failed) × (ne
 -- a file that the words name is there, within its length, and a session file
 abbrev pub HasSession : List (List ℕ) → Option Contents → Type 0
 HasSession words None = ⊥
-HasSession words (Some held) = (name : List ℕ) × (bytes : List ℕ) × (commands : List Command) × (file_of words ≡ Some name) × (held name ≡ Some bytes) × (length bytes < room) × (session_of 1 bytes ≡ Ok commands)
+HasSession words (Some held) = (name : List ℕ) × (bytes : List ℕ) × (commands : List ReadCommand) × (file_of words ≡ Some name) × (held name ≡ Some bytes) × (length bytes < room) × (session_of 1 bytes ≡ Ok commands)
 
 abbrev pub IsDoneOrMemory : Status → Type 0
 IsDoneOrMemory Done = Unit {0}

@@ -6,7 +6,7 @@ ghost use Rattle.shacl_guard.specs.Faults.{Fails};
 
 use crate::Status;
 use collections::Sequence;
-use outside::{Files, LoadFault};
+use outside::{Files, LoadFault, Maker};
 use session_model::Command;
 use session_player::{run_all, text_of};
 use session_reader::{PrepareFault, prepare};
@@ -55,9 +55,10 @@ fn print_session(alloc: Global, commands: Sequence<Command>) -> Result<String, A
 }
 
 // What is due for a session file.
-fn answer_of(alloc: Global, bytes: &[u8]) -> Result<Answer, AllocError>
+fn answer_of<M: Maker>(alloc: Global, maker: &mut M, bytes: &[u8]) -> Result<Answer, AllocError>
     requires { length bytes.now ≤ room }
-    ensures { IfOk result (λ a. IsTextOf a.status bytes.now (string_bytes a.text)) }
+    ensures due { IfOk result (λ a. IsTextOf a.status bytes.now (string_bytes a.text)) }
+    ensures maker { maker.new ≡ maker.old }
 {
     if bytes.len() == ROOM {
         return Ok(Answer {
@@ -65,7 +66,7 @@ fn answer_of(alloc: Global, bytes: &[u8]) -> Result<Answer, AllocError>
             text: String::from_str(alloc, "error file 1 too long\n")?,
         });
     }
-    match prepare(alloc, 1, bytes) {
+    match prepare(alloc, maker, 1, bytes) {
         Ok(commands) => Ok(Answer {
             status: Status::Done,
             text: print_session(alloc, commands)?,
@@ -79,11 +80,17 @@ fn answer_of(alloc: Global, bytes: &[u8]) -> Result<Answer, AllocError>
 }
 
 /// What is due for the words, or why nothing is.
-pub fn answer_to<F: Files>(alloc: Global, words: &[&str], files: &mut F) -> Result<Answer, Status>
+pub fn answer_to<F: Files, M: Maker>(
+    alloc: Global,
+    words: &[&str],
+    files: &mut F,
+    maker: &mut M,
+) -> Result<Answer, Status>
     ensures due { let given = map (λ w. w.now) words.now in
         IfOk result (λ a. IsDue given (F.holds files.old) a.status (string_bytes a.text) × (F.failed files.new ≡ F.failed files.old)) }
     ensures fault { let given = map (λ w. w.now) words.now in
         IfErr result (λ s. Fails s given (F.failed files.old) (F.failed files.new)) }
+    ensures maker { maker.new ≡ maker.old }
 {
     let Some(name) = file_in(words) else {
         return match String::from_str(alloc, "error usage\n") {
@@ -99,7 +106,7 @@ pub fn answer_to<F: Files>(alloc: Global, words: &[&str], files: &mut F) -> Resu
         Err(LoadFault::Failed) => return Err(Status::ReadFault),
         Err(LoadFault::Memory) => return Err(Status::Memory),
     };
-    match answer_of(alloc, &bytes) {
+    match answer_of(alloc, maker, &bytes) {
         Ok(answer) => Ok(answer),
         Err(_) => Err(Status::Memory),
     }

@@ -6,6 +6,8 @@
 #![tactic(auto)]
 
 mod answer;
+#[cfg(test)]
+mod guard_tests;
 mod run;
 mod status;
 #[cfg(test)]

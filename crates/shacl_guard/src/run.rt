@@ -17,7 +17,7 @@ pub fn run_command<R, F: Files, K: Sink, M: Maker, G: Gate>(
     words: &[&str],
     files: &mut F,
     out: &mut K,
-    _maker: &mut M,
+    maker: &mut M,
     _gate: &G,
 ) -> Status
     // By the status: what the words and the files are, and exactly what the sink took.
@@ -27,8 +27,11 @@ pub fn run_command<R, F: Files, K: Sink, M: Maker, G: Gate>(
     // A session file within its length is run, unless a load or a write failed or memory ran out.
     ensures complete { HasSession (map (λ w. w.now) words.now) (F.holds files.old) → F.failed files.new ≡ F.failed files.old
         → (Rose (K.faults out.old) (K.faults out.new) → ⊥) → IsDoneOrMemory result }
+
+    // No pattern is made so far.
+    ensures maker { maker.new ≡ maker.old }
 {
-    match answer_to(alloc, words, files) {
+    match answer_to(alloc, words, files, maker) {
         Ok(answer) => match write_all(out, answer.text.as_bytes()) {
             Ok(()) => answer.status,
             Err(_) => Status::WriteFault,

@@ -9,7 +9,7 @@ use std::test::Fail;
 const FIRST_RUN: &[u8] = b"begin\nadd ntriples\n<e:a> <e:p> <e:b> .\n%%\ncommit\n";
 
 // Runs `run f` on a file f of these bytes, with a sink of this room, so many bytes a call, and its failing calls.
-fn run_file(
+pub fn run_file(
     rt: &HostRuntime,
     file: &[u8],
     most: usize,
@@ -23,7 +23,7 @@ fn run_file(
         bytes: file.to_vec(alloc)?,
     };
     let mut files = MemFiles::new(alloc, vec![in alloc; file]?, Vec::new(alloc));
-    let mut out = MemSink::new(alloc, most, 1000, fail)?;
+    let mut out = MemSink::new(alloc, most, 10_000, fail)?;
     let mut maker = RegexMaker::new(alloc);
     let words = ["shacl_guard", "run", "f"];
     let status = run(

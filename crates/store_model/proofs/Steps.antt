@@ -1,5 +1,5 @@
 -- Each action's steps, and that at most one answer follows.
-use Rattle.std.proofs.Common.{◌≡◌, ℕ, ◌+◌, ◌-◌, ◌<◌, ◌≤◌, Bool, true, false, nat_lt, List, [], ◌∷◌, length, Option, Some, None, refl, sym, ap, ◌∙◌, subst, arith}
+use Rattle.std.proofs.Common.{◌≡◌, ℕ, ◌+◌, ◌-◌, ◌<◌, ◌≤◌, Bool, true, false, nat_lt, List, [], ◌∷◌, length, Option, Some, None, refl, sym, ◌∙◌, subst, arith}
 use Rattle.std.specs.Prelude.{MatchBool, MatchOption}
 use Rattle.std.proofs.lemmas.Bool.Decides.{nat_tests}
 use Rattle.rdf_model.specs.declared.term.Term.{Term}
@@ -11,7 +11,7 @@ use Rattle.store_model.specs.declared.commit.Overtaker.{Overtaker}
 use Rattle.store_model.specs.declared.event.Action.{Action}
 use Rattle.store_model.specs.declared.event.Action.TheVariants.{Open, Begin, Name, Head, Commit, Void}
 use Rattle.store_model.specs.declared.event.Reply.{Reply}
-use Rattle.store_model.specs.declared.event.Reply.TheVariants.{Session, SessionsFull, Named, Full, Conflict, FullTriples, Done}
+use Rattle.store_model.specs.declared.event.Reply.TheVariants.{Session, SessionsFull, Named, Full, Conflict, FullTriples, Refused, Done}
 use Rattle.rdf_model.specs.Graphs.{after}
 use Rattle.shape_model.specs.Validation.{Listing}
 use Rattle.shape_model.proofs.Listings.{listing_law}
@@ -108,3 +108,11 @@ judges l s t i x q g f e le j =
 -- a graph without results
 pub accepts : (l : Limits) (s : State) (i : ℕ) (x : Transaction) → IsOpened s i → IsCommittable s x → overtaker s.commits x.base x.finds ≡ None → length (after s.graph x.net) ≤ l.triples → Listing (after s.graph x.net) (shapes_under s.shapes x.staged) [] → StepOf l s i (Commit x) (Done (version s + 1) (again s.commits x.staged x.verdict)) (committed s x)
 accepts l s i x g f e le none = judges l s (committed s x) i x (Done (version s + 1) (again s.commits x.staged x.verdict)) g f e le ([], none, (refl, refl))
+
+-- a graph with results
+rows_refused : (s : State) (x : Transaction) (rows : List ResultRow) → 0 < length rows → CommitsByRows s x rows (Refused rows (again s.commits x.staged x.verdict)) s
+rows_refused s x [] h = absurd (omega (arith, h))
+rows_refused s x (row ∷ rows) h = (refl, refl)
+
+pub refuses : (l : Limits) (s : State) (i : ℕ) (x : Transaction) (rows : List ResultRow) → IsOpened s i → IsCommittable s x → overtaker s.commits x.base x.finds ≡ None → length (after s.graph x.net) ≤ l.triples → Listing (after s.graph x.net) (shapes_under s.shapes x.staged) rows → 0 < length rows → StepOf l s i (Commit x) (Refused rows (again s.commits x.staged x.verdict)) s
+refuses l s i x rows g f e le listing some = judges l s s i x (Refused rows (again s.commits x.staged x.verdict)) g f e le (rows, listing, rows_refused s x rows some)

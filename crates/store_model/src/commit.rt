@@ -1,5 +1,6 @@
 use collections::Sequence;
 use rdf_model::{Look, Net, Pattern, Triple};
+use shapes_graph::ShapesGraph;
 
 /// What a validation beside the store found: nothing, at the version of a head, by these looks.
 #[derive(Debug, Drop)]
@@ -15,8 +16,8 @@ pub struct Transaction {
     pub base: u64,
     /// Its changes, in order.
     pub net: Net,
-    /// The shapes graph that is to replace the store's, ascending.
-    pub staged: Option<Sequence<Triple>>,
+    /// The shapes graph that is to replace the store's.
+    pub staged: Option<ShapesGraph>,
     /// What its finds asked for.
     pub finds: Sequence<Pattern>,
     pub verdict: Option<Verdict>,

@@ -5,7 +5,7 @@ use Rattle.session_player.specs.Ready.{IsReady}
 use Rattle.session_player.proofs.run.perform_all.Given as goal
 
 abbrev pub invariant-loop-command : goal.invariant-loop-command
-invariant-loop-command l = record {
+invariant-loop-command g l = record {
   ready : IsReady l.core l.session l.current;
   advances : Advances l.session l.fn.core l.core (up_to_event None l.commands []) (up_to_event l.current (drop l.command-index l.commands) l.replies);
 }

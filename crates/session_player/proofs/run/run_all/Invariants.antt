@@ -1,9 +1,4 @@
-use Rattle.std.proofs.Common.{◌≡◌}
-use Rattle.session_model.specs.Progress.{HasRun}
 use Rattle.session_player.proofs.run.run_all.Given as goal
 
-abbrev pub invariant-loop-commands : goal.invariant-loop-commands
-invariant-loop-commands l = record {
-  session : l.session ≡ l.commands-index;
-  so_far : HasRun l.files l.fn.limits l.core l.commands-index l.all.items;
-}
+abbrev pub ghosts-run_in : goal.ghosts-run_in
+ghosts-run_in a = record { name = a.blank.name; parts = a.blank.parts }

@@ -1,4 +1,4 @@
-use Rattle.std.proofs.Common.{◌≡◌, ℕ, ◌<◌, ◌≤◌, ◌∙◌, sym, ap, map, length, arith, refl}
+use Rattle.std.proofs.Common.{◌∙◌, ap, arith, refl}
 use Rattle.std.proofs.lemmas.List.{length-map}
 use Rattle.session_reader.specs.SessionFile as file
 use Rattle.session_reader.proofs.Lines.{read_skipped, read_begin, read_commit, read_opening, read_other}
@@ -19,10 +19,10 @@ returns-in_ok-push-in-CommitCommand c =
     let count = length-map c.args.lines.now (λ l. l.now) in
     (tt, λ s first. rw c.in_ok-push-in-CommitCommand.ensures.ok (read_commit _ c.args.i _ (omega (arith, count, c.requires)) (c.in-CommitCommand.ensures ∙ ap file.kind_of c.command_text.ensures) s first))
 
-pub returns-in-AddBlock : goal.returns-in-AddBlock
-returns-in-AddBlock c =
+pub returns-in-Block : goal.returns-in-Block
+returns-in-Block c =
     let count = length-map c.args.lines.now (λ l. l.now) in
-    (refl, read_opening _ c.args.i _ (omega (arith, count, c.requires)) (c.in-AddBlock.ensures ∙ ap file.kind_of c.command_text.ensures))
+    (refl, read_opening _ c.args.i c.in-Block.kind _ (omega (arith, count, c.requires)) (c.in-Block.ensures ∙ ap file.kind_of c.command_text.ensures))
 
 pub returns-in-Other : goal.returns-in-Other
 returns-in-Other c =

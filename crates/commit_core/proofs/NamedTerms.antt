@@ -1,0 +1,140 @@
+-- Each name stands once, and what is named stays named.
+use Rattle.std.proofs.Common.{get_or, ◌≡◌, ◌∙◌, ℕ, zero, suc, ◌+◌, ◌<◌, Bool, true, false, ◌||◌, cond, List, [], ◌∷◌, ◌++◌, length, Option, Some, None, refl, sym, ap, subst, arith, inl, inr, length-append}
+use Rattle.std.proofs.lemmas.Bool.{cases_lt}
+use Rattle.std.proofs.Math.ListN.{get_or-append}
+use Rattle.std.proofs.Math.Seq.{get_or-append_seam}
+use Rattle.std.specs.List.{All, AllByRecursion, Contains}
+use Rattle.std.proofs.lemmas.List.Elements.{All-contains, All-contains_itself, Contains-append_left}
+use Rattle.rdf_model.specs.declared.term.Term.{Term}
+use Rattle.rdf_model.specs.declared.term.Term.TheVariants.{Blank, Iri, Literal}
+use Rattle.rdf_model.specs.declared.triple.Triple.{Triple}
+use Rattle.rdf_model.specs.declared.change.Change.{Change}
+use Rattle.rdf_model.specs.declared.change.Change.TheVariants.{Add, Remove}
+use Rattle.rdf_model.specs.Graphs.{after, changed}
+use Rattle.rdf_model.specs.Matching.{same_term}
+use Rattle.rdf_model.specs.Numbers.{IsNumbering, term_at}
+use Rattle.rdf_model.specs.Terms.{term_cmp, triple_cmp}
+use Rattle.rdf_model.proofs.SameTerms.{equal_same, same_equal}
+use Rattle.shape_model.specs.Vocabulary.{rdf, rdf_type, sub_class_of}
+use Rattle.collections.specs.Ordered.{has_item, with_item, without_item}
+use Rattle.collections.proofs.Members.{has_cases, has_equal, has_tail, with_cases, without_old}
+use Rattle.store_model.specs.Store.{AreNamed, NetNamed, StagedNamed, changed_triple, named_with, shapes_under, terms_of}
+use Rattle.term_validation.specs.Named.{AreNamedTriples, IsNamedTriple}
+
+-- whether a term has a name
+abbrev has : List Term → Term → Bool
+has named t = has_item term_cmp t named
+
+pub has_name : (named : List Term) (t : Term) → has named t ≡ true → Contains named t
+has_name [] t h = cc
+has_name (x ∷ xs) t h = elim (same_term x t) as (λ b. same_term x t ≡ b → (b || has xs t) ≡ true → Contains (x ∷ xs) t) [
+  | true ↦ λ e g. has_equal x xs t (same_equal x t e)
+  | false ↦ λ e g. has_tail x xs t (has_name xs t g)
+] refl h
+
+found : (b : Bool) (named : List Term) (t : Term) → has named t ≡ true → (b || has named t) ≡ true
+found true named t h = refl
+found false named t h = h
+
+name_has : (named : List Term) (t : Term) → Contains named t → has named t ≡ true
+name_has [] t c = absurd (omega arith)
+name_has (x ∷ xs) t c = elim (has_cases x xs t c) [
+  | inl e ↦ ap (λ b. b || has xs t) (equal_same x t e)
+  | inr d ↦ found (same_term x t) xs t (name_has xs t d)
+]
+
+-- the place of a term among these
+placed : (named : List Term) (n : ℕ) (t : Term) → n < length named → term_at named n ≡ t → Contains named t
+placed [] n t lt e = absurd (omega arith)
+placed (x ∷ xs) zero t lt e = has_equal x xs t e
+placed (x ∷ xs) (suc n) t lt e = has_tail x xs t (placed xs n t (omega arith) e)
+
+-- a new name at the end
+numbered_push : (named : List Term) (u : Term) → (Contains named u → ⊥) → IsNumbering named → IsNumbering (named ++ u ∷ [])
+numbered_push named u new k n m ln lm e =
+    let size : length (named ++ u ∷ []) ≡ length named + 1 = simp length-append in
+    elim (cases_lt n (length named)) [
+      | inl a ↦ elim (cases_lt m (length named)) [
+        | inl b ↦ k n m a b (sym (get_or-append named (u ∷ []) (Blank 0 0) n a) ∙ (e ∙ get_or-append named (u ∷ []) (Blank 0 0) m b))
+        | inr b ↦ absurd (new (placed named n u a (sym (get_or-append named (u ∷ []) (Blank 0 0) n a) ∙ (e ∙ last m (omega (arith, b, lm, size))))))
+      ]
+      | inr a ↦ elim (cases_lt m (length named)) [
+        | inl b ↦ absurd (new (placed named m u b (sym (get_or-append named (u ∷ []) (Blank 0 0) m b) ∙ (sym e ∙ last n (omega (arith, a, ln, size))))))
+        | inr b ↦ omega (arith, a, b, ln, lm, size)
+      ]
+    ]
+  where
+    last : (i : ℕ) → i ≡ length named → term_at (named ++ u ∷ []) i ≡ u
+    last i h = ap (term_at (named ++ u ∷ [])) h ∙ get_or-append_seam named u [] (Blank 0 0)
+
+pub numbered_with : (named ts : List Term) → IsNumbering named → IsNumbering (named_with named ts)
+numbered_with named [] k = k
+numbered_with named (t ∷ ts) k = elim (has named t) as (λ b. has named t ≡ b → IsNumbering (named_with (cond b named (named ++ t ∷ [])) ts)) [
+  | true ↦ λ e. numbered_with named ts k
+  | false ↦ λ e. numbered_with (named ++ t ∷ []) ts (numbered_push named t (λ c. let h = name_has named t c in cc (e, h)) k)
+] refl
+
+pub names_stay : (named ts : List Term) (u : Term) → Contains named u → Contains (named_with named ts) u
+names_stay named [] u c = c
+names_stay named (t ∷ ts) u c = elim (has named t) as (λ b. Contains (named_with (cond b named (named ++ t ∷ [])) ts) u) [
+  | true ↦ names_stay named ts u c
+  | false ↦ names_stay (named ++ t ∷ []) ts u (Contains-append_left named (t ∷ []) u c)
+]
+
+-- what holds of each item, of whatever stands in the list
+all_of : {X : Type 0} (P : X → Type 0) (xs : List X) → ((x : X) → Contains xs x → P x) → All P xs
+all_of P xs f = λ k d lt. f _ (All-contains_itself xs k d lt)
+
+triple_stays : (named ts : List Term) (t : Triple) → IsNamedTriple named t → IsNamedTriple (named_with named ts) t
+triple_stays named ts t h = (names_stay named ts t.subject h.0, names_stay named ts t.predicate h.1, names_stay named ts t.object h.2)
+
+pub triples_stay : (named ts : List Term) (g : List Triple) → AreNamedTriples named g → AreNamedTriples (named_with named ts) g
+triples_stay named ts g a = all_of (IsNamedTriple (named_with named ts)) g (λ t c. triple_stays named ts t (All-contains (IsNamedTriple named) g t a c))
+
+-- the terms of a triple that are named one by one
+triple_named : (named : List Term) (t : Triple) → AreNamed named (terms_of t) → IsNamedTriple named t
+triple_named named t a = (has_name named t.subject a.0, has_name named t.predicate a.1.0, has_name named t.object a.1.1.0)
+
+named_changed : (named : List Term) (g : List Triple) (c : Change) → AreNamedTriples named g → AreNamed named (terms_of (changed_triple c)) → AreNamedTriples named (changed g c)
+named_changed named g (Add t) a n = all_of (IsNamedTriple named) (with_item triple_cmp t g) (λ u c. elim (with_cases triple_cmp t g u c) [
+  | inl e ↦ subst (λ (x : Triple). IsNamedTriple named x) e (triple_named named t n)
+  | inr d ↦ All-contains (IsNamedTriple named) g u a d
+])
+named_changed named g (Remove t) a n = all_of (IsNamedTriple named) (without_item triple_cmp t g) (λ u c. All-contains (IsNamedTriple named) g u a (without_old triple_cmp t g u c))
+
+-- a graph after changes of named triples
+pub named_after : (named : List Term) (g : List Triple) (net : List Change) → AreNamedTriples named g → NetNamed named net → AreNamedTriples named (after g net)
+named_after named g [] a n = a
+named_after named g (c ∷ cs) a n = named_after named (changed g c) cs (named_changed named g c a n.0) n.1
+
+all_named : (named : List Term) (g : List Triple) → AllByRecursion (λ t. AreNamed named (terms_of t)) g → (t : Triple) → Contains g t → IsNamedTriple named t
+all_named named [] a t c = absurd (omega arith)
+all_named named (u ∷ us) a t c = elim (has_cases u us t c) [
+  | inl e ↦ subst (λ (x : Triple). IsNamedTriple named x) e (triple_named named u a.0)
+  | inr d ↦ all_named named us a.1 t d
+]
+
+-- the staged shapes, or else the newest
+pub named_under : (named : List Term) (shapes : List Triple) (staged : Option (List Triple)) → AreNamedTriples named shapes → StagedNamed named staged → AreNamedTriples named (shapes_under shapes staged)
+named_under named shapes None a n = a
+named_under named shapes (Some g) a n = all_of (IsNamedTriple named) g (all_named named g n)
+
+-- the two first names are two terms
+abbrev letter : Term → ℕ
+letter (Blank session number) = 0
+letter (Iri iri) = get_or iri 18 0
+letter (Literal lexical datatype language) = 0
+
+are_apart : rdf_type ≡ sub_class_of → ⊥
+unfolding rdf rdf_type sub_class_of
+are_apart e = let k : letter rdf_type ≡ letter sub_class_of = ap letter e in absurd (omega (arith, k))
+
+pub first_numbering : IsNumbering (rdf_type ∷ sub_class_of ∷ [])
+first_numbering = numbered_push (rdf_type ∷ []) sub_class_of (λ c. elim (has_cases rdf_type [] sub_class_of c) [
+  | inl e ↦ absurd (are_apart e)
+  | inr d ↦ absurd (omega arith)
+]) (numbered_push [] rdf_type (λ c. absurd (omega arith)) (λ n m ln lm e. absurd (omega arith)))
+
+pub no_items : {X : Type 0} (xs : List X) → length xs ≡ 0 → xs ≡ []
+no_items [] h = refl
+no_items (x ∷ xs) h = absurd (omega (arith, h))

@@ -1,0 +1,57 @@
+-- The shape of a node is found among the shapes, where it is one of them.
+use Rattle.std.proofs.Common.{◌||◌, Bor, ◌≡◌, Bool, true, false, List, [], ◌∷◌, cond, refl, sym, subst, arith, inl, inr}
+use Rattle.std.specs.Prelude.{Option, Some, None, slice_index_or}
+use Rattle.std.specs.List.{Contains, find, list_all, list_any}
+use Rattle.std.specs.Option.{IsSome, option_copied}
+use Rattle.std.proofs.lemmas.List.Sums.{AllPass-from_list_all}
+use Rattle.collections.proofs.Members.{has_cases, has_equal, has_head, has_tail}
+use Rattle.rdf_model.specs.declared.term.Term.{Term}
+use Rattle.rdf_model.specs.Matching.{same_term}
+use Rattle.rdf_model.proofs.SameTerms.{equal_same, same_equal}
+use Rattle.shape_ast.specs.declared.shape.Shape.{Shape}
+use Rattle.shape_model.specs.declared.result_row.ResultRow.{ResultRow}
+use Rattle.report_writer.specs.Sources.{HaveSources}
+
+abbrev pub has_node : Term → Shape Term → Bool
+has_node n c = same_term c.node n
+
+first_found : {X : Type 0} → (test : X → Bool) (xs : List X) (x : X) → Contains xs x → test x ≡ true → IsSome (find test xs)
+first_found test [] x i e = absurd (omega arith)
+first_found test (y ∷ ys) x i e =
+    elim (test y) as (λ b. test y ≡ b → IsSome (cond b (Some y) (find test ys))) [
+      | true ↦ λ k. refl
+      | false ↦ λ k. elim (has_cases y ys x i) [
+        | inl same ↦ let m : test y ≡ true = subst (λ w. test w ≡ true) (sym same) e in cc (k, m)
+        | inr j ↦ first_found test ys x j e
+      ]
+    ] refl
+
+found_first : {X : Type 0} → (test : X → Bool) (xs : List X) (x : X) → find test xs ≡ Some x → Contains xs x × (test x ≡ true)
+found_first test [] x e = cc
+found_first test (y ∷ ys) x e =
+    elim (test y) as (λ b. test y ≡ b → cond b (Some y) (find test ys) ≡ Some x → Contains (y ∷ ys) x × (test x ≡ true)) [
+      | true ↦ λ k m. let same : y ≡ x = cc in (has_equal y ys x same, subst (λ w. test w ≡ true) same k)
+      | false ↦ λ k m. let rest = found_first test ys x m in (has_tail y ys x rest.0, rest.1)
+    ] refl e
+
+pub finds : (shapes : List (Shape Term)) (n : Term) (c : Shape Term) → Contains shapes c → c.node ≡ n → IsSome (find (has_node n) shapes)
+finds shapes n c i e = first_found (has_node n) shapes c i (equal_same c.node n e)
+
+pub found : (shapes : List (Shape Term)) (n : Term) (c : Shape Term) → find (has_node n) shapes ≡ Some c → Contains shapes c × (c.node ≡ n)
+found shapes n c e = let k = found_first (has_node n) shapes c e in (k.0, same_equal c.node n k.1)
+
+pub is_found : (o : Option (Bor (Shape Term))) → IsSome (option_copied o) → IsSome o
+is_found None h = cc
+is_found (Some c) h = refl
+
+with_node : (shapes : List (Shape Term)) (n : Term) → list_any (has_node n) shapes ≡ true → (c : Shape Term) × Contains shapes c × (c.node ≡ n)
+with_node [] n e = cc
+with_node (c ∷ shapes) n e =
+    elim (has_node n c) as (λ b. has_node n c ≡ b → (b || list_any (has_node n) shapes) ≡ true → (d : Shape Term) × Contains (c ∷ shapes) d × (d.node ≡ n)) [
+      | true ↦ λ k m. (c, has_head c shapes, same_equal c.node n k)
+      | false ↦ λ k m. let rest = with_node shapes n m in (rest.0, has_tail c shapes rest.0 rest.1, rest.2)
+    ] refl e
+
+-- the test of a list of results
+pub have_sources : (shapes : List (Shape Term)) (rows : List ResultRow) → list_all (λ r. list_any (has_node r.source_shape) shapes) rows ≡ true → HaveSources shapes rows
+have_sources shapes rows e k d less = with_node shapes (slice_index_or rows k d).source_shape (AllPass-from_list_all (λ (r : ResultRow). list_any (has_node r.source_shape) shapes) rows e k d less)

@@ -1,0 +1,78 @@
+-- The parts that the lines of a result are written in make its text.
+use Rattle.std.proofs.Common.{◌≡◌, ◌∙◌, ℕ, List, [], ◌∷◌, ◌++◌, sym, ap, codes, append_assoc, append-nil, false, length, suc}
+use Rattle.std.proofs.Math.Dec.{eqb-suc-zero}
+use Rattle.std.specs.Prelude.{◌==◌, Bool, Some, if◌then◌else◌}
+use Rattle.rdf_model.specs.declared.term.Term.{Term}
+use Rattle.rdf_model.specs.declared.triple.Triple.{Triple}
+use Rattle.rdf_model.specs.NTriples.{term_text}
+use Rattle.shape_model.specs.declared.result_row.ResultRow.{ResultRow}
+use Rattle.shape_model.specs.Vocabulary.{sh}
+use Rattle.report_writer.specs.Report.{component_name, conforms_text, listed, messages_of, result_text, severity_of, statement, statements}
+use Rattle.report_writer.specs.Defaults.{HasDefaults}
+
+in_turn : (o o1 o2 o3 o4 o5 o6 a b c p v s n k : List ℕ) → o1 ≡ o ++ a ++ b ++ c → o2 ≡ o1 ++ p → o3 ≡ o2 ++ v → o4 ≡ o3 ++ s → o5 ≡ o4 ++ (n ++ []) → o6 ≡ o5 ++ k
+    → o6 ≡ o ++ (a ++ b ++ c ++ p ++ v ++ s ++ n ++ k ++ [])
+in_turn o o1 o2 o3 o4 o5 o6 a b c p v s n k e1 e2 e3 e4 e5 e6 = rw (e6, e5, e4, e3, e2, e1) (simp (append_assoc, append-nil))
+
+-- the lines of a result with this path, severity and messages
+lines : List ℕ → ResultRow → List Term → Term → List Term → List ℕ
+lines label r path severity messages =
+    statement (codes "_:r") (codes "sh:result") label
+    ++ statement label (codes "a") (codes "sh:ValidationResult")
+    ++ statement label (codes "sh:focusNode") (term_text r.focus_node)
+    ++ statements label (codes "sh:resultPath") path
+    ++ statements label (codes "sh:value") (listed r.value)
+    ++ statement label (codes "sh:resultSeverity") (term_text severity)
+    ++ statement label (codes "sh:sourceShape") (term_text r.source_shape)
+    ++ statement label (codes "sh:sourceConstraintComponent") (codes "sh:" ++ component_name r.component ++ codes "ConstraintComponent")
+    ++ statements label (codes "sh:resultMessage") messages
+
+by_defaults : (s : List Triple) (label : List ℕ) (r : ResultRow) (path : List Term) → HasDefaults s path r → result_text s label r ≡ lines label r path (sh (codes "Violation")) []
+unfolding lines
+by_defaults s label r path d =
+    ap (λ p. lines label r p (severity_of s r.source_shape) (messages_of s r.source_shape)) d.path
+    ∙ ap (λ v. lines label r path v (messages_of s r.source_shape)) d.severity
+    ∙ ap (λ m. lines label r path (sh (codes "Violation")) m) d.messages
+
+pub joined : (s : List Triple) (label : List ℕ) (r : ResultRow) (path : List Term) (o o1 o2 o3 o4 o5 o6 : List ℕ) → HasDefaults s path r
+    → o1 ≡ o ++ statement (codes "_:r") (codes "sh:result") label ++ statement label (codes "a") (codes "sh:ValidationResult") ++ statement label (codes "sh:focusNode") (term_text r.focus_node)
+    → o2 ≡ o1 ++ statements label (codes "sh:resultPath") path
+    → o3 ≡ o2 ++ statements label (codes "sh:value") (listed r.value)
+    → o4 ≡ o3 ++ statement label (codes "sh:resultSeverity") (term_text (sh (codes "Violation")))
+    → o5 ≡ o4 ++ statements label (codes "sh:sourceShape") (listed (Some r.source_shape))
+    → o6 ≡ o5 ++ statement label (codes "sh:sourceConstraintComponent") (codes "sh:" ++ component_name r.component ++ codes "ConstraintComponent")
+    → o6 ≡ o ++ result_text s label r
+unfolding lines
+joined s label r path o o1 o2 o3 o4 o5 o6 d e1 e2 e3 e4 e5 e6 =
+    in_turn o o1 o2 o3 o4 o5 o6
+    (statement (codes "_:r") (codes "sh:result") label)
+    (statement label (codes "a") (codes "sh:ValidationResult"))
+    (statement label (codes "sh:focusNode") (term_text r.focus_node))
+    (statements label (codes "sh:resultPath") path)
+    (statements label (codes "sh:value") (listed r.value))
+    (statement label (codes "sh:resultSeverity") (term_text (sh (codes "Violation"))))
+    (statement label (codes "sh:sourceShape") (term_text r.source_shape))
+    (statement label (codes "sh:sourceConstraintComponent") (codes "sh:" ++ component_name r.component ++ codes "ConstraintComponent"))
+    e1 e2 e3 e4 e5 e6
+    ∙ sym (ap (λ t. o ++ t) (by_defaults s label r path d))
+
+-- a statement whose object has three parts, from the left
+in_parts : (label p x y z : List ℕ) → statement label p (x ++ y ++ z) ≡ label ++ (codes " " ++ (p ++ (codes " " ++ (x ++ (y ++ (z ++ codes " .\n"))))))
+in_parts label p x y z = simp append_assoc
+
+pub component_line : (o o1 label name component : List ℕ) → name ≡ component → o1 ≡ o ++ (label ++ (codes " sh:sourceConstraintComponent sh:" ++ (name ++ codes "ConstraintComponent .\n")))
+    → o1 ≡ o ++ statement label (codes "sh:sourceConstraintComponent") (codes "sh:" ++ component ++ codes "ConstraintComponent")
+component_line o o1 label name component e written =
+    written
+    ∙ ap (λ n. o ++ (label ++ (codes " sh:sourceConstraintComponent sh:" ++ (n ++ codes "ConstraintComponent .\n")))) e
+    ∙ sym (ap (λ t. o ++ t) (in_parts label (codes "sh:sourceConstraintComponent") (codes "sh:") component (codes "ConstraintComponent")))
+
+not_empty : (n : ℕ) → (suc n == 0) ≡ false
+not_empty n = eqb-suc-zero n
+
+-- the lines that begin the report
+pub begun : (text : List ℕ) (conforms : Bool) (rows : List ResultRow) → conforms ≡ (length rows == 0)
+    → text ≡ codes "@prefix sh: <http://www.w3.org/ns/shacl#> .\n_:r a sh:ValidationReport .\n_:r sh:conforms " ++ ((if conforms then codes "true" else codes "false") ++ codes " .\n")
+    → text ≡ codes "@prefix sh: <http://www.w3.org/ns/shacl#> .\n" ++ statement (codes "_:r") (codes "a") (codes "sh:ValidationReport") ++ statement (codes "_:r") (codes "sh:conforms") (conforms_text rows)
+begun text conforms [] e written = written ∙ ap (λ b. codes "@prefix sh: <http://www.w3.org/ns/shacl#> .\n_:r a sh:ValidationReport .\n_:r sh:conforms " ++ ((if b then codes "true" else codes "false") ++ codes " .\n")) e
+begun text conforms (r ∷ rows) e written = written ∙ ap (λ b. codes "@prefix sh: <http://www.w3.org/ns/shacl#> .\n_:r a sh:ValidationReport .\n_:r sh:conforms " ++ ((if b then codes "true" else codes "false") ++ codes " .\n")) (e ∙ not_empty (length rows))

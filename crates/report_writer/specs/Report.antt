@@ -1,0 +1,122 @@
+-- The text of a validation report (SHACL 3.6): Turtle, one statement a line, by the triples of the shapes graph.
+use Rattle.std.specs.Prelude.{◌+◌, ◌&&◌, ℕ, Bool, List, [], ◌∷◌, ◌++◌, map, filter, Option, Some, None, codes}
+use Rattle.std.specs.List.{flat_map}
+use Rattle.std.specs.Fmt.{decimal}
+use Rattle.rdf_model.specs.declared.term.Term.{Term}
+use Rattle.rdf_model.specs.declared.triple.Triple.{Triple}
+use Rattle.rdf_model.specs.Matching.{same_term}
+use Rattle.rdf_model.specs.NTriples.{term_text}
+use Rattle.shape_model.specs.declared.component.Component.{Component}
+use Rattle.shape_model.specs.declared.component.Component.TheVariants as components
+use Rattle.shape_model.specs.declared.result_row.ResultRow.{ResultRow}
+use Rattle.shape_model.specs.Vocabulary.{sh, ShPath, property_iri}
+
+-- the values of the property p at the node, in the order of the triples
+abbrev pub is_statement_of : Term → Term → Triple → Bool
+is_statement_of n p t = same_term n t.subject && same_term p t.predicate
+
+abbrev pub values_of : List Triple → Term → Term → List Term
+values_of s n p = map (λ t. t.object) (filter (is_statement_of n p) s)
+
+abbrev pub first_or : Term → List Term → Term
+first_or t [] = t
+first_or t (x ∷ xs) = x
+
+abbrev pub first_of : List Term → List Term
+first_of [] = []
+first_of (x ∷ xs) = x ∷ []
+
+abbrev pub listed : Option Term → List Term
+listed None = []
+listed (Some t) = t ∷ []
+
+-- the severity of the shape, sh:Violation where it declares none (SHACL 2.1.4, 3.6.2.4)
+abbrev pub severity_of : List Triple → Term → Term
+severity_of s n = first_or (sh (codes "Violation")) (values_of s n (sh (codes "severity")))
+
+-- the messages of the shape (SHACL 2.1.5, 3.6.2.7)
+abbrev pub messages_of : List Triple → Term → List Term
+messages_of s n = values_of s n (sh (codes "message"))
+
+-- the path of a result (SHACL 3.6.2.2): the predicate that a closed shape doesn't allow, else the path of its source
+-- shape, if that is a property shape; each path is an IRI so far
+abbrev pub path_by : Component → List Term → List Term → List Term
+path_by components.Closed other own = other
+path_by c other own = own
+
+abbrev pub path_of : List Triple → ResultRow → List Term
+path_of s r = path_by r.component (listed r.other) (first_of (values_of s r.source_shape (property_iri ShPath)))
+
+-- the local name of a component's IRI (SHACL 4), without `ConstraintComponent`
+abbrev pub component_name : Component → List ℕ
+component_name components.Class = codes "Class"
+component_name components.Datatype = codes "Datatype"
+component_name components.NodeKind = codes "NodeKind"
+component_name components.MinCount = codes "MinCount"
+component_name components.MaxCount = codes "MaxCount"
+component_name components.MinExclusive = codes "MinExclusive"
+component_name components.MinInclusive = codes "MinInclusive"
+component_name components.MaxExclusive = codes "MaxExclusive"
+component_name components.MaxInclusive = codes "MaxInclusive"
+component_name components.MinLength = codes "MinLength"
+component_name components.MaxLength = codes "MaxLength"
+component_name components.Pattern = codes "Pattern"
+component_name components.LanguageIn = codes "LanguageIn"
+component_name components.UniqueLang = codes "UniqueLang"
+component_name components.Equals = codes "Equals"
+component_name components.Disjoint = codes "Disjoint"
+component_name components.LessThan = codes "LessThan"
+component_name components.LessThanOrEquals = codes "LessThanOrEquals"
+component_name components.Not = codes "Not"
+component_name components.And = codes "And"
+component_name components.Or = codes "Or"
+component_name components.Xone = codes "Xone"
+component_name components.Node = codes "Node"
+component_name components.QualifiedMinCount = codes "QualifiedMinCount"
+component_name components.QualifiedMaxCount = codes "QualifiedMaxCount"
+component_name components.Closed = codes "Closed"
+component_name components.HasValue = codes "HasValue"
+component_name components.In = codes "In"
+
+-- a line of the text: subject, predicate, object and the dot, with single spaces
+abbrev pub statement : List ℕ → List ℕ → List ℕ → List ℕ
+statement subject predicate object = subject ++ codes " " ++ predicate ++ codes " " ++ object ++ codes " .\n"
+
+-- a line for each of the terms
+abbrev pub statements : List ℕ → List ℕ → List Term → List ℕ
+statements subject predicate terms = flat_map (λ t. statement subject predicate (term_text t)) terms
+
+-- the label of the i-th result
+abbrev pub result_label : ℕ → List ℕ
+result_label i = codes "_:r" ++ decimal i
+
+-- the lines of one result (SHACL 3.6.2), under its label
+abbrev pub result_text : List Triple → List ℕ → ResultRow → List ℕ
+result_text s label r =
+    statement (codes "_:r") (codes "sh:result") label
+    ++ statement label (codes "a") (codes "sh:ValidationResult")
+    ++ statement label (codes "sh:focusNode") (term_text r.focus_node)
+    ++ statements label (codes "sh:resultPath") (path_of s r)
+    ++ statements label (codes "sh:value") (listed r.value)
+    ++ statement label (codes "sh:resultSeverity") (term_text (severity_of s r.source_shape))
+    ++ statement label (codes "sh:sourceShape") (term_text r.source_shape)
+    ++ statement label (codes "sh:sourceConstraintComponent") (codes "sh:" ++ component_name r.component ++ codes "ConstraintComponent")
+    ++ statements label (codes "sh:resultMessage") (messages_of s r.source_shape)
+
+-- the results from number i on
+abbrev pub results_text : List Triple → ℕ → List ResultRow → List ℕ
+results_text s i [] = []
+results_text s i (r ∷ rows) = result_text s (result_label i) r ++ results_text s (i + 1) rows
+
+-- whether the data graph conforms (SHACL 3.6.1.1)
+abbrev pub conforms_text : List ResultRow → List ℕ
+conforms_text [] = codes "true"
+conforms_text (r ∷ rows) = codes "false"
+
+-- ReportText: the report of these results under the shapes graph s (SHACL 3.6)
+abbrev pub report_text : List Triple → List ResultRow → List ℕ
+report_text s rows =
+    codes "@prefix sh: <http://www.w3.org/ns/shacl#> .\n"
+    ++ statement (codes "_:r") (codes "a") (codes "sh:ValidationReport")
+    ++ statement (codes "_:r") (codes "sh:conforms") (conforms_text rows)
+    ++ results_text s 1 rows

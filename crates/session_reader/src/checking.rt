@@ -1,0 +1,65 @@
+ghost use Rattle.std.specs.Prelude.{◌≡◌, IfOk};
+ghost use Rattle.session_reader.specs.Checking.{AreChecked, IsChecked, IsCheckedGraph};
+
+use crate::read_command::ReadCommand;
+use collections::Sequence;
+use outside::Maker;
+use rdf_model::Triple;
+use session_model::Command;
+use shape_reader::{ShapeFault, read_shapes};
+use shapes_graph::ShapesGraph;
+use std::alloc::{AllocError, Global};
+
+// The command of a shapes graph that was read.
+fn check_graph<M: Maker>(
+    alloc: Global,
+    maker: &mut M,
+    triples: Sequence<Triple>,
+) -> Result<Command, AllocError>
+    ensures command { IfOk result (IsCheckedGraph triples) }
+    ensures maker { maker.new ≡ maker.old }
+{
+    match read_shapes(alloc, maker, triples.as_slice()) {
+        Ok(shapes) => Ok(Command::Shapes(ShapesGraph::new(alloc, triples, shapes)?)),
+        Err(ShapeFault::Rule(broken)) => Ok(Command::BrokenShapes {
+            rule: broken.rule,
+            node: broken.node,
+        }),
+        Err(ShapeFault::Memory) => Err(AllocError),
+    }
+}
+
+// The command that a read one becomes.
+fn check_command<M: Maker>(
+    alloc: Global,
+    maker: &mut M,
+    read: ReadCommand,
+) -> Result<Command, AllocError>
+    ensures command { IfOk result (IsChecked read) }
+    ensures maker { maker.new ≡ maker.old }
+{
+    match read {
+        ReadCommand::Begin => Ok(Command::Begin),
+        ReadCommand::Add(triples) => Ok(Command::Add(triples)),
+        ReadCommand::BadAdd { line, kind } => Ok(Command::BadAdd { line, kind }),
+        ReadCommand::Shapes(triples) => check_graph(alloc, maker, triples),
+        ReadCommand::BadShapes { line, kind } => Ok(Command::BadShapes { line, kind }),
+        ReadCommand::Commit => Ok(Command::Commit),
+    }
+}
+
+/// The commands that the read ones become, one by one.
+pub fn check_commands<M: Maker>(
+    alloc: Global,
+    maker: &mut M,
+    read: Sequence<ReadCommand>,
+) -> Result<Sequence<Command>, AllocError>
+    ensures commands { IfOk result (AreChecked read) }
+    ensures maker { maker.new ≡ maker.old }
+{
+    let mut commands = Sequence::new(alloc);
+    for command in read.into_vec() {
+        commands.push(check_command(alloc, maker, command)?)?;
+    }
+    Ok(commands)
+}

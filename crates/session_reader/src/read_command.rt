@@ -1,0 +1,17 @@
+use collections::Sequence;
+use rdf_model::Triple;
+
+/// A command as its lines are read, before its shapes graph is judged.
+#[derive(Debug, Drop)]
+pub enum ReadCommand {
+    Begin,
+    /// An addition of these triples.
+    Add(Sequence<Triple>),
+    /// An addition whose block can't be read: the line of the block, from 1, and the number of the refusal's kind.
+    BadAdd { line: u64, kind: u8 },
+    /// A shapes graph, well-formed or not.
+    Shapes(Sequence<Triple>),
+    /// Shapes whose block can't be read: the line of the block, from 1, and the number of the refusal's kind.
+    BadShapes { line: u64, kind: u8 },
+    Commit,
+}

@@ -1,0 +1,13 @@
+//! Validation of a data graph that is given by its terms.
+//!
+//! `listing` numbers the terms of a data graph among given names, and ensures exactly the listing of
+//! the graph under a shapes graph. A shapes graph without shapes costs nothing.
+#![tactic(auto)]
+
+mod numbering;
+mod sorted_names;
+#[cfg(test)]
+mod tests;
+mod validation;
+
+pub use validation::listing;
