@@ -6,7 +6,7 @@ ghost use Rattle.report_writer.specs.Sources.{HaveSources};
 use crate::report;
 use collections::Sequence;
 use rdf_model::{Term, Text};
-use shape_ast::{Component, Constraint, NodeKind, Path, ResultRow, Shape, Shapes};
+use shape_ast::{Component, Path, ResultRow, Shape, Shapes};
 use std::alloc::{AllocError, Global};
 use std::process::Abort;
 use std::test::Fail;
@@ -15,20 +15,12 @@ fn iri(alloc: Global, text: &str) -> Result<Term, AllocError> {
     Ok(Term::Iri(Text::new(alloc, text)?))
 }
 
-fn literal(alloc: Global, lexical: &str, datatype: &str) -> Result<Term, AllocError> {
+fn text(alloc: Global, lexical: &str) -> Result<Term, AllocError> {
     Ok(Term::Literal {
         lexical: Text::new(alloc, lexical)?,
-        datatype: Text::new(alloc, datatype)?,
+        datatype: Text::new(alloc, "http://www.w3.org/2001/XMLSchema#string")?,
         language: None,
     })
-}
-
-fn text(alloc: Global, lexical: &str) -> Result<Term, AllocError> {
-    literal(alloc, lexical, "http://www.w3.org/2001/XMLSchema#string")
-}
-
-fn one(alloc: Global) -> Result<Term, AllocError> {
-    literal(alloc, "1", "http://www.w3.org/2001/XMLSchema#integer")
 }
 
 // The node of a node shape.
@@ -39,77 +31,67 @@ fn blank() -> Term {
     }
 }
 
-fn shape(
-    alloc: Global,
-    node: Term,
-    path: Option<Path<Term>>,
-    constraint: Constraint<Term>,
-) -> Result<Shape<Term>, AllocError> {
-    let mut constraints = Sequence::new(alloc);
-    constraints.push(constraint)?;
-    Ok(Shape {
+// A shape as far as a report reads it.
+fn shape(alloc: Global, node: Term, path: Option<Path<Term>>) -> Shape<Term> {
+    Shape {
         node,
         path,
         targets: Sequence::new(alloc),
-        constraints,
+        constraints: Sequence::new(alloc),
         properties: Sequence::new(alloc),
-    })
+    }
 }
 
-// A node shape of IRIs, and the property shape e:P of at least one value of e:p.
+// A node shape, and the property shape e:P of e:p.
 fn shapes(alloc: Global) -> Result<Shapes, AllocError> {
-    let of_iris = Constraint::NodeKind {
-        kind: NodeKind::Iri,
-        parameter: iri(alloc, "http://www.w3.org/ns/shacl#IRI")?,
-    };
-    let of_one = Constraint::MinCount {
-        count: 1,
-        parameter: one(alloc)?,
-    };
-    let path = Path::Predicate(iri(alloc, "e:p")?);
     let mut shapes = Sequence::new(alloc);
-    shapes.push(shape(alloc, blank(), None, of_iris)?)?;
-    shapes.push(shape(alloc, iri(alloc, "e:P")?, Some(path), of_one)?)?;
+    shapes.push(shape(alloc, blank(), None))?;
+    let node = iri(alloc, "e:P")?;
+    let path = Path::Predicate(iri(alloc, "e:p")?);
+    shapes.push(shape(alloc, node, Some(path)))?;
     Ok(Shapes { shapes })
+}
+
+// A result as far as a report writes it.
+fn row(
+    source_shape: Term,
+    focus_node: Term,
+    component: Component,
+    value: Option<Term>,
+    other: Option<Term>,
+) -> ResultRow {
+    ResultRow {
+        source_shape,
+        focus_node,
+        component,
+        parameter: None,
+        about: None,
+        value,
+        other,
+    }
 }
 
 // e:a has no value of e:p.
 fn too_few(alloc: Global) -> Result<ResultRow, AllocError> {
-    Ok(ResultRow {
-        source_shape: iri(alloc, "e:P")?,
-        focus_node: iri(alloc, "e:a")?,
-        component: Component::MinCount,
-        parameter: Some(one(alloc)?),
-        about: None,
-        value: None,
-        other: None,
-    })
+    let source = iri(alloc, "e:P")?;
+    let focus = iri(alloc, "e:a")?;
+    Ok(row(source, focus, Component::MinCount, None, None))
 }
 
 // A literal is no IRI.
 fn wrong_kind(alloc: Global) -> Result<ResultRow, AllocError> {
-    Ok(ResultRow {
-        source_shape: blank(),
-        focus_node: text(alloc, "x")?,
-        component: Component::NodeKind,
-        parameter: Some(iri(alloc, "http://www.w3.org/ns/shacl#IRI")?),
-        about: Some(text(alloc, "x")?),
-        value: Some(text(alloc, "x")?),
-        other: None,
-    })
+    let focus = text(alloc, "x")?;
+    let value = text(alloc, "x")?;
+    Ok(row(blank(), focus, Component::NodeKind, Some(value), None))
 }
 
-// A value of e:p at e:a has a value of e:q, which isn't allowed.
+// A value of e:p at e:a has the value "x" of e:q, which isn't allowed.
 fn not_allowed(alloc: Global) -> Result<ResultRow, AllocError> {
-    Ok(ResultRow {
-        source_shape: iri(alloc, "e:P")?,
-        focus_node: iri(alloc, "e:a")?,
-        component: Component::Closed,
-        parameter: Some(literal(alloc, "true", "http://www.w3.org/2001/XMLSchema#boolean")?),
-        about: Some(iri(alloc, "e:b")?),
-        value: Some(text(alloc, "x")?),
-        other: Some(iri(alloc, "e:q")?),
-    })
+    let source = iri(alloc, "e:P")?;
+    let focus = iri(alloc, "e:a")?;
+    let value = text(alloc, "x")?;
+    let other = iri(alloc, "e:q")?;
+    Ok(row(source, focus, Component::Closed, Some(value), Some(other)))
 }
 
 // Whether the result's source is among the shapes.
