@@ -1,0 +1,8 @@
+use Rattle.validation_rows.proofs.Sizes.{few_triples}
+use Rattle.validation_rows.proofs.rows.triples_of.Goals as goal
+
+pub returns : goal.returns
+returns c = record {
+  read = (c.read.new.next, c.in_ok-triples.ensures.reads);
+  few = few_triples c.args.text.now c.args.session 1 c.read.new.next c.in_ok-triples.triples c.in_ok-triples.ensures.reads;
+}

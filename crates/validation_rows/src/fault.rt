@@ -1,0 +1,28 @@
+ghost use Rattle.std.specs.Prelude.{◌≡◌};
+
+use ntriples_text::RefusalKind;
+use shape_model::BrokenRule;
+use std::alloc::AllocError;
+
+/// Why there are no listings.
+#[derive(Debug, Drop)]
+pub enum RowsFault {
+    /// The data is no N-Triples text: the refusal that counts, with its line, from 1.
+    Data { line: u64, kind: RefusalKind },
+    /// The data is read, and the shapes are no N-Triples text.
+    Shapes { line: u64, kind: RefusalKind },
+    /// Both are read, and the shapes graph isn't well-formed: the broken rule that is reported.
+    Rule(BrokenRule),
+    /// There was not enough memory.
+    Memory,
+}
+
+impl From<AllocError> for RowsFault {
+    ghost use Rattle.validation_rows.specs.declared.fault.RowsFault.TheVariants as faults;
+
+    ghost from_gives = { λ _ fault. fault ≡ faults.Memory };
+
+    fn from(_error: AllocError) -> RowsFault {
+        RowsFault::Memory
+    }
+}

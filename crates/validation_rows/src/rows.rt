@@ -1,0 +1,154 @@
+ghost use Rattle.std.specs.Prelude.{◌≡◌, ◌+◌, ◌*◌, ◌≤◌, ◌<◌, ◌^◌, length, IfOk, MatchResult};
+ghost use Rattle.ntriples_text.specs.Document.{reads};
+ghost use Rattle.ntriples_text.specs.Faults.{Refuses};
+ghost use Rattle.rdf_model.specs.Numbers.{IsNumbering};
+ghost use Rattle.shape_model.specs.Validation.{Listing};
+ghost use Rattle.shape_model.specs.WellFormed.{IsWellFormed};
+ghost use Rattle.shape_reader.specs.Faults as reader;
+ghost use Rattle.term_validation.specs.Named.{AreNamedTriples};
+ghost use Rattle.validation_rows.specs.Rows.{AreListings, IsCause, IsRead};
+
+use crate::RowsFault;
+use crate::names::names_of;
+use collections::Sequence;
+use ntriples_text::{ReadFault, read};
+use outside::Maker;
+use rdf_model::{Term, Triple};
+use shape_eval::Steps;
+use shape_model::ResultRow;
+use shape_reader::{ShapeFault, read_shapes};
+use shapes_graph::ShapesGraph;
+use std::alloc::{AllocError, Global};
+use std::marker::Brand;
+use std::sync::ledger::{Blank, Ledger};
+
+// The sessions of the blank nodes of the two texts.
+const DATA_SESSION: u32 = 1;
+
+const SHAPES_SESSION: u32 = 2;
+
+/// The results of one data graph under one shapes graph, each once, in their order.
+#[derive(Debug, Drop)]
+pub struct BothListings {
+    /// As they are found straight from the triples of both graphs.
+    pub plain: Sequence<ResultRow>,
+    /// As compiled shapes find them, by the numbers of terms.
+    pub compiled: Sequence<ResultRow>,
+}
+
+// The triples of a text, whose blank nodes belong to the session and are numbered from 1.
+fn triples_of(alloc: Global, session: u32, text: &[u8]) -> Result<Sequence<Triple>, ReadFault>
+    requires session { (1 ≤ session) × (session ≤ 64) }
+    requires room { length text.now < 2 ^ 30 }
+    ensures read { MatchResult result (IsRead session text.now) (λ fault. Refuses fault (reads text.now session 1)) }
+    ensures few { IfOk result (λ triples. length triples ≤ length text.now) }
+{
+    let mut next = 1;
+    let triples = read(alloc, session, &mut next, text)?;
+    Ok(triples)
+}
+
+// The shapes graph of the triples, if they are well-formed.
+fn shapes_of<M: Maker>(
+    alloc: Global,
+    maker: &mut M,
+    triples: Sequence<Triple>,
+) -> Result<ShapesGraph, ShapeFault>
+    ensures answer { MatchResult result
+        (λ graph. IsWellFormed triples × (graph ≡ triples))
+        (λ fault. reader.IsCause triples fault) }
+    ensures maker { maker.new ≡ maker.old }
+{
+    let shapes = read_shapes(alloc, maker, triples.as_slice())?;
+    Ok(ShapesGraph::new(alloc, triples, shapes)?)
+}
+
+// The results by compiled shapes, in an own ledger of evaluations.
+fn compiled_in<L: Ledger>(
+    alloc: Global,
+    names: &[Term],
+    graph: &[Triple],
+    shapes: &ShapesGraph,
+    blank: Blank,
+) -> Result<Vec<ResultRow>, AllocError>
+    requires few { length names.now < 2 ^ 32 }
+    requires numbering { IsNumbering names.now }
+    requires graph { AreNamedTriples names.now graph.now }
+    requires shapes { AreNamedTriples names.now shapes.now }
+    requires name { blank.name ≡ L.name }
+    requires parts { blank.parts ≡ L.parts }
+    requires some { 0 < L.parts }
+    ensures { IfOk result (λ rows. Listing graph.now shapes.now rows.items) }
+{
+    let mut steps = Steps::<L>::begin(blank);
+    let rows = term_validation::listing(alloc, names, graph, shapes, &mut steps)?;
+    Ok(rows)
+}
+
+// The results by compiled shapes.
+fn compiled_listing(
+    alloc: Global,
+    graph: &[Triple],
+    shapes: &ShapesGraph,
+) -> Result<Vec<ResultRow>, AllocError>
+    requires { 3 * (length graph.now + length shapes.now) < 2 ^ 32 }
+    ensures { IfOk result (λ rows. Listing graph.now shapes.now rows.items) }
+{
+    let names = names_of(alloc, graph, shapes.triples())?;
+    compiled_in::<Brand>(alloc, &names, graph, shapes, Blank::new(1))
+}
+
+// The results in both ways.
+fn listings(
+    alloc: Global,
+    graph: &[Triple],
+    shapes: &ShapesGraph,
+) -> Result<BothListings, AllocError>
+    requires well_formed { IsWellFormed shapes.now }
+    requires few { 3 * (length graph.now + length shapes.now) < 2 ^ 32 }
+    ensures plain { IfOk result (λ both. Listing graph.now shapes.now both.plain) }
+    ensures compiled { IfOk result (λ both. Listing graph.now shapes.now both.compiled) }
+{
+    let plain = plain_validation::listing(alloc, graph, shapes.triples())?;
+    let compiled = compiled_listing(alloc, graph, shapes)?;
+    Ok(BothListings {
+        plain: Sequence::from_vec(plain),
+        compiled: Sequence::from_vec(compiled),
+    })
+}
+
+/// The results of validating a data graph by a shapes graph (SHACL section 3.6), both N-Triples texts,
+/// found in two ways: straight from the triples, and by compiled shapes. The two lists are one. Blank
+/// nodes of the data belong to session 1 and those of the shapes to session 2, each numbered from 1.
+///
+/// A fault tells its cause: the data is refused first, then the shapes, then a broken rule.
+/// The maker is for patterns; none is built. It takes time with the square of the texts' sizes and
+/// more, and is meant for small ones.
+pub fn both_listings<M: Maker>(
+    alloc: Global,
+    maker: &mut M,
+    data_text: &[u8],
+    shapes_text: &[u8],
+) -> Result<BothListings, RowsFault>
+    requires { length data_text.now + length shapes_text.now < 2 ^ 30 }
+    ensures answer { MatchResult result (AreListings data_text.now shapes_text.now) (IsCause data_text.now shapes_text.now) }
+    ensures one { IfOk result (λ both. both.plain ≡ both.compiled) }
+    ensures maker { maker.new ≡ maker.old }
+{
+    let graph = match triples_of(alloc, DATA_SESSION, data_text) {
+        Ok(triples) => triples,
+        Err(ReadFault::Refusal { line, kind }) => return Err(RowsFault::Data { line, kind }),
+        Err(ReadFault::Memory) => return Err(RowsFault::Memory),
+    };
+    let triples = match triples_of(alloc, SHAPES_SESSION, shapes_text) {
+        Ok(triples) => triples,
+        Err(ReadFault::Refusal { line, kind }) => return Err(RowsFault::Shapes { line, kind }),
+        Err(ReadFault::Memory) => return Err(RowsFault::Memory),
+    };
+    let shapes_graph = match shapes_of(alloc, maker, triples) {
+        Ok(shapes_graph) => shapes_graph,
+        Err(ShapeFault::Rule(broken)) => return Err(RowsFault::Rule(broken)),
+        Err(ShapeFault::Memory) => return Err(RowsFault::Memory),
+    };
+    Ok(listings(alloc, graph.as_slice(), &shapes_graph)?)
+}
