@@ -1,0 +1,269 @@
+-- What a reading reaches: the keys from one on, up to another, and the first at which an order is not Less.
+use Rattle.std.proofs.Common.{◌≡◌, ◌∙◌, ℕ, zero, suc, ◌+◌, ◌-◌, ◌<◌, ◌≤◌, Bool, List, [], ◌∷◌, ◌++◌, length, get_or, take, drop, refl, sym, subst, ap, arith, true, false, append_assoc, append-nil, inl, inr}
+use Rattle.std.proofs.Math.Seq.{take-suc}
+use Rattle.std.specs.Prelude.{◌⊎◌, ◌&&◌, None, Some, Result, Ok, Err, is_ok, filter, cond}
+use Rattle.std.specs.List.Sorted.{IsPartitionedBy, IsPartitionPoint, IsSearchInRange, IsBinarySearchResult}
+use Rattle.std.specs.declared.cmp.Ordering.{Ordering}
+use Rattle.std.specs.declared.cmp.Ordering.TheVariants.{Less, Equal, Greater}
+use Rattle.std.specs.Ordering.{match_ordering, MatchOrdering, is_lt, is_ge}
+use Rattle.std.specs.Cmp.{IsTotalOrder}
+use Rattle.collections.specs.Ordered.{AllAbove, IsAscending, has_item}
+use Rattle.page_index.specs.Blocks.{Block, AreBelow, AllUnder, keys_of, first_of}
+use Rattle.page_index.specs.Reading.{AllReached, IsRising, first_reached, is_within}
+use Rattle.page_index.proofs.Keys.{turned, turned_back, ascending-right}
+use Rattle.page_index.proofs.Found.{rises, has-there, has-free}
+use Rattle.page_index.proofs.Sides.{keys-append}
+use Rattle.page_index.proofs.Places.{first-append, low-above, first-below, before-at}
+
+pub lt-less : (c : Ordering) → is_lt c ≡ true → c ≡ Less
+lt-less Less e = refl
+lt-less Equal e = cc
+lt-less Greater e = cc
+
+pub not_lt-not_less : (c : Ordering) → is_lt c ≡ false → c ≡ Less → ⊥
+not_lt-not_less c e l = let k = ap is_lt l in cc (e, k)
+
+lt-or_not : (c : Ordering) → (c ≡ Less) ⊎ (c ≡ Less → ⊥)
+lt-or_not Less = inl refl
+lt-or_not Equal = inr (λ e. cc)
+lt-or_not Greater = inr (λ e. cc)
+
+pub filter-append : {X : Type 0} (p : X → Bool) (ks ls : List X) → filter p (ks ++ ls) ≡ filter p ks ++ filter p ls
+filter-append p [] ls = refl
+filter-append {X} p (k ∷ ks) ls = elim (p k) as (λ b. cond b (k ∷ filter p (ks ++ ls)) (filter p (ks ++ ls)) ≡ cond b (k ∷ filter p ks) (filter p ks) ++ filter p ls) [
+  | true ↦ ap (λ (t : List X). k ∷ t) (filter-append p ks ls)
+  | false ↦ filter-append p ks ls
+]
+
+pub take-more : {X : Type 0} (ks : List X) (i : ℕ) (k : X) → i < length ks → k ≡ get_or ks i k → take (i + 1) ks ≡ take i ks ++ (k ∷ [])
+take-more ks i k lt is = ap (λ (n : ℕ). take n ks) (let e : i + 1 ≡ suc i = omega arith in e) ∙ take-suc ks i k lt ∙ ap (λ (w : _). take i ks ++ (w ∷ [])) (sym is)
+
+pub keys-more : {K : Type 0} (bs : List (Block K)) (i : ℕ) (b : Block K) → i < length bs → b ≡ get_or bs i b → keys_of (take (i + 1) bs) ≡ keys_of (take i bs) ++ b.page.keys
+keys-more bs i b lt is = ap keys_of (take-more bs i b lt is) ∙ keys-append (take i bs) (b ∷ []) ∙ ap (λ (ks : List _). keys_of (take i bs) ++ ks) (append-nil b.page.keys)
+
+-- one step of a reading that adds what it is given
+pub added-more : {K : Type 0} (into old more mine all keys : List K) → into ≡ mine ++ more → mine ≡ old ++ all → keys ≡ all ++ more → into ≡ old ++ keys
+added-more into old more mine all keys a b c = let e = append_assoc old all more in cc (a, b, c, e)
+
+module _ {K : Type 0} (R : K → K → Ordering) (o : IsTotalOrder R) where
+  pub found-result : (x : K) (ks : List K) (r : Result ℕ ℕ) → IsAscending R ks → IsSearchInRange r (length ks) → IsBinarySearchResult (λ y. R y x) ks r → is_ok r ≡ has_item R x ks
+  found-result x ks (Ok i) s lt p = sym (has-there R o x ks i lt p)
+  found-result x ks (Err i) s le p = sym (has-free R o x ks i le (p (rises R o x ks s)))
+
+  pub none-under : (from to : K) (ks : List K) → AllUnder R from ks → filter (is_within R from to) ks ≡ []
+  none-under from to [] u = refl
+  none-under from to (k ∷ ks) u = ap (λ c. cond (is_ge c && is_lt (R k to)) (k ∷ filter (is_within R from to) ks) (filter (is_within R from to) ks)) (turned R o from k u.0) ∙ none-under from to ks u.1
+
+  none-at : (from to k : K) (ks : List K) → (R k to ≡ Less → ⊥) → filter (is_within R from to) (k ∷ ks) ≡ filter (is_within R from to) ks
+  none-at from to k ks n = elim (R k to) as (λ c. R k to ≡ c → cond (is_ge (R k from) && is_lt c) (k ∷ filter (is_within R from to) ks) (filter (is_within R from to) ks) ≡ filter (is_within R from to) ks) [
+    | Less ↦ λ e. absurd (n e)
+    | Equal ↦ λ e. ap (λ b. cond b (k ∷ filter (is_within R from to) ks) (filter (is_within R from to) ks)) (and_false (is_ge (R k from)))
+    | Greater ↦ λ e. ap (λ b. cond b (k ∷ filter (is_within R from to) ks) (filter (is_within R from to) ks)) (and_false (is_ge (R k from)))
+  ] refl
+    where
+      and_false : (b : Bool) → (b && false) ≡ false
+      and_false true = refl
+      and_false false = refl
+
+  pub none-beyond : (from to : K) (ks : List K) → AllReached (λ k. R k to) ks → filter (is_within R from to) ks ≡ []
+  none-beyond from to [] u = refl
+  none-beyond from to (k ∷ ks) u = none-at from to k ks u.0 ∙ none-beyond from to ks u.1
+
+  reached-above : (to k : K) (ks : List K) → AllAbove R k ks → (R k to ≡ Less → ⊥) → AllReached (λ w. R w to) ks
+  reached-above to k [] a n = tt
+  reached-above to k (l ∷ ks) a n = (λ e. n (o.trans k l to a.0 e), reached-above to k ks a.1 n)
+
+  reached-all : (to k : K) (ks : List K) → first_of ks ≡ Some k → IsAscending R ks → (R k to ≡ Less → ⊥) → AllReached (λ w. R w to) ks
+  reached-all to k [] e s n = tt
+  reached-all to k (l ∷ ks) e s n = let same : l ≡ k = cc in let m : R l to ≡ Less → ⊥ = subst (λ (w : K). R w to ≡ Less → ⊥) (sym same) n in (m, reached-above to l ks s.0 m)
+
+  pub reached-at : (to : K) (h : ℕ) (bs : List (Block K)) (i : ℕ) → IsAscending R (keys_of bs) → AreBelow h bs → ((d : Block K) → i < length bs → R (get_or bs i d).low to ≡ Less → ⊥) → AllReached (λ w. R w to) (keys_of (drop i bs))
+  reached-at to h [] zero s b f = tt
+  reached-at to h [] (suc i) s b f = tt
+  reached-at to h (c ∷ bs) zero s b f = reached-all to c.low (c.page.keys ++ keys_of bs) (first-append c.page.keys (keys_of bs) c.low b.0.first) s (f c (omega arith))
+  reached-at to h (c ∷ bs) (suc i) s b f = reached-at to h bs i (ascending-right R c.page.keys (keys_of bs) s) b.1 (λ d lt. f d (omega arith))
+
+  pub lows-rising : (x : K) (h : ℕ) (bs : List (Block K)) → IsAscending R (keys_of bs) → AreBelow h bs → IsPartitionedBy (λ b. is_lt (R b.low x)) bs
+  lows-rising x h [] s b i j d le lt e = absurd (omega arith)
+  lows-rising x h (c ∷ bs) s b zero zero d le lt e = e
+  lows-rising x h (c ∷ bs) s b zero (suc j) d le lt e = ap is_lt (o.trans c.low (get_or bs j d).low x (low-above R c.low h bs j d (first-below R c.low c.page.keys (keys_of bs) b.0.first s) b.1 (omega arith)) (lt-less (R (get_or bs j d).low x) e))
+  lows-rising x h (c ∷ bs) s b (suc i) zero d le lt e = absurd (omega arith)
+  lows-rising x h (c ∷ bs) s b (suc i) (suc j) d le lt e = lows-rising x h bs (ascending-right R c.page.keys (keys_of bs) s) b.1 i j d (omega arith) (omega arith) e
+
+  pub under-from : (x : K) (h : ℕ) (bs : List (Block K)) (p : ℕ) → IsAscending R (keys_of bs) → AreBelow h bs → p ≤ length bs → IsPartitionPoint (λ b. is_lt (R b.low x) ≡ true) (λ b. is_lt (R b.low x) ≡ false) bs p → AllUnder R x (keys_of (take (p - 1) bs))
+  under-from x h bs zero s b le q = tt
+  under-from x h [] (suc p) s b le q = absurd (omega arith)
+  under-from x h (c ∷ bs) (suc p) s b le q = subst (λ (i : ℕ). AllUnder R x (keys_of (take i (c ∷ bs)))) (let e : p ≡ suc p - 1 = omega arith in e) (before-at R o x h (c ∷ bs) p c s b (omega arith) (λ e. let t = turned_back R o (get_or (c ∷ bs) p c).low x (lt-less (R (get_or (c ∷ bs) p c).low x) (q.0 p c (omega arith) (omega arith))) in cc (e, t)))
+
+  pub reached-beyond : (x : K) (h : ℕ) (bs : List (Block K)) (p : ℕ) → IsAscending R (keys_of bs) → AreBelow h bs → IsPartitionPoint (λ b. is_lt (R b.low x) ≡ true) (λ b. is_lt (R b.low x) ≡ false) bs p → AllReached (λ w. R w x) (keys_of (drop p bs))
+  reached-beyond x h bs p s b q = reached-at x h bs p s b (λ d lt. not_lt-not_less (R (get_or bs p d).low x) (q.1 p d (omega arith) lt))
+
+module _ {K : Type 0} (f : K → Ordering) where
+  pub reached-right : (ks ls : List K) → AllReached f (ks ++ ls) → AllReached f ls
+  reached-right [] ls a = a
+  reached-right (k ∷ ks) ls a = reached-right ks ls a.1
+
+  pub reached-drop : (bs : List (Block K)) (i j : ℕ) → i ≤ j → AllReached f (keys_of (drop i bs)) → AllReached f (keys_of (drop j bs))
+  reached-drop [] zero zero le a = tt
+  reached-drop [] zero (suc j) le a = tt
+  reached-drop [] (suc i) zero le a = tt
+  reached-drop [] (suc i) (suc j) le a = tt
+  reached-drop (b ∷ bs) zero zero le a = a
+  reached-drop (b ∷ bs) zero (suc j) le a = reached-drop bs zero j (omega arith) (reached-right b.page.keys (keys_of bs) a)
+  reached-drop (b ∷ bs) (suc i) zero le a = absurd (omega arith)
+  reached-drop (b ∷ bs) (suc i) (suc j) le a = reached-drop bs i j (omega arith) a
+
+  reached-member : (h : ℕ) (ks : List K) (bs : List (Block K)) (i : ℕ) (d : Block K) → AllReached f (ks ++ keys_of bs) → AreBelow h bs → i < length bs → f (get_or bs i d).low ≡ Less → ⊥
+  reached-member h (k ∷ ks) bs i d a b lt e = reached-member h ks bs i d a.1 b lt e
+  reached-member h [] [] i d a b lt e = absurd (omega arith)
+  reached-member h [] (c ∷ bs) zero d a b lt e = reached-first c.low (c.page.keys ++ keys_of bs) (first-append c.page.keys (keys_of bs) c.low b.0.first) a e
+    where
+      reached-first : (l : K) (ks : List K) → first_of ks ≡ Some l → AllReached f ks → f l ≡ Less → ⊥
+      reached-first l [] p a e = cc
+      reached-first l (k ∷ ks) p a e = let same : l ≡ k = cc in a.0 (subst (λ (w : K). f w ≡ Less) same e)
+  reached-member h [] (c ∷ bs) (suc i) d a b lt e = reached-member h c.page.keys bs i d a b.1 (omega arith) e
+
+  reached-rising : (ks : List K) → AllReached f ks → IsRising f ks
+  reached-rising [] a = tt
+  reached-rising (k ∷ ks) a = elim (f k) as (λ c. f k ≡ c → MatchOrdering c (IsRising f ks) (AllReached f ks) (AllReached f ks)) [
+    | Less ↦ λ e. absurd (a.0 e)
+    | Equal ↦ λ e. a.1
+    | Greater ↦ λ e. a.1
+  ] refl
+
+  rising-tail : (k : K) (ks : List K) → IsRising f (k ∷ ks) → IsRising f ks
+  rising-tail k ks r = elim (f k) as (λ c. MatchOrdering c (IsRising f ks) (AllReached f ks) (AllReached f ks) → IsRising f ks) [
+    | Less ↦ λ s. s
+    | Equal ↦ λ s. reached-rising ks s
+    | Greater ↦ λ s. reached-rising ks s
+  ] r
+
+  -- once a key is reached, all later ones are
+  rising-from : (k : K) (ks : List K) → IsRising f (k ∷ ks) → (f k ≡ Less → ⊥) → AllReached f ks
+  rising-from k ks r n = elim (f k) as (λ c. f k ≡ c → MatchOrdering c (IsRising f ks) (AllReached f ks) (AllReached f ks) → AllReached f ks) [
+    | Less ↦ λ e s. absurd (n e)
+    | Equal ↦ λ e s. s
+    | Greater ↦ λ e s. s
+  ] refl r
+
+  pub rising-right : (ks ls : List K) → IsRising f (ks ++ ls) → IsRising f ls
+  rising-right [] ls r = r
+  rising-right (k ∷ ks) ls r = rising-right ks ls (rising-tail k (ks ++ ls) r)
+
+  reached-left : (ks ls : List K) → AllReached f (ks ++ ls) → AllReached f ks
+  reached-left [] ls a = tt
+  reached-left (k ∷ ks) ls a = (a.0, reached-left ks ls a.1)
+
+  pub rising-left : (ks ls : List K) → IsRising f (ks ++ ls) → IsRising f ks
+  rising-left [] ls r = tt
+  rising-left (k ∷ ks) ls r = elim (f k) as (λ c. MatchOrdering c (IsRising f (ks ++ ls)) (AllReached f (ks ++ ls)) (AllReached f (ks ++ ls)) → MatchOrdering c (IsRising f ks) (AllReached f ks) (AllReached f ks)) [
+    | Less ↦ λ s. rising-left ks ls s
+    | Equal ↦ λ s. reached-left ks ls s
+    | Greater ↦ λ s. reached-left ks ls s
+  ] r
+
+  -- the first reached of two lists
+  pub first-of-none : (ks ls : List K) → first_reached f ks ≡ None → first_reached f (ks ++ ls) ≡ first_reached f ls
+  first-of-none [] ls e = refl
+  first-of-none (k ∷ ks) ls e = elim (f k) as (λ c. match_ordering c (first_reached f ks) (Some k) (Some k) ≡ None → match_ordering c (first_reached f (ks ++ ls)) (Some k) (Some k) ≡ first_reached f ls) [
+    | Less ↦ λ n. first-of-none ks ls n
+    | Equal ↦ λ n. absurd (cc n)
+    | Greater ↦ λ n. absurd (cc n)
+  ] e
+
+  pub first-of-some : (ks ls : List K) (w : K) → first_reached f ks ≡ Some w → first_reached f (ks ++ ls) ≡ Some w
+  first-of-some [] ls w e = cc
+  first-of-some (k ∷ ks) ls w e = elim (f k) as (λ c. match_ordering c (first_reached f ks) (Some k) (Some k) ≡ Some w → match_ordering c (first_reached f (ks ++ ls)) (Some k) (Some k) ≡ Some w) [
+    | Less ↦ λ n. first-of-some ks ls w n
+    | Equal ↦ λ n. n
+    | Greater ↦ λ n. n
+  ] e
+
+  -- keys of which none is reached before the page whose first key is not
+  passed-by : (h : ℕ) (ks : List K) (bs : List (Block K)) (i : ℕ) (d : Block K) (ls : List K) → IsRising f (ks ++ keys_of bs) → AreBelow h bs → i < length bs → f (get_or bs i d).low ≡ Less → first_reached f (ks ++ ls) ≡ first_reached f ls
+  passed-by h [] bs i d ls r b lt e = refl
+  passed-by h (k ∷ ks) bs i d ls r b lt e = elim (f k) as (λ c. f k ≡ c → match_ordering c (first_reached f (ks ++ ls)) (Some k) (Some k) ≡ first_reached f ls) [
+    | Less ↦ λ q. passed-by h ks bs i d ls (rising-tail k (ks ++ keys_of bs) r) b lt e
+    | Equal ↦ λ q. absurd (reached-member h ks bs i d (rising-from k (ks ++ keys_of bs) r (λ p. cc (p, q))) b lt e)
+    | Greater ↦ λ q. absurd (reached-member h ks bs i d (rising-from k (ks ++ keys_of bs) r (λ p. cc (p, q))) b lt e)
+  ] refl
+
+  passed : (h : ℕ) (bs : List (Block K)) (i : ℕ) (d : Block K) → IsRising f (keys_of bs) → AreBelow h bs → i < length bs → f (get_or bs i d).low ≡ Less → first_reached f (keys_of bs) ≡ first_reached f ((get_or bs i d).page.keys ++ keys_of (drop (suc i) bs))
+  passed h [] i d r b lt e = absurd (omega arith)
+  passed h (c ∷ bs) zero d r b lt e = refl
+  passed h (c ∷ bs) (suc i) d r b lt e = passed-by h c.page.keys bs i d (keys_of bs) r b.1 (omega arith) e ∙ passed h bs i d (rising-right c.page.keys (keys_of bs) r) b.1 (omega arith) e
+
+  pub rising-at : (h : ℕ) (bs : List (Block K)) (i : ℕ) (d : Block K) → IsRising f (keys_of bs) → AreBelow h bs → i < length bs → IsRising f (get_or bs i d).page.keys
+  rising-at h [] i d r b lt = absurd (omega arith)
+  rising-at h (c ∷ bs) zero d r b lt = rising-left c.page.keys (keys_of bs) r
+  rising-at h (c ∷ bs) (suc i) d r b lt = rising-at h bs i d (rising-right c.page.keys (keys_of bs) r) b.1 (omega arith)
+
+  first-beyond : (h : ℕ) (bs : List (Block K)) (i : ℕ) → AreBelow h bs → ((d : Block K) → i < length bs → f (get_or bs i d).low ≡ Less → ⊥) → first_reached f (keys_of (drop i bs)) ≡ first_of (keys_of (drop i bs))
+  first-beyond h [] zero b n = refl
+  first-beyond h [] (suc i) b n = refl
+  first-beyond h (c ∷ bs) zero b n = at-once (c.page.keys ++ keys_of bs) (first-append c.page.keys (keys_of bs) c.low b.0.first)
+    where
+      at-once : (ks : List K) → first_of ks ≡ Some c.low → first_reached f ks ≡ first_of ks
+      at-once [] e = refl
+      at-once (k ∷ ks) e = let same : k ≡ c.low = cc in elim (f k) as (λ q. f k ≡ q → match_ordering q (first_reached f ks) (Some k) (Some k) ≡ Some k) [
+        | Less ↦ λ p. absurd (n c (omega arith) (subst (λ (w : K). f w ≡ Less) same p))
+        | Equal ↦ λ p. refl
+        | Greater ↦ λ p. refl
+      ] refl
+  first-beyond h (c ∷ bs) (suc i) b n = first-beyond h bs i b.1 (λ d lt. n d (omega arith))
+
+  reached-get : (ks : List K) (i : ℕ) (d : K) → AllReached f ks → i < length ks → f (get_or ks i d) ≡ Less → ⊥
+  reached-get [] i d a lt e = absurd (omega arith)
+  reached-get (k ∷ ks) zero d a lt e = a.0 e
+  reached-get (k ∷ ks) (suc i) d a lt e = reached-get ks i d a.1 (omega arith) e
+
+  pub keys-rising : (ks : List K) → IsRising f ks → IsPartitionedBy (λ k. is_lt (f k)) ks
+  keys-rising [] r i j d le lt e = absurd (omega arith)
+  keys-rising (k ∷ ks) r zero zero d le lt e = e
+  keys-rising (k ∷ ks) r zero (suc j) d le lt e = elim (lt-or_not (f k)) [
+    | inl l ↦ ap is_lt l
+    | inr n ↦ absurd (reached-get ks j d (rising-from k ks r n) (omega arith) (lt-less (f (get_or ks j d)) e))
+  ]
+  keys-rising (k ∷ ks) r (suc i) zero d le lt e = absurd (omega arith)
+  keys-rising (k ∷ ks) r (suc i) (suc j) d le lt e = keys-rising ks (rising-tail k ks r) i j d (omega arith) (omega arith) e
+
+  pub lows-follow : (h : ℕ) (bs : List (Block K)) → IsRising f (keys_of bs) → AreBelow h bs → IsPartitionedBy (λ b. is_lt (f b.low)) bs
+  lows-follow h [] r b i j d le lt e = absurd (omega arith)
+  lows-follow h (c ∷ bs) r b zero zero d le lt e = e
+  lows-follow h (c ∷ bs) r b zero (suc j) d le lt e = elim (lt-or_not (f c.low)) [
+    | inl l ↦ ap is_lt l
+    | inr n ↦ absurd (low-member c.page.keys b.0.first r n)
+  ]
+    where
+      low-member : (ks : List K) → first_of ks ≡ Some c.low → IsRising f (ks ++ keys_of bs) → (f c.low ≡ Less → ⊥) → ⊥
+      low-member [] p s n = cc
+      low-member (k ∷ ks) p s n = let same : k ≡ c.low = cc in reached-member h ks bs j d (rising-from k (ks ++ keys_of bs) s (λ q. n (subst (λ (w : K). f w ≡ Less) same q))) b.1 (omega arith) (lt-less (f (get_or bs j d).low) e)
+  lows-follow h (c ∷ bs) r b (suc i) zero d le lt e = absurd (omega arith)
+  lows-follow h (c ∷ bs) r b (suc i) (suc j) d le lt e = lows-follow h bs (rising-right c.page.keys (keys_of bs) r) b.1 i j d (omega arith) (omega arith) e
+
+  pub first-at : (ks : List K) (i : ℕ) (k : K) → IsPartitionPoint (λ y. is_lt (f y) ≡ true) (λ y. is_lt (f y) ≡ false) ks i → i < length ks → k ≡ get_or ks i k → first_reached f ks ≡ Some k
+  first-at [] i k q lt is = absurd (omega arith)
+  first-at (l ∷ ks) zero k q lt is = elim (f l) as (λ c. f l ≡ c → match_ordering c (first_reached f ks) (Some l) (Some l) ≡ Some k) [
+    | Less ↦ λ e. absurd (not_lt-not_less (f l) (q.1 0 l (omega arith) lt) e)
+    | Equal ↦ λ e. ap Some (sym is)
+    | Greater ↦ λ e. ap Some (sym is)
+  ] refl
+  first-at (l ∷ ks) (suc i) k q lt is = ap (λ c. match_ordering c (first_reached f ks) (Some l) (Some l)) (lt-less (f l) (q.0 0 l (omega arith) (omega arith))) ∙ first-at ks i k (λ j d a b. q.0 (suc j) d (omega arith) (omega arith), λ j d a b. q.1 (suc j) d (omega arith) (omega arith)) (omega arith) is
+
+  pub first-none : (ks : List K) (i : ℕ) → IsPartitionPoint (λ y. is_lt (f y) ≡ true) (λ y. is_lt (f y) ≡ false) ks i → i ≡ length ks → first_reached f ks ≡ None
+  first-none [] i q e = refl
+  first-none (l ∷ ks) zero q e = absurd (omega arith)
+  first-none (l ∷ ks) (suc i) q e = ap (λ c. match_ordering c (first_reached f ks) (Some l) (Some l)) (lt-less (f l) (q.0 0 l (omega arith) (omega arith))) ∙ first-none ks i (λ j d a b. q.0 (suc j) d (omega arith) (omega arith), λ j d a b. q.1 (suc j) d (omega arith) (omega arith)) (omega arith)
+
+  -- what is reached first is below the last page whose first key is not, or the first key of the next
+  pub passed-to : (h : ℕ) (bs : List (Block K)) (p : ℕ) (d : Block K) → IsRising f (keys_of bs) → AreBelow h bs → 0 < p → p ≤ length bs → IsPartitionPoint (λ b. is_lt (f b.low) ≡ true) (λ b. is_lt (f b.low) ≡ false) bs p → first_reached f (keys_of bs) ≡ first_reached f ((get_or bs (p - 1) d).page.keys ++ keys_of (drop p bs))
+  passed-to h bs zero d r b some le q = absurd (omega arith)
+  passed-to h bs (suc p) d r b some le q = passed h bs p d r b (omega arith) (lt-less (f (get_or bs p d).low) (q.0 p d (omega arith) (omega arith))) ∙ ap (λ (i : ℕ). first_reached f ((get_or bs i d).page.keys ++ keys_of (drop (suc p) bs))) (let e : p ≡ suc p - 1 = omega arith in e)
+
+  pub beyond-to : (h : ℕ) (bs : List (Block K)) (p : ℕ) → AreBelow h bs → IsPartitionPoint (λ b. is_lt (f b.low) ≡ true) (λ b. is_lt (f b.low) ≡ false) bs p → first_reached f (keys_of (drop p bs)) ≡ first_of (keys_of (drop p bs))
+  beyond-to h bs p b q = first-beyond h bs p b (λ d lt. not_lt-not_less (f (get_or bs p d).low) (q.1 p d (omega arith) lt))
+
+pub first-low : {K : Type 0} (h : ℕ) (bs : List (Block K)) (i : ℕ) (b : Block K) → AreBelow h bs → i < length bs → b ≡ get_or bs i b → first_of (keys_of (drop i bs)) ≡ Some b.low
+first-low h [] i b a lt is = absurd (omega arith)
+first-low h (c ∷ bs) zero b a lt is = first-append c.page.keys (keys_of bs) c.low a.0.first ∙ ap (λ (e : Block _). Some e.low) (sym is)
+first-low h (c ∷ bs) (suc i) b a lt is = first-low h bs i b a.1 (omega arith) is

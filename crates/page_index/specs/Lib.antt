@@ -1,0 +1,5 @@
+pub mod Blocks
+pub mod PageFalls
+pub mod Pages
+pub mod Root
+pub mod Reading

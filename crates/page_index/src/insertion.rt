@@ -1,0 +1,70 @@
+ghost use Rattle.std.specs.Prelude.{◌≡◌, ◌+◌, ◌<◌, ◌≤◌, length, not, OnOk, OnErr, IfOk, IfSome};
+ghost use Rattle.collections.specs.Ordered.{with_item, has_item};
+ghost use Rattle.page_index.specs.Blocks.{AreSound, IsPlace, IsLowFor, width_at, keys_of, height_of, most};
+
+use crate::leaf::insert_key;
+use crate::page::{Entry, MOST, Node, Page, set_low};
+use crate::parts::halves;
+use crate::place::{place_of, put_for_one, side_of};
+use collections::ExactClone;
+use std::alloc::{AllocError, Global};
+use std::sync::Arc;
+
+// The entry for a key, with room in its page: a full page is split first.
+fn room_for<K: Ord + ExactClone + Drop>(
+    alloc: Global,
+    entries: &mut Vec<Entry<K>>,
+    key: &K,
+) -> Result<usize, AllocError>
+    requires sound { AreSound K.cmp (height_of entries.old.items) entries.old.items }
+    requires size { (0 < length entries.old.items) × (length entries.old.items < most) }
+    ensures keys { keys_of entries.new.items ≡ keys_of entries.old.items }
+    ensures sound { AreSound K.cmp (height_of entries.old.items) entries.new.items }
+    ensures size { (length entries.old.items ≤ length entries.new.items) × (length entries.new.items ≤ most) }
+    ensures place { IfOk result (IsPlace K.cmp key.now entries.new.items) }
+    ensures room { IfOk result (λ at. width_at entries.new.items at < most) }
+{
+    let at = place_of(entries, key);
+    let entry = &entries[at];
+    if entry.page.width() < MOST {
+        return Ok(at);
+    }
+    let pair = halves(alloc, &entry.page)?;
+    let side = side_of(&pair, key);
+    put_for_one(entries, at, pair)?;
+    Ok(at + side)
+}
+
+// The key as the first of a page, where it comes before the one that is.
+fn new_low<K: Ord + ExactClone>(entry: &Entry<K>, key: &K) -> Result<Option<K>, AllocError>
+    ensures { IfOk result (IsLowFor K.cmp key.now entry.now.low) }
+{
+    if key.cmp(&entry.low).is_lt() {
+        return Ok(Some(key.clone()?));
+    }
+    Ok(None)
+}
+
+impl<K: Ord + ExactClone + Drop> Page<K> {
+    // Puts a key into a page that is not full, and says whether it is new.
+    pub(crate) fn insert(&mut self, alloc: Global, key: K) -> Result<bool, AllocError>
+        requires { self.old.width < most }
+        ensures ok { OnOk result (self.new.keys ≡ with_item K.cmp key self.old.keys) }
+        ensures added { IfOk result (λ added. added ≡ not (has_item K.cmp key self.old.keys)) }
+        ensures err { OnErr result (self.new.keys ≡ self.old.keys) }
+        ensures height { self.new.height ≡ self.old.height }
+        ensures width { (self.old.width ≤ self.new.width) × (self.new.width ≤ most) }
+    {
+        match &mut self.node {
+            Node::Leaf(keys) => return insert_key(keys, key),
+            Node::Inner(entries) => {
+                let at = room_for(alloc, entries, &key)?;
+                let entry = &mut entries[at];
+                let low = new_low(entry, &key)?;
+                let added = Arc::make_mut(&mut entry.page)?.insert(alloc, key)?;
+                set_low(entry, low);
+                return Ok(added);
+            }
+        }
+    }
+}

@@ -1,0 +1,22 @@
+//! A sorted set of keys in shared pages.
+//!
+//! A `Pages` is seen by contracts as the list of its keys, in strictly ascending order. Its keys stand
+//! in pages of bounded size, all at one depth, which other sets may share: a change copies the pages on
+//! one way from the root, and those alone that are shared, so that `share` costs one step and a share
+//! keeps its keys whatever is done to its source.
+#![tactic(auto)]
+
+mod insertion;
+mod laws;
+mod leaf;
+mod page;
+mod pages;
+mod parts;
+mod place;
+mod reading;
+mod removal;
+#[cfg(test)]
+mod tests;
+
+pub use laws::{insert_beside_share, insert_into_share, remove_beside_share, remove_from_share};
+pub use pages::Pages;

@@ -1,0 +1,276 @@
+ghost use Rattle.std.specs.Prelude.{◌≡◌, ◌<◌, [], ◌∷◌, length, not, IfOk, OnOk, OnErr, MatchOption, None, Some, filter};
+ghost use Rattle.std.specs.declared.cmp.Ordering.{Ordering};
+ghost use Rattle.std.specs.Fn.{ComputesKey};
+ghost use Rattle.collections.specs.Ordered.{IsAscending, with_item, without_item, has_item};
+ghost use Rattle.page_index.specs.Reading.{IsRising, first_reached, is_within};
+ghost use Rattle.std.specs.Arc.{arc_value};
+ghost use Rattle.std.specs.Option.{option_map};
+ghost use Rattle.page_index.specs.Root.{root_keys};
+ghost use Rattle.page_index.specs.Blocks.{IsRemovable, most};
+
+use crate::page::{MOST, Node, Page};
+use crate::parts::{halves, pair_entries};
+use collections::ExactClone;
+use std::alloc::{AllocError, Global};
+use std::cmp::Ordering;
+use std::marker::Model;
+use std::sync::Arc;
+
+/// A sorted set of keys, in pages that other sets may share.
+///
+/// Contracts see it as the list of its keys, which ascends strictly in their order.
+#[derive(Drop)]
+pub struct Pages<K: Ord> {
+    alloc: Global,
+    root: Option<Arc<Page<K>>>,
+    len: usize,
+}
+
+impl<K: Ord> Model for Pages<K> {
+    ghost use Rattle.std.specs.Prelude.{List};
+    ghost use Rattle.std.specs.Option.{option_map};
+    ghost use Rattle.std.specs.Arc.{arc_value};
+    ghost use Rattle.page_index.specs.Root.{root_keys, IsRoot};
+
+    ghost Value = { List K };
+
+    ghost view = { λ p. root_keys (option_map arc_value p.root) };
+
+    ghost invariant = { λ p. IsRoot K.cmp p.len (option_map arc_value p.root) };
+}
+
+impl<K: Ord> Pages<K> {
+    /// A set with no key. It takes no memory.
+    pub fn new(alloc: Global) -> Pages<K>
+        ensures { result ≡ [] }
+    {
+        Pages {
+            alloc,
+            root: None,
+            len: 0,
+        }
+    }
+
+    /// How many keys there are. It takes no memory.
+    pub fn len(&self) -> usize
+        ensures { result ≡ length self.now }
+    {
+        self.len
+    }
+
+    /// The first key at which the order given is not `Less`, and `None` exactly where it is `Less` at
+    /// each. So it is found wherever the order is `Less` at the keys of a prefix alone. It takes no memory.
+    pub fn seek<F: Fn(&K) -> Ordering>(&self, order: F) -> Option<&K>
+        requires { F.IsAlwaysCallable order }
+        ensures { (of : K → Ordering) → ComputesKey F.FnMut of order → IsRising of self.now → MatchOption result (first_reached of self.now ≡ None) (λ key. first_reached of self.now ≡ Some key.now) }
+    {
+        match &self.root {
+            None => None,
+            Some(root) => root.seek(&order),
+        }
+    }
+
+    /// Whether a key is in the set, by the order of its type. It takes no memory.
+    pub fn contains(&self, key: &K) -> bool
+        ensures { result ≡ has_item K.cmp key.now self.now }
+    {
+        match &self.root {
+            None => false,
+            Some(root) => root.contains(key),
+        }
+    }
+
+    /// Another set with the same keys. It copies no key, and neither set sees a later change of the
+    /// other. It fails only where the owners of one page can't be counted.
+    pub fn share(&self) -> Result<Pages<K>, AllocError>
+        ensures { IfOk result (λ share. share ≡ self.now) }
+    {
+        let root = match &self.root {
+            None => None,
+            Some(root) => Some(Arc::try_clone(root)?),
+        };
+        Ok(Pages {
+            alloc: self.alloc,
+            root,
+            len: self.len,
+        })
+    }
+}
+
+impl<K: Ord + ExactClone + Drop> Pages<K> {
+    /// Puts a key into the set, and says whether it is new: a key that ties with one that is there
+    /// changes nothing. It fails where no memory is left, and where no more keys can be counted; the set
+    /// is then as it was.
+    pub fn insert(&mut self, key: K) -> Result<bool, AllocError>
+        ensures ok { OnOk result (self.new ≡ with_item K.cmp key self.old) }
+        ensures added { IfOk result (λ added. added ≡ not (has_item K.cmp key self.old)) }
+        ensures err { OnErr result (self.new ≡ self.old) }
+    {
+        if self.len == usize::MAX {
+            return Err(AllocError);
+        }
+        let added = insert_into(self.alloc, &mut self.root, key)?;
+        if added {
+            self.len += 1;
+        }
+        Ok(added)
+    }
+
+    /// Takes a key out of the set, and says whether it was there. It may want memory, for a copy of the
+    /// pages that other sets share. After an error the set is as it was.
+    pub fn remove(&mut self, key: &K) -> Result<bool, AllocError>
+        ensures ok { OnOk result (self.new ≡ without_item K.cmp key.now self.old) }
+        ensures removed { IfOk result (λ removed. removed ≡ has_item K.cmp key.now self.old) }
+        ensures err { OnErr result (self.new ≡ self.old) }
+    {
+        let removed = remove_from(self.alloc, &mut self.root, key)?;
+        if removed {
+            self.len -= 1;
+        }
+        Ok(removed)
+    }
+
+    /// Clones of the keys from one up to another, and without that one, in their order.
+    pub fn range(&self, from: &K, to: &K) -> Result<Vec<K>, AllocError>
+        ensures keys { IfOk result (λ keys. keys.items ≡ filter (is_within K.cmp from.now to.now) self.now) }
+    {
+        let mut keys = Vec::new(self.alloc);
+        if let Some(root) = &self.root {
+            root.range_into(from, to, &mut keys)?;
+        }
+        Ok(keys)
+    }
+
+    /// Clones of all keys, in their order.
+    pub fn keys(&self) -> Result<Vec<K>, AllocError>
+        ensures keys { IfOk result (λ keys. keys.items ≡ self.now) }
+        ensures ascending { IsAscending K.cmp self.now }
+    {
+        let mut keys = Vec::with_capacity(self.alloc, self.len)?;
+        if let Some(root) = &self.root {
+            root.keys_into(&mut keys)?;
+        }
+        Ok(keys)
+    }
+}
+
+// Splits the root where it is full, so that a key has room below it.
+fn room_at_root<K: Ord + ExactClone + Drop>(
+    alloc: Global,
+    root: &mut Arc<Page<K>>,
+) -> Result<(), AllocError>
+    ensures keys { (arc_value root.new).keys ≡ (arc_value root.old).keys }
+    ensures room { OnOk result ((arc_value root.new).width < most) }
+{
+    if root.width() < MOST {
+        return Ok(());
+    }
+    let pair = halves(alloc, root)?;
+    let entries = pair_entries(alloc, pair)?;
+    let page = Page {
+        node: Node::Inner(entries),
+    };
+    *root = Arc::new(alloc, page)?;
+    Ok(())
+}
+
+// Puts the one page below the root in its place, where it has but one.
+fn settle_root<K: Ord + Drop>(root: &mut Arc<Page<K>>) -> Result<(), AllocError>
+    ensures keys { (arc_value root.new).keys ≡ (arc_value root.old).keys }
+    ensures wide { OnOk result (IsRemovable (arc_value root.new)) }
+{
+    let below = match only_page(root) {
+        None => return Ok(()),
+        Some(page) => Arc::try_clone(page)?,
+    };
+    *root = below;
+    Ok(())
+}
+
+// The page below another, where it is the only one.
+fn only_page<K: Ord>(page: &Page<K>) -> Option<&Arc<Page<K>>>
+    ensures { MatchOption result (IsRemovable page.now) (λ below. ((arc_value below.now).keys ≡ page.now.keys) × IsRemovable (arc_value below.now)) }
+{
+    match &page.node {
+        Node::Inner(entries) if entries.len() == 1 => {
+            let entry = &entries[0];
+            Some(&entry.page)
+        }
+        _ => None,
+    }
+}
+
+// Puts a key below the root, and says whether it is new.
+fn insert_below<K: Ord + ExactClone + Drop>(
+    alloc: Global,
+    root: &mut Arc<Page<K>>,
+    key: K,
+) -> Result<bool, AllocError>
+    ensures ok { OnOk result ((arc_value root.new).keys ≡ with_item K.cmp key (arc_value root.old).keys) }
+    ensures added { IfOk result (λ added. added ≡ not (has_item K.cmp key (arc_value root.old).keys)) }
+    ensures err { OnErr result ((arc_value root.new).keys ≡ (arc_value root.old).keys) }
+{
+    room_at_root(alloc, root)?;
+    Arc::make_mut(root)?.insert(alloc, key)
+}
+
+// A root with one key.
+fn first_page<K: Ord + Drop>(alloc: Global, key: K) -> Result<Arc<Page<K>>, AllocError>
+    ensures { IfOk result (λ root. (arc_value root).keys ≡ key ∷ []) }
+{
+    let mut keys = Vec::new(alloc);
+    keys.push(key)?;
+    let page = Page {
+        node: Node::Leaf(keys),
+    };
+    Ok(Arc::new(alloc, page)?)
+}
+
+// Puts a key below a root, or makes one of it, and says whether it is new.
+fn insert_into<K: Ord + ExactClone + Drop>(
+    alloc: Global,
+    root: &mut Option<Arc<Page<K>>>,
+    key: K,
+) -> Result<bool, AllocError>
+    ensures ok { OnOk result (root_keys (option_map arc_value root.new) ≡ with_item K.cmp key (root_keys (option_map arc_value root.old))) }
+    ensures added { IfOk result (λ added. added ≡ not (has_item K.cmp key (root_keys (option_map arc_value root.old)))) }
+    ensures err { OnErr result (root_keys (option_map arc_value root.new) ≡ root_keys (option_map arc_value root.old)) }
+{
+    match root {
+        Some(root) => insert_below(alloc, root, key),
+        None => {
+            *root = Some(first_page(alloc, key)?);
+            Ok(true)
+        }
+    }
+}
+
+// Takes a key out from below the root, and says whether it was there.
+fn remove_below<K: Ord + ExactClone + Drop>(
+    alloc: Global,
+    root: &mut Arc<Page<K>>,
+    key: &K,
+) -> Result<bool, AllocError>
+    ensures ok { OnOk result ((arc_value root.new).keys ≡ without_item K.cmp key.now (arc_value root.old).keys) }
+    ensures removed { IfOk result (λ removed. removed ≡ has_item K.cmp key.now (arc_value root.old).keys) }
+    ensures err { OnErr result ((arc_value root.new).keys ≡ (arc_value root.old).keys) }
+{
+    settle_root(root)?;
+    Arc::make_mut(root)?.remove(alloc, key)
+}
+
+// Takes a key out from below a root, if there is one, and says whether it was there.
+fn remove_from<K: Ord + ExactClone + Drop>(
+    alloc: Global,
+    root: &mut Option<Arc<Page<K>>>,
+    key: &K,
+) -> Result<bool, AllocError>
+    ensures ok { OnOk result (root_keys (option_map arc_value root.new) ≡ without_item K.cmp key.now (root_keys (option_map arc_value root.old))) }
+    ensures removed { IfOk result (λ removed. removed ≡ has_item K.cmp key.now (root_keys (option_map arc_value root.old))) }
+    ensures err { OnErr result (root_keys (option_map arc_value root.new) ≡ root_keys (option_map arc_value root.old)) }
+{
+    match root {
+        Some(root) => remove_below(alloc, root, key),
+        None => Ok(false),
+    }
+}
