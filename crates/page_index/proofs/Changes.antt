@@ -60,7 +60,7 @@ module _ {K : Type 0} (R : K → K → Ordering) (o : IsTotalOrder R) (x : K) (h
   own : IsBelow h e
   own = subst (λ (b : Block K). IsBelow h b) (sym is) (below-at h bs i e s.below place.within)
 
-  all-keys : keys_of bs ≡ keys_of (take i bs) ++ (e.page.keys ++ keys_of (drop (i + 1) bs))
+  pub all-keys : keys_of bs ≡ keys_of (take i bs) ++ (e.page.keys ++ keys_of (drop (i + 1) bs))
   all-keys = ap keys_of (sym (set-same bs i e place.within is)) ∙ keys-set bs i e place.within
 
   pub kept : (p : Image K) → p.keys ≡ e.page.keys → p.height ≡ e.page.height → least ≤ p.width → p.width ≤ most → IsChanged R h (keys_of bs) (set bs i (record { low = e.low; page = p }))

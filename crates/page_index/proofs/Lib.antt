@@ -9,3 +9,4 @@ pub mod Changes
 pub mod Steps
 pub mod Counts
 pub mod Reached
+pub mod Above

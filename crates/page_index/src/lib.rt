@@ -7,6 +7,7 @@
 #![tactic(auto)]
 
 mod insertion;
+mod iter;
 mod laws;
 mod leaf;
 mod page;
@@ -15,8 +16,10 @@ mod parts;
 mod place;
 mod reading;
 mod removal;
+mod run;
 #[cfg(test)]
 mod tests;
 
+pub use iter::Iter;
 pub use laws::{insert_beside_share, insert_into_share, remove_beside_share, remove_from_share};
 pub use pages::Pages;

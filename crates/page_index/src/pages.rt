@@ -2,7 +2,7 @@ ghost use Rattle.std.specs.Prelude.{◌≡◌, ◌<◌, [], ◌∷◌, length, n
 ghost use Rattle.std.specs.declared.cmp.Ordering.{Ordering};
 ghost use Rattle.std.specs.Fn.{ComputesKey};
 ghost use Rattle.collections.specs.Ordered.{IsAscending, with_item, without_item, has_item};
-ghost use Rattle.page_index.specs.Reading.{IsRising, first_reached, is_within};
+ghost use Rattle.page_index.specs.Reading.{IsRising, IsRun, first_reached, is_within, keys_above};
 ghost use Rattle.std.specs.Arc.{arc_value};
 ghost use Rattle.std.specs.Option.{option_map};
 ghost use Rattle.page_index.specs.Root.{root_keys};
@@ -67,6 +67,20 @@ impl<K: Ord> Pages<K> {
         match &self.root {
             None => None,
             Some(root) => root.seek(&order),
+        }
+    }
+
+    // The keys of one leaf that come first above the one given, or first of all.
+    pub(crate) fn run_above(&self, last: Option<&K>) -> Option<&[K]>
+        ensures run { MatchOption result (keys_above K.cmp (option_map (λ key. key.now) last.entry) self.now ≡ []) (λ run. IsRun run.now (keys_above K.cmp (option_map (λ key. key.now) last.entry) self.now)) }
+        ensures ascending { IsAscending K.cmp self.now }
+    {
+        match &self.root {
+            None => None,
+            Some(root) => match last {
+                None => Some(root.first_run()),
+                Some(last) => Some(root.run_above(last)),
+            },
         }
     }
 

@@ -1,3 +1,5 @@
+ghost use Rattle.std.specs.Prelude.{◌≡◌, IfOk};
+
 use crate::{
     Pages, insert_beside_share, insert_into_share, remove_beside_share, remove_from_share,
 };
@@ -96,6 +98,32 @@ fn a_share_stands_apart_from_removals(rt: HostRuntime) -> Result<(), Fail> {
     is_list(&rt, &first, &[1, 2, 3])?;
     is_list(&rt, &second, &[2])?;
     is_list(&rt, &pages, &[2, 3])?;
+    Ok(())
+}
+
+// The keys that a loop over them meets.
+fn met(alloc: Global, pages: &Pages<Number>) -> Result<Vec<Number>, AllocError>
+    ensures { IfOk result (λ met. met.items ≡ pages.now) }
+{
+    let mut met = Vec::new(alloc);
+    for key in pages.iter() {
+        met.push(*key)?;
+    }
+    Ok(met)
+}
+
+#[test]
+fn a_loop_meets_each_key(rt: HostRuntime) -> Result<(), Fail> {
+    let mut pages = Pages::new(rt.alloc());
+    assert_eq!(rt; pages.iter().count(), 0);
+    for number in 0..400u32 {
+        let _ = pages.insert(Number(number * 7 % 400))?;
+    }
+    let met = met(rt.alloc(), &pages)?;
+    assert_eq!(rt; met.len(), 400);
+    for (key, number) in met.iter().zip(0..400u32) {
+        assert_eq!(rt; key.0, number);
+    }
     Ok(())
 }
 
