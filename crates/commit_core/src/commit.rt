@@ -86,7 +86,7 @@ pub fn reason(staged: &Option<ShapesGraph>) -> Again
     }
 }
 
-/// Decides what a commit does, and changes nothing. The steps count its evaluations.
+/// Decides what a commit does, and changes nothing. Its evaluations are allowed in the steps.
 pub fn make_plan<L: Ledger>(
     alloc: Global,
     limits: Limits,

@@ -331,7 +331,8 @@ impl Core {
 
     /// Commits a transaction that changes something or stages shapes, whose terms are named and whose
     /// base is a version of this store. The graph that it would make is validated whole, under the
-    /// staged shapes or else the newest; each evaluation is counted. Verdicts don't come yet.
+    /// staged shapes or else the newest. How many evaluations `steps` allows for it is not promised.
+    /// Verdicts don't come yet.
     pub fn commit<L: Ledger>(
         &mut self,
         alloc: Global,

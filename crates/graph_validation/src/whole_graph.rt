@@ -92,7 +92,7 @@ fn all_rows<R: Triples, N: Names, L: Ledger>(
 
 /// The results of validating the data graph (SHACL section 3.6), each once, in the order of
 /// results: they are the listing under each well-formed shapes graph that the shapes stand for.
-/// Each pair of a shape and a target is one evaluation, which `steps` counts.
+/// Each evaluation is allowed in `steps`; how many they are is not promised.
 pub fn whole<R: Triples, N: Names, L: Ledger>(
     alloc: Global,
     graph: &R,

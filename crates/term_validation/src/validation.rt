@@ -39,9 +39,8 @@ fn is_nothing(shapes: &[Shape<Term>]) -> bool
 }
 
 /// The results of validating the data graph by the shapes graph (SHACL section 3.6), each once, in
-/// the order of results. All terms of both are among the names. `steps` counts the evaluations, one
-/// for each pair of a shape and a target. Without shapes nothing is numbered, and it takes no memory.
-/// It fails only for want of memory.
+/// the order of results. All terms of both are among the names. `steps` is the ledger in which the
+/// evaluations are allowed; how many they are is not promised. It fails only for want of memory.
 pub fn listing<L: Ledger>(
     alloc: Global,
     names: &[Term],
