@@ -8,11 +8,13 @@
 mod exact_clone;
 mod exact_order;
 mod ordered;
+mod owned;
 mod sequence;
 mod sorting;
 
 pub use exact_clone::ExactClone;
 pub use exact_order::ExactOrder;
 pub use ordered::{contains_item, insert_item, remove_item};
+pub use owned::{both, let_go};
 pub use sequence::Sequence;
 pub use sorting::sorted_once;

@@ -6,7 +6,7 @@ use std::alloc::AllocError;
 use std::cmp::Ordering;
 
 /// An RDF term (RDF 1.1 Concepts, section 3.1).
-#[derive(Debug, Drop)]
+#[derive(Debug)]
 pub enum Term {
     /// The blank node with this number in its session, each from 1.
     Blank {
@@ -20,6 +20,24 @@ pub enum Term {
         datatype: Text,
         language: Option<Text>,
     },
+}
+
+// Written by hand, so that what owns a term calls it in place of having it written out.
+impl Drop for Term {
+    fn drop(self) {
+        match self {
+            Term::Blank {
+                session: _,
+                number: _,
+            } => {}
+            Term::Iri(_) => {}
+            Term::Literal {
+                lexical: _,
+                datatype: _,
+                language: _,
+            } => {}
+        }
+    }
 }
 
 impl Ord for Term {

@@ -6,11 +6,22 @@ use std::alloc::AllocError;
 use std::cmp::Ordering;
 
 /// An RDF triple (RDF 1.1 Concepts, section 3.1).
-#[derive(Debug, Drop)]
+#[derive(Debug)]
 pub struct Triple {
     pub subject: Term,
     pub predicate: Term,
     pub object: Term,
+}
+
+// Written by hand, so that what owns a triple calls it in place of having it written out.
+impl Drop for Triple {
+    fn drop(self) {
+        let Triple {
+            subject: _,
+            predicate: _,
+            object: _,
+        } = self;
+    }
 }
 
 impl Ord for Triple {
