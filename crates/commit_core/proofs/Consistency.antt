@@ -19,13 +19,15 @@ use Rattle.rdf_model.specs.Graphs.{after, differing}
 use Rattle.shape_model.specs.Validation.{Listing, NoResult}
 use Rattle.term_validation.specs.Named.{AreNamedTriples}
 use Rattle.rdf_model.specs.Numbers.{IsNumbering}
-use Rattle.store_model.specs.Store.{State, RecordedStore, TakesStep, Step, StepOf, Replies, OpensNext, OpensNothing, CommitsWithinLimit, CommitsByListing, CommitsByRows, IsOpened, IsCommittable, again, empty_store, overtaker, named_with, shapes_under, committed, is_staged}
+use Rattle.store_model.specs.Store.{State, RecordedStore, Replays, TakesStep, Step, StepOf, Replies, OpensNext, OpensNothing, CommitsWithinLimit, CommitsByListing, CommitsByRows, IsOpened, IsCommittable, VerdictFits, again, empty_store, overtaker, named_with, shapes_under, committed, is_staged}
 use Rattle.shape_model.proofs.Listings.{conforms_law, no_shapes_law}
 use Rattle.store_model.proofs.Histories.{Replays-push, IsAscending-after}
 use Rattle.store_model.specs.declared.commit.Accepted.{Accepted}
 use Rattle.store_model.specs.declared.commit.Again.{Again}
 use Rattle.store_model.proofs.Steps.{names, names_none, overflows, accepts, refuses}
+use Rattle.store_model.specs.declared.commit.Verdict.{Verdict}
 use Rattle.commit_core.specs.Commits.{IsWithin}
+use Rattle.commit_core.specs.Verdicts.{IsAtHead}
 use Rattle.commit_core.specs.Consistent.{IsConsistent}
 use Rattle.commit_core.proofs.NamedTerms.{first_numbering, named_after, named_under, numbered_with, triples_stay}
 
@@ -110,43 +112,69 @@ holds l s t i Head r h b = subst (λ (x : State). Holds l x) (sym h.1.1) b
 holds l s t i (Commit x) r h b = committed_by l s t x r (overtaker s.commits x.base x.finds) h.1 h.2 b
 holds l s t i Void r h b = subst (λ (x : State). Holds l x) (sym h.1.1) b
 
+holds_after : (l : Limits) (s t : State) (es : List Event) → Replays l s es t → Holds l s → Holds l t
+holds_after l s t [] r b = subst (λ (x : State). Holds l x) (sym r) b
+holds_after l s t (e ∷ es) r b = holds_after l r.0 t es r.2 (holds l s r.0 e.session e.action e.reply r.1 b)
+
+holds_empty : (l : Limits) → Holds l empty_store
+holds_empty l = record {
+  ascending = tt;
+  no_result = (conforms_law [] []).1 ((no_shapes_law [] []).1 refl);
+  opened = omega arith;
+  two = omega arith;
+  numbering = first_numbering;
+  within = omega arith;
+  graph = λ k d lt. absurd (omega (arith, lt));
+  shapes = λ k d lt. absurd (omega (arith, lt));
+}
+
+-- each earlier state of a history had an ascending graph without a result
+pub past_sound : (s : RecordedStore) (head : State) (front : List Event) → IsConsistent s → Replays s.limits empty_store front head → IsAscending triple_cmp head.graph × NoResult head.graph head.shapes
+past_sound s head front k r = let b = holds_after s.limits empty_store head front r (holds_empty s.limits) in (b.ascending, b.no_result)
+
 pub IsConsistent-step : (s : RecordedStore) (t : State) (e : Event) → IsConsistent s → Step s.limits s.state e t → IsConsistent (record { limits = s.limits; state = t; history = s.history ++ e ∷ [] })
 IsConsistent-step s t e k h =
     let b = holds s.limits s.state t e.session e.action e.reply h (record {
-      ascending = k.ascending;
-      no_result = k.no_result;
+      ascending = k.sound.ascending;
+      no_result = k.sound.no_result;
       opened = k.opened;
       two = k.two;
-      numbering = k.numbering;
+      numbering = k.sound.numbering;
       within = k.within;
-      graph = k.graph;
-      shapes = k.shapes;
+      graph = k.sound.graph_named;
+      shapes = k.sound.shapes_named;
     }) in
     record {
       replays = Replays-push s.limits empty_store s.history s.state t e k.replays h;
-      ascending = b.ascending;
-      no_result = b.no_result;
       opened = b.opened;
-      two = b.two;
+      sound = record {
+        ascending = b.ascending;
+        no_result = b.no_result;
+        numbering = b.numbering;
+        small = omega (arith, b.within, k.small);
+        graph_named = b.graph;
+        shapes_named = b.shapes;
+      };
       small = k.small;
-      numbering = b.numbering;
+      two = b.two;
       within = b.within;
-      graph = b.graph;
-      shapes = b.shapes;
     }
 
 pub IsConsistent-empty : (l : Limits) → l.terms + 2 < 2 ^ 32 → IsConsistent (record { limits = l; state = empty_store; history = [] })
 IsConsistent-empty l small = record {
   replays = refl;
-  ascending = tt;
-  no_result = (conforms_law [] []).1 ((no_shapes_law [] []).1 refl);
   opened = omega arith;
-  two = omega arith;
+  sound = record {
+    ascending = tt;
+    no_result = (conforms_law [] []).1 ((no_shapes_law [] []).1 refl);
+    numbering = first_numbering;
+    small = omega (arith, small);
+    graph_named = λ k d lt. absurd (omega (arith, lt));
+    shapes_named = λ k d lt. absurd (omega (arith, lt));
+  };
   small = small;
-  numbering = first_numbering;
+  two = omega arith;
   within = omega arith;
-  graph = λ k d lt. absurd (omega (arith, lt));
-  shapes = λ k d lt. absurd (omega (arith, lt));
 }
 
 -- a fact on a value, by the fields that it is the view of
@@ -170,28 +198,26 @@ name_done l s i ts names' g e le =
 pub commit_full : (l : Limits) (s : State) (i : ℕ) (x : Transaction) (n : ℕ) → IsOpened s i → IsCommittable s x → overtaker s.commits x.base x.finds ≡ None → l.triples < length (after s.graph x.net) → n ≡ length (after s.graph x.net) → StepOf l s i (Commit x) (FullTriples n) s
 commit_full l s i x n g f e lt c = subst (λ (m : ℕ). StepOf l s i (Commit x) (FullTriples m) s) (sym c) (overflows l s i x g f e lt)
 
--- a commit whose graph would have results, as long as there are no verdicts
-pub commit_refused : (l : Limits) (s : State) (i : ℕ) (x : Transaction) (shapes : List Triple) (rows recorded : List ResultRow) (why : Again) → IsOpened s i → IsCommittable s x → x.verdict ≡ None → why ≡ again s.commits x.staged None
+-- a commit whose graph would have results
+pub commit_refused : (l : Limits) (s : State) (i : ℕ) (x : Transaction) (shapes : List Triple) (rows recorded : List ResultRow) (why : Again) → IsOpened s i → IsCommittable s x → why ≡ again s.commits x.staged x.verdict
     → IsWithin l s.graph s.commits x → shapes ≡ shapes_under s.shapes x.staged → Listing (after s.graph x.net) shapes rows → 0 < length rows → recorded ≡ rows
     → StepOf l s i (Commit x) (Refused recorded why) s
-commit_refused l s i x shapes rows recorded why g f v e within es listing some er =
+commit_refused l s i x shapes rows recorded why g f e within es listing some er =
     let under : Listing (after s.graph x.net) (shapes_under s.shapes x.staged) rows = subst (λ (ts : List Triple). Listing (after s.graph x.net) ts rows) es listing in
-    let reason : again s.commits x.staged x.verdict ≡ why = ap (again s.commits x.staged) v ∙ sym e in
     subst (λ (rs : List ResultRow). StepOf l s i (Commit x) (Refused rs why) s) (sym er)
-    (subst (λ (w : Again). StepOf l s i (Commit x) (Refused rows w) s) reason (refuses l s i x rows g f within.0 within.1 under some))
+    (subst (λ (w : Again). StepOf l s i (Commit x) (Refused rows w) s) (sym e) (refuses l s i x rows g f within.0 within.1 under some))
 
 -- a commit whose graph has none
-pub commit_done : (l : Limits) (s : State) (i : ℕ) (x : Transaction) (n : ℕ) (graph shapes : List Triple) (a : Accepted) (why : Again) → IsOpened s i → IsCommittable s x → x.verdict ≡ None → why ≡ again s.commits x.staged None
+pub commit_done : (l : Limits) (s : State) (i : ℕ) (x : Transaction) (n : ℕ) (graph shapes : List Triple) (a : Accepted) (why : Again) → IsOpened s i → IsCommittable s x → why ≡ again s.commits x.staged x.verdict
     → IsWithin l s.graph s.commits x → shapes ≡ shapes_under s.shapes x.staged → Listing (after s.graph x.net) shapes [] → graph ≡ after s.graph x.net → a.changed ≡ differing s.graph (after s.graph x.net) → a.staged ≡ is_staged x.staged → n ≡ length s.commits + 1
     → StepOf l s i (Commit x) (Done n why) (record s { graph = graph; shapes = shapes; commits = s.commits ++ a ∷ [] })
-commit_done l s i x n graph shapes a why g f v e within es listing eg ec flag en =
+commit_done l s i x n graph shapes a why g f e within es listing eg ec flag en =
     let under : Listing (after s.graph x.net) (shapes_under s.shapes x.staged) [] = subst (λ (ts : List Triple). Listing (after s.graph x.net) ts []) es listing in
-    let reason : again s.commits x.staged x.verdict ≡ why = ap (again s.commits x.staged) v ∙ sym e in
     let state : committed s x ≡ record s { graph = graph; shapes = shapes; commits = s.commits ++ a ∷ [] } =
     sym (λ j. record { graph = eg j; shapes = es j; commits = s.commits ++ record { changed = ec j; staged = flag j } ∷ []; named = s.named; opened = s.opened }) in
     subst (λ (m : ℕ). StepOf l s i (Commit x) (Done m why) (record s { graph = graph; shapes = shapes; commits = s.commits ++ a ∷ [] })) (sym en)
     (subst (λ (t : State). StepOf l s i (Commit x) (Done (length s.commits + 1) why) t) state
-    (subst (λ (w : Again). StepOf l s i (Commit x) (Done (length s.commits + 1) w) (committed s x)) reason (accepts l s i x g f within.0 within.1 under)))
+    (subst (λ (w : Again). StepOf l s i (Commit x) (Done (length s.commits + 1) w) (committed s x)) (sym e) (accepts l s i x g f within.0 within.1 under)))
 
 -- what is kept after each method's event: s are the fields, o is the value that the contract speaks of
 abbrev more : RecordedStore → State → Event → RecordedStore
@@ -218,12 +244,12 @@ abbrev accepted_state : State → List Triple → List Triple → Accepted → S
 accepted_state s graph shapes a = record s { graph = graph; shapes = shapes; commits = s.commits ++ a ∷ [] }
 
 -- its step, by the fields
-accepts_at : (s o : RecordedStore) (i : ℕ) (x : Transaction) (n : ℕ) (graph shapes : List Triple) (a : Accepted) (why : Again) → s ≡ o → IsOpened o.state i → IsCommittable o.state x → x.verdict ≡ None → why ≡ again s.state.commits x.staged None
+accepts_at : (s o : RecordedStore) (i : ℕ) (x : Transaction) (n : ℕ) (graph shapes : List Triple) (a : Accepted) (why : Again) → s ≡ o → IsOpened o.state i → IsCommittable o.state x → why ≡ again s.state.commits x.staged x.verdict
     → IsWithin o.limits o.state.graph o.state.commits x → shapes ≡ shapes_under o.state.shapes x.staged → Listing (after o.state.graph x.net) shapes [] → graph ≡ after o.state.graph x.net → a.changed ≡ differing o.state.graph (after o.state.graph x.net) → a.staged ≡ is_staged x.staged → n ≡ length (s.state.commits ++ a ∷ [])
     → StepOf s.limits s.state i (Commit x) (Done n why) (accepted_state s.state graph shapes a)
-accepts_at s o i x n graph shapes a why view g f v e within es listing eg ec flag en =
+accepts_at s o i x n graph shapes a why view g f e within es listing eg ec flag en =
     let count : n ≡ length s.state.commits + 1 = en ∙ simp length-append in
-    commit_done s.limits s.state i x n graph shapes a why (opened_inside s o i view g) (at_fields s o (λ y. IsCommittable y.state x) view f) v e
+    commit_done s.limits s.state i x n graph shapes a why (opened_inside s o i view g) (at_fields s o (λ y. IsCommittable y.state x) view f) e
     (at_fields s o (λ y. IsWithin y.limits y.state.graph y.state.commits x) view within)
     (at_fields s o (λ y. shapes ≡ shapes_under y.state.shapes x.staged) view es)
     (at_fields s o (λ y. Listing (after y.state.graph x.net) shapes []) view listing)
@@ -231,16 +257,21 @@ accepts_at s o i x n graph shapes a why view g f v e within es listing eg ec fla
     (at_fields s o (λ y. a.changed ≡ differing y.state.graph (after y.state.graph x.net)) view ec)
     flag count
 
-pub consistent_commit : (s o : RecordedStore) (i : ℕ) (x : Transaction) (n : ℕ) (graph shapes : List Triple) (a : Accepted) (why : Again) → IsConsistent s → s ≡ o → IsOpened o.state i → IsCommittable o.state x → x.verdict ≡ None → why ≡ again s.state.commits x.staged None
+pub consistent_commit : (s o : RecordedStore) (i : ℕ) (x : Transaction) (n : ℕ) (graph shapes : List Triple) (a : Accepted) (why : Again) → IsConsistent s → s ≡ o → IsOpened o.state i → IsCommittable o.state x → why ≡ again s.state.commits x.staged x.verdict
     → IsWithin o.limits o.state.graph o.state.commits x → shapes ≡ shapes_under o.state.shapes x.staged → Listing (after o.state.graph x.net) shapes [] → graph ≡ after o.state.graph x.net → a.changed ≡ differing o.state.graph (after o.state.graph x.net) → a.staged ≡ is_staged x.staged → n ≡ length (s.state.commits ++ a ∷ [])
     → IsConsistent (more s (accepted_state s.state graph shapes a) (record { session = i; action = Commit x; reply = Done n why }))
-consistent_commit s o i x n graph shapes a why k view g f v e within es listing eg ec flag en =
-    IsConsistent-step s (accepted_state s.state graph shapes a) (record { session = i; action = Commit x; reply = Done n why }) k (accepts_at s o i x n graph shapes a why view g f v e within es listing eg ec flag en)
+consistent_commit s o i x n graph shapes a why k view g f e within es listing eg ec flag en =
+    IsConsistent-step s (accepted_state s.state graph shapes a) (record { session = i; action = Commit x; reply = Done n why }) k (accepts_at s o i x n graph shapes a why view g f e within es listing eg ec flag en)
 
-pub takes_commit : (s o : RecordedStore) (i : ℕ) (x : Transaction) (n : ℕ) (graph shapes : List Triple) (a : Accepted) (why : Again) → s ≡ o → IsOpened o.state i → IsCommittable o.state x → x.verdict ≡ None → why ≡ again s.state.commits x.staged None
+pub takes_commit : (s o : RecordedStore) (i : ℕ) (x : Transaction) (n : ℕ) (graph shapes : List Triple) (a : Accepted) (why : Again) → s ≡ o → IsOpened o.state i → IsCommittable o.state x → why ≡ again s.state.commits x.staged x.verdict
     → IsWithin o.limits o.state.graph o.state.commits x → shapes ≡ shapes_under o.state.shapes x.staged → Listing (after o.state.graph x.net) shapes [] → graph ≡ after o.state.graph x.net → a.changed ≡ differing o.state.graph (after o.state.graph x.net) → a.staged ≡ is_staged x.staged → n ≡ length (s.state.commits ++ a ∷ [])
     → TakesStep o (more s (accepted_state s.state graph shapes a) (record { session = i; action = Commit x; reply = Done n why })) (record { session = i; action = Commit x; reply = Done n why })
-takes_commit s o i x n graph shapes a why view g f v e within es listing eg ec flag en =
+takes_commit s o i x n graph shapes a why view g f e within es listing eg ec flag en =
     let event : Event = record { session = i; action = Commit x; reply = Done n why } in
     let next = more s (accepted_state s.state graph shapes a) event in
-    subst (λ (y : RecordedStore). TakesStep y next event) view (record { step = accepts_at s o i x n graph shapes a why view g f v e within es listing eg ec flag en; limits = refl; history = refl })
+    subst (λ (y : RecordedStore). TakesStep y next event) view (record { step = accepts_at s o i x n graph shapes a why view g f e within es listing eg ec flag en; limits = refl; history = refl })
+
+-- a transaction that may be committed has its verdict, if it has one, of a version up to this one
+pub at_head : (s : State) (v : Option Verdict) → VerdictFits s v → IsAtHead (length s.commits) v
+at_head s None h = tt
+at_head s (Some v) h = h.0

@@ -1,2 +1,4 @@
 pub mod NamedTerms
 pub mod Consistency
+pub mod Verdicts
+pub mod Planning

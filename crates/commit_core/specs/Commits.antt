@@ -10,9 +10,12 @@ use Rattle.store_model.specs.declared.event.Action.TheVariants as actions
 use Rattle.store_model.specs.declared.event.Reply.{Reply}
 use Rattle.store_model.specs.declared.event.Reply.TheVariants as replies
 use Rattle.store_model.specs.Store.{RecordedStore, TakesStep, is_staged, overtaker, shapes_under}
+use Rattle.commit_core.specs.declared.commit.CheckedTransaction.{CheckedTransaction}
 use Rattle.commit_core.specs.declared.commit.Commit.{Commit}
 use Rattle.commit_core.specs.declared.commit.Commit.TheVariants.{Done, Conflict, FullTriples, Refused, Memory}
+use Rattle.commit_core.specs.declared.commit.Acceptance.{Acceptance}
 use Rattle.commit_core.specs.declared.commit.Plan.{Plan}
+use Rattle.commit_core.specs.declared.commit.Refusal.{Refusal}
 use Rattle.commit_core.specs.declared.commit.Plan.TheVariants.{Overtaken, TooLarge, Refuse, Accept}
 
 -- the commit is a step with this reply, which the history has
@@ -21,23 +24,37 @@ TakesCommit old new i x r = TakesStep old new (record { session = i; action = ac
 
 -- The answer is the plain store's reply to this commit; want of memory changes nothing. The rows of a refusal are the
 -- listing of the graph that would be, under the staged shapes or else the newest.
-abbrev pub Answers : Commit → RecordedStore → RecordedStore → ℕ → Transaction → Type 0
-Answers (Done number again) old new i x = TakesCommit old new i x (replies.Done number again)
-Answers (Conflict commit triple) old new i x = TakesCommit old new i x (replies.Conflict commit triple)
-Answers (FullTriples count) old new i x = TakesCommit old new i x (replies.FullTriples count)
+abbrev pub Answers : Commit → RecordedStore → RecordedStore → ℕ → CheckedTransaction → Type 0
+Answers (Done number again) old new i x = TakesCommit old new i x.transaction (replies.Done number again)
+Answers (Conflict commit triple) old new i x = TakesCommit old new i x.transaction (replies.Conflict commit triple)
+Answers (FullTriples count) old new i x = TakesCommit old new i x.transaction (replies.FullTriples count)
 Answers (Refused rows again shapes) old new i x =
-    TakesCommit old new i x (replies.Refused rows again) × (shapes ≡ shapes_under old.state.shapes x.staged) × Listing (after old.state.graph x.net) shapes rows
+    TakesCommit old new i x.transaction (replies.Refused rows again) × (shapes ≡ shapes_under old.state.shapes x.transaction.staged) × Listing (after old.state.graph x.transaction.net) shapes rows
 Answers (Memory y) old new i x = (y ≡ x) × (new ≡ old)
 
 -- nothing overtook the transaction, and the graph would be within the limit
 abbrev pub IsWithin : Limits → List Triple → List Accepted → Transaction → Type 0
 IsWithin l graph commits x = (overtaker commits x.base x.finds ≡ None) × (length (after graph x.net) ≤ l.triples)
 
+-- the graph would have these results
+abbrev pub Refuses : List Triple → List Triple → Transaction → Refusal → Type 0
+Refuses graph shapes x p = (p.shapes ≡ shapes_under shapes x.staged) × Listing (after graph x.net) p.shapes p.rows × (0 < length p.rows) × (p.recorded ≡ p.rows)
+
+-- the graph has none
+abbrev pub Accepts : List Triple → List Triple → Transaction → Acceptance → Type 0
+Accepts graph shapes x p =
+    (p.shapes ≡ shapes_under shapes x.staged) × Listing (after graph x.net) p.shapes [] × (p.graph ≡ after graph x.net) × (p.accepted.changed ≡ differing graph (after graph x.net)) × (p.accepted.staged ≡ is_staged x.staged)
+
+-- what its listing makes of a commit that nothing overtook and that is within the limit
+abbrev pub IsJudged : List Triple → List Triple → Transaction → Plan → Type 0
+IsJudged graph shapes x (Overtaken o t) = ⊥
+IsJudged graph shapes x (TooLarge n) = ⊥
+IsJudged graph shapes x (Refuse p) = Refuses graph shapes x p
+IsJudged graph shapes x (Accept p) = Accepts graph shapes x p
+
 -- the first of a commit's answers that applies, and what is needed to carry it out
 abbrev pub IsPlan : Limits → List Triple → List Triple → List Accepted → Transaction → Plan → Type 0
 IsPlan l graph shapes commits x (Overtaken o t) = (overtaker commits x.base x.finds ≡ Some o) × (t ≡ o.triple)
 IsPlan l graph shapes commits x (TooLarge n) = (overtaker commits x.base x.finds ≡ None) × (l.triples < length (after graph x.net)) × (n ≡ length (after graph x.net))
-IsPlan l graph shapes commits x (Refuse rows recorded s) =
-    IsWithin l graph commits x × (s ≡ shapes_under shapes x.staged) × Listing (after graph x.net) s rows × (0 < length rows) × (recorded ≡ rows)
-IsPlan l graph shapes commits x (Accept g a s) =
-    IsWithin l graph commits x × (s ≡ shapes_under shapes x.staged) × Listing (after graph x.net) s [] × (g.items ≡ after graph x.net) × (a.changed ≡ differing graph (after graph x.net)) × (a.staged ≡ is_staged x.staged)
+IsPlan l graph shapes commits x (Refuse p) = IsWithin l graph commits x × Refuses graph shapes x p
+IsPlan l graph shapes commits x (Accept p) = IsWithin l graph commits x × Accepts graph shapes x p

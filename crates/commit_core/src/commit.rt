@@ -1,21 +1,54 @@
-ghost use Rattle.std.specs.Prelude.{◌≡◌, ◌≤◌, ◌<◌, ◌^◌, None, length, IfOk};
-ghost use Rattle.rdf_model.specs.Graphs.{after};
-ghost use Rattle.rdf_model.specs.Numbers.{IsNumbering};
-ghost use Rattle.store_model.specs.Store.{again, is_staged, shapes_under};
-ghost use Rattle.term_validation.specs.Named.{AreNamedTriples};
-ghost use Rattle.commit_core.specs.Commits.{IsPlan};
+ghost use Rattle.std.specs.Prelude.{◌≡◌, [], IfOk};
+ghost use Rattle.rdf_model.specs.Graphs.{differing};
+ghost use Rattle.store_model.specs.Store.{is_staged, shapes_under};
 
-use crate::graphs::{graph_after, graph_differing};
-use crate::overtaking::find_overtaker;
+use crate::graphs::graph_differing;
 use collections::Sequence;
-use rdf_model::{Term, Triple};
-use shape_eval::Steps;
+use rdf_model::Triple;
 use shape_model::ResultRow;
 use shapes_graph::ShapesGraph;
 use std::alloc::{AllocError, Global};
-use std::sync::ledger::Ledger;
-use store_model::{Accepted, Again, Limits, Overtaker, Transaction};
-use term_validation::listing;
+use store_model::{Accepted, Again, Overtaker, Transaction};
+
+/// A transaction with the results that its verdict found; where it has no verdict, they count for
+/// nothing.
+pub struct CheckedTransaction {
+    pub transaction: Transaction,
+    pub rows: Sequence<ResultRow>,
+}
+
+// Written by hand, so that what owns one calls it in place of having it written out.
+impl Drop for CheckedTransaction {
+    fn drop(self) {
+        let CheckedTransaction {
+            transaction: _,
+            rows: _,
+        } = self;
+    }
+}
+
+impl CheckedTransaction {
+    /// A transaction that nothing was checked of.
+    pub fn unchecked(alloc: Global, transaction: Transaction) -> CheckedTransaction
+        ensures { result ≡ record { transaction = transaction; rows = [] } }
+    {
+        CheckedTransaction {
+            transaction,
+            rows: Sequence::new(alloc),
+        }
+    }
+
+    /// The transaction alone.
+    pub fn into_transaction(self) -> Transaction
+        ensures { result ≡ self.transaction }
+    {
+        let CheckedTransaction {
+            transaction,
+            rows: _,
+        } = self;
+        transaction
+    }
+}
 
 /// What a commit is answered.
 #[derive(Drop)]
@@ -41,7 +74,97 @@ pub enum Commit {
         shapes: ShapesGraph,
     },
     /// Want of memory; the transaction is handed back.
-    Memory(Transaction),
+    Memory(CheckedTransaction),
+}
+
+/// Why a commit evaluated in its step, for the answer and for the history.
+pub struct Reasons {
+    pub answer: Again,
+    pub recorded: Again,
+}
+
+// Written by hand, so that what owns one calls it in place of having it written out.
+impl Drop for Reasons {
+    fn drop(self) {
+        let Reasons {
+            answer: _,
+            recorded: _,
+        } = self;
+    }
+}
+
+impl Reasons {
+    /// The one for the answer, and the one for the history.
+    pub fn into_parts(self) -> (Again, Again)
+        ensures { result ≡ (self.answer, self.recorded) }
+    {
+        let Reasons { answer, recorded } = self;
+        (answer, recorded)
+    }
+}
+
+/// A commit whose graph would have results, for the answer and for the history, under these shapes.
+pub struct Refusal {
+    pub rows: Sequence<ResultRow>,
+    pub recorded: Sequence<ResultRow>,
+    pub shapes: ShapesGraph,
+}
+
+// Written by hand, so that what owns one calls it in place of having it written out.
+impl Drop for Refusal {
+    fn drop(self) {
+        let Refusal {
+            rows: _,
+            recorded: _,
+            shapes: _,
+        } = self;
+    }
+}
+
+impl Refusal {
+    /// The rows for the answer, those for the history, and the shapes.
+    pub fn into_parts(self) -> (Sequence<ResultRow>, Sequence<ResultRow>, ShapesGraph)
+        ensures { result ≡ (self.rows, self.recorded, self.shapes) }
+    {
+        let Refusal {
+            rows,
+            recorded,
+            shapes,
+        } = self;
+        (rows, recorded, shapes)
+    }
+}
+
+/// A commit whose graph has none: the next graph, the commit as it is kept, the next shapes graph.
+pub struct Acceptance {
+    pub graph: Sequence<Triple>,
+    pub accepted: Accepted,
+    pub shapes: ShapesGraph,
+}
+
+// Written by hand, so that what owns one calls it in place of having it written out.
+impl Drop for Acceptance {
+    fn drop(self) {
+        let Acceptance {
+            graph: _,
+            accepted: _,
+            shapes: _,
+        } = self;
+    }
+}
+
+impl Acceptance {
+    /// The next graph, the commit as it is kept, and the next shapes graph.
+    pub fn into_parts(self) -> (Sequence<Triple>, Accepted, ShapesGraph)
+        ensures { result ≡ (self.graph, self.accepted, self.shapes) }
+    {
+        let Acceptance {
+            graph,
+            accepted,
+            shapes,
+        } = self;
+        (graph, accepted, shapes)
+    }
 }
 
 /// What a commit is going to do.
@@ -51,14 +174,15 @@ pub enum Plan {
     Overtaken(Overtaker, Triple),
     /// Nothing: the graph would have so many triples.
     TooLarge(usize),
-    /// Nothing: the graph would have these results, once for the answer and once for the history.
-    Refuse(Sequence<ResultRow>, Sequence<ResultRow>, ShapesGraph),
-    /// The next graph, the commit as it is kept, and the next shapes graph.
-    Accept(Vec<Triple>, Accepted, ShapesGraph),
+    Refuse(Refusal),
+    Accept(Acceptance),
 }
 
-// The shapes graph under which a commit is validated.
-fn shapes_for(shapes: &ShapesGraph, staged: &Option<ShapesGraph>) -> Result<ShapesGraph, AllocError>
+/// The shapes graph under which a commit is validated.
+pub fn shapes_for(
+    shapes: &ShapesGraph,
+    staged: &Option<ShapesGraph>,
+) -> Result<ShapesGraph, AllocError>
     ensures { IfOk result (λ graph. graph ≡ shapes_under shapes.now staged.now) }
 {
     match staged {
@@ -76,51 +200,23 @@ fn stages_shapes(staged: &Option<ShapesGraph>) -> bool
     }
 }
 
-/// Why a commit without a verdict evaluates in its step.
-pub fn reason(staged: &Option<ShapesGraph>) -> Again
-    ensures { (commits : _) → result ≡ again commits staged.now None }
-{
-    match staged {
-        Some(_) => Again::OwnShapes,
-        None => Again::NoVerdict,
-    }
-}
-
-/// Decides what a commit does, and changes nothing. Its evaluations are allowed in the steps.
-pub fn make_plan<L: Ledger>(
+/// The plan of a commit whose graph has no result.
+pub fn accepting(
     alloc: Global,
-    limits: Limits,
-    named: &[Term],
     graph: &[Triple],
-    shapes: &ShapesGraph,
-    commits: &[Accepted],
-    transaction: &Transaction,
-    steps: &mut Steps<L>,
-) -> Result<Plan, AllocError>
-    requires base { transaction.now.base ≤ length commits.now }
-    requires few { length commits.now < 2 ^ 63 }
-    requires names { length named.now < 2 ^ 32 }
-    requires numbering { IsNumbering named.now }
-    requires next { AreNamedTriples named.now (after graph.now transaction.now.net) }
-    requires shapes { AreNamedTriples named.now (shapes_under shapes.now transaction.now.staged) }
-    ensures { IfOk result (IsPlan limits graph.now shapes.now commits.now transaction.now) }
+    next: Vec<Triple>,
+    staged: &Option<ShapesGraph>,
+    shapes: ShapesGraph,
+) -> Result<Acceptance, AllocError>
+    ensures { IfOk result (λ plan. (plan.graph ≡ next.items) × (plan.accepted.changed ≡ differing graph.now next.items) × (plan.accepted.staged ≡ is_staged staged.now) × (plan.shapes ≡ shapes)) }
 {
-    let finds = transaction.finds.as_slice();
-    if let Some(overtaker) = find_overtaker(commits, transaction.base, finds)? {
-        let triple = overtaker.triple.clone()?;
-        return Ok(Plan::Overtaken(overtaker, triple));
-    }
-    let next = graph_after(alloc, graph, transaction.net.as_slice())?;
-    if next.len() > limits.triples {
-        return Ok(Plan::TooLarge(next.len()));
-    }
-    let shapes = shapes_for(shapes, &transaction.staged)?;
-    let rows = listing(alloc, named, &next, &shapes, steps)?;
-    if !rows.is_empty() {
-        let recorded = Sequence::copied_from(alloc, &rows)?;
-        return Ok(Plan::Refuse(Sequence::from_vec(rows), recorded, shapes));
-    }
-    let changed = Sequence::from_vec(graph_differing(alloc, graph, &next)?);
-    let staged = stages_shapes(&transaction.staged);
-    Ok(Plan::Accept(next, Accepted { changed, staged }, shapes))
+    let changed = graph_differing(alloc, graph, &next)?;
+    Ok(Acceptance {
+        graph: Sequence::from_vec(next),
+        accepted: Accepted {
+            changed: Sequence::from_vec(changed),
+            staged: stages_shapes(staged),
+        },
+        shapes,
+    })
 }

@@ -1,5 +1,6 @@
 ghost use Rattle.std.specs.Prelude.{◌≡◌, [], ◌∷◌, ◌++◌, ◌<◌, length, map, reverse, IfOk, IfSome};
 
+use collections::let_go;
 use std::alloc::{AllocError, Global};
 use std::boxed::Box;
 use std::marker::Model;
@@ -60,7 +61,10 @@ impl History {
         let History { newest } = self;
         match newest {
             Link::End => None,
-            Link::After(_, older) => Some(Box::into_inner(older)),
+            Link::After(event, older) => {
+                let_go(event);
+                Some(Box::into_inner(older))
+            }
         }
     }
 }

@@ -10,9 +10,13 @@ mod graphs;
 mod history;
 mod names;
 mod overtaking;
+mod reasons;
 mod room;
+mod snapshot;
 mod store;
 
-pub use commit::Commit;
+pub use commit::{CheckedTransaction, Commit};
 pub use room::Slip;
-pub use store::{Core, NameFault, SessionFault, Snap, slip};
+pub use snapshot::Snap;
+pub use store::{Core, NameFault, SessionFault, slip};
+pub use store_model::{Again, Event, Limits, Transaction, Verdict};

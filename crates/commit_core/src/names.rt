@@ -21,8 +21,8 @@ pub fn first_names(alloc: Global) -> Result<Vec<Term>, AllocError>
     Ok(named)
 }
 
-/// The named terms with these, each new one at the end.
-pub fn names_with(alloc: Global, named: &[Term], terms: &[Term]) -> Result<Vec<Term>, AllocError>
+// The named terms with these, each new one at the end.
+fn names_with(alloc: Global, named: &[Term], terms: &[Term]) -> Result<Vec<Term>, AllocError>
     ensures { IfOk result (λ v. v.items ≡ named_with named.now terms.now) }
 {
     let mut next = Sequence::copied_from(alloc, named)?.into_vec();
@@ -32,6 +32,19 @@ pub fn names_with(alloc: Global, named: &[Term], terms: &[Term]) -> Result<Vec<T
         }
     }
     Ok(next)
+}
+
+/// The named terms with these, and these once more.
+pub fn naming(
+    alloc: Global,
+    named: &[Term],
+    terms: &[Term],
+) -> Result<(Vec<Term>, Sequence<Term>), AllocError>
+    ensures { IfOk result (λ pair. (pair.0.items ≡ named_with named.now terms.now) × (pair.1 ≡ terms.now)) }
+{
+    let next = names_with(alloc, named, terms)?;
+    let asked = Sequence::copied_from(alloc, terms)?;
+    Ok((next, asked))
 }
 
 // The number of a term: how many were named before it.

@@ -1,21 +1,35 @@
-ghost use Rattle.std.specs.Prelude.{◌≡◌, ◌+◌, ◌≤◌, ◌<◌, ◌^◌, [], ◌∷◌, ◌++◌, None, length, map, IfOk, OnOk, OnErr, MatchResult};
-ghost use Rattle.store_model.specs.Store.{RecordedStore, empty_store, Step, TakesStep, IsOpened, IsCommittable, numbers_of};
-ghost use Rattle.commit_core.specs.Commits.{Answers, IsPlan, TakesCommit};
+ghost use Rattle.std.specs.Prelude.{◌≡◌, ◌+◌, ◌≤◌, ◌<◌, ◌^◌, [], ◌∷◌, ◌++◌, MatchBool, length, map, IfOk, OnOk, OnErr, MatchResult};
+ghost use Rattle.store_model.specs.Store.{RecordedStore, empty_store, Step, TakesStep, IsOpened, IsCommittable, numbers_of, shapes_under};
+ghost use Rattle.store_model.specs.Snapshots.{snapshot_of};
+ghost use Rattle.rdf_model.specs.Graphs.{after};
+ghost use Rattle.shape_model.specs.Validation.{Listing};
+ghost use Rattle.term_validation.specs.Named.{AreNamedTriples};
+ghost use Rattle.commit_core.specs.Commits.{Answers, IsJudged, IsPlan, TakesCommit};
+ghost use Rattle.commit_core.specs.Verdicts.{AreOfVerdict, AreReasons};
+ghost use Rattle.commit_core.specs.Consistent.{IsConsistent};
 ghost use Rattle.commit_core.specs.Faults.{OpensNone, NamesNone};
 
-use crate::commit::{Commit, Plan, make_plan, reason};
+use crate::commit::{
+    Acceptance, CheckedTransaction, Commit, Plan, Reasons, Refusal, accepting, shapes_for,
+};
+use crate::graphs::graph_after;
 use crate::history::{History, sessions_back};
-use crate::names::{first_names, names_with, numbers_in};
+use crate::names::{first_names, naming, numbers_in};
+use crate::overtaking::find_overtaker;
+use crate::reasons::{find_reasons, has_held};
 use crate::room::Slip;
+use crate::snapshot::Snap;
 use collections::Sequence;
 use rdf_model::{Term, Triple};
 use shape_eval::Steps;
+use shape_model::ResultRow;
 use shapes_graph::ShapesGraph;
 use std::alloc::{AllocError, Global};
 use std::boxed::Box;
 use std::marker::Model;
 use std::sync::ledger::Ledger;
 use store_model::{Accepted, Action, Event, Limits, Overtaker, Reply, Transaction};
+use term_validation::listing;
 
 const MOST_SESSIONS: u32 = 64;
 
@@ -42,7 +56,7 @@ impl From<AllocError> for SessionFault {
 #[derive(Clone, Copy, Debug, PartialEq, Eq)]
 pub enum NameFault {
     /// So many terms would be named, more than the limit.
-    Full(usize),
+    Full { count: usize },
     Memory,
 }
 
@@ -57,14 +71,6 @@ impl From<AllocError> for NameFault {
     }
 }
 
-/// The store as it was at one version.
-#[derive(Debug, Drop)]
-pub struct Snap {
-    pub version: u64,
-    /// The data graph, ascending.
-    pub graph: Sequence<Triple>,
-}
-
 /// Makes room for one event.
 pub fn slip(alloc: Global) -> Result<Slip, AllocError> {
     Ok(Slip {
@@ -76,16 +82,6 @@ fn version_of(commits: &[Accepted]) -> u64
     ensures { result ≡ length commits.now }
 {
     commits.len() as u64
-}
-
-fn newest(alloc: Global, commits: &[Accepted], graph: &[Triple]) -> Result<Snap, AllocError>
-    ensures version { IfOk result (λ snap. snap.version ≡ length commits.now) }
-    ensures graph { IfOk result (λ snap. snap.graph ≡ graph.now) }
-{
-    Ok(Snap {
-        version: version_of(commits),
-        graph: Sequence::copied_from(alloc, graph)?,
-    })
 }
 
 fn count_of(terms: &[Term]) -> usize
@@ -103,8 +99,8 @@ fn add_commit(commits: &mut Vec<Accepted>, accepted: Accepted) -> Result<(), All
 }
 
 /// The store with its history. Contracts see its limits, its state and its events.
-#[derive(Drop)]
 pub struct Core {
+    alloc: Global,
     limits: Limits,
     graph: Vec<Triple>,
     shapes: ShapesGraph,
@@ -125,6 +121,22 @@ impl Model for Core {
     ghost invariant = { λ c. IsConsistent (record { limits = c.limits; state = record { graph = c.graph.items; shapes = c.shapes; commits = c.commits.items; named = c.named.items; opened = c.opened }; history = c.history }) };
 }
 
+// Written by hand, so that what owns a core calls it in place of having it written out.
+impl Drop for Core {
+    fn drop(self) {
+        let Core {
+            alloc: _,
+            limits: _,
+            graph: _,
+            shapes: _,
+            commits: _,
+            named: _,
+            opened: _,
+            history: _,
+        } = self;
+    }
+}
+
 impl Core {
     /// An empty store.
     pub fn open(alloc: Global, limits: Limits) -> Result<Core, AllocError>
@@ -134,6 +146,7 @@ impl Core {
         let named = first_names(alloc)?;
         let shapes = ShapesGraph::empty(alloc)?;
         Ok(Core {
+            alloc,
             limits,
             graph: Vec::new(alloc),
             shapes,
@@ -144,13 +157,20 @@ impl Core {
         })
     }
 
+    /// What every core keeps, for a caller that rests on it. It does nothing.
+    pub fn is_consistent(&self)
+        ensures { IsConsistent self.now }
+    {
+        let _ = &self.limits;
+    }
+
     /// Gives out the next session, from 1.
-    pub fn session(&mut self, alloc: Global) -> Result<u32, SessionFault>
+    pub fn session(&mut self) -> Result<u32, SessionFault>
         ensures { MatchResult result
             (λ session. TakesStep self.old self.new (record { session = session; action = Action.Open; reply = Reply.Session session }))
             (λ fault. OpensNone fault self.old self.new) }
     {
-        let slip = slip(alloc)?;
+        let slip = slip(self.alloc)?;
         if self.opened >= MOST_SESSIONS {
             self.history.push(
                 slip.room,
@@ -175,62 +195,69 @@ impl Core {
         Ok(session)
     }
 
+    // The store as it is now.
+    fn newest(&self) -> Result<Snap, AllocError>
+        ensures { IfOk result (λ snap. snap ≡ snapshot_of self.now.state) }
+    {
+        Snap::copied_from(
+            self.alloc,
+            version_of(&self.commits),
+            &self.graph,
+            &self.shapes,
+            &self.named,
+        )
+    }
+
     /// The newest snapshot, at which a transaction begins.
-    pub fn begin(&mut self, alloc: Global, session: u32) -> Result<Snap, AllocError>
+    pub fn begin(&mut self, session: u32) -> Result<Snap, AllocError>
         requires { IsOpened self.old.state session }
-        ensures step { IfOk result (λ snap. TakesStep self.old self.new (record { session = session; action = Action.Begin; reply = Reply.Version snap.version })) }
-        ensures graph { IfOk result (λ snap. snap.graph ≡ self.old.state.graph) }
+        ensures step { IfOk result (λ snap. TakesStep self.old self.new (record { session = session; action = Action.Begin; reply = Reply.Version snap.number })) }
+        ensures snapshot { IfOk result (λ snap. snap ≡ snapshot_of self.old.state) }
         ensures memory { OnErr result (self.new ≡ self.old) }
     {
-        let slip = slip(alloc)?;
-        let snap = newest(alloc, &self.commits, &self.graph)?;
+        let slip = slip(self.alloc)?;
+        let snap = self.newest()?;
         self.history.push(
             slip.room,
             Event {
                 session,
                 action: Action::Begin,
-                reply: Reply::Version(snap.version),
+                reply: Reply::Version(snap.number()),
             },
         );
         Ok(snap)
     }
 
     /// The newest snapshot, against which a commit is checked beforehand.
-    pub fn head(&mut self, alloc: Global, session: u32) -> Result<Snap, AllocError>
+    pub fn head(&mut self, session: u32) -> Result<Snap, AllocError>
         requires { IsOpened self.old.state session }
-        ensures step { IfOk result (λ snap. TakesStep self.old self.new (record { session = session; action = Action.Head; reply = Reply.Version snap.version })) }
-        ensures graph { IfOk result (λ snap. snap.graph ≡ self.old.state.graph) }
+        ensures step { IfOk result (λ snap. TakesStep self.old self.new (record { session = session; action = Action.Head; reply = Reply.Version snap.number })) }
+        ensures snapshot { IfOk result (λ snap. snap ≡ snapshot_of self.old.state) }
         ensures memory { OnErr result (self.new ≡ self.old) }
     {
-        let slip = slip(alloc)?;
-        let snap = newest(alloc, &self.commits, &self.graph)?;
+        let slip = slip(self.alloc)?;
+        let snap = self.newest()?;
         self.history.push(
             slip.room,
             Event {
                 session,
                 action: Action::Head,
-                reply: Reply::Version(snap.version),
+                reply: Reply::Version(snap.number()),
             },
         );
         Ok(snap)
     }
 
     /// Names terms, all or none; a term's number is its place in the order of naming.
-    pub fn name(
-        &mut self,
-        alloc: Global,
-        session: u32,
-        terms: &[Term],
-    ) -> Result<Vec<u32>, NameFault>
+    pub fn name(&mut self, session: u32, terms: &[Term]) -> Result<Vec<u32>, NameFault>
         requires { IsOpened self.old.state session }
         ensures step { MatchResult result
             (λ _. TakesStep self.old self.new (record { session = session; action = Action.Name terms.now; reply = Reply.Named }))
             (λ fault. NamesNone fault self.old self.new session terms.now) }
         ensures numbers { IfOk result (λ numbers. numbers.items ≡ numbers_of self.new.state.named terms.now) }
     {
-        let slip = slip(alloc)?;
-        let named = names_with(alloc, &self.named, terms)?;
-        let asked = Sequence::copied_from(alloc, terms)?;
+        let slip = slip(self.alloc)?;
+        let (named, asked) = naming(self.alloc, &self.named, terms)?;
         let all = count_of(&named);
         if all > self.limits.terms + 2 {
             let count = all - 2;
@@ -242,9 +269,9 @@ impl Core {
                     reply: Reply::Full(count),
                 },
             );
-            return Err(NameFault::Full(count));
+            return Err(NameFault::Full { count });
         }
-        let numbers = numbers_in(alloc, &named, terms)?;
+        let numbers = numbers_in(self.alloc, &named, terms)?;
         self.history.push(
             slip.room,
             Event {
@@ -257,26 +284,77 @@ impl Core {
         Ok(numbers)
     }
 
-    // What the commit of the transaction does to this store.
-    fn plan<L: Ledger>(
+    // The results of the next graph: those that a verdict found, where it held, else by an evaluation.
+    fn results<L: Ledger>(
         &self,
-        alloc: Global,
-        transaction: &Transaction,
+        next: &[Triple],
+        shapes: &ShapesGraph,
+        found: &Sequence<ResultRow>,
+        held: bool,
+        steps: &mut Steps<L>,
+    ) -> Result<Sequence<ResultRow>, AllocError>
+        requires graph { AreNamedTriples self.now.state.named next.now }
+        requires shapes { AreNamedTriples self.now.state.named shapes.now }
+        requires found { MatchBool held (Listing next.now shapes.now found.now) (Unit {0}) }
+        ensures { IfOk result (λ rows. Listing next.now shapes.now rows) }
+    {
+        if held {
+            return Sequence::copied_from(self.alloc, found.as_slice());
+        }
+        let rows = listing(self.alloc, &self.named, next, shapes, steps)?;
+        Ok(Sequence::from_vec(rows))
+    }
+
+    // What its listing makes of a commit that nothing overtook and whose graph is within the limit.
+    fn judge<L: Ledger>(
+        &self,
+        next: Vec<Triple>,
+        checked: &CheckedTransaction,
+        held: bool,
         steps: &mut Steps<L>,
     ) -> Result<Plan, AllocError>
-        requires { IsCommittable self.now.state transaction.now }
-        ensures { IfOk result (IsPlan self.now.limits self.now.state.graph self.now.state.shapes self.now.state.commits transaction.now) }
+        requires committable { IsCommittable self.now.state checked.now.transaction }
+        requires next { next.items ≡ after self.now.state.graph checked.now.transaction.net }
+        requires found { MatchBool held (Listing (after self.now.state.graph checked.now.transaction.net) (shapes_under self.now.state.shapes checked.now.transaction.staged) checked.now.rows) (Unit {0}) }
+        ensures { IfOk result (IsJudged self.now.state.graph self.now.state.shapes checked.now.transaction) }
     {
-        make_plan(
-            alloc,
-            self.limits,
-            &self.named,
-            &self.graph,
-            &self.shapes,
-            &self.commits,
-            transaction,
-            steps,
-        )
+        let staged = &checked.transaction.staged;
+        let shapes = shapes_for(&self.shapes, staged)?;
+        let rows = self.results(&next, &shapes, &checked.rows, held, steps)?;
+        if rows.is_empty() {
+            let plan = accepting(self.alloc, &self.graph, next, staged, shapes)?;
+            return Ok(Plan::Accept(plan));
+        }
+        let recorded = Sequence::copied_from(self.alloc, rows.as_slice())?;
+        Ok(Plan::Refuse(Refusal {
+            rows,
+            recorded,
+            shapes,
+        }))
+    }
+
+    // What the commit of the transaction does to this store; a verdict may have held.
+    fn plan<L: Ledger>(
+        &self,
+        checked: &CheckedTransaction,
+        held: bool,
+        steps: &mut Steps<L>,
+    ) -> Result<Plan, AllocError>
+        requires committable { IsCommittable self.now.state checked.now.transaction }
+        requires found { MatchBool held (Listing (after self.now.state.graph checked.now.transaction.net) (shapes_under self.now.state.shapes checked.now.transaction.staged) checked.now.rows) (Unit {0}) }
+        ensures { IfOk result (IsPlan self.now.limits self.now.state.graph self.now.state.shapes self.now.state.commits checked.now.transaction) }
+    {
+        let transaction = &checked.transaction;
+        let finds = transaction.finds.as_slice();
+        if let Some(overtaker) = find_overtaker(&self.commits, transaction.base, finds)? {
+            let triple = overtaker.triple.clone()?;
+            return Ok(Plan::Overtaken(overtaker, triple));
+        }
+        let next = graph_after(self.alloc, &self.graph, transaction.net.as_slice())?;
+        if next.len() > self.limits.triples {
+            return Ok(Plan::TooLarge(next.len()));
+        }
+        self.judge(next, checked, held, steps)
     }
 
     // Records a commit that changes nothing.
@@ -294,86 +372,108 @@ impl Core {
         );
     }
 
+    // Records a commit whose graph would have results.
+    fn refuse_invalid(
+        &mut self,
+        slip: Slip,
+        session: u32,
+        checked: CheckedTransaction,
+        refusal: Refusal,
+        reasons: Reasons,
+    ) -> Commit
+        requires opened { IsOpened self.old.state session }
+        requires committable { IsCommittable self.old.state checked.transaction }
+        requires plan { IsPlan self.old.limits self.old.state.graph self.old.state.shapes self.old.state.commits checked.transaction (Plan.Refuse refusal) }
+        requires reasons { AreReasons self.old.state.commits checked.transaction reasons }
+        ensures { Answers result self.old self.new session checked }
+    {
+        let (rows, recorded, shapes) = refusal.into_parts();
+        let (again, why) = reasons.into_parts();
+        let reply = Reply::Refused(recorded, why);
+        self.refuse(slip, session, checked.into_transaction(), reply);
+        Commit::Refused {
+            rows,
+            again,
+            shapes,
+        }
+    }
+
     // Puts the next graphs in place, and records the commit that makes them.
     fn accept(
         &mut self,
         slip: Slip,
         session: u32,
-        transaction: Transaction,
-        graph: Vec<Triple>,
-        accepted: Accepted,
-        shapes: ShapesGraph,
+        checked: CheckedTransaction,
+        acceptance: Acceptance,
+        reasons: Reasons,
     ) -> Commit
         requires opened { IsOpened self.old.state session }
-        requires committable { IsCommittable self.old.state transaction }
-        requires unchecked { transaction.verdict ≡ None }
-        requires plan { IsPlan self.old.limits self.old.state.graph self.old.state.shapes self.old.state.commits transaction (Plan.Accept graph accepted shapes) }
-        ensures { Answers result self.old self.new session transaction }
+        requires committable { IsCommittable self.old.state checked.transaction }
+        requires plan { IsPlan self.old.limits self.old.state.graph self.old.state.shapes self.old.state.commits checked.transaction (Plan.Accept acceptance) }
+        requires reasons { AreReasons self.old.state.commits checked.transaction reasons }
+        ensures { Answers result self.old self.new session checked }
     {
+        let (graph, accepted, shapes) = acceptance.into_parts();
         let Ok(()) = add_commit(&mut self.commits, accepted) else {
-            return Commit::Memory(transaction);
+            return Commit::Memory(checked);
         };
         let number = version_of(&self.commits);
-        let again = reason(&transaction.staged);
-        let recorded = reason(&transaction.staged);
+        let (again, recorded) = reasons.into_parts();
         self.history.push(
             slip.room,
             Event {
                 session,
-                action: Action::Commit(transaction),
+                action: Action::Commit(checked.into_transaction()),
                 reply: Reply::Done(number, recorded),
             },
         );
-        self.graph = graph;
+        self.graph = graph.into_vec();
         self.shapes = shapes;
         Commit::Done { number, again }
     }
 
     /// Commits a transaction that changes something or stages shapes, whose terms are named and whose
     /// base is a version of this store. The graph that it would make is validated whole, under the
-    /// staged shapes or else the newest. How many evaluations `steps` allows for it is not promised.
-    /// Verdicts don't come yet.
+    /// staged shapes or else the newest, unless a verdict held: then its rows are the results. How
+    /// many evaluations `steps` allows for it is not promised.
     pub fn commit<L: Ledger>(
         &mut self,
-        alloc: Global,
         session: u32,
-        transaction: Transaction,
+        checked: CheckedTransaction,
         steps: &mut Steps<L>,
     ) -> Commit
         requires opened { IsOpened self.old.state session }
-        requires committable { IsCommittable self.old.state transaction }
-        requires unchecked { transaction.verdict ≡ None }
-        ensures { Answers result self.old self.new session transaction }
+        requires committable { IsCommittable self.old.state checked.transaction }
+        requires verdict { AreOfVerdict self.old checked.transaction.net checked.transaction.verdict checked.rows }
+        ensures { Answers result self.old self.new session checked }
     {
-        let Ok(slip) = slip(alloc) else {
-            return Commit::Memory(transaction);
+        let Ok(slip) = slip(self.alloc) else {
+            return Commit::Memory(checked);
         };
-        match self.plan(alloc, &transaction, steps) {
-            Err(_) => Commit::Memory(transaction),
+        let Ok(reasons) = find_reasons(&self.commits, &checked.transaction) else {
+            return Commit::Memory(checked);
+        };
+        match self.plan(&checked, has_held(&reasons.answer), steps) {
+            Err(_) => Commit::Memory(checked),
             Ok(Plan::Overtaken(overtaker, triple)) => {
                 let Overtaker {
                     commit,
                     triple: first,
                 } = overtaker;
-                self.refuse(slip, session, transaction, Reply::Conflict(commit, first));
+                let reply = Reply::Conflict(commit, first);
+                self.refuse(slip, session, checked.into_transaction(), reply);
                 Commit::Conflict { commit, triple }
             }
             Ok(Plan::TooLarge(count)) => {
-                self.refuse(slip, session, transaction, Reply::FullTriples(count));
+                let reply = Reply::FullTriples(count);
+                self.refuse(slip, session, checked.into_transaction(), reply);
                 Commit::FullTriples { count }
             }
-            Ok(Plan::Refuse(rows, recorded, shapes)) => {
-                let again = reason(&transaction.staged);
-                let why = reason(&transaction.staged);
-                self.refuse(slip, session, transaction, Reply::Refused(recorded, why));
-                Commit::Refused {
-                    rows,
-                    again,
-                    shapes,
-                }
+            Ok(Plan::Refuse(refusal)) => {
+                self.refuse_invalid(slip, session, checked, refusal, reasons)
             }
-            Ok(Plan::Accept(graph, accepted, shapes)) => {
-                self.accept(slip, session, transaction, graph, accepted, shapes)
+            Ok(Plan::Accept(acceptance)) => {
+                self.accept(slip, session, checked, acceptance, reasons)
             }
         }
     }
@@ -394,10 +494,10 @@ impl Core {
     }
 
     /// The sessions of the history's events, in order.
-    pub fn order(&self, alloc: Global) -> Result<Vec<u32>, AllocError>
+    pub fn order(&self) -> Result<Vec<u32>, AllocError>
         ensures { IfOk result (λ v. v.items ≡ map (λ e. e.session) self.now.history) }
     {
-        let mut sessions = sessions_back(alloc, &self.history)?;
+        let mut sessions = sessions_back(self.alloc, &self.history)?;
         sessions.reverse();
         Ok(sessions)
     }

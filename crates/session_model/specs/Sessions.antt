@@ -13,11 +13,17 @@ use Rattle.store_model.specs.declared.event.Reply.{Reply}
 use Rattle.store_model.specs.declared.event.Reply.TheVariants.{Version, Named, Full, Conflict, FullTriples, Refused, Done}
 use Rattle.session_model.specs.declared.command.Command.{Command}
 use Rattle.session_model.specs.declared.command.Command.TheVariants.{Begin, Add, BadAdd, Shapes, BadShapes, BrokenShapes, Commit}
-use Rattle.session_model.specs.declared.session.OpenTransaction.{OpenTransaction}
 use Rattle.session_model.specs.declared.reply.SessionReply.{SessionReply}
 use Rattle.session_model.specs.declared.reply.SessionReply.TheVariants.{AlreadyOpen, NoTransaction, Begun, Added, AddRefused, ShapesStaged, ShapesRefused, ShapesBroken, FullTerms, Committed, ReadOnly, Overtaken, FullGraph, Refused as RefusedBy}
 use Rattle.report_writer.specs.Report.{report_text}
 use Rattle.store_model.specs.Store.{State, StepOf, empty_store, shapes_under, terms_of}
+
+-- A session's open transaction: what its commit hands in, the data graph at its begin, and whether its commit has the
+-- newest version already.
+pub record OpenTransaction : Type 0 where
+  pub transaction : Transaction
+  pub graph : List Triple
+  pub head_taken : Bool
 
 -- A session: its open transaction, the commands that are left of its file, and what it was answered.
 pub record SessionState : Type 0 where

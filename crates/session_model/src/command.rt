@@ -4,7 +4,7 @@ use shape_model::Rule;
 use shapes_graph::ShapesGraph;
 
 /// A command of a session.
-#[derive(Debug, Drop)]
+#[derive(Debug)]
 pub enum Command {
     Begin,
     /// Adds the triples of its block, each once, ascending.
@@ -18,4 +18,19 @@ pub enum Command {
     /// Shapes whose graph isn't well-formed: of the rules that it breaks the one that is reported, and the node that breaks it.
     BrokenShapes { rule: Rule, node: Term },
     Commit,
+}
+
+// Written by hand, so that what owns one calls it in place of having it written out.
+impl Drop for Command {
+    fn drop(self) {
+        match self {
+            Command::Begin => {}
+            Command::Add(_) => {}
+            Command::BadAdd { line: _, kind: _ } => {}
+            Command::Shapes(_) => {}
+            Command::BadShapes { line: _, kind: _ } => {}
+            Command::BrokenShapes { rule: _, node: _ } => {}
+            Command::Commit => {}
+        }
+    }
 }

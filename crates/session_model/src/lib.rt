@@ -7,8 +7,6 @@
 
 mod command;
 mod reply;
-mod session;
 
 pub use command::Command;
 pub use reply::SessionReply;
-pub use session::OpenTransaction;

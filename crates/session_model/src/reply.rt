@@ -3,7 +3,7 @@ use shape_model::Rule;
 use std::fmt;
 
 /// What a session is answered on one command.
-#[derive(Debug, Drop)]
+#[derive(Debug)]
 pub enum SessionReply {
     /// `begin` within a transaction.
     AlreadyOpen,
@@ -33,6 +33,31 @@ pub enum SessionReply {
     FullGraph,
     /// The graph would have so many results, and the report of them.
     Refused { count: usize, report: Text },
+}
+
+// Written by hand, so that what owns one calls it in place of having it written out.
+impl Drop for SessionReply {
+    fn drop(self) {
+        match self {
+            SessionReply::AlreadyOpen => {}
+            SessionReply::NoTransaction => {}
+            SessionReply::Begun(_) => {}
+            SessionReply::Added(_) => {}
+            SessionReply::AddRefused { line: _, kind: _ } => {}
+            SessionReply::ShapesStaged(_) => {}
+            SessionReply::ShapesRefused { line: _, kind: _ } => {}
+            SessionReply::ShapesBroken { rule: _, node: _ } => {}
+            SessionReply::FullTerms => {}
+            SessionReply::Committed(_) => {}
+            SessionReply::ReadOnly(_) => {}
+            SessionReply::Overtaken(_, _) => {}
+            SessionReply::FullGraph => {}
+            SessionReply::Refused {
+                count: _,
+                report: _,
+            } => {}
+        }
+    }
 }
 
 impl fmt::Display for SessionReply {

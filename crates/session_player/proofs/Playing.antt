@@ -14,18 +14,20 @@ use Rattle.rdf_model.specs.declared.triple.Triple.{Triple}
 use Rattle.store_model.specs.declared.event.Action.{Action}
 use Rattle.store_model.specs.declared.event.Action.TheVariants as actions
 use Rattle.store_model.specs.declared.event.Reply.{Reply}
-use Rattle.store_model.specs.declared.event.Reply.TheVariants.{Session, SessionsFull, Version, Named, Full, Conflict, FullTriples}
+use Rattle.store_model.specs.declared.event.Reply.TheVariants.{Session, SessionsFull, Version, Named, Full, Conflict, FullTriples, Refused}
+use Rattle.store_model.specs.declared.commit.Again.{Again}
+use Rattle.report_writer.specs.Report.{report_text}
 use Rattle.store_model.specs.declared.commit.Transaction.{Transaction}
 use Rattle.session_model.specs.declared.command.Command.{Command}
 use Rattle.session_model.specs.declared.command.Command.TheVariants.{Begin, Add, BadAdd, Shapes, BadShapes, BrokenShapes, Commit}
-use Rattle.session_model.specs.declared.session.OpenTransaction.{OpenTransaction}
 use Rattle.session_model.specs.declared.reply.SessionReply.{SessionReply}
-use Rattle.session_model.specs.declared.reply.SessionReply.TheVariants.{Begun, Added, AddRefused, ShapesStaged, ShapesRefused, ShapesBroken, FullTerms, ReadOnly}
-use Rattle.store_model.specs.Store.{State, RecordedStore, OpensNext, OpensNothing, Replies, CommitsByListing, CommitsWithinLimit, CommitsByRows, overtaker, TakesStep, IsOpened, HasChange, NetNamed, StagedNamed, named_with, version}
-use Rattle.session_model.specs.Sessions.{answers, local_answer, local_commit, up_to_event, begun, with_additions, with_shapes, additions, parts_of, action_of, commit_action, after_reply, SessionState}
-use Rattle.session_model.specs.Progress.{Advances}
-use Rattle.session_model.proofs.Advancing.{Advances-then, Advances-local, Advances-event, up_to_event-event}
-use Rattle.session_player.specs.Ready.{IsReady, Performs, answer_in}
+use Rattle.session_model.specs.declared.reply.SessionReply.TheVariants.{Begun, Added, AddRefused, ShapesStaged, ShapesRefused, ShapesBroken, FullTerms, ReadOnly, Refused as RefusedBy}
+use Rattle.store_model.specs.Store.{State, RecordedStore, OpensNext, OpensNothing, Replies, CommitsByListing, CommitsWithinLimit, CommitsByRows, overtaker, TakesStep, IsOpened, HasChange, NetNamed, StagedNamed, named_with, shapes_under, version}
+use Rattle.session_model.specs.Sessions.{OpenTransaction, answers, local_answer, local_commit, up_to_event, begun, with_additions, with_shapes, additions, parts_of, action_of, commit_action, after_reply, SessionState}
+use Rattle.session_player.specs.Progress.{Advances}
+use Rattle.session_player.proofs.Advancing.{Advances-then, Advances-local, Advances-event}
+use Rattle.session_model.proofs.Walking.{up_to_event-event}
+use Rattle.session_player.specs.Ready.{CommitsWith, IsReady, Performs, answer_in}
 use Rattle.session_player.proofs.Naming.{NetNamed-additions, NetNamed-naming, StagedNamed-naming, StagedNamed-shapes}
 
 pub obeys_local : (i : ℕ) (s : RecordedStore) (w v : Option OpenTransaction) (c : Command) (replies more : List SessionReply) (t : SessionReply) → local_answer w c ≡ answers t v → more ≡ replies ++ t ∷ [] → IsReady s i v → Performs i s s w v c replies more
@@ -199,6 +201,17 @@ performs_commit i s m n w replies more v r t ready some h a by em = record {
       (subst (λ (q : SessionState). Advances i s n (up_to_event (Some w) (Commit ∷ cs) replies) q) (by cs)
       (subst (λ (p : SessionState). Advances i s n p (after_reply m.state (Some u) Commit cs replies r)) (sym start) both));
 }
+
+-- the store refused the commit, and the session tells its report
+pub refused_with : (i : ℕ) (s n : RecordedStore) (x : Transaction) (rows : List ResultRow) (why : Again) (shapes : List Triple) (r : Result SessionReply AllocError)
+    → TakesStep s n (record { session = i; action = actions.Commit x; reply = Refused rows why }) → shapes ≡ shapes_under s.state.shapes x.staged
+    → IfOk r (λ reply. reply ≡ RefusedBy (length rows) (report_text shapes rows)) → IfOk r (CommitsWith i s n x)
+refused_with i s n x rows why shapes (Ok reply) step e h = record {
+  answer = Refused rows why;
+  step = step;
+  told = λ graph cs replies. ap (λ (t : SessionReply). up_to_event None cs (replies ++ t ∷ [])) (sym (h ∙ ap (λ (ts : List Triple). RefusedBy (length rows) (report_text ts rows)) e));
+}
+refused_with i s n x rows why shapes (Err error) step e h = tt
 
 -- below 64 sessions, one more is given out
 opens_one : (s t : State) (b : Bool) → nat_lt s.opened 64 ≡ b → s.opened < 64 → MatchBool b (OpensNext s 0 SessionsFull t) (OpensNothing s 0 SessionsFull t) → ⊥

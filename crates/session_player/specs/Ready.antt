@@ -1,15 +1,17 @@
 -- When a session may go on, and what a command does to it.
-use Rattle.std.specs.Prelude.{◌≡◌, ℕ, ◌≤◌, Bool, true, false, Option, Some, None, List, [], ◌∷◌}
+use Rattle.std.specs.Prelude.{◌≡◌, ℕ, ◌≤◌, Bool, true, false, Option, Some, None, List, [], ◌∷◌, ◌++◌}
 use Rattle.rdf_model.specs.declared.triple.Triple.{Triple}
 use Rattle.store_model.specs.declared.event.Action.TheVariants as actions
+use Rattle.store_model.specs.declared.event.Reply.{Reply}
 use Rattle.store_model.specs.declared.event.Reply.TheVariants as replies
-use Rattle.session_model.specs.declared.session.OpenTransaction.{OpenTransaction}
+use Rattle.store_model.specs.declared.commit.Transaction.{Transaction}
 use Rattle.session_model.specs.declared.command.Command.{Command}
+use Rattle.session_model.specs.declared.command.Command.TheVariants.{Commit}
 use Rattle.session_model.specs.declared.reply.SessionReply.{SessionReply}
 use Rattle.session_model.specs.declared.reply.SessionReply.TheVariants.{NoTransaction}
 use Rattle.store_model.specs.Store.{RecordedStore, TakesStep, IsOpened, NetNamed, StagedNamed, version}
-use Rattle.session_model.specs.Sessions.{parts_of, up_to_event}
-use Rattle.session_model.specs.Progress.{Advances}
+use Rattle.session_model.specs.Sessions.{OpenTransaction, after_reply, parts_of, up_to_event}
+use Rattle.session_player.specs.Progress.{Advances}
 
 -- the transaction began at a version of this store, its terms are named, and it has no verdict
 pub record IsCurrent (s : RecordedStore) (w : OpenTransaction) : Type 0 where
@@ -31,6 +33,17 @@ pub record IsReady (s : RecordedStore) (session : ℕ) (w : Option OpenTransacti
 abbrev pub NamesAll : Bool → RecordedStore → RecordedStore → ℕ → List Triple → Type 0
 NamesAll true old new i ts = TakesStep old new (record { session = i; action = actions.Name (parts_of ts); reply = replies.Named })
 NamesAll false old new i ts = (n : ℕ) × TakesStep old new (record { session = i; action = actions.Name (parts_of ts); reply = replies.Full n })
+
+-- the session has the newest version for its commit
+pub record TakesHead (i : ℕ) (old new : RecordedStore) : Type 0 where
+  pub number : ℕ
+  pub step : TakesStep old new (record { session = i; action = actions.Head; reply = replies.Version number })
+
+-- the store answered the commit of the transaction, and the session tells that answer so, whatever commands are left
+pub record CommitsWith (i : ℕ) (old new : RecordedStore) (x : Transaction) (reply : SessionReply) : Type 0 where
+  pub answer : Reply
+  pub step : TakesStep old new (record { session = i; action = actions.Commit x; reply = answer })
+  pub told : (graph : List Triple) (cs : List Command) (replies : List SessionReply) → after_reply old.state (Some (record { transaction = x; graph = graph; head_taken = true })) Commit cs replies answer ≡ up_to_event None cs (replies ++ reply ∷ [])
 
 -- what a command that changes nothing is answered
 abbrev pub answer_in : Option OpenTransaction → SessionReply → SessionReply

@@ -10,6 +10,7 @@ mod perform;
 mod print;
 mod run;
 mod stage;
+mod transaction;
 
 pub use print::text_of;
 pub use run::{Run, run_all};

@@ -1,23 +1,23 @@
 // What one command does.
-ghost use Rattle.std.specs.Prelude.{◌≡◌, List, [], MatchBool, None, IfOk, OnOk, length};
+ghost use Rattle.std.specs.Prelude.{◌≡◌, List, None, IfOk, OnOk, length};
 ghost use Rattle.rdf_model.specs.declared.triple.Triple.{Triple};
 ghost use Rattle.report_writer.specs.Report.{report_text};
 ghost use Rattle.shape_model.specs.Validation.{Listing};
-ghost use Rattle.store_model.specs.Store.{HasChange};
-ghost use Rattle.session_player.specs.Ready.{IsReady, Performs};
+ghost use Rattle.store_model.specs.Store.{IsCommittable, IsOpened};
+ghost use Rattle.session_player.specs.Ready.{CommitsWith, IsReady, Performs, TakesHead};
 
 use crate::stage::{add, refuse_add, refuse_broken, refuse_shapes, stage};
-use collections::Sequence;
-use commit_core::{Commit, Core};
-use rdf_model::{Net, Text};
+use crate::transaction::OpenTransaction;
+use collections::{Sequence, let_go};
+use commit_core::{CheckedTransaction, Commit, Core, Transaction};
+use rdf_model::Text;
 use report_writer::report;
-use session_model::{Command, OpenTransaction, SessionReply};
+use session_model::{Command, SessionReply};
 use shape_eval::Steps;
 use shape_model::ResultRow;
 use shapes_graph::ShapesGraph;
 use std::alloc::{AllocError, Global};
 use std::sync::ledger::Ledger;
-use store_model::Transaction;
 
 fn begin(
     alloc: Global,
@@ -33,29 +33,9 @@ fn begin(
         replies.push(SessionReply::AlreadyOpen)?;
         return Ok(Some(open));
     }
-    let snap = core.begin(alloc, session)?;
-    replies.push(SessionReply::Begun(snap.version))?;
-    Ok(Some(OpenTransaction {
-        transaction: Transaction {
-            base: snap.version,
-            net: Net::new(alloc),
-            staged: None,
-            finds: Sequence::new(alloc),
-            verdict: None,
-        },
-        graph: snap.graph,
-        head_taken: false,
-    }))
-}
-
-// Whether a transaction neither changes a triple nor stages shapes.
-fn only_reads(transaction: &Transaction) -> bool
-    ensures { MatchBool result ((transaction.now.net ≡ []) × (transaction.now.staged ≡ None)) (HasChange transaction.now.net transaction.now.staged) }
-{
-    match transaction.staged {
-        Some(_) => false,
-        None => transaction.net.is_empty(),
-    }
+    let snap = core.begin(session)?;
+    replies.push(SessionReply::Begun(snap.number()))?;
+    Ok(Some(OpenTransaction::new(alloc, snap)))
 }
 
 // The reply to a commit whose graph has these results under the shapes.
@@ -74,6 +54,52 @@ fn refusal(
     })
 }
 
+// Commits the transaction, and gives the session's reply.
+fn commit_reply<L: Ledger>(
+    alloc: Global,
+    core: &mut Core,
+    session: u32,
+    transaction: Transaction,
+    steps: &mut Steps<L>,
+) -> Result<SessionReply, AllocError>
+    requires opened { IsOpened core.old.state session }
+    requires committable { IsCommittable core.old.state transaction }
+    requires unchecked { transaction.verdict ≡ None }
+    ensures { IfOk result (CommitsWith session core.old core.new transaction) }
+{
+    let checked = CheckedTransaction::unchecked(alloc, transaction);
+    match core.commit(session, checked, steps) {
+        Commit::Done { number, again } => {
+            let_go(again);
+            Ok(SessionReply::Committed(number))
+        }
+        Commit::Conflict { commit, triple } => Ok(SessionReply::Overtaken(commit, triple)),
+        Commit::FullTriples { count: _ } => Ok(SessionReply::FullGraph),
+        Commit::Refused {
+            rows,
+            again,
+            shapes,
+        } => {
+            let_go(again);
+            refusal(alloc, &rows, &shapes)
+        }
+        Commit::Memory(checked) => {
+            let_go(checked);
+            Err(AllocError)
+        }
+    }
+}
+
+// Takes the newest version for a commit.
+fn take_head(core: &mut Core, session: u32) -> Result<(), AllocError>
+    requires { IsOpened core.old.state session }
+    ensures { OnOk result (TakesHead session core.old core.new) }
+{
+    let snap = core.head(session)?;
+    let_go(snap);
+    Ok(())
+}
+
 fn commit<L: Ledger>(
     alloc: Global,
     core: &mut Core,
@@ -88,30 +114,13 @@ fn commit<L: Ledger>(
     let Some(open) = current else {
         return replies.push(SessionReply::NoTransaction);
     };
-    if only_reads(&open.transaction) {
-        return replies.push(SessionReply::ReadOnly(open.transaction.base));
+    if open.only_reads() {
+        return replies.push(SessionReply::ReadOnly(open.base()));
     }
-    core.head(alloc, session)?;
-    match core.commit(alloc, session, open.transaction, steps) {
-        Commit::Done { number, .. } => {
-            replies.push(SessionReply::Committed(number))?;
-            Ok(())
-        }
-        Commit::Conflict { commit, triple } => {
-            replies.push(SessionReply::Overtaken(commit, triple))?;
-            Ok(())
-        }
-        Commit::FullTriples { .. } => {
-            replies.push(SessionReply::FullGraph)?;
-            Ok(())
-        }
-        Commit::Refused { rows, shapes, .. } => {
-            let reply = refusal(alloc, &rows, &shapes)?;
-            replies.push(reply)?;
-            Ok(())
-        }
-        Commit::Memory(_) => Err(AllocError),
-    }
+    take_head(core, session)?;
+    let reply = commit_reply(alloc, core, session, open.into_transaction(), steps)?;
+    replies.push(reply)?;
+    Ok(())
 }
 
 /// Does one command of a session, adds its reply, and gives the transaction that is open then.

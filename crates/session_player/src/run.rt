@@ -1,18 +1,17 @@
-ghost use Rattle.std.specs.Prelude.{◌≡◌, ◌+◌, ◌≤◌, ◌<◌, ◌^◌, length, IfOk, OnOk};
+ghost use Rattle.std.specs.Prelude.{◌≡◌, [], ◌+◌, ◌≤◌, ◌<◌, ◌^◌, length, IfOk, OnOk};
 ghost use Rattle.store_model.specs.Store.{IsOpened};
 ghost use Rattle.session_model.specs.Sessions.{HasReplies};
-ghost use Rattle.session_model.specs.Progress.{OpensSessions};
+ghost use Rattle.session_player.specs.Progress.{HasRun, OpensSessions};
 ghost use Rattle.session_player.specs.Ready.{PerformsAll};
 
 use crate::perform::perform;
 use collections::Sequence;
-use commit_core::{Core, SessionFault};
+use commit_core::{Core, Limits, SessionFault};
 use session_model::{Command, SessionReply};
 use shape_eval::Steps;
 use std::alloc::{AllocError, Global};
 use std::marker::Brand;
 use std::sync::ledger::{Blank, Ledger};
-use store_model::Limits;
 
 // Runs the commands of a session that was given out.
 fn perform_all<L: Ledger>(
@@ -34,12 +33,12 @@ fn perform_all<L: Ledger>(
 }
 
 // Opens so many sessions.
-fn open_all(alloc: Global, core: &mut Core, count: usize) -> Result<(), AllocError>
+fn open_all(core: &mut Core, count: usize) -> Result<(), AllocError>
     requires { core.old.state.opened + count ≤ 64 }
     ensures { OnOk result (OpensSessions core.old core.new count) }
 {
     for _i in 0..count {
-        match core.session(alloc) {
+        match core.session() {
             Ok(_) => {}
             Err(SessionFault::SessionsFull) => unreachable!(),
             Err(SessionFault::Memory) => return Err(AllocError),
@@ -53,6 +52,27 @@ fn open_all(alloc: Global, core: &mut Core, count: usize) -> Result<(), AllocErr
 pub struct Run {
     pub replies: Vec<Sequence<SessionReply>>,
     pub order: Vec<u32>,
+}
+
+// Runs the files, whose sessions were opened, one after another.
+fn play_all<L: Ledger>(
+    alloc: Global,
+    core: &mut Core,
+    files: &[Sequence<Command>],
+    steps: &mut Steps<L>,
+) -> Result<Vec<Sequence<SessionReply>>, AllocError>
+    requires opened { HasRun files.now core.old.limits core.old 0 [] }
+    requires few { length files.now ≤ 64 }
+    ensures { IfOk result (λ all. HasRun files.now core.old.limits core.new (length files.now) all.items) }
+{
+    let mut all = Vec::new(alloc);
+    let mut session = 0;
+    for commands in files {
+        session += 1;
+        let replies = perform_all(alloc, core, session, commands.as_slice(), steps)?;
+        all.push(replies)?;
+    }
+    Ok(all)
 }
 
 // Runs the files over a new store, in an own ledger of evaluations.
@@ -71,19 +91,10 @@ fn run_in<L: Ledger>(
 {
     let mut core = Core::open(alloc, limits)?;
     let mut steps = Steps::<L>::begin(blank);
-    open_all(alloc, &mut core, files.len())?;
-    let mut all = Vec::new(alloc);
-    let mut session = 0;
-    for commands in files {
-        session += 1;
-        let replies = perform_all(alloc, &mut core, session, commands.as_slice(), &mut steps)?;
-        all.push(replies)?;
-    }
-    let order = core.order(alloc)?;
-    Ok(Run {
-        replies: all,
-        order,
-    })
+    open_all(&mut core, files.len())?;
+    let replies = play_all(alloc, &mut core, files, &mut steps)?;
+    let order = core.order()?;
+    Ok(Run { replies, order })
 }
 
 /// Runs session files one after another over a new store; the I-th file is session I.

@@ -1,16 +1,28 @@
 // What the commands do that change a transaction.
-ghost use Rattle.std.specs.Prelude.{◌≡◌, [], ◌∷◌, ◌++◌, IfOk};
+ghost use Rattle.std.specs.Prelude.{◌≡◌, [], ◌∷◌, ◌++◌, IfOk, OnOk};
+ghost use Rattle.store_model.specs.Store;
 ghost use Rattle.store_model.specs.Store.{IsOpened};
-ghost use Rattle.session_model.specs.Sessions.{parts_of, with_additions, with_shapes};
+ghost use Rattle.session_model.specs.Sessions.{parts_of};
 ghost use Rattle.session_player.specs.Ready.{IsReady, NamesAll, Performs, answer_in};
 
+use crate::transaction::OpenTransaction;
 use collections::Sequence;
 use commit_core::{Core, NameFault};
-use rdf_model::{Change, Term, Triple};
-use session_model::{Command, OpenTransaction, SessionReply};
+use rdf_model::{Term, Triple};
+use session_model::{Command, SessionReply};
 use shape_model::Rule;
 use shapes_graph::ShapesGraph;
 use std::alloc::{AllocError, Global};
+
+// Adds subject, predicate and object of a triple.
+fn push_terms(terms: &mut Vec<Term>, triple: &Triple) -> Result<(), AllocError>
+    ensures { OnOk result (terms.new.items ≡ terms.old.items ++ Store.terms_of triple.now) }
+{
+    terms.push(triple.subject.clone()?)?;
+    terms.push(triple.predicate.clone()?)?;
+    terms.push(triple.object.clone()?)?;
+    Ok(())
+}
 
 // Subject, predicate and object of each triple.
 fn terms_of(alloc: Global, triples: &[Triple]) -> Result<Vec<Term>, AllocError>
@@ -18,9 +30,7 @@ fn terms_of(alloc: Global, triples: &[Triple]) -> Result<Vec<Term>, AllocError>
 {
     let mut terms = Vec::new(alloc);
     for triple in triples {
-        terms.push(triple.subject.clone()?)?;
-        terms.push(triple.predicate.clone()?)?;
-        terms.push(triple.object.clone()?)?;
+        push_terms(&mut terms, triple)?;
     }
     Ok(terms)
 }
@@ -36,37 +46,11 @@ fn name_terms(
     ensures { IfOk result (λ named. NamesAll named core.old core.new session triples.now) }
 {
     let terms = terms_of(alloc, triples)?;
-    match core.name(alloc, session, &terms) {
+    match core.name(session, &terms) {
         Ok(_) => Ok(true),
-        Err(NameFault::Full(_)) => Ok(false),
+        Err(NameFault::Full { count: _ }) => Ok(false),
         Err(NameFault::Memory) => Err(AllocError),
     }
-}
-
-// The transaction with an addition of each triple.
-fn with_all_additions(
-    session: OpenTransaction,
-    triples: &[Triple],
-) -> Result<OpenTransaction, AllocError>
-    ensures { IfOk result (λ next. next ≡ with_additions session triples.now) }
-{
-    let mut next = session;
-    for triple in triples {
-        next.transaction.net.push(Change::Add(triple.clone()?))?;
-    }
-    Ok(next)
-}
-
-// The transaction with these shapes staged.
-fn with_staged(
-    session: OpenTransaction,
-    shapes: &ShapesGraph,
-) -> Result<OpenTransaction, AllocError>
-    ensures { IfOk result (λ next. next ≡ with_shapes session shapes.now) }
-{
-    let mut next = session;
-    next.transaction.staged = Some(shapes.share()?);
-    Ok(next)
 }
 
 /// Adds the triples to the open transaction.
@@ -89,7 +73,7 @@ pub fn add(
         replies.push(SessionReply::FullTerms)?;
         return Ok(Some(open));
     }
-    let open = with_all_additions(open, triples.as_slice())?;
+    let open = open.with_additions(triples.as_slice())?;
     replies.push(SessionReply::Added(triples.len()))?;
     Ok(Some(open))
 }
@@ -114,7 +98,7 @@ pub fn stage(
         replies.push(SessionReply::FullTerms)?;
         return Ok(Some(open));
     }
-    let open = with_staged(open, shapes)?;
+    let open = open.with_shapes(shapes)?;
     replies.push(SessionReply::ShapesStaged(shapes.triples().len()))?;
     Ok(Some(open))
 }

@@ -1,4 +1,4 @@
-pub mod Members
 pub mod Changes
 pub mod Numbers
 pub mod Verdicts
+pub mod Versions

@@ -2,3 +2,4 @@ pub mod Graphs
 pub mod Names
 pub mod Runs
 pub mod Verdicts
+pub mod Versions

@@ -9,6 +9,7 @@ ghost use Rattle.store_laws.specs.Graphs.{LastChangeWins, GraphsStayAscending, C
 ghost use Rattle.store_laws.specs.Names.{NumbersStay};
 ghost use Rattle.store_laws.specs.Runs.{OrderGivesOneRun};
 ghost use Rattle.store_laws.specs.Verdicts.{VerdictAside};
+ghost use Rattle.store_laws.specs.Versions.{UnchangedTriplesStay, UnstagedShapesStay};
 
 /// A triple is in the graph after some changes exactly where the last change to it added it, or
 /// where none changed it and it was there before.
@@ -49,4 +50,14 @@ pub fn order_gives_one_run()
 /// Without its verdict a commit is answered alike, but for why it evaluated again.
 pub fn verdict_aside()
     ensures { VerdictAside }
+{}
+
+/// A triple that no commit between two versions changed is in both graphs or in neither.
+pub fn unchanged_triples_stay()
+    ensures { UnchangedTriplesStay }
+{}
+
+/// Where no commit between two versions staged shapes, both have the same shapes graph.
+pub fn unstaged_shapes_stay()
+    ensures { UnstagedShapesStay }
 {}

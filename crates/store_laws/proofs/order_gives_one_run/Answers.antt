@@ -1,4 +1,4 @@
-use Rattle.session_model.proofs.Advancing.{HasReplies-deterministic}
+use Rattle.session_model.proofs.Walking.{HasReplies-deterministic}
 use Rattle.store_laws.proofs.order_gives_one_run.Goals as goal
 
 pub returns : goal.returns

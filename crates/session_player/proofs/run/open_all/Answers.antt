@@ -1,6 +1,6 @@
 use Rattle.std.proofs.Common.{arith}
 use Rattle.session_player.proofs.Playing.{never_full}
-use Rattle.session_model.proofs.Advancing.{OpensSessions-none, OpensSessions-next}
+use Rattle.session_player.proofs.Advancing.{OpensSessions-none, OpensSessions-next}
 use Rattle.session_player.proofs.run.open_all.Goals as goal
 
 pub loop-i-init : goal.loop-i-init

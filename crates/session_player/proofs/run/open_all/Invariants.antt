@@ -1,4 +1,4 @@
-use Rattle.session_model.specs.Progress.{OpensSessions}
+use Rattle.session_player.specs.Progress.{OpensSessions}
 use Rattle.session_player.proofs.run.open_all.Given as goal
 
 abbrev pub invariant-loop-i : goal.invariant-loop-i

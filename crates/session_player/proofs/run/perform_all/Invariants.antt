@@ -1,6 +1,6 @@
 use Rattle.std.proofs.Common.{None, [], drop}
 use Rattle.session_model.specs.Sessions.{up_to_event}
-use Rattle.session_model.specs.Progress.{Advances}
+use Rattle.session_player.specs.Progress.{Advances}
 use Rattle.session_player.specs.Ready.{IsReady}
 use Rattle.session_player.proofs.run.perform_all.Given as goal
 

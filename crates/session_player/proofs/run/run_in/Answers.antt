@@ -1,12 +1,16 @@
-use Rattle.std.proofs.Common.{◌≡◌, ◌+◌, refl, ap}
-use Rattle.session_model.proofs.Advancing.{HasRun-start, HasRun-next}
+use Rattle.std.proofs.Common.{[], length, refl, subst, sym}
+use Rattle.store_model.specs.declared.event.Limits.{Limits}
+use Rattle.session_player.specs.Progress.{HasRun}
+use Rattle.session_player.proofs.Advancing.{HasRun-start, HasReplies-HasRun}
 use Rattle.session_player.proofs.run.run_in.Goals as goal
 
-pub loop-commands-init : goal.loop-commands-init
-loop-commands-init g c = record { session = refl; so_far = rw c.new-all.ensures.items (HasRun-start _ _ _ _ _ c.in_ok-core.ensures refl c.in_ok-open_all.ensures) }
+pub play_all-requires-clause-opened : goal.play_all-requires-clause-opened
+play_all-requires-clause-opened g c =
+    let start = HasRun-start c.args.files.now c.args.limits _ c.open_all.new.core _ c.in_ok-core.ensures refl c.in_ok-open_all.ensures in
+    subst (λ (l : Limits). HasRun c.args.files.now l c.open_all.new.core 0 []) (sym start.limits) start
 
-pub loop-commands-preserved : goal.loop-commands-preserved
-loop-commands-preserved g c =
-    let at : c.loop-commands.session + 1 ≡ c.loop-commands.commands-index + 1 = ap (λ n. n + 1) c.loop-commands.invariant.session in
-    let advances = rw c.as_slice.ensures at c.in_ok-replies.ensures.advances in
-    record { session = at; so_far = rw c.in_ok-push.ensures.items (HasRun-next _ _ _ _ _ _ c.commands-item.result _ _ _ c.loop-commands.invariant.so_far at c.loop-commands-test.true c.commands-item.is advances) }
+pub returns : goal.returns
+returns g c =
+    let start = HasRun-start c.args.files.now c.args.limits _ c.open_all.new.core _ c.in_ok-core.ensures refl c.in_ok-open_all.ensures in
+    let done = subst (λ (l : Limits). HasRun c.args.files.now l c.play_all.new.core (length c.args.files.now) c.in_ok-replies.replies.items) start.limits c.in_ok-replies.ensures in
+    rw c.in_ok-order.ensures (HasReplies-HasRun c.args.files.now c.args.limits c.play_all.new.core c.in_ok-replies.replies.items done)

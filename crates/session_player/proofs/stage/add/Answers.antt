@@ -1,6 +1,6 @@
 use Rattle.std.proofs.Common.{Bool, true, false, Option, Some, List, subst}
 use Rattle.rdf_model.specs.declared.triple.Triple.{Triple}
-use Rattle.session_model.specs.declared.session.OpenTransaction.{OpenTransaction}
+use Rattle.session_model.specs.Sessions.{OpenTransaction}
 use Rattle.session_player.specs.Ready.{IsReady, NamesAll}
 use Rattle.session_player.proofs.Playing.{performs_add, performs_full}
 use Rattle.session_player.proofs.stage.add.Goals as goal

@@ -1,8 +1,13 @@
-use Rattle.std.proofs.Common.{sym, ◌∙◌}
+use Rattle.std.proofs.Common.{◌≡◌, ◌∙◌, List, ap, subst}
+use Rattle.store_model.specs.declared.commit.Accepted.{Accepted}
+use Rattle.store_model.specs.Store.{RecordedStore, again}
+use Rattle.commit_core.specs.Consistent.{IsConsistent}
+use Rattle.commit_core.proofs.Verdicts.{held}
 use Rattle.commit_core.proofs.store.Core.commit.Goals as goal
 
-pub returns-in-Ok-Refuse : goal.returns-in-Ok-Refuse
-returns-in-Ok-Refuse g c =
-    let p = rw c.in-Ok-Refuse.field-0-is at c.in-Ok-Refuse.ensures in
-    let why = c.reason-again.ensures c.args.self.now.state.commits ∙ sym (c.reason-why.ensures c.args.self.now.state.commits) in
-    (rw (sym p.4, why) c.refuse-in-Ok-Refuse.ensures, p.1, p.2)
+pub plan-requires-clause-found : goal.plan-requires-clause-found
+plan-requires-clause-found g c =
+    let x = c.args.checked.transaction in
+    let commits : c.deref.result.now ≡ c.args.self.now.state.commits = c.deref.ensures.value ∙ ap (λ (s : RecordedStore). s.state.commits) c.self.view_is in
+    let why = c.in-Ok-find_reasons.ensures.0 ∙ ap (λ (cs : List Accepted). again cs x.staged x.verdict) commits in
+    held c.args.self.now _ _ _ _ _ _ (subst (λ (s : RecordedStore). IsConsistent s) c.self.view_is c.self.invariant) c.requires.verdict why c.has_held.ensures

@@ -1,41 +1,20 @@
--- Sessions that advance, walked through the store.
-use Rattle.std.proofs.Common.{◌≡◌, ℕ, ◌+◌, ◌-◌, ◌<◌, ◌≤◌, suc, Bool, true, false, nat_eq, nat_lt, List, [], ◌∷◌, ◌++◌, length, map, set, get_or, Option, Some, None, refl, sym, ap, ◌∙◌, subst, arith, append_assoc, drop, add-one, drop-cons, length-append}
+-- Sessions that advance, one after another.
+use Rattle.std.proofs.Common.{◌≡◌, ℕ, ◌+◌, ◌-◌, ◌<◌, ◌≤◌, suc, Bool, true, false, nat_eq, nat_lt, List, [], ◌∷◌, ◌++◌, length, map, get_or, Option, None, refl, sym, ap, ◌∙◌, subst, arith, append_assoc, drop, add-one, drop-cons, length-append}
 use Rattle.std.proofs.lemmas.List.{map-append, append-nil, length-map}
-use Rattle.std.specs.Prelude.{MatchBool, MatchOption}
+use Rattle.std.specs.Prelude.{MatchBool}
 use Rattle.std.specs.List.{AllByRecursion}
 use Rattle.std.proofs.lemmas.Bool.Decides.{nat_tests}
 use Rattle.store_model.specs.declared.event.Limits.{Limits}
 use Rattle.store_model.specs.declared.event.Event.{Event}
-use Rattle.rdf_model.specs.declared.term.Term.{Term}
-use Rattle.store_model.specs.declared.event.Action.{Action}
-use Rattle.store_model.specs.declared.event.Action.TheVariants.{Open, Begin, Name, Head, Commit, Void}
-use Rattle.store_model.specs.declared.commit.Overtaker.{Overtaker}
-use Rattle.shape_model.specs.declared.result_row.ResultRow.{ResultRow}
-use Rattle.store_model.specs.declared.commit.Transaction.{Transaction}
-use Rattle.session_model.specs.declared.command.Command.TheVariants as commands
-use Rattle.session_model.specs.declared.command.Command.TheVariants.{Add, BadAdd, Shapes, BadShapes, BrokenShapes}
-use Rattle.rdf_model.specs.Graphs.{after}
-use Rattle.store_model.proofs.Steps.{StepIsDeterministic-holds}
+use Rattle.store_model.specs.declared.event.Action.TheVariants.{Open}
 use Rattle.store_model.specs.declared.event.Reply.{Reply}
-use Rattle.store_model.specs.declared.event.Reply.TheVariants.{Session, Named, Full, Conflict, FullTriples}
+use Rattle.store_model.specs.declared.event.Reply.TheVariants.{Session}
 use Rattle.session_model.specs.declared.command.Command.{Command}
-use Rattle.session_model.specs.declared.session.OpenTransaction.{OpenTransaction}
 use Rattle.session_model.specs.declared.reply.SessionReply.{SessionReply}
-use Rattle.store_model.specs.Store.{State, RecordedStore, StepOf, empty_store, OpensNext, OpensNothing, TakesStep, IsOpened, Replies, CommitsByRows, CommitsByListing, CommitsWithinLimit, overtaker, named_with}
-use Rattle.session_model.specs.Sessions.{SessionState, World, LocalAnswer, answers, local_answer, up_to_event, up_to_event_by, action_of, commit_action, after_reply, no_session, session_at, world, RunsOpening, RunsEvent, RunsPlace, RunsInOrder, start, HasReplies}
-use Rattle.session_model.specs.Progress.{Advances, OpensSessions, HasRun}
-
-pub RunsInOrder-append : (l : Limits) (m k n : World) (a b : List ℕ) → RunsInOrder l m a k → RunsInOrder l k b n → RunsInOrder l m (a ++ b) n
-RunsInOrder-append l m k n [] b p q = subst (λ (x : World). RunsInOrder l x b n) p q
-RunsInOrder-append l m k n (i ∷ a) b p q = (p.0, p.1, RunsInOrder-append l p.0 k n a b p.2 q)
-
-pub get-middle : {X : Type 0} (before rest : List X) (x d : X) → get_or (before ++ x ∷ rest) (length before) d ≡ x
-get-middle [] rest x d = refl
-get-middle (y ∷ ys) rest x d = get-middle ys rest x d
-
-pub set-middle : {X : Type 0} (before rest : List X) (x y : X) → set (before ++ x ∷ rest) (length before) y ≡ before ++ y ∷ rest
-set-middle [] rest x y = refl
-set-middle (z ∷ zs) rest x y = ap (λ ws. z ∷ ws) (set-middle zs rest x y)
+use Rattle.store_model.specs.Store.{State, RecordedStore, empty_store, OpensNext, OpensNothing, TakesStep, IsOpened}
+use Rattle.session_model.specs.Sessions.{OpenTransaction, SessionState, World, answers, local_answer, up_to_event, action_of, after_reply, session_at, world, RunsOpening, RunsEvent, RunsInOrder, start, HasReplies}
+use Rattle.session_player.specs.Progress.{Advances, OpensSessions, HasRun}
+use Rattle.session_model.proofs.Walking.{RunsInOrder-append, up_to_event-local, turn, opened_same, never_open}
 
 -- a session that rests
 pub Advances-none : (i : ℕ) (s : RecordedStore) (p : SessionState) → Advances i s s p p
@@ -53,85 +32,8 @@ Advances-then i a b c p q r g h = record {
       (g.runs before rest e) (subst (λ (l : Limits). RunsInOrder l (world b.state (before ++ q ∷ rest)) (map (λ (x : Event). x.session) h.events) (world c.state (before ++ r ∷ rest))) g.limits (h.runs before rest e)));
 }
 
--- a command that is no event
-pub up_to_event-local : (w v : Option OpenTransaction) (c : Command) (cs : List Command) (replies : List SessionReply) (t : SessionReply) → local_answer w c ≡ answers t v → up_to_event w (c ∷ cs) replies ≡ up_to_event v cs (replies ++ t ∷ [])
-up_to_event-local w v c cs replies t e = ap (λ (s : Option LocalAnswer). up_to_event_by s (record { current = w; commands = c ∷ cs; replies = replies }) (λ u ts. up_to_event u cs ts)) e
-
-pub up_to_event-event : (w : Option OpenTransaction) (c : Command) (cs : List Command) (replies : List SessionReply) → local_answer w c ≡ None → up_to_event w (c ∷ cs) replies ≡ record { current = w; commands = c ∷ cs; replies = replies }
-up_to_event-event w c cs replies e = ap (λ (s : Option LocalAnswer). up_to_event_by s (record { current = w; commands = c ∷ cs; replies = replies }) (λ u ts. up_to_event u cs ts)) e
-
 pub Advances-local : (i : ℕ) (s : RecordedStore) (w v : Option OpenTransaction) (c : Command) (cs : List Command) (replies : List SessionReply) (t : SessionReply) → local_answer w c ≡ answers t v → Advances i s s (up_to_event w (c ∷ cs) replies) (up_to_event v cs (replies ++ t ∷ []))
 Advances-local i s w v c cs replies t e = subst (λ (q : SessionState). Advances i s s (up_to_event w (c ∷ cs) replies) q) (up_to_event-local w v c cs replies t e) (Advances-none i s (up_to_event w (c ∷ cs) replies))
-
--- one event
-turn : (l : Limits) (s t : State) (i : ℕ) (w : Option OpenTransaction) (c : Command) (cs : List Command) (replies : List SessionReply) (r : Reply) (before rest : List SessionState) → IsOpened s i → i ≡ length before + 1 → StepOf l s i (action_of w c) r t
-    → RunsPlace l (world s (before ++ record { current = w; commands = c ∷ cs; replies = replies } ∷ rest)) i (world t (before ++ after_reply s w c cs replies r ∷ rest))
-turn l s t i w c cs replies r before rest g e h =
-    let p : SessionState = record { current = w; commands = c ∷ cs; replies = replies } in
-    let q : SessionState = after_reply s w c cs replies r in
-    let m : World = world s (before ++ p ∷ rest) in
-    let n : World = world t (before ++ q ∷ rest) in
-    let le : i ≤ s.opened = g.1 in
-    let none : nat_eq i (s.opened + 1) ≡ false = grind (arith, nat_tests) in
-    let at : i - 1 ≡ length before = omega (arith, e) in
-    let mine : session_at m i ≡ p = ap (λ (k : ℕ). get_or (before ++ p ∷ rest) k no_session) at ∙ get-middle before rest p no_session in
-    let put : set (before ++ p ∷ rest) (i - 1) q ≡ before ++ q ∷ rest = ap (λ (k : ℕ). set (before ++ p ∷ rest) k q) at ∙ set-middle before rest p q in
-    let by : RunsEvent l m i p.current p.commands p.replies n = (r, t, h, ap (world t) (sym put)) in
-    subst (λ (b : Bool). MatchBool b (RunsOpening l m i n) (RunsEvent l m i (session_at m i).current (session_at m i).commands (session_at m i).replies n)) (sym none)
-    (subst (λ (x : SessionState). RunsEvent l m i x.current x.commands x.replies n) (sym mine) by)
-
--- only an empty_store gives out a session
-rows_given : (s t : State) (x : Transaction) (r : Reply) (rows : List ResultRow) → CommitsByRows s x rows r t → t.opened ≡ s.opened
-rows_given s t x r [] h = ap (λ (y : State). y.opened) h.1
-rows_given s t x r (row ∷ rows) h = ap (λ (y : State). y.opened) h.1
-
-weighed_given : (s t : State) (x : Transaction) (p r : Reply) (b : Bool) → MatchBool b (Replies p s r t) (CommitsByListing s x r t) → t.opened ≡ s.opened
-weighed_given s t x p r true h = ap (λ (y : State). y.opened) h.1
-weighed_given s t x p r false h = rows_given s t x r h.0 h.2
-
-commit_given : (l : Limits) (s t : State) (x : Transaction) (r : Reply) (o : Option Overtaker) → MatchOption o (CommitsWithinLimit l s x r t) (λ h. Replies (Conflict h.commit h.triple) s r t) → t.opened ≡ s.opened
-commit_given l s t x r None h = weighed_given s t x (FullTriples (length (after s.graph x.net))) r (nat_lt l.triples (length (after s.graph x.net))) h
-commit_given l s t x r (Some y) h = ap (λ (z : State). z.opened) h.1
-
-names_given : (s t : State) (ts : List Term) (p r : Reply) (b : Bool) → MatchBool b (Replies p s r t) (Replies Named (record s { named = named_with s.named ts }) r t) → t.opened ≡ s.opened
-names_given s t ts p r true h = ap (λ (z : State). z.opened) h.1
-names_given s t ts p r false h = ap (λ (z : State). z.opened) h.1
-
-abbrev is_open : Action → Bool
-is_open Open = true
-is_open Begin = false
-is_open (Name ts) = false
-is_open Head = false
-is_open (Commit x) = false
-is_open Void = false
-
-opened_same : (l : Limits) (s t : State) (i : ℕ) (a : Action) (r : Reply) → is_open a ≡ false → StepOf l s i a r t → t.opened ≡ s.opened
-opened_same l s t i Open r n h = cc
-opened_same l s t i Begin r n h = ap (λ (z : State). z.opened) h.1.1
-opened_same l s t i (Name ts) r n h = names_given s t ts (Full (length (named_with s.named ts) - 2)) r (nat_lt (l.terms + 2) (length (named_with s.named ts))) h.1
-opened_same l s t i Head r n h = ap (λ (z : State). z.opened) h.1.1
-opened_same l s t i (Commit x) r n h = commit_given l s t x r (overtaker s.commits x.base x.finds) h.2
-opened_same l s t i Void r n h = ap (λ (z : State). z.opened) h.1.1
-
-not_open : (b : Bool) (x : Transaction) → is_open (commit_action b x) ≡ false
-not_open true x = refl
-not_open false x = refl
-
-never_open : (w : Option OpenTransaction) (c : Command) → is_open (action_of w c) ≡ false
-never_open None commands.Begin = refl
-never_open (Some w) commands.Begin = refl
-never_open None (BadAdd n kind) = refl
-never_open (Some w) (BadAdd n kind) = refl
-never_open None (Add ts) = refl
-never_open (Some w) (Add ts) = refl
-never_open None (Shapes ts) = refl
-never_open (Some w) (Shapes ts) = refl
-never_open None (BadShapes n kind) = refl
-never_open (Some w) (BadShapes n kind) = refl
-never_open None (BrokenShapes rule node) = refl
-never_open (Some w) (BrokenShapes rule node) = refl
-never_open None commands.Commit = refl
-never_open (Some w) commands.Commit = not_open w.head_taken w.transaction
 
 pub Advances-event : (i : ℕ) (s n : RecordedStore) (w : Option OpenTransaction) (c : Command) (cs : List Command) (replies : List SessionReply) (r : Reply) → IsOpened s.state i → TakesStep s n (record { session = i; action = action_of w c; reply = r })
     → Advances i s n (record { current = w; commands = c ∷ cs; replies = replies }) (after_reply s.state w c cs replies r)
@@ -237,26 +139,3 @@ HasReplies-HasRun files l c all s =
       complete = record { opened = s.opened ∙ sym s.count; left = s.left };
       replies = s.replies;
     }
-
--- an order tells one thing only
-turn_one : (l : Limits) (m n o : World) (i : ℕ) (w : Option OpenTransaction) (cs : List Command) (replies : List SessionReply) → RunsEvent l m i w cs replies n → RunsEvent l m i w cs replies o → o ≡ n
-turn_one l m n o i w [] replies h k = absurd h
-turn_one l m n o i w (c ∷ cs) replies h k =
-    let e = StepIsDeterministic-holds l m.state h.1 k.1 i (action_of w c) h.0 k.0 h.2 k.2 in
-    k.3 ∙ (ap (λ (r : Reply). record { state = k.1; sessions = set m.sessions (i - 1) (after_reply m.state w c cs replies r) }) e.0
-    ∙ (ap (λ (s : State). record { state = s; sessions = set m.sessions (i - 1) (after_reply m.state w c cs replies h.0) }) e.1 ∙ sym h.3))
-
-place_one : (l : Limits) (m n o : World) (i : ℕ) (b : Bool) → MatchBool b (RunsOpening l m i n) (RunsEvent l m i (session_at m i).current (session_at m i).commands (session_at m i).replies n) → MatchBool b (RunsOpening l m i o) (RunsEvent l m i (session_at m i).current (session_at m i).commands (session_at m i).replies o) → o ≡ n
-place_one l m n o i true h k =
-    let e = StepIsDeterministic-holds l m.state h.1.1 k.1.1 i Open h.1.0 k.1.0 h.1.2 k.1.2 in
-    k.1.3 ∙ (ap (λ (s : State). record { state = s; sessions = m.sessions }) e.1 ∙ sym h.1.3)
-place_one l m n o i false h k = turn_one l m n o i (session_at m i).current (session_at m i).commands (session_at m i).replies h k
-
-pub RunsInOrder-deterministic : (l : Limits) (m n o : World) (order : List ℕ) → RunsInOrder l m order n → RunsInOrder l m order o → o ≡ n
-RunsInOrder-deterministic l m n o [] h k = k ∙ sym h
-RunsInOrder-deterministic l m n o (i ∷ order) h k =
-    let e = place_one l m h.0 k.0 i (nat_eq i (m.state.opened + 1)) h.1 k.1 in
-    RunsInOrder-deterministic l h.0 n o order h.2 (subst (λ (x : World). RunsInOrder l x order o) e k.2)
-
-pub HasReplies-deterministic : (files : List (List Command)) (l : Limits) (order : List ℕ) (a b : List (List SessionReply)) → HasReplies files l order a → HasReplies files l order b → b ≡ a
-HasReplies-deterministic files l order a b h k = k.replies ∙ (ap (λ (m : World). map (λ p. p.replies) m.sessions) (RunsInOrder-deterministic l (start files) h.last k.last order h.runs k.runs) ∙ sym h.replies)

@@ -1,0 +1,139 @@
+-- A verdict that no later commit touched has the listing of the newest graph.
+use Rattle.std.proofs.Common.{◌≡◌, ◌∙◌, ℕ, ◌+◌, ◌≤◌, Bool, true, false, ◌||◌, cond, List, [], ◌∷◌, ◌++◌, length, drop, Option, Some, None, refl, sym, ap, subst, arith, inl, inr}
+use Rattle.std.specs.Prelude.{◌↔◌, MatchBool}
+use Rattle.std.specs.List.{AllByRecursion, Contains, list_any}
+use Rattle.std.specs.Ordering.{eq_by_cmp, is_eq}
+use Rattle.std.specs.Cmp.{tied_itself}
+use Rattle.std.specs.declared.cmp.Ordering.{Ordering}
+use Rattle.std.specs.declared.cmp.Ordering.TheVariants.{Less, Equal, Greater}
+use Rattle.rdf_model.specs.declared.change.Change.{Change}
+use Rattle.rdf_model.specs.declared.look.Look.{Look}
+use Rattle.rdf_model.specs.declared.triple.Triple.{Triple}
+use Rattle.rdf_model.specs.Graphs.{after}
+use Rattle.rdf_model.specs.Matching.{is_read, is_read_by}
+use Rattle.rdf_model.specs.Orders.{triple_exact, triple_total}
+use Rattle.rdf_model.specs.Terms.{triple_cmp}
+use Rattle.collections.specs.Ordered.{has_item}
+use Rattle.collections.proofs.Members.{has_cases, has_equal, has_tail}
+use Rattle.shape_model.specs.Agreement.{Agree}
+use Rattle.shape_model.specs.Looks.{Matches}
+use Rattle.shape_model.specs.Validation.{Listing, NoResult}
+use Rattle.shape_model.specs.declared.result_row.ResultRow.{ResultRow}
+use Rattle.shape_model.proofs.Listings.{verdict_law}
+use Rattle.shape_model.proofs.Looks.{look_law}
+use Rattle.store_model.specs.declared.commit.Accepted.{Accepted}
+use Rattle.store_model.specs.declared.commit.Again.{Again}
+use Rattle.store_model.specs.declared.commit.Again.TheVariants.{No, ShapesChanged}
+use Rattle.store_model.specs.declared.commit.Verdict.{Verdict}
+use Rattle.store_model.specs.declared.event.Event.{Event}
+use Rattle.store_model.specs.declared.event.Limits.{Limits}
+use Rattle.store_model.specs.Store.{RecordedStore, Replays, State, again, again_from, empty_store, first_read, shapes_under, touched_or}
+use Rattle.store_model.proofs.Steps.{StepIsDeterministic-holds}
+use Rattle.store_model.proofs.Versions.{Grows, between_is, replayed}
+use Rattle.commit_core.specs.Consistent.{IsConsistent}
+use Rattle.commit_core.specs.Verdicts.{AreOfVerdict, IsVerdict}
+use Rattle.commit_core.proofs.Consistency.{past_sound}
+
+-- a replay in two parts
+split : (l : Limits) (s u : State) (front back : List Event) → Replays l s (front ++ back) u → (m : State) × Replays l s front m × Replays l m back u
+split l s u [] back h = (s, refl, h)
+split l s u (e ∷ es) back h = let r = split l h.0 u es back h.2 in (r.0, (h.0, h.1, r.1), r.2)
+
+one_end : (l : Limits) (s m n : State) (es : List Event) → Replays l s es m → Replays l s es n → n ≡ m
+one_end l s m n [] h k = k ∙ sym h
+one_end l s m n (e ∷ es) h k =
+    let same : k.0 ≡ h.0 = (StepIsDeterministic-holds l s h.0 k.0 e.session e.action e.reply e.reply h.1 k.1).1 in
+    one_end l h.0 m n es h.2 (subst (λ (x : State). Replays l x es n) same k.2)
+
+since : (s : RecordedStore) (head : State) (front back : List Event) → Replays s.limits empty_store s.history s.state → s.history ≡ front ++ back → Replays s.limits empty_store front head → Replays s.limits head back s.state
+since s head front back all e h =
+    let r = split s.limits empty_store s.state front back (subst (λ (es : List Event). Replays s.limits empty_store es s.state) e all) in
+    subst (λ (x : State). Replays s.limits x back s.state) (one_end s.limits empty_store head r.0 front h r.1) r.2
+
+-- a triple is in a list of triples where its test says so
+is_equal : (o : Ordering) → is_eq o ≡ true → o ≡ Equal
+is_equal Less e = cc
+is_equal Equal e = refl
+is_equal Greater e = cc
+
+to_list : (ts : List Triple) (t : Triple) → has_item triple_cmp t ts ≡ true → Contains ts t
+to_list [] t h = cc
+to_list (u ∷ us) t h = elim (eq_by_cmp triple_cmp u t) as (λ b. eq_by_cmp triple_cmp u t ≡ b → (b || has_item triple_cmp t us) ≡ true → Contains (u ∷ us) t) [
+  | true ↦ λ e g. has_equal u us t (triple_exact u t (is_equal (triple_cmp u t) e))
+  | false ↦ λ e g. has_tail u us t (to_list us t g)
+] refl h
+
+or_last : (a b : Bool) → b ≡ true → (a || b) ≡ true
+or_last true b h = refl
+or_last false b h = h
+
+to_test : (ts : List Triple) (t : Triple) → Contains ts t → has_item triple_cmp t ts ≡ true
+to_test [] t c = absurd (omega arith)
+to_test (u ∷ us) t c = elim (has_cases u us t c) [
+  | inl e ↦ ap (λ b. b || has_item triple_cmp t us) (subst (λ (x : Triple). eq_by_cmp triple_cmp u x ≡ true) e (ap is_eq (tied_itself triple_total u)))
+  | inr d ↦ or_last (eq_by_cmp triple_cmp u t) (has_item triple_cmp t us) (to_test us t d)
+]
+
+alike : (g h : List Triple) (t : Triple) → has_item triple_cmp t h ≡ has_item triple_cmp t g → Contains g t ↔ Contains h t
+alike g h t e = (λ c. to_list h t (e ∙ to_test g t c), λ c. to_list g t (sym e ∙ to_test h t c))
+
+-- where none of the triples is read, a triple that is read isn't one of them
+unread : (ls : List Look) (ts : List Triple) (t : Triple) → first_read ls ts ≡ None → is_read ls t ≡ true → has_item triple_cmp t ts ≡ false
+unread ls [] t h r = refl
+unread ls (u ∷ us) t h r = elim (is_read ls u) as (λ b. is_read ls u ≡ b → cond b (Some u) (first_read ls us) ≡ None → has_item triple_cmp t (u ∷ us) ≡ false) [
+  | true ↦ λ e g. cc
+  | false ↦ λ e g. ap (λ b. b || has_item triple_cmp t us) (apart u e) ∙ unread ls us t g r
+] refl h
+  where
+    apart : (u : Triple) → is_read ls u ≡ false → eq_by_cmp triple_cmp u t ≡ false
+    apart u e = elim (eq_by_cmp triple_cmp u t) as (λ b. eq_by_cmp triple_cmp u t ≡ b → b ≡ false) [
+      | true ↦ λ k. let same : u ≡ t = triple_exact u t (is_equal (triple_cmp u t) k) in let read : is_read ls u ≡ true = subst (λ (x : Triple). is_read ls x ≡ true) (sym same) r in cc (e, read)
+      | false ↦ λ k. refl
+    ] refl
+
+-- commits after which a verdict with these looks still holds: none staged shapes, none changed a triple that is read
+abbrev Leave : List Look → List Accepted → Type 0
+Leave ls more = AllByRecursion (λ a. a.staged ≡ false) more × ((t : Triple) → is_read ls t ≡ true → AllByRecursion (λ a. has_item triple_cmp t a.changed ≡ false) more)
+
+untouched : (n : ℕ) (ls : List Look) (more : List Accepted) → again_from n ls more ≡ No → Leave ls more
+untouched n ls [] h = (tt, λ t r. tt)
+untouched n ls (a ∷ as') h = elim a.staged as (λ b. a.staged ≡ b → cond b (ShapesChanged n) (touched_or n (first_read ls a.changed) (again_from (n + 1) ls as')) ≡ No → Leave ls (a ∷ as')) [
+  | true ↦ λ e g. cc
+  | false ↦ λ e g. elim (first_read ls a.changed) as (λ o. first_read ls a.changed ≡ o → touched_or n o (again_from (n + 1) ls as') ≡ No → Leave ls (a ∷ as')) [
+    | Some t ↦ λ f k. cc
+    | None ↦ λ f k. let rest = untouched (n + 1) ls as' k in ((e, rest.0), λ t r. (unread ls a.changed t f r, rest.1 t r))
+  ] refl g
+] refl h
+
+-- a look of the list that reads a triple
+looks_read : (ls : List Look) (look : Look) (t : Triple) → Contains ls look → is_read_by look t ≡ true → is_read ls t ≡ true
+looks_read [] look t c h = absurd (omega arith)
+looks_read (l ∷ ls) look t c h = elim (has_cases l ls look c) [
+  | inl e ↦ ap (λ b. b || is_read ls t) (subst (λ (x : Look). is_read_by x t ≡ true) (sym e) h)
+  | inr d ↦ or_last (is_read_by l t) (is_read ls t) (looks_read ls look t d h)
+]
+
+agree : (g h : List Triple) (ls : List Look) → ((t : Triple) → is_read ls t ≡ true → has_item triple_cmp t h ≡ has_item triple_cmp t g) → Agree g h ls
+agree g h ls same look c t m = alike g h t (same t (looks_read ls look t c ((look_law look t).0 m)))
+
+verdict_stands : (s : RecordedStore) (net : List Change) (v : Verdict) (rows : List ResultRow) → IsConsistent s → IsVerdict s net v rows → again_from (v.head + 1) v.looks (drop v.head s.state.commits) ≡ No → Listing (after s.state.graph net) s.state.shapes rows
+verdict_stands s net v rows k i h =
+    let g : Grows i.head s.state = replayed s.limits i.head s.state i.back (since s i.head i.front i.back k.replays i.history i.replays) in
+    let later : drop v.head s.state.commits ≡ g.more = ap (λ n. drop n s.state.commits) i.number ∙ between_is i.head s.state g in
+    let leave = untouched (v.head + 1) v.looks g.more (subst (λ (cs : List Accepted). again_from (v.head + 1) v.looks cs ≡ No) later h) in
+    let past = past_sound s i.head i.front k i.replays in
+    let shapes : s.state.shapes ≡ i.head.shapes = g.shapes leave.0 in
+    let none : NoResult s.state.graph i.head.shapes = subst (λ (ts : List Triple). NoResult s.state.graph ts) shapes k.sound.no_result in
+    subst (λ (ts : List Triple). Listing (after s.state.graph net) ts rows) (sym shapes)
+    (verdict_law i.head.graph s.state.graph i.head.shapes net v.looks rows past.0 k.sound.ascending past.1 none i.looks (agree i.head.graph s.state.graph v.looks (λ t r. g.graph t (leave.1 t r))) i.listing)
+
+held_listing : (s : RecordedStore) (net : List Change) (staged : Option (List Triple)) (verdict : Option Verdict) (rows : List ResultRow) → IsConsistent s → AreOfVerdict s net verdict rows → again s.state.commits staged verdict ≡ No → Listing (after s.state.graph net) (shapes_under s.state.shapes staged) rows
+held_listing s net (Some shapes) verdict rows k a h = cc
+held_listing s net None None rows k a h = cc
+held_listing s net None (Some v) rows k a h = verdict_stands s net v rows k a h
+
+-- by the test of the reason
+pub held : (s : RecordedStore) (net : List Change) (staged : Option (List Triple)) (verdict : Option Verdict) (rows : List ResultRow) (why : Again) (b : Bool) → IsConsistent s → AreOfVerdict s net verdict rows → why ≡ again s.state.commits staged verdict → MatchBool b (why ≡ No) (Unit {0})
+    → MatchBool b (Listing (after s.state.graph net) (shapes_under s.state.shapes staged) rows) (Unit {0})
+held s net staged verdict rows why true k a e h = held_listing s net staged verdict rows k a (sym e ∙ h)
+held s net staged verdict rows why false k a e h = tt

@@ -1,0 +1,111 @@
+ghost use Rattle.std.specs.Prelude.{◌≡◌, ◌++◌, [], MatchBool, None, IfOk, OnOk};
+ghost use Rattle.store_model.specs.Store.{HasChange};
+ghost use Rattle.session_model.specs.Sessions;
+ghost use Rattle.session_model.specs.Sessions.{additions, begun};
+
+use collections::Sequence;
+use commit_core::{Snap, Transaction};
+use rdf_model::{Change, Net, Triple};
+use shapes_graph::ShapesGraph;
+use std::alloc::{AllocError, Global};
+use std::marker::Model;
+
+/// A session's open transaction, with the snapshot of its begin. Contracts see it as the plain
+/// session's; its commit has taken no head yet.
+pub struct OpenTransaction {
+    transaction: Transaction,
+    snap: Snap,
+}
+
+impl Model for OpenTransaction {
+    ghost use Rattle.std.specs.Prelude.{false};
+    ghost use Rattle.session_model.specs.Sessions;
+
+    ghost Value = { Sessions.OpenTransaction };
+
+    ghost view = { λ w. record { transaction = w.transaction; graph = w.snap.graph; head_taken = false } };
+}
+
+// Written by hand, so that what owns one calls it in place of having it written out.
+impl Drop for OpenTransaction {
+    fn drop(self) {
+        let OpenTransaction {
+            transaction: _,
+            snap: _,
+        } = self;
+    }
+}
+
+// Adds an addition of each triple to the changes.
+fn add_all(net: &mut Net, triples: &[Triple]) -> Result<(), AllocError>
+    ensures { OnOk result (net.new ≡ net.old ++ additions triples.now) }
+{
+    for triple in triples {
+        net.push(Change::Add(triple.clone()?))?;
+    }
+    Ok(())
+}
+
+impl OpenTransaction {
+    /// The transaction that begins at the snapshot.
+    pub fn new(alloc: Global, snap: Snap) -> OpenTransaction
+        ensures { result ≡ begun snap.number snap.graph }
+    {
+        let transaction = Transaction {
+            base: snap.number(),
+            net: Net::new(alloc),
+            staged: None,
+            finds: Sequence::new(alloc),
+            verdict: None,
+        };
+        OpenTransaction { transaction, snap }
+    }
+
+    /// The version at its begin.
+    pub fn base(&self) -> u64
+        ensures { result ≡ self.now.transaction.base }
+    {
+        self.transaction.base
+    }
+
+    /// Whether it neither changes a triple nor stages shapes.
+    pub fn only_reads(&self) -> bool
+        ensures { MatchBool result ((self.now.transaction.net ≡ []) × (self.now.transaction.staged ≡ None)) (HasChange self.now.transaction.net self.now.transaction.staged) }
+    {
+        match self.transaction.staged {
+            Some(_) => false,
+            None => self.transaction.net.is_empty(),
+        }
+    }
+
+    /// The same with an addition of each triple.
+    pub fn with_additions(self, triples: &[Triple]) -> Result<OpenTransaction, AllocError>
+        ensures { IfOk result (λ next. next ≡ Sessions.with_additions self triples.now) }
+    {
+        let OpenTransaction { transaction, snap } = self;
+        let mut transaction = transaction;
+        add_all(&mut transaction.net, triples)?;
+        Ok(OpenTransaction { transaction, snap })
+    }
+
+    /// The same with these shapes staged.
+    pub fn with_shapes(self, shapes: &ShapesGraph) -> Result<OpenTransaction, AllocError>
+        ensures { IfOk result (λ next. next ≡ Sessions.with_shapes self shapes.now) }
+    {
+        let OpenTransaction { transaction, snap } = self;
+        let mut transaction = transaction;
+        transaction.staged = Some(shapes.share()?);
+        Ok(OpenTransaction { transaction, snap })
+    }
+
+    /// What its commit hands in.
+    pub fn into_transaction(self) -> Transaction
+        ensures { result ≡ self.transaction }
+    {
+        let OpenTransaction {
+            transaction,
+            snap: _,
+        } = self;
+        transaction
+    }
+}
