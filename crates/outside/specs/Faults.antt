@@ -1,5 +1,5 @@
 -- Which faults are noted: all but want of memory, each at the end of a list.
-use Rattle.std.specs.Prelude.{◌≡◌, ℕ, List, [], ◌∷◌, ◌++◌}
+use Rattle.std.specs.Prelude.{◌≡◌, ◌⊎◌, ℕ, List, [], ◌∷◌, ◌++◌, Result, Ok, Err}
 use Rattle.outside.specs.declared.files.LoadFault.{LoadFault}
 use Rattle.outside.specs.declared.files.LoadFault.TheVariants as load
 use Rattle.outside.specs.declared.maker.MakeFault.{MakeFault}
@@ -9,6 +9,12 @@ use Rattle.outside.specs.declared.maker.MakeFault.TheVariants as make
 abbrev pub Notes : LoadFault → List (List ℕ) → List ℕ → List (List ℕ) → Type 0
 Notes load.Failed old name new = new ≡ old ++ name ∷ []
 Notes load.Memory old name new = new ≡ old
+
+-- a load joins the list of loads; where memory ran out it may not have been made
+abbrev pub NotesLoad : {X : Type 0} → Result X LoadFault → List (List ℕ) → List ℕ → List (List ℕ) → Type 0
+NotesLoad (Ok bytes) old name new = new ≡ old ++ name ∷ []
+NotesLoad (Err load.Failed) old name new = new ≡ old ++ name ∷ []
+NotesLoad (Err load.Memory) old name new = (new ≡ old) ⊎ (new ≡ old ++ name ∷ [])
 
 -- a pattern that was refused, with its flags
 abbrev pub Refusal : Type 0

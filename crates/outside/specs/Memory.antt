@@ -17,12 +17,18 @@ abbrev pub content : List MemFile → List ℕ → Option (List ℕ)
 content [] name = None
 content (f ∷ fs) name = if pointwise nat_eq (string_bytes f.name) name then Some f.bytes.items else content fs name
 
--- files in memory, the numbers of the calls that fail, how many calls there were, and the names of the loads that
--- failed
+-- files in memory, the numbers of the calls that fail, how many calls there were, and the names of the loads and of
+-- those that failed
 pub record FilesState : Type 0 where
   pub files : List MemFile
   pub fail : List ℕ
   pub calls : ℕ
+  pub loaded : List (List ℕ)
+  pub failed : List (List ℕ)
+
+-- the files of the system: the names of the loads, and of those that failed
+pub record HostState : Type 0 where
+  pub loaded : List (List ℕ)
   pub failed : List (List ℕ)
 
 -- A load, by the files after it, whose calls give its number. It gives bytes only where the number isn't listed, and

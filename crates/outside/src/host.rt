@@ -10,24 +10,30 @@ use std::marker::Model;
 #[derive(Drop)]
 pub struct HostFiles<'a, R> {
     rt: &'a R,
+    loaded: Vec<String>,
     failed: Vec<String>,
 }
 
 impl<'a, R> Model for HostFiles<'a, R> {
-    ghost use Rattle.std.specs.Prelude.{List, ℕ, map, string_bytes};
+    ghost use Rattle.std.specs.Prelude.{map, string_bytes};
+    ghost use Rattle.outside.specs.Memory.{HostState};
 
-    ghost Value = { List (List ℕ) };
+    ghost Value = { HostState };
 
-    ghost view = { λ m. map string_bytes m.failed.items };
+    ghost view = { λ m. record {
+      loaded = map string_bytes m.loaded.items;
+      failed = map string_bytes m.failed.items;
+    } };
 }
 
 impl<'a, R> HostFiles<'a, R> {
-    /// Files of which no load has failed. It takes no memory.
+    /// Files of which none was loaded. It takes no memory.
     pub fn new(alloc: Global, rt: &'a R) -> Self
-        ensures { result ≡ [] }
+        ensures { result ≡ record { loaded = []; failed = [] } }
     {
         HostFiles {
             rt,
+            loaded: Vec::new(alloc),
             failed: Vec::new(alloc),
         }
     }
@@ -55,11 +61,16 @@ impl<'a, R: std::rt::Files> Files for HostFiles<'a, R> {
 
     ghost holds = { λ m. None };
 
-    ghost failed = { λ m. m };
+    ghost loaded = { λ m. m.loaded };
+
+    ghost failed = { λ m. m.failed };
 
     fn load(&mut self, alloc: Global, name: &str, room: usize) -> Result<Vec<u8>, LoadFault> {
         let noted = String::from_str(alloc, name)?;
+        let asked = String::from_str(alloc, name)?;
         self.failed.reserve(1)?;
+        self.loaded.reserve(1)?;
+        self.loaded.push_reserved(asked);
         match read_front(self.rt, alloc, name, room) {
             Ok(bytes) => Ok(bytes),
             Err(error) if error.kind() == ErrorKind::OutOfMemory => Err(LoadFault::Memory),

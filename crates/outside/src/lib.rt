@@ -16,8 +16,6 @@ mod mem_sink;
 mod regex_maker;
 mod request;
 mod sink;
-#[cfg(test)]
-mod tests;
 
 pub use fake_maker::FakeMaker;
 pub use files::{Files, LoadFault};

@@ -20,6 +20,7 @@ pub struct MemFiles {
     files: Vec<MemFile>,
     fail: Vec<u64>,
     calls: u64,
+    loaded: Vec<String>,
     failed: Vec<String>,
 }
 
@@ -33,6 +34,7 @@ impl Model for MemFiles {
       files = m.files.items;
       fail = m.fail.items;
       calls = m.calls;
+      loaded = map string_bytes m.loaded.items;
       failed = map string_bytes m.failed.items;
     } };
 }
@@ -42,12 +44,13 @@ impl MemFiles {
 
     /// Files of which the loads with the numbers `fail` fail. It takes no memory.
     pub fn new(alloc: Global, files: Vec<MemFile>, fail: Vec<u64>) -> MemFiles
-        ensures { result ≡ record { files = files.items; fail = fail.items; calls = 0; failed = [] } }
+        ensures { result ≡ record { files = files.items; fail = fail.items; calls = 0; loaded = []; failed = [] } }
     {
         MemFiles {
             files,
             fail,
             calls: 0,
+            loaded: Vec::new(alloc),
             failed: Vec::new(alloc),
         }
     }
@@ -82,16 +85,21 @@ impl Files for MemFiles {
 
     ghost holds = { λ m. Some (content m.files) };
 
+    ghost loaded = { λ m. m.loaded };
+
     ghost failed = { λ m. m.failed };
 
     ghost load_gives = { λ old name room result new.
-        (new ≡ record old { calls = counted old.calls; failed = new.failed })
+        (new ≡ record old { calls = counted old.calls; loaded = new.loaded; failed = new.failed })
         × LoadsInMemory new name result };
 
     fn load(&mut self, alloc: Global, name: &str, room: usize) -> Result<Vec<u8>, LoadFault> {
         self.calls = self.calls.saturating_add(1);
         let noted = String::from_str(alloc, name)?;
+        let asked = String::from_str(alloc, name)?;
         self.failed.reserve(1)?;
+        self.loaded.reserve(1)?;
+        self.loaded.push_reserved(asked);
         if self.fail.contains(&self.calls) {
             self.failed.push_reserved(noted);
             return Err(LoadFault::Failed);

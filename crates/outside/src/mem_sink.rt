@@ -73,6 +73,13 @@ impl MemSink {
         self.taken.as_slice()
     }
 
+    /// How many pieces were offered.
+    pub fn calls(&self) -> u64
+        ensures { result ≡ self.now.calls }
+    {
+        self.calls
+    }
+
     /// How many writes failed.
     pub fn faults(&self) -> u64
         ensures { result ≡ self.now.faults }

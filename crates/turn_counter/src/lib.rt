@@ -6,6 +6,4 @@ pub mod chain;
 pub mod counter;
 pub mod entry;
 pub mod team;
-#[cfg(test)]
-mod tests;
 pub mod worker;

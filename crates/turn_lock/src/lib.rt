@@ -7,7 +7,8 @@ pub mod entries;
 pub mod laws;
 mod rule;
 mod steps;
-#[cfg(test)]
-mod tests;
 pub mod turns;
 pub mod view;
+
+pub use entries::Entries;
+pub use turns::{Held, NoSeat, Pass, Turns};

@@ -1,6 +1,5 @@
-use crate::entries::Entries;
-use crate::turns::{NoSeat, Turns};
 use std::test::*;
+use turn_lock::{Entries, NoSeat, Turns};
 
 /// A state that stands for no entry.
 #[derive(Drop)]

@@ -1,8 +1,12 @@
-use super::*;
+use outside::{
+    EventKind, FakeMaker, Files, Gate, HostFiles, HostSink, LoadFault, MakeFault, Maker, MemFile,
+    MemFiles, MemSink, OpenGate, Place, RegexMaker, write_all,
+};
+use std::alloc::{AllocError, Global};
 use std::test::Fail;
 
 // Files `a`, which holds `hello`, and `b`, which holds nothing.
-fn two_files(alloc: std::alloc::Global, fail: &[u64]) -> Result<MemFiles, std::alloc::AllocError> {
+fn two_files(alloc: Global, fail: &[u64]) -> Result<MemFiles, AllocError> {
     let files = vec![in alloc;
         MemFile {
             name: String::from_str(alloc, "a")?,
@@ -44,27 +48,29 @@ fn files_in_memory(rt: HostRuntime) -> Result<(), Fail> {
 fn a_sink_that_fails(rt: HostRuntime) -> Result<(), Fail> {
     let alloc = rt.alloc();
     let text = b"0123456789012345678901234567890123456789";
-    // What a call takes at most, the room, the writes that fail, how much is taken, and the faults.
-    let table: [(usize, usize, &[u64], usize, u64); 4] = [
-        (8, 40, &[], 40, 0),
-        (8, 40, &[3], 16, 1),
-        (8, 20, &[], 20, 1),
-        (100, 40, &[2], 40, 0),
+    // What a call takes at most, the room, the writes that fail, how much is taken, the faults, and the writes: each
+    // offers all that is left, so no more are made than the sink asks for.
+    let table: [(usize, usize, &[u64], usize, u64, u64); 4] = [
+        (8, 40, &[], 40, 0, 5),
+        (8, 40, &[3], 16, 1, 3),
+        (8, 20, &[], 20, 1, 4),
+        (100, 40, &[2], 40, 0, 1),
     ];
-    for (most, room, fail, taken, faults) in table {
+    for (most, room, fail, taken, faults, calls) in table {
         assert!(rt; most > 0);
         let mut sink = MemSink::new(alloc, most, room, fail.to_vec(alloc)?)?;
         let answer = write_all(&mut sink, text);
         assert_eq!(rt; answer.is_ok(), faults == 0);
         assert_eq!(rt; sink.taken(), &text[..taken.min(40)]);
         assert_eq!(rt; sink.faults(), faults);
+        assert_eq!(rt; sink.calls(), calls);
     }
     Ok(())
 }
 
 // Whether the pattern is found in the text.
 fn is_found(
-    alloc: std::alloc::Global,
+    alloc: Global,
     maker: &mut impl Maker,
     pattern: &str,
     flags: &str,

@@ -1,12 +1,12 @@
 ghost use Rattle.std.specs.Prelude.{◌^◌, ◌<◌};
 
-use crate::entry::Entry;
-use crate::team::count;
 use std::alloc::Global;
 use std::process::Abort;
 use std::sync::Wait;
 use std::test::*;
 use std::thread::Threads;
+use turn_counter::entry::Entry;
+use turn_counter::team::count;
 
 const TURNS: u64 = 1000;
 
@@ -44,11 +44,9 @@ fn count_with<R: Threads + Wait + Abort + Sync>(
 }
 
 #[test]
-fn two_threads(rt: HostRuntime) -> Result<(), Fail> {
-    count_with(&rt, rt.alloc(), 2)
-}
-
-#[test]
-fn eight_threads(rt: HostRuntime) -> Result<(), Fail> {
-    count_with(&rt, rt.alloc(), 8)
+fn two_and_eight_threads(rt: HostRuntime) -> Result<(), Fail> {
+    for workers in [2, 8] {
+        count_with(&rt, rt.alloc(), workers)?;
+    }
+    Ok(())
 }

@@ -1,0 +1,5 @@
+//! Tests of the forms in memory, and of the real ones, of what lies outside the program.
+#![tactic(auto)]
+
+#[cfg(test)]
+mod forms;

@@ -1,0 +1,7 @@
+//! Tests of the lock whose turns make one history, and of the counter that threads share by it.
+#![tactic(auto)]
+
+#[cfg(test)]
+mod counted;
+#[cfg(test)]
+mod seats;
