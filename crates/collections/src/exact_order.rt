@@ -11,3 +11,9 @@ impl ExactOrder for u32 {
 
     ghost tied_is_equal = { nat_cmp-IsAntisymmetric };
 }
+
+impl ExactOrder for (u32, u32) {
+    ghost use Rattle.collections.specs.Pairs.{pair_exact};
+
+    ghost tied_is_equal = { pair_exact };
+}

@@ -10,7 +10,7 @@ use Rattle.collections.proofs.Members.{has_cases, has_equal, has_head}
 use Rattle.rdf_model.specs.declared.term.Term.{Term}
 use Rattle.rdf_model.specs.declared.triple.Triple.{Triple}
 use Rattle.rdf_model.specs.declared.ids.Ids.{Ids}
-use Rattle.rdf_model.specs.declared.numbered_look.NumberedLook.TheVariants.{Out}
+use Rattle.rdf_model.specs.declared.look.Look.TheVariants.{Out}
 use Rattle.rdf_model.specs.Numbers.{AreNumbered, IsFound, graph_of, term_at, triple_at, IsNumbering}
 use Rattle.shape_model.specs.Readings.{SameReading, reading}
 use Rattle.shape_model.specs.Targets.{Target, TargetOf}

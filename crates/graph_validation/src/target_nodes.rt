@@ -5,7 +5,7 @@ ghost use Rattle.rdf_model.specs.Numbers.{AreNumbered};
 ghost use Rattle.graph_validation.specs.Targets.{AreMembers, IsSubject, IsSubjectBelow, IsTargetOf, IsTargetOfSome};
 
 use collections::sorted_once;
-use rdf_model::{Names, NumberedLook, Triples};
+use rdf_model::{Look, Names, Triples};
 use shape_ast::{Shape, Target};
 use std::alloc::{AllocError, Global};
 
@@ -50,7 +50,7 @@ fn add_subject<R: Triples>(
     ensures { OnOk result (AreMembers (IsSubjectBelow (R.triples graph.now) predicate number) subjects.old.items
         → AreMembers (IsSubjectBelow (R.triples graph.now) predicate (number + 1)) subjects.new.items) }
 {
-    let found = graph.find(alloc, NumberedLook::Out(number, predicate))?;
+    let found = graph.find(alloc, &Look::Out(number, predicate))?;
     if is_nothing(&found) {
         return Ok(());
     }

@@ -2,7 +2,7 @@
 use Rattle.std.proofs.Common.{◌≡◌, ◌≢◌, ℕ, ◌+◌, ◌<◌, ◌≤◌, Bool, true, false, List, [], ◌∷◌, ◌++◌, length, take, get_or, Option, Some, None, refl, sym, ap, subst, arith, inl, inr, ◌∙◌}
 use Rattle.std.proofs.lemmas.List.{get_or_default, take_all}
 use Rattle.rdf_model.specs.declared.term.Term.TheVariants.{Blank}
-use Rattle.std.specs.Prelude.{◌↔◌, ◌⊎◌, ◌&&◌, ◌==◌, if◌then◌else◌}
+use Rattle.std.specs.Prelude.{◌↔◌, ◌&&◌, ◌==◌, if◌then◌else◌}
 use Rattle.std.specs.List.{All, Contains, cons_option, filter_map}
 use Rattle.std.specs.declared.cmp.Ordering.{Ordering}
 use Rattle.std.proofs.lemmas.Bool.Decides.{nat_tests}
@@ -13,9 +13,9 @@ use Rattle.rdf_model.specs.declared.ids.Ids.{Ids}
 use Rattle.rdf_model.specs.declared.term.Term.{Term}
 use Rattle.rdf_model.specs.Matching.{same_term}
 use Rattle.rdf_model.proofs.SameTerms.{equal_same}
-use Rattle.rdf_model.specs.declared.numbered_look.NumberedLook.{NumberedLook}
-use Rattle.rdf_model.specs.declared.numbered_look.NumberedLook.TheVariants.{Out, In, OutAny}
-use Rattle.rdf_model.specs.Numbers.{IsFound, IsEdge, number_in, edge_in, term_at}
+use Rattle.rdf_model.specs.declared.look.Look.{Look}
+use Rattle.rdf_model.specs.declared.look.Look.TheVariants.{Out, In, OutAny}
+use Rattle.rdf_model.specs.Numbers.{IsFound, IsEdge, IsJoined, number_in, edge_in, pair_in, term_at}
 
 -- what a function gives of the items of a list
 later : {X Y : Type 0} → (h : X → Option Y) (x : X) (xs : List X) (y : Y) → (w : X) × Contains xs w × (h w ≡ Some y) → (w : X) × Contains (x ∷ xs) w × (h w ≡ Some y)
@@ -72,6 +72,15 @@ edge_of x i e = elim (i.subject == x) as (λ b. (i.subject == x) ≡ b → (if b
   | false ↦ λ h k. absurd (cc)
 ] refl
 
+pair_of : (p : ℕ) (i : Ids) (e : ℕ × ℕ) → pair_in p i ≡ Some e → i ≡ record { subject = e.0; predicate = p; object = e.1 }
+pair_of p i e = elim (i.predicate == p) as (λ b. (i.predicate == p) ≡ b → (if b then Some (i.subject, i.object) else None) ≡ Some e → i ≡ record { subject = e.0; predicate = p; object = e.1 }) [
+  | true ↦ λ h k.
+      let predicate : i.predicate ≡ p = grind (arith, nat_tests) in
+      let pair : (i.subject, i.object) ≡ e = cc in
+      λ j. record { subject = (pair j).0; predicate = predicate j; object = (pair j).1 }
+  | false ↦ λ h k. absurd (cc)
+] refl
+
 same_test : (n : ℕ) → (n == n) ≡ true
 same_test n = grind (arith, nat_tests)
 
@@ -84,7 +93,7 @@ both true b e f = f
 both false b e f = e
 
 -- the numbers that a look gives of the triples are those that it finds
-pub found_is : (look : NumberedLook) (ids : List Ids) (n : ℕ) → Contains (filter_map (number_in look) ids) n ↔ IsFound look ids n
+pub found_is : (look : Look ℕ) (ids : List Ids) (n : ℕ) → Contains (filter_map (number_in look) ids) n ↔ IsFound look ids n
 found_is (Out x p) ids n = (
   λ c. let g = from_given (number_in (Out x p)) ids n c in subst (λ (i : Ids). Contains ids i) (out_in x p g.0 n g.2) g.1,
   λ c. to_given (number_in (Out x p)) ids n (record { subject = x; predicate = p; object = n }) c (chosen (x == x && p == p) n (both (x == x) (p == p) (same_test x) (same_test p))),
@@ -102,6 +111,12 @@ pub edge_is : (x : ℕ) (ids : List Ids) (e : ℕ × ℕ) → Contains (filter_m
 edge_is x ids e = (
   λ c. let g = from_given (edge_in x) ids e c in subst (λ (i : Ids). Contains ids i) (edge_of x g.0 e g.2) g.1,
   λ c. to_given (edge_in x) ids e (record { subject = x; predicate = e.0; object = e.1 }) c (chosen (x == x) e (same_test x)),
+)
+
+pub joined_is : (p : ℕ) (ids : List Ids) (e : ℕ × ℕ) → Contains (filter_map (pair_in p) ids) e ↔ IsJoined ids p e
+joined_is p ids e = (
+  λ c. let g = from_given (pair_in p) ids e c in subst (λ (i : Ids). Contains ids i) (pair_of p g.0 e g.2) g.1,
+  λ c. to_given (pair_in p) ids e (record { subject = e.0; predicate = p; object = e.1 }) c (chosen (p == p) e (same_test p)),
 )
 
 -- listings of what is equally so

@@ -19,7 +19,7 @@ fits (Some x) t = same_term x t
 abbrev pub matches : Pattern → Triple → Bool
 matches p t = fits p.subject t.subject && fits p.predicate t.predicate && fits p.object t.object
 
-abbrev pub is_read_by : Look → Triple → Bool
+abbrev pub is_read_by : Look Term → Triple → Bool
 is_read_by (Out x p) t = same_term x t.subject && same_term p t.predicate
 is_read_by (In p x) t = same_term p t.predicate && same_term x t.object
 is_read_by (OutAny x) t = same_term x t.subject
@@ -28,5 +28,5 @@ is_read_by (OutAny x) t = same_term x t.subject
 abbrev pub is_found : List Pattern → Triple → Bool
 is_found ps t = list_any (λ p. matches p t) ps
 
-abbrev pub is_read : List Look → Triple → Bool
+abbrev pub is_read : List (Look Term) → Triple → Bool
 is_read ls t = list_any (λ l. is_read_by l t) ls

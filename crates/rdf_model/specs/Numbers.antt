@@ -6,8 +6,8 @@ use Rattle.rdf_model.specs.declared.term.Term.{Term}
 use Rattle.rdf_model.specs.declared.term.Term.TheVariants.{Blank}
 use Rattle.rdf_model.specs.declared.triple.Triple.{Triple}
 use Rattle.rdf_model.specs.declared.ids.Ids.{Ids}
-use Rattle.rdf_model.specs.declared.numbered_look.NumberedLook.{NumberedLook}
-use Rattle.rdf_model.specs.declared.numbered_look.NumberedLook.TheVariants.{Out, In, OutAny}
+use Rattle.rdf_model.specs.declared.look.Look.{Look}
+use Rattle.rdf_model.specs.declared.look.Look.TheVariants.{Out, In, OutAny}
 
 -- the term of a number; any, where there is none
 abbrev pub term_at : List Term → ℕ → Term
@@ -30,7 +30,7 @@ AreNumbered terms ids = AllByRecursion (λ (i : Ids). (i.subject < length terms)
 
 -- the number is one that the look asks for: the object of a triple with its subject and predicate, the subject of one
 -- with its predicate and object; none where it asks for more than one number of a triple
-abbrev pub IsFound : NumberedLook → List Ids → ℕ → Type 0
+abbrev pub IsFound : Look ℕ → List Ids → ℕ → Type 0
 IsFound (Out x p) ids n = Contains ids (record { subject = x; predicate = p; object = n })
 IsFound (In p x) ids n = Contains ids (record { subject = n; predicate = p; object = x })
 IsFound (OutAny x) ids n = ⊥
@@ -40,7 +40,7 @@ abbrev pub IsEdge : List Ids → ℕ → ℕ × ℕ → Type 0
 IsEdge ids x e = Contains ids (record { subject = x; predicate = e.0; object = e.1 })
 
 -- the number that the look asks for in a triple that it reads, and the edge of a triple with the subject
-abbrev pub number_in : NumberedLook → Ids → Option ℕ
+abbrev pub number_in : Look ℕ → Ids → Option ℕ
 number_in (Out x p) i = if x == i.subject && p == i.predicate then Some i.object else None
 number_in (In p x) i = if p == i.predicate && x == i.object then Some i.subject else None
 number_in (OutAny x) i = None
@@ -48,17 +48,24 @@ number_in (OutAny x) i = None
 abbrev pub edge_in : ℕ → Ids → Option (ℕ × ℕ)
 edge_in x i = if i.subject == x then Some (i.predicate, i.object) else None
 
+-- the pair is subject and object of a triple with the predicate; and that pair of a triple
+abbrev pub IsJoined : List Ids → ℕ → ℕ × ℕ → Type 0
+IsJoined ids p e = Contains ids (record { subject = e.0; predicate = p; object = e.1 })
+
+abbrev pub pair_in : ℕ → Ids → Option (ℕ × ℕ)
+pair_in p i = if i.predicate == p then Some (i.subject, i.object) else None
+
 -- it asks for one number
-abbrev pub AsksForOne : NumberedLook → Type 0
+abbrev pub AsksForOne : Look ℕ → Type 0
 AsksForOne (Out x p) = Unit {0}
 AsksForOne (In p x) = Unit {0}
 AsksForOne (OutAny x) = ⊥
 
 -- whether the look reads the triple
-abbrev pub reads_numbers : NumberedLook → Ids → Bool
+abbrev pub reads_numbers : Look ℕ → Ids → Bool
 reads_numbers (Out x p) i = x == i.subject && p == i.predicate
 reads_numbers (In p x) i = p == i.predicate && x == i.object
 reads_numbers (OutAny x) i = x == i.subject
 
-abbrev pub is_touched : List NumberedLook → Ids → Bool
+abbrev pub is_touched : List (Look ℕ) → Ids → Bool
 is_touched looks i = list_any (λ l. reads_numbers l i) looks

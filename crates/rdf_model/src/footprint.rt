@@ -1,21 +1,21 @@
 ghost use Rattle.std.specs.Prelude.{◌≡◌, [], ◌∷◌, ◌++◌, OnErr, OnOk};
 ghost use Rattle.rdf_model.specs.Numbers.{is_touched};
 
-use crate::{Ids, NumberedLook};
+use crate::{Ids, Look};
 use std::alloc::{AllocError, Global};
 use std::marker::Model;
 
 /// The looks of a validation. Contracts see them as a list.
 #[derive(Debug, Drop)]
 pub struct Footprint {
-    looks: Vec<NumberedLook>,
+    looks: Vec<Look<u32>>,
 }
 
 impl Model for Footprint {
-    ghost use Rattle.std.specs.Prelude.{List};
-    ghost use Rattle.rdf_model.specs.declared.numbered_look.NumberedLook.{NumberedLook};
+    ghost use Rattle.std.specs.Prelude.{List, ℕ};
+    ghost use Rattle.rdf_model.specs.declared.look.Look.{Look};
 
-    ghost Value = { List NumberedLook };
+    ghost Value = { List (Look ℕ) };
 
     ghost view = { λ f. f.looks.items };
 }
@@ -31,7 +31,7 @@ impl Footprint {
     }
 
     /// Adds the look, and no other.
-    pub fn add(&mut self, look: NumberedLook) -> Result<(), AllocError>
+    pub fn add(&mut self, look: Look<u32>) -> Result<(), AllocError>
         ensures ok { OnOk result (self.new ≡ self.old ++ look ∷ []) }
         ensures err { OnErr result (self.new ≡ self.old) }
     {
@@ -39,7 +39,7 @@ impl Footprint {
         Ok(())
     }
 
-    pub fn looks(&self) -> &[NumberedLook]
+    pub fn looks(&self) -> &[Look<u32>]
         ensures { result.now ≡ self.now }
     {
         self.looks.as_slice()
@@ -49,6 +49,6 @@ impl Footprint {
     pub fn touched_by(&self, triple: Ids) -> bool
         ensures { result ≡ is_touched self.now triple }
     {
-        self.looks.iter().any(|look| look.reads(triple))
+        self.looks.iter().any(|look| look.reads_ids(triple))
     }
 }

@@ -15,6 +15,10 @@ pub trait Names {
     fn term(&self, number: u32) -> Option<&Term>
         ensures { MatchOption result (length (terms self.now) ≤ number) (λ term. (number < length (terms self.now)) × (term.now ≡ term_at (terms self.now) number)) };
 
+    /// How many terms have a number. It takes no memory.
+    fn count(&self) -> u32
+        ensures { result ≡ length (terms self.now) };
+
     /// A number of a term, if it has one. It takes no memory.
     fn id(&self, term: &Term) -> Option<u32>
         ensures { MatchOption result (Contains (terms self.now) term.now → ⊥) (λ number. (number < length (terms self.now)) × (term_at (terms self.now) number ≡ term.now)) };
@@ -64,6 +68,10 @@ impl Names for ListNames {
 
     fn term(&self, number: u32) -> Option<&Term> {
         self.terms.as_slice().get(number as usize)
+    }
+
+    fn count(&self) -> u32 {
+        self.terms.len() as u32
     }
 
     fn id(&self, term: &Term) -> Option<u32> {

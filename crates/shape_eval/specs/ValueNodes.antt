@@ -6,7 +6,7 @@ use Rattle.collections.specs.Ordered.{IsAscending}
 use Rattle.rdf_model.specs.declared.term.Term.{Term}
 use Rattle.rdf_model.specs.declared.triple.Triple.{Triple}
 use Rattle.rdf_model.specs.declared.ids.Ids.{Ids}
-use Rattle.rdf_model.specs.declared.numbered_look.NumberedLook.TheVariants.{Out}
+use Rattle.rdf_model.specs.declared.look.Look.TheVariants.{Out}
 use Rattle.rdf_model.specs.Numbers.{term_at, IsFound}
 use Rattle.shape_model.specs.Triples.{Has}
 use Rattle.shape_ast.specs.declared.path.Path.{Path}

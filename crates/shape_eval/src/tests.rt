@@ -6,7 +6,7 @@ ghost use Rattle.shape_ast.specs.Naming.{AreBound, IsBoundShape, constraint_numb
 
 use crate::{Permit, Steps, eval, permit};
 use collections::Sequence;
-use rdf_model::{Footprint, Ids, ListGraph, ListNames, NumberedLook, Term, Text};
+use rdf_model::{Footprint, Ids, ListGraph, ListNames, Look, Term, Text};
 use shape_ast::{Bound, Constraint, NodeKind, Path, ResultRow, Shape};
 use std::alloc::{AllocError, Global};
 use std::marker::Brand;
@@ -238,9 +238,9 @@ fn write_row(text: &mut String, row: &ResultRow) -> Result<(), AllocError> {
     text.push_str("\n")
 }
 
-fn write_look(text: &mut String, look: NumberedLook) -> Result<(), AllocError> {
+fn write_look(text: &mut String, look: &Look<u32>) -> Result<(), AllocError> {
     match look {
-        NumberedLook::Out(subject, predicate) => write!(text, "out {subject} {predicate}\n"),
+        Look::Out(subject, predicate) => write!(text, "out {subject} {predicate}\n"),
         _ => text.push_str("another look\n"),
     }
 }
@@ -282,12 +282,12 @@ fn printed(
 
 fn text_of(
     alloc: Global,
-    looks: &[NumberedLook],
+    looks: &[Look<u32>],
     rows: &[ResultRow],
 ) -> Result<String, AllocError> {
     let mut text = String::new(alloc);
     for look in looks {
-        write_look(&mut text, *look)?;
+        write_look(&mut text, look)?;
     }
     for row in rows {
         write_row(&mut text, row)?;

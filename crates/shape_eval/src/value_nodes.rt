@@ -3,7 +3,7 @@ ghost use Rattle.std.specs.Ordering.{nat_cmp};
 ghost use Rattle.collections.specs.Listings.{IsListing};
 ghost use Rattle.shape_eval.specs.ValueNodes.{IsNumberedValue, IsReached};
 
-use rdf_model::{Footprint, NumberedLook, Triples};
+use rdf_model::{Footprint, Look, Triples};
 use shape_ast::Path;
 use std::alloc::{AllocError, Global};
 
@@ -36,9 +36,10 @@ fn reached<R: Triples>(
 {
     match path {
         Path::Predicate(predicate) => {
-            let look = NumberedLook::Out(focus, *predicate);
+            let look = Look::Out(focus, *predicate);
+            let found = graph.find(alloc, &look)?;
             footprint.add(look)?;
-            graph.find(alloc, look)
+            Ok(found)
         }
     }
 }

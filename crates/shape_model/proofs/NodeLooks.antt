@@ -20,7 +20,7 @@ way_last : (g : List Triple) (q : List Path) (p : Path) (x z : Term) → Walks g
 way_last g [] p x z w = (x, refl, subst (λ (a : Term). Walk g p x a) w.2 w.1)
 way_last g (a ∷ q) p x z w = let k : (y : Term) × Walks g q w.0 y × Walk g p y z = way_last g q p w.0 z w.2 in (k.0, (w.0, w.1, k.1), k.2)
 
-module _ (g : List Triple) (f : Term) (look : Look) where
+module _ (g : List Triple) (f : Term) (look : Look Term) where
   one_row : (r : LookRow) → IsLook g (λ row. row ≡ r) f look → (z : Term) × Walks g r.way f z × (look ≡ look_at r.kind z)
   one_row r i = subst (λ (k : LookRow). (z : Term) × Walks g k.way f z × (look ≡ look_at k.kind z)) i.1 i.2
 

@@ -47,7 +47,7 @@ back_same g k x (p ∷ ps) a f =
       λ w. let u : Walks g ps w.0 x = (rest w.0).1 w.2 in (w.0, (head w.0 u).1 w.1, u),
     )
 
-module _ (g k s : List Triple) (net : List Change) (looked : List Look) (a : IsAscending triple_cmp g) (b : IsAscending triple_cmp k)
+module _ (g k s : List Triple) (net : List Change) (looked : List (Look Term)) (a : IsAscending triple_cmp g) (b : IsAscending triple_cmp k)
     (none : NoResult g s) (none_k : NoResult k s) (foot : IsFootprint g s net looked) (agree : Agree g k looked) where
   -- the same pairs are touched
   touches : (shape f : Term) → Touched k s net shape f → Touched g s net shape f
@@ -56,7 +56,7 @@ module _ (g k s : List Triple) (net : List Change) (looked : List Look) (a : IsA
       (i.0, (row, i.1.1, (z, (back_same g k z row.way (λ b j y w. agree (look_at b.kind y) (foot.backward shape i.0 row i.1.1 z t i.1.2.2.1 i.1.2.2.2 b j y w)) f).1 i.1.2.1, i.1.2.2)))
 
   -- at a look of the verdict the graphs after the changes agree
-  agrees : (look : Look) → Contains looked look → SameAt (after g net) (after k net) look
+  agrees : (look : Look Term) → Contains looked look → SameAt (after g net) (after k net) look
   agrees look i t m = after_same g k net t a b (agree look i t m)
 
   aims : (shape f : Term) → Touched g s net shape f → Target (after g net) s shape f ↔ Target (after k net) s shape f

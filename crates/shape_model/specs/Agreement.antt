@@ -8,7 +8,7 @@ use Rattle.shape_model.specs.Walks.{Walks}
 use Rattle.shape_model.specs.Looks.{Matches, LookRow, look_at}
 
 -- both graphs have the same triples that match the look
-abbrev pub SameAt : List Triple → List Triple → Look → Type 0
+abbrev pub SameAt : List Triple → List Triple → Look Term → Type 0
 SameAt g h look = (t : Triple) → Matches look t → (Contains g t ↔ Contains h t)
 
 -- they have, at each node to which f walks in g along the row's way
@@ -16,5 +16,5 @@ abbrev pub AgreesAt : List Triple → List Triple → Term → LookRow → Type 
 AgreesAt g h f row = (z : Term) → Walks g row.way f z → SameAt g h (look_at row.kind z)
 
 -- they have, at each look of the list
-abbrev pub Agree : List Triple → List Triple → List Look → Type 0
-Agree g h looks = (look : Look) → Contains looks look → SameAt g h look
+abbrev pub Agree : List Triple → List Triple → List (Look Term) → Type 0
+Agree g h looks = (look : Look Term) → Contains looks look → SameAt g h look

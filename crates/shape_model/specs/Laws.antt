@@ -33,7 +33,7 @@ ClassPathLaw = (g : List Triple) (n c : Term) → Instance g n c ↔ Walk g clas
 
 -- A triple matches a look where the look reads it.
 abbrev pub LookLaw : Type 0
-LookLaw = (look : Look) (t : Triple) → Matches look t ↔ IsTrue (is_read_by look t)
+LookLaw = (look : Look Term) (t : Triple) → Matches look t ↔ IsTrue (is_read_by look t)
 
 -- Where two graphs agree at all looks of a path at f, the walks from f are the same.
 abbrev pub WalkLaw : Type 0
@@ -51,12 +51,12 @@ TouchedLaw = (g s : List Triple) (net : List Change) → IsAscending triple_cmp 
 
 -- What validating the changes of g found stands for each graph that agrees with g on the looks of doing so.
 abbrev pub BesideLaw : Type 0
-BesideLaw = (g k s : List Triple) (net : List Change) (looked : List Look) → IsAscending triple_cmp g → IsAscending triple_cmp k → NoResult g s → NoResult k s
+BesideLaw = (g k s : List Triple) (net : List Change) (looked : List (Look Term)) → IsAscending triple_cmp g → IsAscending triple_cmp k → NoResult g s → NoResult k s
     → IsFootprint g s net looked → Agree g k looked → (r : ResultRow) → IsResult (after g net) s r ↔ IsResult (after k net) s r
 
 -- So does its listing.
 abbrev pub VerdictLaw : Type 0
-VerdictLaw = (g k s : List Triple) (net : List Change) (looked : List Look) (rows : List ResultRow) → IsAscending triple_cmp g → IsAscending triple_cmp k → NoResult g s → NoResult k s
+VerdictLaw = (g k s : List Triple) (net : List Change) (looked : List (Look Term)) (rows : List ResultRow) → IsAscending triple_cmp g → IsAscending triple_cmp k → NoResult g s → NoResult k s
     → IsFootprint g s net looked → Agree g k looked → Listing (after g net) s rows → Listing (after k net) s rows
 
 -- Where no shape refers to itself, longer chains of references give no other results.
@@ -95,7 +95,7 @@ CountLaw = (g s : List Triple) (shape f : Term) (n m : ℕ) → Counts (ValueNod
 
 -- The looks of a shape from node to node are those of its rows.
 abbrev pub ReadsLaw : Type 0
-ReadsLaw = (g s : List Triple) (shape f : Term) (look : Look) → ShapeReads (suc (length s)) g (reading s) shape f look ↔ IsLook g (ResultLook s shape) f look
+ReadsLaw = (g s : List Triple) (shape f : Term) (look : Look Term) → ShapeReads (suc (length s)) g (reading s) shape f look ↔ IsLook g (ResultLook s shape) f look
 
 -- A shapes graph has at most one least broken rule.
 abbrev pub LeastLaw : Type 0

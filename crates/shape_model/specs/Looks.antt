@@ -8,7 +8,7 @@ use Rattle.shape_model.specs.Paths.{Path, Predicate, Inverse, Sequence, Alternat
 
 -- The triple is one that the look asks for: it has the subject and the predicate, the predicate and the object, or
 -- the subject.
-abbrev pub Matches : Look → Triple → Type 0
+abbrev pub Matches : Look Term → Triple → Type 0
 Matches (Out x p) t = (t.subject ≡ x) × (t.predicate ≡ p)
 Matches (In p x) t = (t.predicate ≡ p) × (t.object ≡ x)
 Matches (OutAny x) t = t.subject ≡ x
@@ -19,7 +19,7 @@ pub data LookKind : Type 0 where
   ByIn : Term → LookKind
   ByOutAny : LookKind
 
-abbrev pub look_at : LookKind → Term → Look
+abbrev pub look_at : LookKind → Term → Look Term
 look_at (ByOut p) x = Out x p
 look_at (ByIn p) x = In p x
 look_at ByOutAny x = OutAny x

@@ -13,7 +13,7 @@ use Rattle.shape_model.specs.Looks.{LookRow, look_at, turn, turn_all}
 
 -- the look is made in walking the path from x, backwards where turned
 abbrev mutual
-  pub PathReads : List Triple → Bool → Path → Term → Look → Type 0
+  pub PathReads : List Triple → Bool → Path → Term → Look Term → Type 0
   PathReads g false (Predicate p) x look = look ≡ Out x p
   PathReads g true (Predicate p) x look = look ≡ In p x
   PathReads g turned (Inverse p) x look = PathReads g (not turned) p x look
@@ -24,18 +24,18 @@ abbrev mutual
   PathReads g turned (ZeroOrOne p) x look = PathReads g turned p x look
 
   -- one member after another; backwards from the last to the first
-  pub ThroughReads : List Triple → Bool → Paths → Term → Look → Type 0
+  pub ThroughReads : List Triple → Bool → Paths → Term → Look Term → Type 0
   ThroughReads g turned (Last p) x look = PathReads g turned p x look
   ThroughReads g false (Also p ps) x look = PathReads g false p x look ⊎ ((z : Term) × Walk g p x z × ThroughReads g false ps z look)
   ThroughReads g true (Also p ps) x look = ThroughReads g true ps x look ⊎ ((z : Term) × Walk g (turn_all true ps) x z × PathReads g true p z look)
 
   -- each member
-  pub SomeReads : List Triple → Bool → Paths → Term → Look → Type 0
+  pub SomeReads : List Triple → Bool → Paths → Term → Look Term → Type 0
   SomeReads g turned (Last p) x look = PathReads g turned p x look
   SomeReads g turned (Also p ps) x look = PathReads g turned p x look ⊎ SomeReads g turned ps x look
 
 -- the look is made in evaluating a shape at x; `reads` gives those of the shapes that it refers to
-abbrev pub ShapeReadsWith : (Term → Term → Look → Type 0) → List Triple → Reading → Term → Look → Type 0
+abbrev pub ShapeReadsWith : (Term → Term → Look Term → Type 0) → List Triple → Reading → Term → Look Term → Type 0
 ShapeReadsWith reads g y x look = (IsDeactivated y → ⊥) × (
     ((p : Path) × y.path p × PathReads g false p x look)
     ⊎ ((c : Term) × (v : Term) × y.has ShClass c × ValueNode g y x v × PathReads g false class_path v look)
@@ -45,10 +45,10 @@ ShapeReadsWith reads g y x look = (IsDeactivated y → ⊥) × (
     )
 
 -- the same through chains of fewer references than this number
-abbrev pub ShapeReads : ℕ → List Triple → (Term → Reading) → Term → Term → Look → Type 0
+abbrev pub ShapeReads : ℕ → List Triple → (Term → Reading) → Term → Term → Look Term → Type 0
 ShapeReads zero g readings shape x look = ⊥
 ShapeReads (suc n) g readings shape x look = ShapeReadsWith (ShapeReads n g readings) g (readings shape) x look
 
 -- the look is that of a row, at a node to which f walks
-abbrev pub IsLook : List Triple → (LookRow → Type 0) → Term → Look → Type 0
+abbrev pub IsLook : List Triple → (LookRow → Type 0) → Term → Look Term → Type 0
 IsLook g rows f look = (row : LookRow) × rows row × ((z : Term) × Walks g row.way f z × (look ≡ look_at row.kind z))

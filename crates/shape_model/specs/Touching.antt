@@ -23,7 +23,7 @@ Touched g s net shape f = HasTarget (reading s shape)
     × ((row : LookRow) × Looks s shape row × ((z : Term) × Walks g row.way f z × ((t : Triple) × Matches (look_at row.kind z) t × IsChanged net t)))
 
 -- The looks, all of them in the list, of validating the changes of g at the touched pairs alone.
-pub record IsFootprint (g s : List Triple) (net : List Change) (looked : List Look) : Type 0 where
+pub record IsFootprint (g s : List Triple) (net : List Change) (looked : List (Look Term)) : Type 0 where
   -- those that decide whether a touched pair is a target after the changes
   pub aim : (shape f : Term) → Touched g s net shape f → (row : LookRow) → TargetLook (reading s shape) row → (z : Term) → Walks (after g net) row.way f z → Contains looked (look_at row.kind z)
   -- those that decide its results, where it is one

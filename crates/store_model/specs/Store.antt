@@ -48,7 +48,7 @@ abbrev pub changed_triple : Change → Triple
 changed_triple (Add t) = t
 changed_triple (Remove t) = t
 
-abbrev pub looked_at : Look → List Term
+abbrev pub looked_at : Look Term → List Term
 looked_at (Out x p) = x ∷ p ∷ []
 looked_at (In p x) = p ∷ x ∷ []
 looked_at (OutAny x) = x ∷ []
@@ -90,7 +90,7 @@ overtaker commits base ps = overtaker_from (base + 1) ps (drop base commits)
 
 -- Why a commit evaluates again in its own step: it stages shapes, it has no verdict, or the first commit after
 -- its head that staged shapes or changed a triple which the verdict read.
-abbrev pub first_read : List Look → List Triple → Option Triple
+abbrev pub first_read : List (Look Term) → List Triple → Option Triple
 first_read ls [] = None
 first_read ls (t ∷ ts) = if is_read ls t then Some t else first_read ls ts
 
@@ -98,7 +98,7 @@ abbrev pub touched_or : ℕ → Option Triple → Again → Again
 touched_or n (Some t) later = Touched n t
 touched_or n None later = later
 
-abbrev pub again_from : ℕ → List Look → List Accepted → Again
+abbrev pub again_from : ℕ → List (Look Term) → List Accepted → Again
 again_from n ls [] = No
 again_from n ls (a ∷ as') = if a.staged then ShapesChanged n else touched_or n (first_read ls a.changed) (again_from (n + 1) ls as')
 

@@ -85,6 +85,10 @@ impl<'a> Names for SortedNames<'a> {
         self.terms.get(number as usize)
     }
 
+    fn count(&self) -> u32 {
+        self.terms.len() as u32
+    }
+
     fn id(&self, term: &Term) -> Option<u32> {
         number_among(&self.entries, term)
     }

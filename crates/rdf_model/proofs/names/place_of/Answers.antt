@@ -1,6 +1,4 @@
-use Rattle.std.proofs.Common.{arith, ◌∙◌, ap, sym, subst, take, get_or}
-use Rattle.std.proofs.lemmas.Grind.{common_steps}
-use Rattle.rdf_model.specs.declared.term.Term.TheVariants.{Blank}
+use Rattle.std.proofs.Common.{◌∙◌, sym}
 use Rattle.rdf_model.proofs.SameTerms.{same_equal}
 use Rattle.rdf_model.proofs.Finding.{none_more, none_upto, read_at}
 use Rattle.rdf_model.proofs.names.place_of.Goals as goal
