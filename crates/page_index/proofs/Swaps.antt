@@ -55,6 +55,16 @@ module _ {K : Type 0} where
       let p = pair-length q in
       (omega arith, omega arith)
 
+  pub one-length : (bs : List (Block K)) (f : ℕ) (q : Block K × Option (Block K)) (new : List (Block K)) → f < length bs → new ≡ take f bs ++ (pair_blocks q ++ drop (f + 1) bs) → (length bs ≤ length new) × (length new ≤ length bs + 1)
+  one-length bs f q new lt n =
+      let e = ap length n in
+      let a = length-append (take f bs) (pair_blocks q ++ drop (f + 1) bs) in
+      let b = length-append (pair_blocks q) (drop (f + 1) bs) in
+      let c = length-take-le f bs (omega arith) in
+      let d = length-drop (f + 1) bs in
+      let p = pair-length q in
+      (omega arith, omega arith)
+
   side-within : (R : K → K → Ordering) (x : K) (q : Block K × Option (Block K)) (ls : List (Block K)) (i : ℕ) → IsSide R x (pair_blocks q) i → i < length (pair_blocks q ++ ls)
   side-within R x (a, None) ls i s = omega arith
   side-within R x (a, Some b) ls i s = elim s [ inl t ↦ let e = t.0 in omega arith | inr t ↦ let e = t.0 in omega arith ]

@@ -105,3 +105,17 @@ IsRemovable p = (p.height ≡ 0) ⊎ (2 ≤ p.width)
 abbrev pub with_low : {K : Type 0} → Block K → Option K → Block K
 with_low b None = b
 with_low b (Some k) = record { low = k; page = b.page }
+
+-- a page with these keys, as high as another, not too wide, and narrower by no more than is told
+pub record IsAs {K : Type 0} (keys : List K) (fewer : ℕ) (old new : Image K) : Type 0 where
+  pub keys_are : new.keys ≡ keys
+  pub height_is : new.height ≡ old.height
+  pub narrow : old.width ≤ new.width + fewer
+  pub wide : new.width ≤ most
+
+-- pages in the place of others: with the same keys, and fewer by no more than is told
+pub record AreAs {K : Type 0} (R : K → K → Ordering) (fewer : ℕ) (old new : List (Block K)) : Type 0 where
+  pub keys : keys_of new ≡ keys_of old
+  pub sound : AreSound R (height_of old) new
+  pub many : length old ≤ length new + fewer
+  pub few : length new ≤ most

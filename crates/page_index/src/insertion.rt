@@ -1,6 +1,6 @@
-ghost use Rattle.std.specs.Prelude.{◌≡◌, ◌+◌, ◌<◌, ◌≤◌, length, not, OnOk, OnErr, IfOk, IfSome};
+ghost use Rattle.std.specs.Prelude.{◌≡◌, ◌<◌, length, not, IfOk, MatchResult};
 ghost use Rattle.collections.specs.Ordered.{with_item, has_item};
-ghost use Rattle.page_index.specs.Blocks.{AreSound, IsPlace, IsLowFor, width_at, keys_of, height_of, most};
+ghost use Rattle.page_index.specs.Blocks.{AreSound, IsPlace, IsLowFor, IsAs, AreAs, width_at, height_of, most};
 
 use crate::leaf::insert_key;
 use crate::page::{Entry, MOST, Node, Page, set_low};
@@ -18,11 +18,8 @@ fn room_for<K: Ord + ExactClone + Drop>(
 ) -> Result<usize, AllocError>
     requires sound { AreSound K.cmp (height_of entries.old.items) entries.old.items }
     requires size { (0 < length entries.old.items) × (length entries.old.items < most) }
-    ensures keys { keys_of entries.new.items ≡ keys_of entries.old.items }
-    ensures sound { AreSound K.cmp (height_of entries.old.items) entries.new.items }
-    ensures size { (length entries.old.items ≤ length entries.new.items) × (length entries.new.items ≤ most) }
-    ensures place { IfOk result (IsPlace K.cmp key.now entries.new.items) }
-    ensures room { IfOk result (λ at. width_at entries.new.items at < most) }
+    ensures kept { AreAs K.cmp 0 entries.old.items entries.new.items }
+    ensures place { IfOk result (λ at. IsPlace K.cmp key.now entries.new.items at × (width_at entries.new.items at < most)) }
 {
     let at = place_of(entries, key);
     let entry = &entries[at];
@@ -49,11 +46,9 @@ impl<K: Ord + ExactClone + Drop> Page<K> {
     // Puts a key into a page that is not full, and says whether it is new.
     pub(crate) fn insert(&mut self, alloc: Global, key: K) -> Result<bool, AllocError>
         requires { self.old.width < most }
-        ensures ok { OnOk result (self.new.keys ≡ with_item K.cmp key self.old.keys) }
-        ensures added { IfOk result (λ added. added ≡ not (has_item K.cmp key self.old.keys)) }
-        ensures err { OnErr result (self.new.keys ≡ self.old.keys) }
-        ensures height { self.new.height ≡ self.old.height }
-        ensures width { (self.old.width ≤ self.new.width) × (self.new.width ≤ most) }
+        ensures { MatchResult result
+            (λ added. IsAs (with_item K.cmp key self.old.keys) 0 self.old self.new × (added ≡ not (has_item K.cmp key self.old.keys)))
+            (λ _. IsAs self.old.keys 0 self.old self.new) }
     {
         match &mut self.node {
             Node::Leaf(keys) => return insert_key(keys, key),

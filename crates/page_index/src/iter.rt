@@ -40,6 +40,17 @@ impl<K: Ord> Pages<K> {
             last: None,
         }
     }
+
+    /// The keys above one, ascending, for a loop over them, as `iter` gives them.
+    pub fn iter_above<'a>(&'a self, key: &'a K) -> Iter<'a, K>
+        ensures { result ≡ keys_above K.cmp (Some key.now) self.now }
+    {
+        Iter {
+            pages: self,
+            run: &[],
+            last: Some(key),
+        }
+    }
 }
 
 // The first key above the one given, or of all, the keys after it in its leaf, and the last key of that leaf.

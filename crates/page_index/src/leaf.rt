@@ -1,4 +1,4 @@
-ghost use Rattle.std.specs.Prelude.{◌≡◌, not, OnOk, OnErr, IfOk};
+ghost use Rattle.std.specs.Prelude.{◌≡◌, not, MatchResult};
 ghost use Rattle.collections.specs.Ordered.{IsAscending, with_item, without_item, has_item};
 
 use std::alloc::AllocError;
@@ -6,9 +6,9 @@ use std::alloc::AllocError;
 // Puts a key into its place among the ascending keys, and says whether it is new.
 pub(crate) fn insert_key<K: Ord + Drop>(keys: &mut Vec<K>, key: K) -> Result<bool, AllocError>
     requires { IsAscending K.cmp keys.old.items }
-    ensures ok { OnOk result (keys.new.items ≡ with_item K.cmp key keys.old.items) }
-    ensures added { IfOk result (λ added. added ≡ not (has_item K.cmp key keys.old.items)) }
-    ensures err { OnErr result (keys.new.items ≡ keys.old.items) }
+    ensures { MatchResult result
+        (λ added. (keys.new.items ≡ with_item K.cmp key keys.old.items) × (added ≡ not (has_item K.cmp key keys.old.items)))
+        (λ _. keys.new.items ≡ keys.old.items) }
 {
     match keys.binary_search(&key) {
         Ok(_) => Ok(false),

@@ -8,7 +8,6 @@
 
 mod insertion;
 mod iter;
-mod laws;
 mod leaf;
 mod page;
 mod pages;
@@ -17,9 +16,6 @@ mod place;
 mod reading;
 mod removal;
 mod run;
-#[cfg(test)]
-mod tests;
 
 pub use iter::Iter;
-pub use laws::{insert_beside_share, insert_into_share, remove_beside_share, remove_from_share};
 pub use pages::Pages;

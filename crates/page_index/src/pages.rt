@@ -1,4 +1,4 @@
-ghost use Rattle.std.specs.Prelude.{◌≡◌, ◌<◌, [], ◌∷◌, length, not, IfOk, OnOk, OnErr, MatchOption, None, Some, filter};
+ghost use Rattle.std.specs.Prelude.{◌≡◌, ◌<◌, [], ◌∷◌, length, not, IfOk, OnOk, OnErr, MatchOption, MatchResult, None, Some, filter};
 ghost use Rattle.std.specs.declared.cmp.Ordering.{Ordering};
 ghost use Rattle.std.specs.Fn.{ComputesKey};
 ghost use Rattle.collections.specs.Ordered.{IsAscending, with_item, without_item, has_item};
@@ -58,8 +58,8 @@ impl<K: Ord> Pages<K> {
         self.len
     }
 
-    /// The first key at which the order given is not `Less`, and `None` exactly where it is `Less` at
-    /// each. So it is found wherever the order is `Less` at the keys of a prefix alone. It takes no memory.
+    /// Where the order given is `Less` at the keys of a prefix alone, the first key at which it is not
+    /// `Less`, and `None` exactly where it is `Less` at each key. It takes no memory.
     pub fn seek<F: Fn(&K) -> Ordering>(&self, order: F) -> Option<&K>
         requires { F.IsAlwaysCallable order }
         ensures { (of : K → Ordering) → ComputesKey F.FnMut of order → IsRising of self.now → MatchOption result (first_reached of self.now ≡ None) (λ key. first_reached of self.now ≡ Some key.now) }
@@ -68,6 +68,13 @@ impl<K: Ord> Pages<K> {
             None => None,
             Some(root) => root.seek(&order),
         }
+    }
+
+    /// The keys ascend strictly. It does nothing: its contract is what the type keeps.
+    pub fn ascends(&self)
+        ensures { IsAscending K.cmp self.now }
+    {
+        let _ = &self.len;
     }
 
     // The keys of one leaf that come first above the one given, or first of all.
@@ -220,9 +227,9 @@ fn insert_below<K: Ord + ExactClone + Drop>(
     root: &mut Arc<Page<K>>,
     key: K,
 ) -> Result<bool, AllocError>
-    ensures ok { OnOk result ((arc_value root.new).keys ≡ with_item K.cmp key (arc_value root.old).keys) }
-    ensures added { IfOk result (λ added. added ≡ not (has_item K.cmp key (arc_value root.old).keys)) }
-    ensures err { OnErr result ((arc_value root.new).keys ≡ (arc_value root.old).keys) }
+    ensures { MatchResult result
+        (λ added. ((arc_value root.new).keys ≡ with_item K.cmp key (arc_value root.old).keys) × (added ≡ not (has_item K.cmp key (arc_value root.old).keys)))
+        (λ _. (arc_value root.new).keys ≡ (arc_value root.old).keys) }
 {
     room_at_root(alloc, root)?;
     Arc::make_mut(root)?.insert(alloc, key)
@@ -246,9 +253,9 @@ fn insert_into<K: Ord + ExactClone + Drop>(
     root: &mut Option<Arc<Page<K>>>,
     key: K,
 ) -> Result<bool, AllocError>
-    ensures ok { OnOk result (root_keys (option_map arc_value root.new) ≡ with_item K.cmp key (root_keys (option_map arc_value root.old))) }
-    ensures added { IfOk result (λ added. added ≡ not (has_item K.cmp key (root_keys (option_map arc_value root.old)))) }
-    ensures err { OnErr result (root_keys (option_map arc_value root.new) ≡ root_keys (option_map arc_value root.old)) }
+    ensures { MatchResult result
+        (λ added. (root_keys (option_map arc_value root.new) ≡ with_item K.cmp key (root_keys (option_map arc_value root.old))) × (added ≡ not (has_item K.cmp key (root_keys (option_map arc_value root.old)))))
+        (λ _. root_keys (option_map arc_value root.new) ≡ root_keys (option_map arc_value root.old)) }
 {
     match root {
         Some(root) => insert_below(alloc, root, key),
@@ -265,9 +272,9 @@ fn remove_below<K: Ord + ExactClone + Drop>(
     root: &mut Arc<Page<K>>,
     key: &K,
 ) -> Result<bool, AllocError>
-    ensures ok { OnOk result ((arc_value root.new).keys ≡ without_item K.cmp key.now (arc_value root.old).keys) }
-    ensures removed { IfOk result (λ removed. removed ≡ has_item K.cmp key.now (arc_value root.old).keys) }
-    ensures err { OnErr result ((arc_value root.new).keys ≡ (arc_value root.old).keys) }
+    ensures { MatchResult result
+        (λ removed. ((arc_value root.new).keys ≡ without_item K.cmp key.now (arc_value root.old).keys) × (removed ≡ has_item K.cmp key.now (arc_value root.old).keys))
+        (λ _. (arc_value root.new).keys ≡ (arc_value root.old).keys) }
 {
     settle_root(root)?;
     Arc::make_mut(root)?.remove(alloc, key)
@@ -279,9 +286,9 @@ fn remove_from<K: Ord + ExactClone + Drop>(
     root: &mut Option<Arc<Page<K>>>,
     key: &K,
 ) -> Result<bool, AllocError>
-    ensures ok { OnOk result (root_keys (option_map arc_value root.new) ≡ without_item K.cmp key.now (root_keys (option_map arc_value root.old))) }
-    ensures removed { IfOk result (λ removed. removed ≡ has_item K.cmp key.now (root_keys (option_map arc_value root.old))) }
-    ensures err { OnErr result (root_keys (option_map arc_value root.new) ≡ root_keys (option_map arc_value root.old)) }
+    ensures { MatchResult result
+        (λ removed. (root_keys (option_map arc_value root.new) ≡ without_item K.cmp key.now (root_keys (option_map arc_value root.old))) × (removed ≡ has_item K.cmp key.now (root_keys (option_map arc_value root.old))))
+        (λ _. root_keys (option_map arc_value root.new) ≡ root_keys (option_map arc_value root.old)) }
 {
     match root {
         Some(root) => remove_below(alloc, root, key),

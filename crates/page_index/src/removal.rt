@@ -1,6 +1,6 @@
-ghost use Rattle.std.specs.Prelude.{◌≡◌, ◌⊎◌, ◌+◌, ◌<◌, ◌≤◌, length, OnOk, OnErr, IfOk, MatchOption, None, Some};
+ghost use Rattle.std.specs.Prelude.{◌≡◌, ◌⊎◌, ◌+◌, ◌<◌, ◌≤◌, length, IfOk, MatchOption, MatchResult, None, Some};
 ghost use Rattle.collections.specs.Ordered.{without_item, has_item};
-ghost use Rattle.page_index.specs.Blocks.{AreSound, IsPlace, IsLowWithout, width_at, keys_of, height_of, second_of, IsRemovable, least, most};
+ghost use Rattle.page_index.specs.Blocks.{AreSound, IsPlace, IsLowWithout, IsAs, AreAs, width_at, height_of, second_of, IsRemovable, least, most};
 
 use crate::leaf::remove_key;
 use crate::page::{Entry, LEAST, Node, Page, set_low};
@@ -27,11 +27,8 @@ fn spare_for<K: Ord + ExactClone + Drop>(
 ) -> Result<usize, AllocError>
     requires sound { AreSound K.cmp (height_of entries.old.items) entries.old.items }
     requires size { (2 ≤ length entries.old.items) × (length entries.old.items ≤ most) }
-    ensures keys { keys_of entries.new.items ≡ keys_of entries.old.items }
-    ensures sound { AreSound K.cmp (height_of entries.old.items) entries.new.items }
-    ensures size { (length entries.old.items ≤ length entries.new.items + 1) × (length entries.new.items ≤ length entries.old.items) }
-    ensures place { IfOk result (IsPlace K.cmp key.now entries.new.items) }
-    ensures spare { IfOk result (λ at. least < width_at entries.new.items at) }
+    ensures kept { AreAs K.cmp 1 entries.old.items entries.new.items }
+    ensures place { IfOk result (λ at. IsPlace K.cmp key.now entries.new.items at × (least < width_at entries.new.items at)) }
 {
     let at = place_of(entries, key);
     let entry = &entries[at];
@@ -83,11 +80,9 @@ impl<K: Ord + ExactClone + Drop> Page<K> {
     // Takes a key out of a leaf, or of a page with two entries or more, and says whether it was there.
     pub(crate) fn remove(&mut self, alloc: Global, key: &K) -> Result<bool, AllocError>
         requires { IsRemovable self.old }
-        ensures ok { OnOk result (self.new.keys ≡ without_item K.cmp key.now self.old.keys) }
-        ensures removed { IfOk result (λ removed. removed ≡ has_item K.cmp key.now self.old.keys) }
-        ensures err { OnErr result (self.new.keys ≡ self.old.keys) }
-        ensures height { self.new.height ≡ self.old.height }
-        ensures width { (self.old.width ≤ self.new.width + 1) × (self.new.width ≤ most) }
+        ensures { MatchResult result
+            (λ removed. IsAs (without_item K.cmp key.now self.old.keys) 1 self.old self.new × (removed ≡ has_item K.cmp key.now self.old.keys))
+            (λ _. IsAs self.old.keys 1 self.old self.new) }
     {
         match &mut self.node {
             Node::Leaf(keys) => return Ok(remove_key(keys, key)),

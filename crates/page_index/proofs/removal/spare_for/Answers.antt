@@ -6,12 +6,13 @@ use Rattle.page_index.proofs.removal.spare_for.Given as given
 use Rattle.page_index.proofs.removal.spare_for.Goals as goal
 use Rattle.page_index.proofs.removal.spare_for.Goals.{After-deref-4, After-put_for_two}
 
-pub returns-then-width-gt-LEAST-clause-spare : goal.returns-then-width-gt-LEAST-clause-spare
-returns-then-width-gt-LEAST-clause-spare g c =
+pub returns-then-width-gt-LEAST-clause-place : goal.returns-then-width-gt-LEAST-clause-place
+returns-then-width-gt-LEAST-clause-place g c =
     let within = subst (λ (bs : List (Block g.row.K.Denot)). c.place_of-at.result < length bs) c.deref.ensures.value c.place_of-at.ensures.within in
     let page : c.deref-2.result.now ≡ c.index-entry.result.now.page = c.deref-2.ensures ∙ ap (λ (b : Block g.row.K.Denot). b.page) c.entry.view_is in
     let wide : width_at c.args.entries.now.items c.place_of-at.result ≡ c.width.result = width-get c.args.entries.now.items c.place_of-at.result c.index-entry.result.now within ∙ ap (λ (b : Block g.row.K.Denot). b.page.width) (sym c.index-entry.ensures) ∙ ap (λ (d : Image g.row.K.Denot). d.width) (sym page) ∙ sym c.width.ensures.value in
-    subst (λ (n : ℕ). least < n) (sym wide) c.if-width-gt-LEAST.true
+    let place = subst (λ (bs : List (Block g.row.K.Denot)). IsPlace g.K.Ord.cmp c.args.key.now bs c.place_of-at.result) c.deref.ensures.value c.place_of-at.ensures in
+    (place, subst (λ (n : ℕ). least < n) (sym wide) c.if-width-gt-LEAST.true)
 
 left : (g : given.Over) (c : After-deref-4 g) → c.deref-3.result.now ≡ c.index.result.now.page
 left g c = c.deref-3.ensures ∙ ap (λ (b : Block g.row.K.Denot). b.page) c.left.view_is
@@ -54,17 +55,12 @@ swapped g c =
     (subst (λ (bs : List (Block g.row.K.Denot)). IsPlace g.K.Ord.cmp c.args.key.now bs c.place_of-at.result) c.deref.ensures.value c.place_of-at.ensures) c.left_of-first.ensures.near (let w = c.left_of-first.ensures.within in let n = c.len.ensures in omega arith) c.index.ensures c.index-2.ensures
     (let k = c.in_ok-pair.ensures.keys in cc (k, l, r)) (subst (λ (d : Image g.row.K.Denot). AreBelow (d.height + 1) (pair_blocks c.in_ok-pair.pair)) l c.in_ok-pair.ensures.below) c.put_for_two.ensures
 
-pub returns-clause-keys : goal.returns-clause-keys
-returns-clause-keys g c = (swapped g c).keys
-
-pub returns-clause-sound : goal.returns-clause-sound
-returns-clause-sound g c = (swapped g c).sound
-
-pub returns-clause-size : goal.returns-clause-size
-returns-clause-size g c = two-length c.args.entries.now.items c.left_of-first.result c.in_ok-pair.pair c.put_for_two.new.entries.items (let w = c.left_of-first.ensures.within in let n = c.len.ensures in omega arith) c.put_for_two.ensures
+pub returns-clause-kept : goal.returns-clause-kept
+returns-clause-kept g c =
+    let s = swapped g c in
+    let l = two-length c.args.entries.now.items c.left_of-first.result c.in_ok-pair.pair c.put_for_two.new.entries.items (let w = c.left_of-first.ensures.within in let n = c.len.ensures in omega arith) c.put_for_two.ensures in
+    let m = c.requires.size.1 in
+    record { keys = s.keys; sound = s.sound; many = l.0; few = omega arith }
 
 pub returns-clause-place : goal.returns-clause-place
-returns-clause-place g c = (swapped g c).place
-
-pub returns-clause-spare : goal.returns-clause-spare
-returns-clause-spare g c = (swapped g c).spare
+returns-clause-place g c = let s = swapped g c in (s.place, s.spare)

@@ -11,7 +11,7 @@ pub returns-in-Leaf : goal.returns-in-Leaf
 returns-in-Leaf g t c =
     let keys = sym (ap (λ (d : Image g.row.K.Denot). d.keys) (ap image_of (sym c.in-Leaf.is) ∙ c.self.view_is)) in
     let leaf = opened-leaf g.K.Ord.cmp c.self.inside.node c.in-Leaf.keys c.args.self.now c.self.invariant c.in-Leaf.is c.self.view_is in
-    let rises = subst (λ (ks : List g.row.K.Denot). IsAscending g.K.Ord.cmp ks) (sym c.deref.ensures.value) leaf.0.1 in
+    let rises = subst (λ (ks : List g.row.K.Denot). IsAscending g.K.Ord.cmp ks) (sym c.deref.ensures.value) leaf.ascending in
     c.is_ok.ensures.value ∙ found-result g.K.Ord.cmp g.met.K.Ord.total c.args.key.now c.deref.result.now c.binary_search.result rises c.binary_search.ensures.bound c.binary_search.ensures.position ∙ ap (λ (ks : List g.row.K.Denot). has_item g.K.Ord.cmp c.args.key.now ks) (c.deref.ensures.value ∙ sym keys)
 
 pub returns-in-Inner : goal.returns-in-Inner

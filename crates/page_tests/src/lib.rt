@@ -1,0 +1,5 @@
+//! Tests of the crates that stand on pages.
+#![tactic(auto)]
+
+#[cfg(test)]
+mod pages;

@@ -1,0 +1,94 @@
+ghost use Rattle.std.specs.Prelude.{◌≡◌, IfOk};
+
+use collections::ExactClone;
+use page_index::Pages;
+use std::alloc::{AllocError, Global};
+use std::process::Abort;
+use std::test::Fail;
+
+// One number as a key.
+#[derive(Clone, Copy, Debug, PartialEq, Eq, PartialOrd, Ord)]
+struct Number(u32);
+
+impl ExactClone for Number {
+    ghost use Rattle.std.proofs.Common.{rules};
+
+    ghost clone_is_equal = { Prim.search rules };
+}
+
+fn numbers(alloc: Global, keys: &[u32]) -> Result<Pages<Number>, AllocError> {
+    let mut pages = Pages::new(alloc);
+    for key in keys {
+        let _ = pages.insert(Number(*key))?;
+    }
+    Ok(pages)
+}
+
+fn is_list(rt: &impl Abort, pages: &Pages<Number>, want: &[u32]) -> Result<(), AllocError> {
+    let keys = pages.keys()?;
+    assert_eq!(rt; keys.len(), want.len());
+    assert_eq!(rt; pages.len(), want.len());
+    for (key, number) in keys.iter().zip(want.iter()) {
+        assert_eq!(rt; key.0, *number);
+    }
+    Ok(())
+}
+
+#[test]
+fn keys_are_found(rt: HostRuntime) -> Result<(), Fail> {
+    let pages = numbers(rt.alloc(), &[9, 1, 5, 2])?;
+    for (key, there, next) in [(2, true, Some(2)), (3, false, Some(5)), (10, false, None)] {
+        assert_eq!(rt; pages.contains(&Number(key)), there);
+        assert_eq!(rt;
+            pages.seek(|other| other.0.cmp(&key)).map(|found| found.0),
+            next
+        );
+    }
+    let part = pages.range(&Number(2), &Number(9))?;
+    assert_eq!(rt; part.len(), 2);
+    assert_eq!(rt; (part[0].0, part[1].0), (2, 5));
+    Ok(())
+}
+
+// Keys come and go in a set, and a share of it stays as it was.
+#[test]
+fn a_share_stays(rt: HostRuntime) -> Result<(), Fail> {
+    let mut pages = numbers(rt.alloc(), &[5, 2, 9, 7])?;
+    let share = pages.share()?;
+    assert_eq!(rt;
+        (pages.insert(Number(5))?, pages.insert(Number(1))?),
+        (false, true)
+    );
+    assert_eq!(rt;
+        (pages.remove(&Number(7))?, pages.remove(&Number(7))?),
+        (true, false)
+    );
+    is_list(&rt, &pages, &[1, 2, 5, 9])?;
+    is_list(&rt, &share, &[2, 5, 7, 9])?;
+    Ok(())
+}
+
+// The keys that a loop over them meets.
+fn met(alloc: Global, pages: &Pages<Number>) -> Result<Vec<Number>, AllocError>
+    ensures { IfOk result (λ met. met.items ≡ pages.now) }
+{
+    let mut met = Vec::new(alloc);
+    for key in pages.iter() {
+        met.push(*key)?;
+    }
+    Ok(met)
+}
+
+#[test]
+fn a_loop_meets_each_key(rt: HostRuntime) -> Result<(), Fail> {
+    let mut pages = Pages::new(rt.alloc());
+    for number in 0..400u32 {
+        let _ = pages.insert(Number(number * 7 % 400))?;
+    }
+    let met = met(rt.alloc(), &pages)?;
+    assert_eq!(rt; met.len(), 400);
+    for (key, number) in met.iter().zip(0..400u32) {
+        assert_eq!(rt; key.0, number);
+    }
+    Ok(())
+}

@@ -1,0 +1,6 @@
+pub mod Across
+pub mod Listings
+pub mod Looked
+pub mod Matching
+pub mod Prefixes
+pub mod Viewed

@@ -1,0 +1,6 @@
+pub mod Changes
+pub mod Keys
+pub mod Orders
+pub mod Patterns
+pub mod Rotations
+pub mod Sets

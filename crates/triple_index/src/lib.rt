@@ -1,0 +1,17 @@
+//! A set of triples of term numbers, in pages that other sets may share.
+//!
+//! An `Index` is seen by contracts as the list of its triples, which ascends strictly by subject,
+//! predicate and object. It keeps them in three orders, so that whatever a look or a pattern asks for
+//! stands side by side in one of them; that the three hold the same triples is kept by its type.
+#![tactic(auto)]
+
+mod change;
+mod find;
+mod index;
+mod key;
+mod pattern;
+mod prefix;
+mod run;
+
+pub use change::NumberedChange;
+pub use index::Index;
