@@ -8,6 +8,7 @@ use Rattle.std.specs.declared.cmp.Ordering.{Ordering}
 use Rattle.std.specs.declared.cmp.Ordering.TheVariants.{Less, Equal, Greater}
 use Rattle.rdf_model.specs.declared.change.Change.{Change}
 use Rattle.rdf_model.specs.declared.look.Look.{Look}
+use Rattle.rdf_model.specs.declared.term.Term.{Term}
 use Rattle.rdf_model.specs.declared.triple.Triple.{Triple}
 use Rattle.rdf_model.specs.Graphs.{after}
 use Rattle.rdf_model.specs.Matching.{is_read, is_read_by}
@@ -78,7 +79,7 @@ alike : (g h : List Triple) (t : Triple) → has_item triple_cmp t h ≡ has_ite
 alike g h t e = (λ c. to_list h t (e ∙ to_test g t c), λ c. to_list g t (sym e ∙ to_test h t c))
 
 -- where none of the triples is read, a triple that is read isn't one of them
-unread : (ls : List Look) (ts : List Triple) (t : Triple) → first_read ls ts ≡ None → is_read ls t ≡ true → has_item triple_cmp t ts ≡ false
+unread : (ls : List (Look Term)) (ts : List Triple) (t : Triple) → first_read ls ts ≡ None → is_read ls t ≡ true → has_item triple_cmp t ts ≡ false
 unread ls [] t h r = refl
 unread ls (u ∷ us) t h r = elim (is_read ls u) as (λ b. is_read ls u ≡ b → cond b (Some u) (first_read ls us) ≡ None → has_item triple_cmp t (u ∷ us) ≡ false) [
   | true ↦ λ e g. cc
@@ -92,10 +93,10 @@ unread ls (u ∷ us) t h r = elim (is_read ls u) as (λ b. is_read ls u ≡ b �
     ] refl
 
 -- commits after which a verdict with these looks still holds: none staged shapes, none changed a triple that is read
-abbrev Leave : List Look → List Accepted → Type 0
+abbrev Leave : List (Look Term) → List Accepted → Type 0
 Leave ls more = AllByRecursion (λ a. a.staged ≡ false) more × ((t : Triple) → is_read ls t ≡ true → AllByRecursion (λ a. has_item triple_cmp t a.changed ≡ false) more)
 
-untouched : (n : ℕ) (ls : List Look) (more : List Accepted) → again_from n ls more ≡ No → Leave ls more
+untouched : (n : ℕ) (ls : List (Look Term)) (more : List Accepted) → again_from n ls more ≡ No → Leave ls more
 untouched n ls [] h = (tt, λ t r. tt)
 untouched n ls (a ∷ as') h = elim a.staged as (λ b. a.staged ≡ b → cond b (ShapesChanged n) (touched_or n (first_read ls a.changed) (again_from (n + 1) ls as')) ≡ No → Leave ls (a ∷ as')) [
   | true ↦ λ e g. cc
@@ -106,14 +107,14 @@ untouched n ls (a ∷ as') h = elim a.staged as (λ b. a.staged ≡ b → cond b
 ] refl h
 
 -- a look of the list that reads a triple
-looks_read : (ls : List Look) (look : Look) (t : Triple) → Contains ls look → is_read_by look t ≡ true → is_read ls t ≡ true
+looks_read : (ls : List (Look Term)) (look : Look Term) (t : Triple) → Contains ls look → is_read_by look t ≡ true → is_read ls t ≡ true
 looks_read [] look t c h = absurd (omega arith)
 looks_read (l ∷ ls) look t c h = elim (has_cases l ls look c) [
-  | inl e ↦ ap (λ b. b || is_read ls t) (subst (λ (x : Look). is_read_by x t ≡ true) (sym e) h)
+  | inl e ↦ ap (λ b. b || is_read ls t) (subst (λ (x : Look Term). is_read_by x t ≡ true) (sym e) h)
   | inr d ↦ or_last (is_read_by l t) (is_read ls t) (looks_read ls look t d h)
 ]
 
-agree : (g h : List Triple) (ls : List Look) → ((t : Triple) → is_read ls t ≡ true → has_item triple_cmp t h ≡ has_item triple_cmp t g) → Agree g h ls
+agree : (g h : List Triple) (ls : List (Look Term)) → ((t : Triple) → is_read ls t ≡ true → has_item triple_cmp t h ≡ has_item triple_cmp t g) → Agree g h ls
 agree g h ls same look c t m = alike g h t (same t (looks_read ls look t c ((look_law look t).0 m)))
 
 verdict_stands : (s : RecordedStore) (net : List Change) (v : Verdict) (rows : List ResultRow) → IsConsistent s → IsVerdict s net v rows → again_from (v.head + 1) v.looks (drop v.head s.state.commits) ≡ No → Listing (after s.state.graph net) s.state.shapes rows

@@ -4,18 +4,18 @@ ghost use Rattle.store_model.specs.Store.{again, again_from, first_read};
 ghost use Rattle.commit_core.specs.Verdicts.{AreReasons, IsAtHead};
 
 use crate::commit::Reasons;
-use rdf_model::{Look, Triple};
+use rdf_model::{Look, Term, Triple};
 use std::alloc::AllocError;
 use store_model::{Accepted, Again, Transaction};
 
-fn reads_any(looks: &[Look], triple: &Triple) -> bool
+fn reads_any(looks: &[Look<Term>], triple: &Triple) -> bool
     ensures { result ≡ is_read looks.now triple.now }
 {
     looks.iter().any(|look| look.reads(triple))
 }
 
 // The first triple that a look reads.
-fn first_touched(looks: &[Look], triples: &[Triple]) -> Result<Option<Triple>, AllocError>
+fn first_touched(looks: &[Look<Term>], triples: &[Triple]) -> Result<Option<Triple>, AllocError>
     ensures { IfOk result (λ found. found ≡ first_read looks.now triples.now) }
 {
     for triple in triples {
@@ -27,7 +27,7 @@ fn first_touched(looks: &[Look], triples: &[Triple]) -> Result<Option<Triple>, A
 }
 
 // Why a verdict with these looks no longer holds after the commits, numbered from `first` on.
-fn again_after(first: u64, looks: &[Look], commits: &[Accepted]) -> Result<Again, AllocError>
+fn again_after(first: u64, looks: &[Look<Term>], commits: &[Accepted]) -> Result<Again, AllocError>
     requires { first + length commits.now < 2 ^ 64 }
     ensures { IfOk result (λ why. why ≡ again_from first looks.now commits.now) }
 {

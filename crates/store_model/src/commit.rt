@@ -1,5 +1,5 @@
 use collections::Sequence;
-use rdf_model::{Look, Net, Pattern, Triple};
+use rdf_model::{Look, Net, Pattern, Term, Triple};
 use shapes_graph::ShapesGraph;
 use std::alloc::AllocError;
 
@@ -7,7 +7,7 @@ use std::alloc::AllocError;
 #[derive(Debug)]
 pub struct Verdict {
     pub head: u64,
-    pub looks: Sequence<Look>,
+    pub looks: Sequence<Look<Term>>,
 }
 
 // Written by hand, so that what owns one calls it in place of having it written out.
