@@ -28,14 +28,14 @@ forth_and_back Predicates k = refl
 forth_and_back Objects k = refl
 
 -- what a filter keeps
-kept_of : {X : Type 0} (q : X → Bool) (xs : List X) (x : X) → Contains (filter q xs) x → Contains xs x × (q x ≡ true)
+pub kept_of : {X : Type 0} (q : X → Bool) (xs : List X) (x : X) → Contains (filter q xs) x → Contains xs x × (q x ≡ true)
 kept_of q [] x c = absurd (omega arith)
 kept_of q (y ∷ ys) x c = elim (q y) as (λ b. q y ≡ b → Contains (cond b (y ∷ filter q ys) (filter q ys)) x → Contains (y ∷ ys) x × (q x ≡ true)) [
   | true ↦ λ h d. elim (has_cases y (filter q ys) x d) [ inl e ↦ (has_equal y ys x e, subst (λ w. q w ≡ true) e h) | inr i ↦ let k = kept_of q ys x i in (has_tail y ys x k.0, k.1) ]
   | false ↦ λ h d. let k = kept_of q ys x d in (has_tail y ys x k.0, k.1)
 ] refl c
 
-keeps : {X : Type 0} (q : X → Bool) (xs : List X) (x : X) → Contains xs x → q x ≡ true → Contains (filter q xs) x
+pub keeps : {X : Type 0} (q : X → Bool) (xs : List X) (x : X) → Contains xs x → q x ≡ true → Contains (filter q xs) x
 keeps q [] x c e = absurd (omega arith)
 keeps q (y ∷ ys) x c e = elim (q y) as (λ b. q y ≡ b → Contains (cond b (y ∷ filter q ys) (filter q ys)) x) [
   | true ↦ λ h. elim (has_cases y ys x c) [ inl d ↦ has_equal y (filter q ys) x d | inr d ↦ has_tail y (filter q ys) x (keeps q ys x d e) ]

@@ -1,4 +1,5 @@
 pub mod Changes
+pub mod IdsOrder
 pub mod Keys
 pub mod Orders
 pub mod Patterns
