@@ -1,7 +1,7 @@
-ghost use Rattle.std.specs.Prelude.{◌≡◌, ◌==◌, ◌++◌, ◌<◌, ◌≤◌, OnOk, IfOk, length, position, string_bytes, option_copied};
+ghost use Rattle.std.specs.Prelude.{◌≡◌, ◌==◌, ◌++◌, ◌<◌, ◌≤◌, OnOk, IfOk, length, position, codes, string_bytes, option_copied};
 ghost use Rattle.std.specs.List.{position_or_len};
 ghost use Rattle.iri_ref.specs.Components;
-ghost use Rattle.iri_ref.specs.Components.{texts_of, led_by};
+ghost use Rattle.iri_ref.specs.Components.{texts_of, led_by, ended_by};
 
 use crate::scheme::has_scheme;
 use std::alloc::{AllocError, Global};
@@ -105,15 +105,23 @@ fn push_led(text: &mut String, delimiter: &str, component: Option<&str>) -> Resu
     Ok(())
 }
 
+// Appends the scheme and its colon, if it is defined.
+fn push_scheme(text: &mut String, scheme: Option<&str>) -> Result<(), AllocError>
+    ensures { OnOk result (string_bytes text.new ≡ string_bytes text.old ++ ended_by (codes ":") (option_copied scheme.entry)) }
+{
+    if let Some(scheme) = scheme {
+        text.push_str(scheme)?;
+        text.push_str(":")?;
+    }
+    Ok(())
+}
+
 // The reference that has these components (RFC 3986 section 5.3).
 pub(crate) fn join(alloc: Global, parts: Parts<'_>) -> Result<String, AllocError>
     ensures { IfOk result (λ text. string_bytes text ≡ Components.joined (texts_of parts.entry)) }
 {
     let mut text = String::new(alloc);
-    if let Some(scheme) = parts.scheme {
-        text.push_str(scheme)?;
-        text.push_str(":")?;
-    }
+    push_scheme(&mut text, parts.scheme)?;
     push_led(&mut text, "//", parts.authority)?;
     text.push_str(parts.path)?;
     push_led(&mut text, "?", parts.query)?;

@@ -38,6 +38,17 @@ fn split_segment(input: &str) -> (&str, &str)
     input.split_at(1 + next_slash(&input.as_bytes()[1..]))
 }
 
+// Moves the first segment from the input to the output: it answers what is left of the input.
+fn move_segment<'a>(input: &'a str, output: &mut String) -> Result<&'a str, AllocError>
+    requires { 0 < length input.now }
+    ensures rest { IfOk result (λ rest. rest.now ≡ drop (segment_len input.now) input.now) }
+    ensures output { OnOk result (string_bytes output.new ≡ string_bytes output.old ++ take (segment_len input.now) input.now) }
+{
+    let (segment, rest) = split_segment(input);
+    output.push_str(segment)?;
+    Ok(rest)
+}
+
 // One step at the first segment of the input: it answers what is left of the input.
 fn take_step<'a>(input: &'a str, output: &mut String) -> Result<&'a str, AllocError>
     requires { 0 < length input.now }
@@ -60,9 +71,7 @@ fn take_step<'a>(input: &'a str, output: &mut String) -> Result<&'a str, AllocEr
     if input == "." || input == ".." {
         return Ok("");
     }
-    let (segment, rest) = split_segment(input);
-    output.push_str(segment)?;
-    Ok(rest)
+    move_segment(input, output)
 }
 
 // A path without its dot segments (RFC 3986 section 5.2.4).

@@ -11,8 +11,6 @@ mod dot_segments;
 pub mod laws;
 mod resolution;
 mod scheme;
-#[cfg(test)]
-mod tests;
 
 pub use components::{Parts, split};
 pub use resolution::resolve;

@@ -1,16 +1,19 @@
 -- What is read as a numeral is what the patterns say.
 use Rattle.std.proofs.Common.{◌≡◌, ◌≢◌, ◌↔◌, ◌⊎◌, inl, inr, ℕ, Bool, true, false, not, ◌&&◌, ◌||◌, cond, nat_eq, List, [], ◌∷◌, ◌++◌, length, Option, Some, None, add_comm, add-one, refl, sym, ap, ◌∙◌, arith}
+use Rattle.std.specs.Prelude.{codes, bytes_eq}
 use Rattle.std.specs.Char.{is_ascii_digit}
+use Rattle.std.proofs.lemmas.Slice.Eq.{bytes_eq-Decides}
 use Rattle.std.specs.List.{before_first, after_first, position_or_len}
 use Rattle.std.proofs.lemmas.Bool.{and_parts, and_from, or_cases, or_left, or_right, eqb-true, ne_eqb, cond-true, cond-false}
 use Rattle.std.proofs.lemmas.Bool.Decides.{nat_tests}
 use Rattle.literal_order.specs.Datatypes.{is_in_range}
 use Rattle.literal_order.specs.Digits.{is_empty, is_negative, are_digits, whole_number, fraction_number}
-use Rattle.literal_order.specs.Numerals.{unsigned, whole_digits, fraction_digits, is_integer_form, is_decimal_form, integer_value, integer_reading, decimal_value, decimal_of_parts, decimal_reading}
-use Rattle.literal_order.specs.Forms.{IsSign, AreDigits, IsIntegerForm, IsDecimalForm}
+use Rattle.literal_order.specs.Numerals.{unsigned, whole_digits, fraction_digits, is_integer_form, is_decimal_form, integer_value, integer_reading, decimal_value, decimal_of_parts, decimal_reading, boolean_reading}
+use Rattle.literal_order.specs.Forms.{IsSign, AreDigits, IsIntegerForm, IsDecimalForm, IsBooleanForm}
 use Rattle.literal_order.specs.declared.datatype.IntegerType.TheVariants.{Integer}
 use Rattle.literal_order.specs.declared.literal_value.Reading.{Reading}
-use Rattle.literal_order.specs.declared.literal_value.Reading.TheVariants.{IllTyped}
+use Rattle.literal_order.specs.declared.literal_value.Reading.TheVariants.{IllTyped, Value}
+use Rattle.literal_order.specs.declared.literal_value.LiteralValue.TheVariants as values
 
 -- a text is a sign and what follows it
 sign_cases : (c : ℕ) (cs : List ℕ) (a b : Bool) → nat_eq c 45 ≡ a → nat_eq c 43 ≡ b → (s : List ℕ) × IsSign s × (c ∷ cs ≡ s ++ cond (a || b) cs (c ∷ cs))
@@ -181,3 +184,27 @@ integer_to text s ds sign a filled_ds e k =
 
 pub integer_forms : (text : List ℕ) → (integer_reading Integer text ≢ IllTyped) ↔ IsIntegerForm text
 integer_forms text = (integer_from text, λ h. integer_to text h.0 h.1 h.2 h.3 h.4 h.5)
+
+-- booleans
+either : (text a b : List ℕ) → (bytes_eq text a || bytes_eq text b) ≡ true → (text ≡ a) ⊎ (text ≡ b)
+either text a b h = elim (or_cases (bytes_eq text a) (bytes_eq text b) h) [ inl e ↦ inl ((bytes_eq-Decides text a).0 e) | inr e ↦ inr ((bytes_eq-Decides text b).0 e) ]
+
+by_tests : (text : List ℕ) (a b : Bool) → (bytes_eq text (codes "true") || bytes_eq text (codes "1")) ≡ a → (bytes_eq text (codes "false") || bytes_eq text (codes "0")) ≡ b
+    → (cond a (Value (values.Boolean true)) (cond b (Value (values.Boolean false)) IllTyped) ≢ IllTyped) → IsBooleanForm text
+by_tests text true b e f h = inl (either text (codes "true") (codes "1") e)
+by_tests text false true e f h = inr (either text (codes "false") (codes "0") f)
+by_tests text false false e f h = absurd (h refl)
+
+formed : (text : List ℕ) → IsBooleanForm text → boolean_reading text ≢ IllTyped
+unfolding boolean_reading
+formed text (inl (inl e)) k = let same : boolean_reading (codes "true") ≡ IllTyped = ap boolean_reading (sym e) ∙ k in cc
+formed text (inl (inr e)) k = let same : boolean_reading (codes "1") ≡ IllTyped = ap boolean_reading (sym e) ∙ k in cc
+formed text (inr (inl e)) k = let same : boolean_reading (codes "false") ≡ IllTyped = ap boolean_reading (sym e) ∙ k in cc
+formed text (inr (inr e)) k = let same : boolean_reading (codes "0") ≡ IllTyped = ap boolean_reading (sym e) ∙ k in cc
+
+pub boolean_forms : (text : List ℕ) → (boolean_reading text ≢ IllTyped) ↔ IsBooleanForm text
+unfolding boolean_reading
+boolean_forms text = (
+  λ h. by_tests text (bytes_eq text (codes "true") || bytes_eq text (codes "1")) (bytes_eq text (codes "false") || bytes_eq text (codes "0")) refl refl h,
+  formed text,
+)

@@ -3,3 +3,4 @@ pub mod TextLemmas
 pub mod CalendarLemmas
 pub mod OrderLemmas
 pub mod FormLemmas
+pub mod DayEnds

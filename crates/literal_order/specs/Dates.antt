@@ -1,5 +1,5 @@
 -- Dates and times by their lexical forms: XSD 1.1 Part 2, sections 3.3.7, 3.3.9 and appendix D.
-use Rattle.std.specs.Prelude.{◌≡◌, ℕ, ◌+◌, ◌-◌, ◌*◌, Bool, true, false, not, ◌&&◌, ◌||◌, ◌==◌, nat_le, nat_lt, ◌≤◌, ⊤, List, [], ◌∷◌, length, drop, Option, Some, None, option_and_then, option_map, codes, bytes_eq, if◌then◌else◌, take_while}
+use Rattle.std.specs.Prelude.{◌≡◌, ℕ, ◌+◌, ◌-◌, ◌*◌, Bool, true, false, not, ◌&&◌, ◌||◌, ◌==◌, nat_le, nat_lt, ◌≤◌, ⊤, List, [], ◌∷◌, ◌++◌, length, drop, Option, Some, None, option_and_then, option_map, codes, bytes_eq, if◌then◌else◌, take_while}
 use Rattle.std.specs.Char.{is_ascii_digit}
 use Rattle.std.specs.List.{prefix_len}
 use Rattle.literal_order.specs.Calendar.{days_in_month, day_number}
@@ -164,10 +164,6 @@ instant day seconds nanos from = record {
   has_offset = has_offset from;
 }
 
--- 24:00:00 is the start of the next day
-abbrev pub EndsAtNext : Type 0
-EndsAtNext = (day nanos : ℕ) (from : Offset) → instant day (3600 * 24 + 60 * 0 + 0) nanos from ≡ instant (day + 1) 0 nanos from
-
 abbrev pub date_time_value : Day → Option ℕ → ℕ → Offset → Reading
 date_time_value day None seconds from = Refused TooManyDigits
 date_time_value days.YearOutOfRange (Some nanos) seconds from = Refused YearOutOfRange
@@ -201,3 +197,8 @@ date_form text = do
 -- date: its form, then the years; its value is its first instant
 unfoldable pub date_reading : List ℕ → Reading
 date_reading text = read_or_ill_typed (date_form text)
+
+-- A day, `T24:00:00` with a fraction of zeros, if any, and an offset, if any, are the start of the next day (3.3.7.1).
+abbrev pub EndsAtNext : Type 0
+EndsAtNext = (text rest zeros zone : List ℕ) (day : ℕ) (from : Offset) → date text ≡ Some (days.Number day, codes "T24:00:00" ++ rest) → fraction rest ≡ Some (zeros, zone) → are_zeros zeros ≡ true → length zeros ≤ 9 → offset zone ≡ Some from
+    → date_time_reading text ≡ Value (values.DateTime (instant (day + 1) 0 0 from))

@@ -39,12 +39,17 @@ pub fn decimals_are_of_their_pattern()
     ensures { Forms.DecimalForms }
 {}
 
+/// The well-formed literals of xsd:boolean are those of its pattern (XSD 1.1 Part 2, section 3.3.2.2).
+pub fn booleans_are_of_their_pattern()
+    ensures { Forms.BooleanForms }
+{}
+
 /// The numbers of days follow each other through the calendar.
 pub fn days_follow()
     ensures { Calendar.DaysFollow }
 {}
 
-/// A day's end is the next day's start (XSD 1.1 Part 2, section 3.3.7.1).
+/// A dateTime at the end of a day, `T24:00:00`, is the start of the next day (XSD 1.1 Part 2, section 3.3.7.1).
 pub fn day_ends_at_next()
     ensures { Dates.EndsAtNext }
 {}

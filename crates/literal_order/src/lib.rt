@@ -14,14 +14,12 @@ mod literal_value;
 mod numeral;
 mod order;
 mod read;
-#[cfg(test)]
-mod tests;
 mod text;
 
 pub use laws::{
-    day_ends_at_next, days_follow, decimals_are_of_their_pattern, integers_are_of_their_pattern,
-    less_is_irreflexive, less_is_transitive, less_or_equal_is_either, less_or_equal_is_not_greater,
-    none_together,
+    booleans_are_of_their_pattern, day_ends_at_next, days_follow, decimals_are_of_their_pattern,
+    integers_are_of_their_pattern, less_is_irreflexive, less_is_transitive,
+    less_or_equal_is_either, less_or_equal_is_not_greater, none_together,
 };
 pub use literal_value::{Characters, Instant, Lexical, LiteralValue};
 pub use order::{less, less_or_equal};

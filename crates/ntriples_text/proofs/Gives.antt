@@ -1,5 +1,6 @@
 -- What a text gives can be written and read again, but for its blank nodes, which have the numbers of its labels.
 use Rattle.std.proofs.Common.{◌≡◌, ◌∙◌, ℕ, suc, ◌+◌, ◌<◌, ◌≤◌, Bool, true, false, cond, not, ◌||◌, List, [], ◌∷◌, map, length, take, drop, Option, Some, None, Result, Ok, Err, refl, sym, ap, subst, eqb, arith}
+use Rattle.std.specs.Prelude.{bytes_eq}
 use Rattle.std.specs.List.{AllByRecursion, list_all, list_any, position_or_len, onto_first}
 use Rattle.std.specs.Str.{IsUtf8, is_utf8, chars}
 use Rattle.std.specs.Str.Lossy.{utf8_valid_len}
@@ -18,7 +19,7 @@ use Rattle.rdf_model.specs.Terms.{triple_cmp}
 use Rattle.rdf_model.specs.Graphs.{with_each}
 use Rattle.rdf_model.specs.NTriples.{xsd_string}
 use Rattle.ntriples_text.specs.declared.refusal.RefusalKind.{RefusalKind}
-use Rattle.ntriples_text.specs.declared.refusal.RefusalKind.TheVariants.{NotUtf8, NoToken, RelativeIri, FloatingPoint, LanguageString}
+use Rattle.ntriples_text.specs.declared.refusal.RefusalKind.TheVariants.{NotUtf8, NoToken, RelativeIri}
 use Rattle.ntriples_text.specs.declared.token.Token.{Token}
 use Rattle.ntriples_text.specs.declared.token.Token.TheVariants.{IriRef, Quoted, Label, LanguageTag, Carets, Dot, LineEnd, TextEnd}
 use Rattle.ntriples_text.specs.declared.enclosed.Enclosed.TheVariants.{InAngles, InQuotes}
@@ -27,7 +28,9 @@ use Rattle.ntriples_text.specs.declared.statement.Node.TheVariants.{Labelled, Pl
 use Rattle.ntriples_text.specs.declared.statement.Statement.{Statement}
 use Rattle.ntriples_text.specs.Faults.{◌>>=◌}
 use Rattle.ntriples_text.specs.Tokens.{Reading, is_line_end, is_blank, enclosed, from_line_end, skipped, begins_label, label_length, label_from, label_at, tag_length, tag_at, lower_case, second_caret, mark_at, token_at, token}
-use Rattle.ntriples_text.specs.Grammar.{same_text, xsd_float, xsd_double, rdf_lang_string, iri_of, iri, node_of, predicate_of, predicate, literal, literal_at, literal_from, object_at, object, dot, is_end, end, statement_from, line}
+use Rattle.literal_order.specs.Values.{reading, profile}
+use Rattle.literal_order.specs.Datatypes.{datatype_of, local_datatype}
+use Rattle.ntriples_text.specs.Grammar.{rdf_lang_string, kept, iri_of, iri, node_of, predicate_of, predicate, literal, literal_at, literal_from, object_at, object, dot, is_end, end, statement_from, line}
 use Rattle.ntriples_text.specs.Blanks.{node_labels, statement_labels, all_labels, once, term_of, triple_of}
 use Rattle.ntriples_text.specs.Document.{lines, lines_from, number_after, with_line, with_labels, numbered, line_of}
 use Rattle.ntriples_text.specs.Progress.{with_more}
@@ -249,17 +252,18 @@ xsd_string_iri =
     (utf8, ap (list_all is_iri_char) same, refl)
 
 typed_gives : (l d : List ℕ) (x : Term) → literal l d ≡ Ok x → x ≡ Literal l d None
-typed_gives l d x h = elim (same_text d xsd_float || same_text d xsd_double) as (λ b. cond b (Err FloatingPoint) (cond (same_text d rdf_lang_string) (Err LanguageString) (Ok (Literal l d None))) ≡ Ok x → x ≡ Literal l d None) [
-  | true ↦ λ k. cc
-  | false ↦ λ k. elim (same_text d rdf_lang_string) as (λ b. cond b (Err LanguageString) (Ok (Literal l d None)) ≡ Ok x → x ≡ Literal l d None) [ true ↦ λ j. cc | false ↦ λ j. cc ] k
-] h
+typed_gives l d x h = elim (profile (Literal l d None)) as (λ o. kept o (Literal l d None) ≡ Ok x → x ≡ Literal l d None) [ None ↦ λ e. cc | Some n ↦ λ e. cc ] h
 
 abbrev IsObject : Term × List ℕ → Type 0
 IsObject r = IsRead (IsReadableObject IsNone) r
 
+plain_kept : (l : List ℕ) → literal l xsd_string ≡ Ok (Literal l xsd_string None)
+unfolding reading datatype_of local_datatype
+plain_kept l = refl
+
 plain_gives : (l cs : List ℕ) (r : Term × List ℕ) → IsUtf8 l → scalars cs ≡ true → r ≡ (Literal l xsd_string None, cs) → IsObject r
 plain_gives l cs r u s is =
-    let both : IsObject (Literal l xsd_string None, cs) = ((u, xsd_string_iri, refl), s) in
+    let both : IsObject (Literal l xsd_string None, cs) = ((u, xsd_string_iri, plain_kept l), s) in
     subst (λ (x : Term × List ℕ). IsObject x) (sym is) both
 
 literal_gives : (l : List ℕ) (t : Token) (rest cs : List ℕ) (r : Term × List ℕ) → IsUtf8 l → scalars cs ≡ true → IsTokenOf t rest → literal_at l cs (t, rest) ≡ Ok r → IsObject r
@@ -411,13 +415,13 @@ place_below p (x ∷ xs) h = elim (p x) as (λ b. (b || list_any p xs) ≡ true 
 
 -- so their triples can be read again
 subject_stands : (session first : ℕ) (all : Texts) (n : Node) → IsSubjectNode n → IsNumbered all n → IsReadableSubject (IsWithin session first (first + length all)) (term_of session first all n)
-subject_stands session first all (Labelled l) g k = let lt = place_below (same_text l) all k in (refl, omega arith, omega (arith, lt))
+subject_stands session first all (Labelled l) g k = let lt = place_below (bytes_eq l) all k in (refl, omega arith, omega (arith, lt))
 subject_stands session first all (Plain (Iri a)) g k = g
 subject_stands session first all (Plain (Blank s n)) g k = absurd g
 subject_stands session first all (Plain (Literal l d t)) g k = absurd g
 
 object_stands : (session first : ℕ) (all : Texts) (n : Node) → IsObjectNode n → IsNumbered all n → IsReadableObject (IsWithin session first (first + length all)) (term_of session first all n)
-object_stands session first all (Labelled l) g k = let lt = place_below (same_text l) all k in (refl, omega arith, omega (arith, lt))
+object_stands session first all (Labelled l) g k = let lt = place_below (bytes_eq l) all k in (refl, omega arith, omega (arith, lt))
 object_stands session first all (Plain (Iri a)) g k = g
 object_stands session first all (Plain (Blank s n)) g k = absurd g
 object_stands session first all (Plain (Literal l d None)) g k = g

@@ -1,7 +1,7 @@
 -- Labels that are numbered one by one have the numbers of all of them.
 use Rattle.std.proofs.Common.{◌≡◌, ◌∙◌, ℕ, ◌+◌, Bool, true, false, cond, not, ◌&&◌, ◌||◌, List, [], ◌∷◌, ◌++◌, map, length, Result, Ok, Err, refl, sym, ap, subst, append_assoc, filter, arith}
 use Rattle.std.proofs.lemmas.List.{append-nil}
-use Rattle.std.specs.Prelude.{Option, Some, MatchResult}
+use Rattle.std.specs.Prelude.{Option, Some, MatchResult, bytes_eq}
 use Rattle.std.specs.List.{list_any, position_or_len}
 use Rattle.std.proofs.lemmas.Slice.Eq.{bytes_eq-Decides}
 use Rattle.std.proofs.lemmas.Bool.{false_from_ne_true}
@@ -17,7 +17,6 @@ use Rattle.ntriples_text.specs.declared.statement.Node.{Node}
 use Rattle.ntriples_text.specs.declared.statement.Node.TheVariants.{Labelled, Plain}
 use Rattle.ntriples_text.specs.declared.statement.Statement.{Statement}
 use Rattle.ntriples_text.specs.Faults.{Refuses}
-use Rattle.ntriples_text.specs.Grammar.{same_text}
 use Rattle.ntriples_text.specs.Blanks.{node_labels, statement_labels, all_labels, once, term_of, triple_of}
 use Rattle.ntriples_text.specs.Document.{lines, lines_from, numbered, with_labels, with_statement, with_line}
 use Rattle.std.specs.Str.{chars}
@@ -29,9 +28,9 @@ Texts = List (List ℕ)
 
 -- whether a label is among those
 abbrev pub is_known : Texts → List ℕ → Bool
-is_known known l = list_any (same_text l) known
+is_known known l = list_any (bytes_eq l) known
 
-same_self : (l : List ℕ) → same_text l l ≡ true
+same_self : (l : List ℕ) → bytes_eq l l ≡ true
 same_self l = (bytes_eq-Decides l l).1 refl
 
 -- what is known keeps its place
@@ -53,30 +52,30 @@ place_end p [] y h = ap (λ b. cond (not b) (1 + 0) 0) h
 place_end p (x ∷ xs) y h = ap (λ n. cond (not (p x)) (1 + n) 0) (place_end p xs y h)
 
 -- the same of a label that is put among the known ones
-known_put : (known : Texts) (l m : List ℕ) → is_known known l ≡ true → is_known (insert_key same_text known m) l ≡ true
-known_put known l m h = elim (list_any (same_text m) known) as (λ b. is_known (cond b known (known ++ m ∷ [])) l ≡ true) [ true ↦ h | false ↦ any_on (same_text l) known (m ∷ []) h ]
+known_put : (known : Texts) (l m : List ℕ) → is_known known l ≡ true → is_known (insert_key bytes_eq known m) l ≡ true
+known_put known l m h = elim (list_any (bytes_eq m) known) as (λ b. is_known (cond b known (known ++ m ∷ [])) l ≡ true) [ true ↦ h | false ↦ any_on (bytes_eq l) known (m ∷ []) h ]
 
-place_put : (known : Texts) (l m : List ℕ) → is_known known l ≡ true → position_or_len (same_text l) (insert_key same_text known m) ≡ position_or_len (same_text l) known
-place_put known l m h = elim (list_any (same_text m) known) as (λ b. position_or_len (same_text l) (cond b known (known ++ m ∷ [])) ≡ position_or_len (same_text l) known) [ true ↦ refl | false ↦ place_on (same_text l) known (m ∷ []) h ]
+place_put : (known : Texts) (l m : List ℕ) → is_known known l ≡ true → position_or_len (bytes_eq l) (insert_key bytes_eq known m) ≡ position_or_len (bytes_eq l) known
+place_put known l m h = elim (list_any (bytes_eq m) known) as (λ b. position_or_len (bytes_eq l) (cond b known (known ++ m ∷ [])) ≡ position_or_len (bytes_eq l) known) [ true ↦ refl | false ↦ place_on (bytes_eq l) known (m ∷ []) h ]
 
-pub known_self : (known : Texts) (l : List ℕ) → is_known (insert_key same_text known l) l ≡ true
-known_self known l = elim (list_any (same_text l) known) as (λ b. list_any (same_text l) known ≡ b → is_known (cond b known (known ++ l ∷ [])) l ≡ true) [ true ↦ λ e. e | false ↦ λ e. any_end (same_text l) known l (same_self l) ] refl
+pub known_self : (known : Texts) (l : List ℕ) → is_known (insert_key bytes_eq known l) l ≡ true
+known_self known l = elim (list_any (bytes_eq l) known) as (λ b. list_any (bytes_eq l) known ≡ b → is_known (cond b known (known ++ l ∷ [])) l ≡ true) [ true ↦ λ e. e | false ↦ λ e. any_end (bytes_eq l) known l (same_self l) ] refl
 
-pub place_self : (known : Texts) (l : List ℕ) → position_or_len (same_text l) (insert_key same_text known l) ≡ position_or_len (same_text l) known
-place_self known l = elim (list_any (same_text l) known) as (λ b. position_or_len (same_text l) (cond b known (known ++ l ∷ [])) ≡ position_or_len (same_text l) known) [ true ↦ refl | false ↦ place_end (same_text l) known l (same_self l) ]
+pub place_self : (known : Texts) (l : List ℕ) → position_or_len (bytes_eq l) (insert_key bytes_eq known l) ≡ position_or_len (bytes_eq l) known
+place_self known l = elim (list_any (bytes_eq l) known) as (λ b. position_or_len (bytes_eq l) (cond b known (known ++ l ∷ [])) ≡ position_or_len (bytes_eq l) known) [ true ↦ refl | false ↦ place_end (bytes_eq l) known l (same_self l) ]
 
 -- and of several
 known_more : (ls known : Texts) (l : List ℕ) → is_known known l ≡ true → is_known (with_more known ls) l ≡ true
 known_more [] known l h = h
-known_more (m ∷ ls) known l h = known_more ls (insert_key same_text known m) l (known_put known l m h)
+known_more (m ∷ ls) known l h = known_more ls (insert_key bytes_eq known m) l (known_put known l m h)
 
-place_more : (ls known : Texts) (l : List ℕ) → is_known known l ≡ true → position_or_len (same_text l) (with_more known ls) ≡ position_or_len (same_text l) known
+place_more : (ls known : Texts) (l : List ℕ) → is_known known l ≡ true → position_or_len (bytes_eq l) (with_more known ls) ≡ position_or_len (bytes_eq l) known
 place_more [] known l h = refl
-place_more (m ∷ ls) known l h = place_more ls (insert_key same_text known m) l (known_put known l m h) ∙ place_put known l m h
+place_more (m ∷ ls) known l h = place_more ls (insert_key bytes_eq known m) l (known_put known l m h) ∙ place_put known l m h
 
 pub more_twice : (ls ms known : Texts) → with_more known (ls ++ ms) ≡ with_more (with_more known ls) ms
 more_twice [] ms known = refl
-more_twice (l ∷ ls) ms known = more_twice ls ms (insert_key same_text known l)
+more_twice (l ∷ ls) ms known = more_twice ls ms (insert_key bytes_eq known l)
 
 -- nodes whose labels are known
 abbrev pub IsNumbered : Texts → Node → Type 0
@@ -95,9 +94,9 @@ pub node_numbered : (known : Texts) (n : Node) → IsNumbered (with_more known (
 node_numbered known (Labelled l) = known_self known l
 node_numbered known (Plain t) = tt
 
-pub placed : (s f p : ℕ) (known now : Texts) (l : List ℕ) (n : Node) → n ≡ Labelled l → p ≡ position_or_len (same_text l) known → now ≡ insert_key same_text known l → Blank s (f + p) ≡ term_of s f now n
+pub placed : (s f p : ℕ) (known now : Texts) (l : List ℕ) (n : Node) → n ≡ Labelled l → p ≡ position_or_len (bytes_eq l) known → now ≡ insert_key bytes_eq known l → Blank s (f + p) ≡ term_of s f now n
 placed s f p known now l n is hp hn =
-    let here : Blank s (f + p) ≡ term_of s f (insert_key same_text known l) (Labelled l) = ap (λ k. Blank s (f + k)) (hp ∙ sym (place_self known l)) in
+    let here : Blank s (f + p) ≡ term_of s f (insert_key bytes_eq known l) (Labelled l) = ap (λ k. Blank s (f + k)) (hp ∙ sym (place_self known l)) in
     here ∙ (ap (λ (k : Texts). term_of s f k (Labelled l)) (sym hn) ∙ ap (λ m. term_of s f now m) (sym is))
 
 pub made_triple : (s f s1 f1 : ℕ) (known k1 k2 : Texts) (x : Statement) (a o : Term)
@@ -146,16 +145,16 @@ filter_all : {X : Type 0} (xs : List X) → filter (λ x. true) xs ≡ xs
 filter_all [] = refl
 filter_all (x ∷ xs) = ap (λ ys. x ∷ ys) (filter_all xs)
 
-same_known : (known : Texts) (l m : List ℕ) → is_known known l ≡ true → is_new known m ≡ (not (same_text l m) && is_new known m)
-same_known known l m h = elim (same_text l m) as (λ b. same_text l m ≡ b → is_new known m ≡ (not b && is_new known m)) [
+same_known : (known : Texts) (l m : List ℕ) → is_known known l ≡ true → is_new known m ≡ (not (bytes_eq l m) && is_new known m)
+same_known known l m h = elim (bytes_eq l m) as (λ b. bytes_eq l m ≡ b → is_new known m ≡ (not b && is_new known m)) [
   | true ↦ λ e. ap not (ap (is_known known) (sym ((bytes_eq-Decides l m).0 e)) ∙ h)
   | false ↦ λ e. refl
 ] refl
 
-swapped : (l m : List ℕ) → same_text m l ≡ same_text l m
-swapped l m = elim (same_text l m) as (λ b. same_text l m ≡ b → same_text m l ≡ b) [
+swapped : (l m : List ℕ) → bytes_eq m l ≡ bytes_eq l m
+swapped l m = elim (bytes_eq l m) as (λ b. bytes_eq l m ≡ b → bytes_eq m l ≡ b) [
   | true ↦ λ e. (bytes_eq-Decides m l).1 (sym ((bytes_eq-Decides l m).0 e))
-  | false ↦ λ e. false_from_ne_true (same_text m l) (λ k. let again : same_text l m ≡ true = (bytes_eq-Decides l m).1 (sym ((bytes_eq-Decides m l).0 k)) in cc)
+  | false ↦ λ e. false_from_ne_true (bytes_eq m l) (λ k. let again : bytes_eq l m ≡ true = (bytes_eq-Decides l m).1 (sym ((bytes_eq-Decides m l).0 k)) in cc)
 ] refl
 
 any_put : {X : Type 0} (p : X → Bool) (xs : List X) (y : X) → not (list_any p (xs ++ y ∷ [])) ≡ (not (p y) && not (list_any p xs))
@@ -165,17 +164,17 @@ any_put p (x ∷ xs) y = elim (p x) as (λ b. not (b || list_any p (xs ++ y ∷ 
   | false ↦ any_put p xs y
 ]
 
-new_after : (known : Texts) (l m : List ℕ) → is_new (known ++ l ∷ []) m ≡ (not (same_text l m) && is_new known m)
-new_after known l m = any_put (same_text m) known l ∙ ap (λ b. not b && is_new known m) (swapped l m)
+new_after : (known : Texts) (l m : List ℕ) → is_new (known ++ l ∷ []) m ≡ (not (bytes_eq l m) && is_new known m)
+new_after known l m = any_put (bytes_eq m) known l ∙ ap (λ b. not b && is_new known m) (swapped l m)
 
 pub known_first : (ls known : Texts) → with_more known ls ≡ known ++ filter (is_new known) (once ls)
 known_first [] known = sym (append-nil known)
 known_first (l ∷ ls) known =
-    let others = filter (λ m. not (same_text l m)) (once ls) in
+    let others = filter (λ m. not (bytes_eq l m)) (once ls) in
     elim (is_known known l) as (λ b. is_known known l ≡ b → with_more (cond b known (known ++ l ∷ [])) ls ≡ known ++ cond (not b) (l ∷ filter (is_new known) others) (filter (is_new known) others)) [
-      | true ↦ λ e. known_first ls known ∙ ap (λ xs. known ++ xs) (filter_twice (is_new known) (λ m. not (same_text l m)) (is_new known) (λ m. same_known known l m e) (once ls))
+      | true ↦ λ e. known_first ls known ∙ ap (λ xs. known ++ xs) (filter_twice (is_new known) (λ m. not (bytes_eq l m)) (is_new known) (λ m. same_known known l m e) (once ls))
       | false ↦ λ e. known_first ls (known ++ l ∷ [])
-          ∙ (ap (λ xs. (known ++ l ∷ []) ++ xs) (filter_twice (is_new known) (λ m. not (same_text l m)) (is_new (known ++ l ∷ [])) (new_after known l) (once ls))
+          ∙ (ap (λ xs. (known ++ l ∷ []) ++ xs) (filter_twice (is_new known) (λ m. not (bytes_eq l m)) (is_new (known ++ l ∷ [])) (new_after known l) (once ls))
           ∙ append_assoc known (l ∷ []) (filter (is_new known) others))
     ] refl
 
@@ -221,22 +220,22 @@ fault_all s f text cs e hc h = subst (λ (xs : List ℕ). Refuses e (numbered s 
 -- labels of a text have places, each its own
 known_of : (ls known : Texts) (l : List ℕ) → is_known ls l ≡ true → is_known (with_more known ls) l ≡ true
 known_of [] known l h = absurd (let bad : false ≡ true = h in cc)
-known_of (m ∷ ls) known l h = elim (same_text l m) as (λ b. same_text l m ≡ b → (b || is_known ls l) ≡ true → is_known (with_more (insert_key same_text known m) ls) l ≡ true) [
-  | true ↦ λ e k. known_more ls (insert_key same_text known m) l (subst (λ (x : List ℕ). is_known (insert_key same_text known m) x ≡ true) (sym ((bytes_eq-Decides l m).0 e)) (known_self known m))
-  | false ↦ λ e k. known_of ls (insert_key same_text known m) l k
+known_of (m ∷ ls) known l h = elim (bytes_eq l m) as (λ b. bytes_eq l m ≡ b → (b || is_known ls l) ≡ true → is_known (with_more (insert_key bytes_eq known m) ls) l ≡ true) [
+  | true ↦ λ e k. known_more ls (insert_key bytes_eq known m) l (subst (λ (x : List ℕ). is_known (insert_key bytes_eq known m) x ≡ true) (sym ((bytes_eq-Decides l m).0 e)) (known_self known m))
+  | false ↦ λ e k. known_of ls (insert_key bytes_eq known m) l k
 ] refl h
 
-one_place : (xs : Texts) (a b : List ℕ) → is_known xs a ≡ true → is_known xs b ≡ true → position_or_len (same_text a) xs ≡ position_or_len (same_text b) xs → a ≡ b
+one_place : (xs : Texts) (a b : List ℕ) → is_known xs a ≡ true → is_known xs b ≡ true → position_or_len (bytes_eq a) xs ≡ position_or_len (bytes_eq b) xs → a ≡ b
 one_place [] a b ha hb e = absurd (let bad : false ≡ true = ha in cc)
 one_place (x ∷ xs) a b ha hb e =
-    let p = position_or_len (same_text a) xs in
-    let q = position_or_len (same_text b) xs in
-    elim (same_text a x) as (λ c. same_text a x ≡ c → (c || is_known xs a) ≡ true → cond (not c) (1 + p) 0 ≡ cond (not (same_text b x)) (1 + q) 0 → a ≡ b) [
-      | true ↦ λ ea ka j. elim (same_text b x) as (λ d. same_text b x ≡ d → 0 ≡ cond (not d) (1 + q) 0 → a ≡ b) [
+    let p = position_or_len (bytes_eq a) xs in
+    let q = position_or_len (bytes_eq b) xs in
+    elim (bytes_eq a x) as (λ c. bytes_eq a x ≡ c → (c || is_known xs a) ≡ true → cond (not c) (1 + p) 0 ≡ cond (not (bytes_eq b x)) (1 + q) 0 → a ≡ b) [
+      | true ↦ λ ea ka j. elim (bytes_eq b x) as (λ d. bytes_eq b x ≡ d → 0 ≡ cond (not d) (1 + q) 0 → a ≡ b) [
         | true ↦ λ eb k. (bytes_eq-Decides a x).0 ea ∙ sym ((bytes_eq-Decides b x).0 eb)
         | false ↦ λ eb k. absurd (omega arith)
       ] refl j
-      | false ↦ λ ea ka j. elim (same_text b x) as (λ d. (d || is_known xs b) ≡ true → 1 + p ≡ cond (not d) (1 + q) 0 → a ≡ b) [
+      | false ↦ λ ea ka j. elim (bytes_eq b x) as (λ d. (d || is_known xs b) ≡ true → 1 + p ≡ cond (not d) (1 + q) 0 → a ≡ b) [
         | true ↦ λ kb k. absurd (omega arith)
         | false ↦ λ kb k. one_place xs a b ka kb (omega arith)
       ] hb j
@@ -251,5 +250,5 @@ pub labels_apart : LabelsStayApart
 labels_apart session first labels a b ha hb e =
     let all = once_all labels in
     let has : (l : List ℕ) → is_known labels l ≡ true → is_known (once labels) l ≡ true = λ l h. subst (λ (k : Texts). is_known k l ≡ true) all (known_of labels [] l h) in
-    let sum : first + position_or_len (same_text a) (once labels) ≡ first + position_or_len (same_text b) (once labels) = ap blank_number e in
+    let sum : first + position_or_len (bytes_eq a) (once labels) ≡ first + position_or_len (bytes_eq b) (once labels) = ap blank_number e in
     one_place (once labels) a b (has a ha) (has b hb) (omega (arith, sum))

@@ -1,5 +1,6 @@
 -- What the tokens and lines of a written text give.
 use Rattle.std.proofs.Common.{◌≡◌, ◌∙◌, ℕ, suc, Bool, true, false, cond, ◌&&◌, ◌||◌, List, [], ◌∷◌, ◌++◌, map, length, take, drop, Some, None, Result, Ok, Err, refl, sym, ap, subst, eqb, arith}
+use Rattle.std.specs.Prelude.{bytes_eq}
 use Rattle.std.specs.List.{list_all, onto_first}
 use Rattle.std.specs.Str.{IsUtf8, chars}
 use Rattle.std.proofs.Math.Seq.{take-append_seam, drop-append_seam}
@@ -22,7 +23,7 @@ use Rattle.ntriples_text.specs.declared.statement.Node.TheVariants.{Plain}
 use Rattle.ntriples_text.specs.declared.statement.Statement.{Statement}
 use Rattle.ntriples_text.specs.Faults.{◌>>=◌}
 use Rattle.ntriples_text.specs.Tokens.{Reading, Piece, is_line_end, is_string_char, may_hold, closing, escape, if_allowed, piece_at, with_front, enclosed_after, enclosed, is_tag_char, begins_part, tag_length, lower_case, tag_at, token}
-use Rattle.ntriples_text.specs.Grammar.{same_text, rdf_lang_string, iri_of, iri, predicate, literal, literal_at, literal_from, object_at, object, dot, end, statement_from, line}
+use Rattle.ntriples_text.specs.Grammar.{rdf_lang_string, iri_of, iri, predicate, literal, literal_at, literal_from, object_at, object, dot, end, statement_from, line}
 use Rattle.ntriples_text.specs.Document.{lines}
 use Rattle.ntriples_text.specs.Laws.{IsIriText, IsTagChars, IsReadableObject, IsNone}
 use Rattle.ntriples_text.proofs.Written.{in_angles, in_quotes, escape_chars, all_escaped, suffix_chars, end_chars, object_chars, parts_chars}
@@ -158,8 +159,8 @@ with_suffix : (l d rest : List ℕ) → literal_from l (94 ∷ 94 ∷ in_angles 
 unfolding literal_from token
 with_suffix l d rest = refl
 
-read_suffix : (l d rest : List ℕ) → IsIriText d → literal l d ≡ Ok (Literal l d None) → literal_from l (suffix_chars d (same_text d xsd_string) (tail_chars rest)) ≡ Ok (Literal l d None, tail_chars rest)
-read_suffix l d rest r kept = elim (same_text d xsd_string) as (λ b. same_text d xsd_string ≡ b → literal_from l (suffix_chars d b (tail_chars rest)) ≡ Ok (Literal l d None, tail_chars rest)) [
+read_suffix : (l d rest : List ℕ) → IsIriText d → literal l d ≡ Ok (Literal l d None) → literal_from l (suffix_chars d (bytes_eq d xsd_string) (tail_chars rest)) ≡ Ok (Literal l d None, tail_chars rest)
+read_suffix l d rest r kept = elim (bytes_eq d xsd_string) as (λ b. bytes_eq d xsd_string ≡ b → literal_from l (suffix_chars d b (tail_chars rest)) ≡ Ok (Literal l d None, tail_chars rest)) [
   | true ↦ λ e. no_suffix l rest ∙ ap (λ x. Ok (Literal l x None, tail_chars rest)) (sym ((bytes_eq-Decides d xsd_string).0 e))
   | false ↦ λ e. with_suffix l d (tail_chars rest)
       ∙ (ap (λ q. q >>= λ x. literal l x.0 >>= λ term. Ok (term, x.1)) (iri_here d (tail_chars rest) r)
@@ -291,7 +292,7 @@ quotes_on x rest l ls e = one_on 34 (all_escaped (chars x) (34 ∷ rest)) (all_e
 object_on : (t : Term) (rest l : List ℕ) (ls : List (List ℕ)) → IsReadableObject IsNone t → lines rest ≡ l ∷ ls → lines (object_chars t rest) ≡ object_chars t l ∷ ls
 object_on (Iri a) rest l ls r e = angles_on a rest l ls r e
 object_on (Blank s n) rest l ls r e = absurd r
-object_on (Literal x d None) rest l ls r e = quotes_on x (end_chars d None rest) (end_chars d None l) ls (suffix_on d rest l ls (same_text d xsd_string) r.1 e)
+object_on (Literal x d None) rest l ls r e = quotes_on x (end_chars d None rest) (end_chars d None l) ls (suffix_on d rest l ls (bytes_eq d xsd_string) r.1 e)
 object_on (Literal x d (Some tag)) rest l ls r e =
     quotes_on x (end_chars d (Some tag) rest) (end_chars d (Some tag) l) ls
     (one_on 64 (chars tag ++ rest) (chars tag ++ l) ls refl (all_on is_tag_part not_end_tag (chars tag) rest l ls (all_tag_parts (chars tag) r.3) e))

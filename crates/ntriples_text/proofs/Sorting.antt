@@ -1,16 +1,8 @@
--- A list that is sorted, without what comes twice, is its set.
-use Rattle.std.proofs.Common.{◌≡◌, ◌∙◌, Bool, List, [], ◌∷◌, true, refl, subst, inl, inr, arith}
-use Rattle.std.specs.Prelude.{◌⊎◌, IsPermutation, IsSorted}
-use Rattle.std.specs.List.{Contains, AllByRecursion, dedup}
-use Rattle.std.specs.List.Sorted.{IsStrictlySortedBy}
-use Rattle.std.specs.List.Retain.{IsFiltered, DiffersFromLast}
-use Rattle.std.specs.declared.cmp.Ordering.{Ordering}
-use Rattle.std.specs.declared.cmp.Ordering.TheVariants.{Less, Equal, Greater}
-use Rattle.std.specs.Ordering.{eq_by_cmp, is_eq}
-use Rattle.std.specs.Cmp.{eq_by_cmp_equiv}
-use Rattle.std.proofs.lemmas.List.Filters.{dedup_is}
-use Rattle.std.proofs.lemmas.List.Kept.{IsStrictlySortedBy-dedup, Contains-dedup, Contains-from_dedup}
-use Rattle.std.proofs.lemmas.List.Sorted.{Contains-permutation, IsPermutation-sym}
+-- The listing of triples is the set into which each is put.
+use Rattle.std.proofs.Common.{◌≡◌, List, [], ◌∷◌, subst, inl, inr, arith}
+use Rattle.std.specs.Prelude.{◌⊎◌}
+use Rattle.std.specs.List.{Contains}
+use Rattle.collections.specs.Listings.{IsListing}
 use Rattle.collections.specs.Ordered.{AllAbove, IsAscending, with_item}
 use Rattle.collections.proofs.Ascending.{IsAscending-with_item}
 use Rattle.rdf_model.specs.declared.triple.Triple.{Triple}
@@ -18,15 +10,6 @@ use Rattle.rdf_model.specs.Terms.{triple_cmp}
 use Rattle.rdf_model.specs.Orders.{triple_total, triple_exact}
 use Rattle.rdf_model.specs.Graphs.{with_each}
 use Rattle.ntriples_text.proofs.Sets.{has_cases, has_tail, has_this, same_lists, with_old, with_new, with_cases}
-
-above : {X : Type 0} → (R : X → X → Ordering) (x : X) (ys : List X) → AllByRecursion (λ y. R x y ≡ Less) ys → AllAbove R x ys
-above R x [] a = tt
-above R x (y ∷ ys) a = (a.0, above R x ys a.1)
-
-ascending : {X : Type 0} → (R : X → X → Ordering) (xs : List X) → IsStrictlySortedBy R xs → IsAscending R xs
-unfolding IsStrictlySortedBy
-ascending R [] s = tt
-ascending R (x ∷ xs) s = (above R x xs s.0, ascending R xs s.1)
 
 pub each_ascends : (ts g : List Triple) → IsAscending triple_cmp g → IsAscending triple_cmp (with_each g ts)
 each_ascends [] g a = a
@@ -56,24 +39,12 @@ each_cases (t ∷ ts) g w c = elim (each_cases ts (with_item triple_cmp t g) w c
 only : (ts : List Triple) (w : Triple) → Contains (with_each [] ts) w → Contains ts w
 only ts w c = elim (each_cases ts [] w c) [ inl d ↦ d | inr d ↦ absurd (omega arith) ]
 
--- triples that are equal by their order are one
-of_order : (o : Ordering) → is_eq o ≡ true → o ≡ Equal
-of_order Less h = cc
-of_order Equal h = refl
-of_order Greater h = cc
-
-same : (x y : Triple) → eq_by_cmp triple_cmp x y ≡ true → x ≡ y
-same x y h = triple_exact x y (of_order (triple_cmp x y) h)
-
-pub sorted_set : (xs ys zs : List Triple) → IsPermutation xs ys → IsSorted triple_cmp ys → IsFiltered (DiffersFromLast (eq_by_cmp triple_cmp)) [] ys zs → zs ≡ with_each [] xs
-sorted_set xs ys zs p s f =
-    let E : Triple → Triple → Bool = eq_by_cmp triple_cmp in
-    let strict = IsStrictlySortedBy-dedup triple_total {E = E} (λ x y. refl) ys s in
-    dedup_is E ys zs f ∙ same_lists triple_cmp triple_total (dedup E ys) (with_each [] xs) (ascending triple_cmp (dedup E ys) strict) (each_ascends xs [] tt)
-    (λ w. (
-      λ c. each_new xs [] w (Contains-permutation ys xs w (IsPermutation-sym xs ys p) (Contains-from_dedup E ys w c)),
-      λ c. Contains-dedup (eq_by_cmp_equiv triple_total) same ys w (Contains-permutation xs ys w p (only xs w c)),
-    ))
+-- the listing of the triples that a list contains is their set
+pub listing_each : (xs zs : List Triple) → IsListing triple_cmp (λ t. Contains xs t) zs → zs ≡ with_each [] xs
+listing_each xs zs l = same_lists triple_cmp triple_total zs (with_each [] xs) l.ascending (each_ascends xs [] tt) (λ w. (
+  λ c. each_new xs [] w ((l.members w).0 c),
+  λ c. (l.members w).1 (only xs w c),
+))
 
 -- a list that ascends is the set of its triples
 pub ascending_each : (ts : List Triple) → IsAscending triple_cmp ts → with_each [] ts ≡ ts

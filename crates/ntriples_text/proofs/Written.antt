@@ -1,6 +1,6 @@
 -- The characters of written triples, each before what follows it.
 use Rattle.std.proofs.Common.{◌≡◌, ◌∙◌, ℕ, Bool, true, false, cond, eqb, List, [], ◌∷◌, ◌++◌, Option, Some, None, refl, sym, ap, append_assoc, codes}
-use Rattle.std.specs.Prelude.{encode_utf8}
+use Rattle.std.specs.Prelude.{encode_utf8, bytes_eq}
 use Rattle.std.specs.List.{AllByRecursion, flat_map}
 use Rattle.std.specs.Str.{IsUtf8, chars}
 use Rattle.std.proofs.lemmas.Str.{encodes-chars, encodes-append, scalars-chars}
@@ -10,7 +10,6 @@ use Rattle.rdf_model.specs.declared.term.Term.{Term}
 use Rattle.rdf_model.specs.declared.term.Term.TheVariants.{Blank, Iri, Literal}
 use Rattle.rdf_model.specs.declared.triple.Triple.{Triple}
 use Rattle.rdf_model.specs.NTriples.{xsd_string, escaped, literal_suffix, term_text}
-use Rattle.ntriples_text.specs.Grammar.{same_text}
 use Rattle.ntriples_text.specs.Writing.{written}
 use Rattle.ntriples_text.specs.Laws.{IsReadableSubject, IsReadableIri, IsReadableObject, IsReadable, IsNone}
 
@@ -32,7 +31,7 @@ abbrev pub suffix_chars : List ℕ → Bool → List ℕ → List ℕ
 suffix_chars d same rest = cond same rest (94 ∷ 94 ∷ in_angles d rest)
 
 abbrev pub end_chars : List ℕ → Option (List ℕ) → List ℕ → List ℕ
-end_chars d None rest = suffix_chars d (same_text d xsd_string) rest
+end_chars d None rest = suffix_chars d (bytes_eq d xsd_string) rest
 end_chars d (Some tag) rest = 64 ∷ (chars tag ++ rest)
 
 abbrev pub iri_chars : Term → List ℕ → List ℕ
@@ -118,7 +117,7 @@ pub encodes-object : (t : Term) (rest : List ℕ) → IsReadableObject IsNone t 
 unfolding encode
 encodes-object (Iri a) rest r = encodes-in_angles a rest r.0 ∙ ap (λ x. 60 ∷ x) (sym (append_assoc a (62 ∷ []) (encodes rest)))
 encodes-object (Blank s n) rest r = absurd r
-encodes-object (Literal l d None) rest r = encodes-literal l (literal_suffix d None) rest (end_chars d None rest) (encodes-suffix d rest (same_text d xsd_string) r.1.0)
+encodes-object (Literal l d None) rest r = encodes-literal l (literal_suffix d None) rest (end_chars d None rest) (encodes-suffix d rest (bytes_eq d xsd_string) r.1.0)
 encodes-object (Literal l d (Some tag)) rest r = encodes-literal l (literal_suffix d (Some tag)) rest (end_chars d (Some tag) rest) (encodes-tag tag rest r.2)
 
 encodes-parts : (s p o : Term) (rest : List ℕ) → IsReadableIri s → IsReadableIri p → IsReadableObject IsNone o
@@ -173,7 +172,7 @@ scalars-suffix d rest false u h = scalars-append (chars d) (62 ∷ rest) (scalar
 scalars-object : (t : Term) (rest : List ℕ) → IsReadableObject IsNone t → scalars rest ≡ true → scalars (object_chars t rest) ≡ true
 scalars-object (Iri a) rest r h = scalars-append (chars a) (62 ∷ rest) (scalars-chars a r.0) h
 scalars-object (Blank s n) rest r h = absurd r
-scalars-object (Literal l d None) rest r h = scalars-all_escaped (chars l) (34 ∷ end_chars d None rest) (scalars-chars l r.0) (scalars-suffix d rest (same_text d xsd_string) r.1.0 h)
+scalars-object (Literal l d None) rest r h = scalars-all_escaped (chars l) (34 ∷ end_chars d None rest) (scalars-chars l r.0) (scalars-suffix d rest (bytes_eq d xsd_string) r.1.0 h)
 scalars-object (Literal l d (Some tag)) rest r h = scalars-all_escaped (chars l) (34 ∷ end_chars d (Some tag) rest) (scalars-chars l r.0) (scalars-append (chars tag) rest (scalars-chars tag r.2) h)
 
 pub scalars-all : (ts : List Triple) → AllByRecursion (IsReadable IsNone) ts → scalars (all_chars ts) ≡ true

@@ -1,7 +1,7 @@
 -- Readings: what was read, or the kind of the refusal.
-use Rattle.std.specs.Prelude.{◌≡◌, ℕ, Result, Ok, Err}
+use Rattle.std.specs.Prelude.{◌≡◌, ℕ, ◌==◌, if◌then◌else◌, Result, Ok, Err}
 use Rattle.ntriples_text.specs.declared.refusal.RefusalKind.{RefusalKind}
-use Rattle.ntriples_text.specs.declared.refusal.RefusalKind.TheVariants.{NotUtf8, NoToken, UnexpectedToken, RelativeIri, BadEscape, FloatingPoint, LanguageString, BlankPredicate, UnexpectedEnd}
+use Rattle.ntriples_text.specs.declared.refusal.RefusalKind.TheVariants.{NotUtf8, NoToken, UnexpectedToken, RelativeIri, BadEscape, FloatingPoint, TooManyDigits, YearOutOfRange, LanguageString, BlankPredicate, UnexpectedEnd}
 use Rattle.ntriples_text.specs.declared.refusal.LineFault.{LineFault}
 use Rattle.ntriples_text.specs.declared.refusal.LineFault.TheVariants as line
 use Rattle.ntriples_text.specs.declared.refusal.ReadFault.{ReadFault}
@@ -35,6 +35,14 @@ number_of UnexpectedToken = 3
 number_of RelativeIri = 5
 number_of BadEscape = 6
 number_of FloatingPoint = 7
+number_of TooManyDigits = 8
+number_of YearOutOfRange = 9
 number_of LanguageString = 10
 number_of BlankPredicate = 13
 number_of UnexpectedEnd = 14
+
+-- the kinds of literals that aren't kept, 7 to 10, by their numbers
+abbrev pub kind_of_literal : ℕ → RefusalKind
+kind_of_literal n = if n == 7 then FloatingPoint else
+    (if n == 8 then TooManyDigits else
+    (if n == 9 then YearOutOfRange else LanguageString))

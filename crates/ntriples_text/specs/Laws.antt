@@ -1,5 +1,5 @@
 -- Which triples a text can give, and that their text gives them.
-use Rattle.std.specs.Prelude.{◌≡◌, ℕ, ◌<◌, ◌≤◌, true, false, List, [], ◌∷◌, map, length, Some, None, Ok}
+use Rattle.std.specs.Prelude.{◌≡◌, ℕ, ◌<◌, ◌≤◌, true, false, List, [], ◌∷◌, map, length, Some, None, Ok, bytes_eq}
 use Rattle.std.specs.List.{AllByRecursion, list_all, list_any}
 use Rattle.std.specs.Str.{IsUtf8, chars}
 use Rattle.iri_ref.specs.Scheme.{has_scheme}
@@ -11,7 +11,7 @@ use Rattle.rdf_model.specs.Terms.{triple_cmp}
 use Rattle.collections.specs.Ordered.{IsAscending}
 use Rattle.ntriples_text.specs.Tokens.{lower_case, tag_length}
 use Rattle.ntriples_text.specs.declared.statement.Node.TheVariants.{Labelled}
-use Rattle.ntriples_text.specs.Grammar.{same_text, literal, rdf_lang_string}
+use Rattle.ntriples_text.specs.Grammar.{literal, rdf_lang_string}
 use Rattle.ntriples_text.specs.Blanks.{once, term_of}
 use Rattle.ntriples_text.specs.Document.{reads}
 use Rattle.ntriples_text.specs.Writing.{written}
@@ -72,5 +72,5 @@ GivesReadable = (bytes : List ℕ) (session first next : ℕ) (triples : List Tr
 
 -- two labels of a text are one node only where they are one label
 abbrev pub LabelsStayApart : Type 0
-LabelsStayApart = (session first : ℕ) (labels : List (List ℕ)) (a b : List ℕ) → list_any (same_text a) labels ≡ true → list_any (same_text b) labels ≡ true
+LabelsStayApart = (session first : ℕ) (labels : List (List ℕ)) (a b : List ℕ) → list_any (bytes_eq a) labels ≡ true → list_any (bytes_eq b) labels ≡ true
     → term_of session first (once labels) (Labelled a) ≡ term_of session first (once labels) (Labelled b) → a ≡ b

@@ -1,18 +1,17 @@
 -- How far the reading of a text has come.
-use Rattle.std.specs.Prelude.{ℕ, ◌<◌, ◌≤◌, List, [], ◌∷◌, ◌++◌, Result, Ok, Err}
+use Rattle.std.specs.Prelude.{ℕ, ◌<◌, ◌≤◌, List, [], ◌∷◌, ◌++◌, Result, Ok, Err, bytes_eq}
 use Rattle.rdf_model.specs.declared.triple.Triple.{Triple}
 use Rattle.indexmap.specs.IndexSet.{insert_key}
 use Rattle.ntriples_text.specs.declared.refusal.RefusalKind.{RefusalKind}
 use Rattle.ntriples_text.specs.declared.token.Token.{Token}
 use Rattle.ntriples_text.specs.declared.token.Token.TheVariants.{IriRef, Quoted, Label, LanguageTag, Carets, Dot, LineEnd, TextEnd}
 use Rattle.ntriples_text.specs.declared.statement.Statement.{Statement}
-use Rattle.ntriples_text.specs.Grammar.{same_text}
 use Rattle.ntriples_text.specs.Blanks.{statement_labels, all_labels, triple_of}
 
 -- the labels so far, with further ones
 abbrev pub with_more : List (List ℕ) → List (List ℕ) → List (List ℕ)
 with_more known [] = known
-with_more known (l ∷ ls) = with_more (insert_key same_text known l) ls
+with_more known (l ∷ ls) = with_more (insert_key bytes_eq known l) ls
 
 -- the triples of statements, each numbered with the labels up to it
 abbrev pub triples_after : ℕ → ℕ → List (List ℕ) → List Statement → List Triple
@@ -30,10 +29,4 @@ going_on session first triples known (Err fault) = Err fault
 -- a token takes a character or more, unless the text ends there
 abbrev pub TakesOne : Token → ℕ → ℕ → Type 0
 TakesOne TextEnd left before = left ≤ before
-TakesOne (IriRef x) left before = left < before
-TakesOne (Quoted x) left before = left < before
-TakesOne (Label x) left before = left < before
-TakesOne (LanguageTag x) left before = left < before
-TakesOne Carets left before = left < before
-TakesOne Dot left before = left < before
-TakesOne LineEnd left before = left < before
+TakesOne _ left before = left < before

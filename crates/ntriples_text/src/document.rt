@@ -11,11 +11,10 @@ ghost use Rattle.ntriples_text.specs.Faults.{Refuses};
 use crate::grammar::read_line;
 use crate::labels::Labels;
 use crate::numbering::Numbering;
-use crate::order::sorted_once;
 use crate::refusal::{LineFault, ReadFault, RefusalKind};
 use crate::statement::Statement;
 use crate::text_line::{number_after, split_line};
-use collections::Sequence;
+use collections::{Sequence, sorted_once};
 use rdf_model::Triple;
 use std::alloc::Global;
 
@@ -90,6 +89,23 @@ fn characters_of(alloc: Global, text: &str) -> Result<Vec<char>, ReadFault>
     Ok(text.chars().collect(alloc)?)
 }
 
+// The triples of a text, in their order there. Its labels are added to the numbering.
+fn read_all_lines(
+    alloc: Global,
+    text: &str,
+    numbering: &mut Numbering,
+) -> Result<Sequence<Triple>, ReadFault>
+    requires labels { numbering.old.labels ≡ [] }
+    requires room { numbering.old.first + length text.now < 2 ^ 32 }
+    ensures read { let reading = going_on numbering.old.session numbering.old.first [] [] (lines_from 1 (lines (chars text.now))) in
+        MatchResult result (λ triples. reading ≡ Ok (triples, numbering.new.labels)) (λ fault. Refuses fault reading) }
+    ensures room { OnOk result (length numbering.new.labels ≤ length text.now) }
+    ensures same { OnOk result (numbering.new.first ≡ numbering.old.first) }
+{
+    let characters = characters_of(alloc, text)?;
+    read_lines(alloc, &characters, numbering)
+}
+
 // The triples of a text, each once, in their order. Blank nodes are numbered from `next` on.
 fn read_text(
     alloc: Global,
@@ -103,13 +119,12 @@ fn read_text(
     ensures unchanged { OnErr result (next.new ≡ next.old) }
     ensures room { (next.old ≤ next.new) × (next.new ≤ next.old + length text.now) }
 {
-    let characters = characters_of(alloc, text)?;
     let mut numbering = Numbering {
         session,
         first: *next,
         labels: Labels::new(alloc),
     };
-    let triples = read_lines(alloc, &characters, &mut numbering)?;
+    let triples = read_all_lines(alloc, text, &mut numbering)?;
     let sorted = sorted_once(triples.into_vec())?;
     *next += numbering.labels.len() as u32;
     Ok(Sequence::from_vec(sorted))

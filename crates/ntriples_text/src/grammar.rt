@@ -1,4 +1,6 @@
-ghost use Rattle.std.specs.Prelude.{◌≡◌, ◌≤◌, ◌<◌, length, IfOk, IsSome};
+ghost use Rattle.std.specs.Prelude.{◌≡◌, ◌≤◌, ◌<◌, Ok, Some, None, length, IfOk, IsSome};
+ghost use Rattle.rdf_model.specs.declared.term.Term.TheVariants as terms;
+ghost use Rattle.rdf_model.specs.NTriples.{xsd_string};
 ghost use Rattle.ntriples_text.specs.Faults.{Gives};
 ghost use Rattle.ntriples_text.specs.Grammar;
 
@@ -6,15 +8,12 @@ use crate::refusal::{LineFault, RefusalKind};
 use crate::statement::{Node, Statement};
 use crate::token::{Token, next_token};
 use iri_ref::has_scheme;
+use literal_order::profile;
 use rdf_model::Term;
 use rdf_text::Text;
 use std::alloc::Global;
 
 const XSD_STRING: &str = "http://www.w3.org/2001/XMLSchema#string";
-
-const XSD_FLOAT: &str = "http://www.w3.org/2001/XMLSchema#float";
-
-const XSD_DOUBLE: &str = "http://www.w3.org/2001/XMLSchema#double";
 
 const RDF_LANG_STRING: &str = "http://www.w3.org/1999/02/22-rdf-syntax-ns#langString";
 
@@ -27,46 +26,13 @@ fn unexpected(token: &Token) -> LineFault
     }
 }
 
-fn iri_of(token: Token) -> Result<Text, LineFault>
-    ensures { Gives (λ iri. iri) result (Grammar.iri_of token) }
-{
-    match token {
-        Token::IriRef(iri) => {
-            if has_scheme(iri.as_str()) {
-                Ok(iri)
-            } else {
-                Err(LineFault::Refused(RefusalKind::RelativeIri))
-            }
-        }
-        other => Err(unexpected(&other)),
-    }
-}
-
 #[tactic(auto, unfolding(crate::specs::Grammar::iri))]
 fn read_iri(alloc: Global, characters: &[char]) -> Result<(Text, &[char]), LineFault>
     ensures iri { Gives (λ r. (r.0, r.1.now)) result (Grammar.iri characters.now) }
     ensures shorter { IfOk result (λ r. length r.1.now ≤ length characters.now) }
 {
     let (token, rest) = next_token(alloc, characters)?;
-    Ok((iri_of(token)?, rest))
-}
-
-fn node_of(token: Token) -> Result<Node, LineFault>
-    ensures { Gives (λ node. node) result (Grammar.node_of token) }
-{
-    match token {
-        Token::Label(label) => Ok(Node::Labelled(label)),
-        other => Ok(Node::Plain(Term::Iri(iri_of(other)?))),
-    }
-}
-
-fn predicate_of(token: Token) -> Result<Text, LineFault>
-    ensures { Gives (λ iri. iri) result (Grammar.predicate_of token) }
-{
-    match token {
-        Token::Label(_) => Err(LineFault::Refused(RefusalKind::BlankPredicate)),
-        other => iri_of(other),
-    }
+    Ok((token.into_iri()?, rest))
 }
 
 #[tactic(auto, unfolding(crate::specs::Grammar::predicate))]
@@ -75,24 +41,125 @@ fn read_predicate(alloc: Global, characters: &[char]) -> Result<(Text, &[char]),
     ensures shorter { IfOk result (λ r. length r.1.now ≤ length characters.now) }
 {
     let (token, rest) = next_token(alloc, characters)?;
-    Ok((predicate_of(token)?, rest))
+    Ok((token.into_predicate()?, rest))
 }
 
 fn make_literal(lexical: Text, datatype: Text) -> Result<Term, LineFault>
     ensures { Gives (λ term. term) result (Grammar.literal lexical datatype) }
 {
-    let written = datatype.as_str();
-    if written == XSD_FLOAT || written == XSD_DOUBLE {
-        return Err(LineFault::Refused(RefusalKind::FloatingPoint));
+    let term = Term::Literal {
+        lexical,
+        datatype,
+        language: None,
+    };
+    match profile(&term) {
+        None => Ok(term),
+        Some(number) => Err(LineFault::Refused(RefusalKind::of_literal(number))),
     }
-    if written == RDF_LANG_STRING {
-        return Err(LineFault::Refused(RefusalKind::LanguageString));
-    }
+}
+
+fn tagged(alloc: Global, lexical: Text, tag: Text) -> Result<Term, LineFault>
+    ensures { Gives (λ term. term) result (Ok (terms.Literal lexical Grammar.rdf_lang_string (Some tag))) }
+{
+    let datatype = Text::new(alloc, RDF_LANG_STRING)?;
+    Ok(Term::Literal {
+        lexical,
+        datatype,
+        language: Some(tag),
+    })
+}
+
+fn plain(alloc: Global, lexical: Text) -> Result<Term, LineFault>
+    ensures { Gives (λ term. term) result (Ok (terms.Literal lexical xsd_string None)) }
+{
+    let datatype = Text::new(alloc, XSD_STRING)?;
     Ok(Term::Literal {
         lexical,
         datatype,
         language: None,
     })
+}
+
+// The literal of a string whose datatype's IRI comes next.
+fn read_typed(
+    alloc: Global,
+    lexical: Text,
+    characters: &[char],
+) -> Result<(Term, &[char]), LineFault>
+    ensures literal { Gives (λ r. (r.0, r.1.now)) result (Grammar.typed_from lexical characters.now) }
+    ensures shorter { IfOk result (λ r. length r.1.now ≤ length characters.now) }
+{
+    let (datatype, rest) = read_iri(alloc, characters)?;
+    Ok((make_literal(lexical, datatype)?, rest))
+}
+
+impl Token {
+    fn into_iri(self) -> Result<Text, LineFault>
+        ensures { Gives (λ iri. iri) result (Grammar.iri_of self) }
+    {
+        match self {
+            Token::IriRef(iri) => {
+                if has_scheme(iri.as_str()) {
+                    Ok(iri)
+                } else {
+                    Err(LineFault::Refused(RefusalKind::RelativeIri))
+                }
+            }
+            other => Err(unexpected(&other)),
+        }
+    }
+
+    fn into_node(self) -> Result<Node, LineFault>
+        ensures { Gives (λ node. node) result (Grammar.node_of self) }
+    {
+        match self {
+            Token::Label(label) => Ok(Node::Labelled(label)),
+            other => Ok(Node::Plain(Term::Iri(other.into_iri()?))),
+        }
+    }
+
+    fn into_predicate(self) -> Result<Text, LineFault>
+        ensures { Gives (λ iri. iri) result (Grammar.predicate_of self) }
+    {
+        match self {
+            Token::Label(_) => Err(LineFault::Refused(RefusalKind::BlankPredicate)),
+            other => other.into_iri(),
+        }
+    }
+
+    // The literal of a string before this token, which may be a part of it. The characters before the token, and
+    // after it, are given.
+    fn end_literal<'a>(
+        self,
+        alloc: Global,
+        lexical: Text,
+        before: &'a [char],
+        after: &'a [char],
+    ) -> Result<(Term, &'a [char]), LineFault>
+        requires { length after.now ≤ length before.now }
+        ensures literal { Gives (λ r. (r.0, r.1.now)) result (Grammar.literal_at lexical before.now (self, after.now)) }
+        ensures shorter { IfOk result (λ r. length r.1.now ≤ length before.now) }
+    {
+        match self {
+            Token::Carets => read_typed(alloc, lexical, after),
+            Token::LanguageTag(tag) => Ok((tagged(alloc, lexical, tag)?, after)),
+            _ => Ok((plain(alloc, lexical)?, before)),
+        }
+    }
+
+    // The object that begins with this token, and the characters after it.
+    fn begin_object(self, alloc: Global, after: &[char]) -> Result<(Node, &[char]), LineFault>
+        ensures object { Gives (λ r. (r.0, r.1.now)) result (Grammar.object_at (self, after.now)) }
+        ensures shorter { IfOk result (λ r. length r.1.now ≤ length after.now) }
+    {
+        match self {
+            Token::Quoted(lexical) => {
+                let (literal, rest) = read_literal(alloc, lexical, after)?;
+                Ok((Node::Plain(literal), rest))
+            }
+            other => Ok((other.into_node()?, after)),
+        }
+    }
 }
 
 // The literal of a string, and of what follows it.
@@ -106,34 +173,7 @@ fn read_literal(
     ensures shorter { IfOk result (λ r. length r.1.now ≤ length characters.now) }
 {
     let (token, rest) = next_token(alloc, characters)?;
-    match token {
-        Token::Carets => {
-            let (datatype, rest) = read_iri(alloc, rest)?;
-            Ok((make_literal(lexical, datatype)?, rest))
-        }
-        Token::LanguageTag(tag) => {
-            let datatype = Text::new(alloc, RDF_LANG_STRING)?;
-            Ok((
-                Term::Literal {
-                    lexical,
-                    datatype,
-                    language: Some(tag),
-                },
-                rest,
-            ))
-        }
-        _ => {
-            let datatype = Text::new(alloc, XSD_STRING)?;
-            Ok((
-                Term::Literal {
-                    lexical,
-                    datatype,
-                    language: None,
-                },
-                characters,
-            ))
-        }
-    }
+    token.end_literal(alloc, lexical, characters, rest)
 }
 
 #[tactic(auto, unfolding(crate::specs::Grammar::object))]
@@ -142,13 +182,7 @@ fn read_object(alloc: Global, characters: &[char]) -> Result<(Node, &[char]), Li
     ensures shorter { IfOk result (λ r. length r.1.now ≤ length characters.now) }
 {
     let (token, rest) = next_token(alloc, characters)?;
-    match token {
-        Token::Quoted(lexical) => {
-            let (literal, rest) = read_literal(alloc, lexical, rest)?;
-            Ok((Node::Plain(literal), rest))
-        }
-        other => Ok((node_of(other)?, rest)),
-    }
+    token.begin_object(alloc, rest)
 }
 
 // The dot, and the characters after it.
@@ -189,7 +223,7 @@ fn read_statement(alloc: Global, first: Token, characters: &[char]) -> Result<St
     ensures statement { Gives (λ s. s) result (Grammar.statement_from (first, characters.now)) }
     ensures longer { IfOk result (λ _. 1 ≤ length characters.now) }
 {
-    let subject = node_of(first)?;
+    let subject = first.into_node()?;
     let (predicate, rest) = read_predicate(alloc, characters)?;
     let (object, rest) = read_object(alloc, rest)?;
     let rest = skip_dot(alloc, rest)?;

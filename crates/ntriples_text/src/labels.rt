@@ -1,4 +1,4 @@
-ghost use Rattle.std.specs.Prelude.{◌≡◌, ◌+◌, ◌<◌, ◌≤◌, ◌^◌, [], length, IfOk, OnOk, nat_eq};
+ghost use Rattle.std.specs.Prelude.{◌≡◌, ◌+◌, ◌<◌, ◌≤◌, ◌^◌, [], length, IfOk, OnOk, nat_eq, bytes_eq};
 ghost use Rattle.std.specs.List.{position_or_len};
 ghost use Rattle.std.specs.Cmp.{partial_equiv_from_equiv};
 ghost use Rattle.std.specs.Cmp.Lexicographic.{nat_list_eq_equiv};
@@ -7,7 +7,6 @@ ghost use Rattle.std.specs.Hash as fed;
 ghost use Rattle.std.proofs.Common.{rules};
 ghost use lib.Pointwise.{pointwise};
 ghost use Rattle.indexmap.specs.IndexSet.{insert_key};
-ghost use Rattle.ntriples_text.specs.Grammar.{same_text};
 
 use indexmap::IndexSet;
 use rdf_text::Text;
@@ -84,9 +83,9 @@ impl Labels {
 
     /// The place of a label, which becomes the last one where it has none.
     pub fn place(&mut self, label: Text) -> Result<usize, AllocError>
-        ensures place { IfOk result (λ place. place ≡ position_or_len (same_text label) self.old) }
+        ensures place { IfOk result (λ place. place ≡ position_or_len (bytes_eq label) self.old) }
         ensures within { IfOk result (λ place. place ≤ length self.old) }
-        ensures labels { OnOk result (self.new ≡ insert_key same_text self.old label) }
+        ensures labels { OnOk result (self.new ≡ insert_key bytes_eq self.old label) }
     {
         let (place, _) = self.seen.insert_full(Label { text: label })?;
         Ok(place)

@@ -11,11 +11,8 @@ mod grammar;
 mod labels;
 pub mod laws;
 mod numbering;
-mod order;
 mod refusal;
 mod statement;
-#[cfg(test)]
-mod tests;
 mod text_line;
 mod token;
 mod writing;

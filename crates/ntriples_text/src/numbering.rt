@@ -1,9 +1,9 @@
 ghost use Rattle.std.specs.Prelude.{◌≡◌, ◌+◌, ◌<◌, ◌≤◌, ◌^◌, length, IfOk, OnOk};
-ghost use Rattle.ntriples_text.specs.Blanks.{node_labels, statement_labels, term_of, triple_of};
+ghost use Rattle.ntriples_text.specs.Blanks.{statement_labels, triple_of};
 ghost use Rattle.ntriples_text.specs.Progress.{with_more};
 
 use crate::labels::Labels;
-use crate::statement::{Node, Statement};
+use crate::statement::Statement;
 use rdf_model::{Term, Triple};
 use std::alloc::AllocError;
 
@@ -16,26 +16,6 @@ pub struct Numbering {
 }
 
 impl Numbering {
-    // The term that a node stands for. A new label takes the next number.
-    fn term(&mut self, node: Node) -> Result<Term, AllocError>
-        requires { self.old.first + length self.old.labels < 2 ^ 32 }
-        ensures term { IfOk result (λ term. term ≡ term_of self.old.session self.old.first self.new.labels node) }
-        ensures labels { OnOk result (self.new.labels ≡ with_more self.old.labels (node_labels node)) }
-        ensures same { OnOk result ((self.new.session ≡ self.old.session) × (self.new.first ≡ self.old.first)) }
-        ensures room { OnOk result (length self.new.labels ≤ length self.old.labels + 1) }
-    {
-        match node {
-            Node::Labelled(label) => {
-                let place = self.labels.place(label)?;
-                Ok(Term::Blank {
-                    session: self.session,
-                    number: self.first + place as u32,
-                })
-            }
-            Node::Plain(term) => Ok(term),
-        }
-    }
-
     /// The triple of a statement. A new label takes the next number, the subject's before the
     /// object's.
     pub fn triple(&mut self, statement: Statement) -> Result<Triple, AllocError>
@@ -50,8 +30,8 @@ impl Numbering {
             predicate,
             object,
         } = statement;
-        let subject = self.term(subject)?;
-        let object = self.term(object)?;
+        let subject = subject.numbered(self)?;
+        let object = object.numbered(self)?;
         Ok(Triple {
             subject,
             predicate: Term::Iri(predicate),

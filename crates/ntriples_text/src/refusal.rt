@@ -1,5 +1,5 @@
 ghost use Rattle.std.specs.Prelude.{◌≡◌};
-ghost use Rattle.ntriples_text.specs.Faults.{number_of};
+ghost use Rattle.ntriples_text.specs.Faults.{number_of, kind_of_literal};
 
 use std::alloc::AllocError;
 
@@ -18,6 +18,10 @@ pub enum RefusalKind {
     BadEscape,
     /// A literal of xsd:float or xsd:double.
     FloatingPoint,
+    /// A literal of more than 20 whole digits or 18 of a fraction, or of more than 9 of a second.
+    TooManyDigits,
+    /// A dateTime or a date whose year isn't 0001 to 9999.
+    YearOutOfRange,
     /// rdf:langString is written as a datatype.
     LanguageString,
     /// A blank node label where a predicate may stand.
@@ -27,6 +31,18 @@ pub enum RefusalKind {
 }
 
 impl RefusalKind {
+    // The kind of a literal that isn't kept, by its number.
+    pub fn of_literal(number: u8) -> RefusalKind
+        ensures { result ≡ kind_of_literal number }
+    {
+        match number {
+            7 => RefusalKind::FloatingPoint,
+            8 => RefusalKind::TooManyDigits,
+            9 => RefusalKind::YearOutOfRange,
+            _ => RefusalKind::LanguageString,
+        }
+    }
+
     /// The number by which a kind is known.
     pub fn number(self) -> u8
         ensures { result ≡ number_of self }
@@ -38,6 +54,8 @@ impl RefusalKind {
             RefusalKind::RelativeIri => 5,
             RefusalKind::BadEscape => 6,
             RefusalKind::FloatingPoint => 7,
+            RefusalKind::TooManyDigits => 8,
+            RefusalKind::YearOutOfRange => 9,
             RefusalKind::LanguageString => 10,
             RefusalKind::BlankPredicate => 13,
             RefusalKind::UnexpectedEnd => 14,

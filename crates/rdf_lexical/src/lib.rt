@@ -7,8 +7,6 @@
 
 mod characters;
 mod escapes;
-#[cfg(test)]
-mod tests;
 
 pub use characters::{is_iri_char, is_pn_chars, is_pn_chars_base, is_pn_chars_u};
 pub use escapes::{escaped_char, hex_value, numbered_char};

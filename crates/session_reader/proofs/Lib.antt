@@ -1,4 +1,4 @@
 pub mod Checks
-pub mod Lines
+pub mod Items
 pub mod Lengths
 pub mod OneSession

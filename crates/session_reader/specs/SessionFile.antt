@@ -1,8 +1,8 @@
 -- The commands of a session file, or the number of its first line that is no command. They are read first, and then the
 -- shapes graphs among them are judged.
-use Rattle.std.specs.Prelude.{◌≡◌, Bool, ℕ, ◌+◌, ◌-◌, ◌&&◌, ◌||◌, List, [], ◌∷◌, ◌++◌, length, take, Option, Some, None, Result, Ok, Err, nat_lt, nat_eq, ◌==◌, if◌then◌else◌, slice_index, codes}
+use Rattle.std.specs.Prelude.{◌≡◌, Bool, ℕ, zero, suc, ◌+◌, ◌-◌, ◌&&◌, ◌||◌, List, [], ◌∷◌, ◌++◌, length, take, Option, Some, None, Result, Ok, Err, nat_lt, ◌==◌, if◌then◌else◌, slice_index, codes, bytes_eq}
+use Rattle.std.specs.Option.{option_map}
 use Rattle.std.specs.List.{slice_split, flat_map}
-use lib.Pointwise.{pointwise}
 use Rattle.rdf_model.specs.declared.triple.Triple.{Triple}
 use Rattle.session_model.specs.declared.command.Command.{Command}
 use Rattle.session_reader.specs.declared.line.BlockKind.{BlockKind}
@@ -15,9 +15,6 @@ use Rattle.ntriples_text.specs.declared.refusal.RefusalKind.{RefusalKind}
 use Rattle.ntriples_text.specs.Document.{reads}
 use Rattle.ntriples_text.specs.Faults.{number_of}
 use Rattle.session_reader.specs.Checking.{AreChecked}
-
-abbrev pub same_text : List ℕ → List ℕ → Bool
-same_text a b = pointwise nat_eq a b
 
 -- a line without a CR at its end
 abbrev pub without_cr : List ℕ → List ℕ
@@ -35,20 +32,19 @@ is_skipped line = length line == 0 || slice_index line 0 == 35
 -- what a line between commands is
 abbrev pub kind_of : List ℕ → LineKind
 kind_of line = if is_skipped line then Skipped else
-    (if same_text line (codes "begin") then BeginCommand else
-    (if same_text line (codes "commit") then CommitCommand else
-    (if same_text line (codes "add ntriples") then Block blocks.Add else
-    (if same_text line (codes "shapes ntriples") then Block blocks.Shapes else Other))))
+    (if bytes_eq line (codes "begin") then BeginCommand else
+    (if bytes_eq line (codes "commit") then CommitCommand else
+    (if bytes_eq line (codes "add ntriples") then Block blocks.Add else
+    (if bytes_eq line (codes "shapes ntriples") then Block blocks.Shapes else Other))))
 
 -- the end of a block is `%%`, or that and a CR
 abbrev pub is_block_end : List ℕ → Bool
-is_block_end line = same_text (without_cr line) (codes "%%")
+is_block_end line = bytes_eq (without_cr line) (codes "%%")
 
--- A block that is being read: its kind, the line of its command, and its lines so far.
-pub record OpenBlock : Type 0 where
-  pub kind : BlockKind
-  pub start : ℕ
-  pub lines : List (List ℕ)
+-- how many lines stand before the first that ends a block, if one does
+abbrev pub block_length : List (List ℕ) → Option ℕ
+block_length [] = None
+block_length (line ∷ lines) = if is_block_end line then Some 0 else option_map suc (block_length lines)
 
 -- the text of a block: its lines, each with its LF
 abbrev pub block_text : List (List ℕ) → List ℕ
@@ -79,27 +75,51 @@ abbrev pub with_command : ReadCommand → Result (List ReadCommand) ℕ → Resu
 with_command c (Ok cs) = Ok (c ∷ cs)
 with_command c (Err n) = Err n
 
--- line n between commands, where `more` is what the lines after it give, within a block or not
-abbrev pub command_line : ℕ → LineKind → (Option OpenBlock → Result (List ReadCommand) ℕ) → Result (List ReadCommand) ℕ
-command_line n Skipped more = more None
-command_line n BeginCommand more = with_command Begin (more None)
-command_line n CommitCommand more = with_command Commit (more None)
-command_line n (Block k) more = more (Some (record { kind = k; start = n; lines = [] }))
-command_line n Other more = Err n
+-- An item of a session file: a line that is skipped, a command, or a command with its block. It has the number of its
+-- first line, what that line is, and where a block follows, the block's lines up to the first that ends it, if one does.
+pub record Item : Type 0 where
+  pub number : ℕ
+  pub kind : LineKind
+  pub block : Option (List (List ℕ))
 
--- The lines from number n on, within a block or between commands; the session's next blank node has the number first.
+-- the block of a command, given the lines after it
+abbrev pub block_after : LineKind → List (List ℕ) → Option (List (List ℕ))
+block_after (Block k) lines = option_map (λ n. take n lines) (block_length lines)
+block_after _ lines = None
+
+-- how many lines an item has after its first: those of its block, and the one that ends it
+abbrev pub lines_of_block : Option (List (List ℕ)) → ℕ
+lines_of_block None = 0
+lines_of_block (Some lines) = suc (length lines)
+
+abbrev pub item_at : ℕ → List ℕ → List (List ℕ) → Item
+item_at n line lines = let kind = kind_of (command_text line lines) in record { number = n; kind = kind; block = block_after kind lines }
+
+-- The items of the lines from number n on, after so many lines that belong to the item before.
+abbrev pub items_after : ℕ → ℕ → List (List ℕ) → List Item
+items_after skip n [] = []
+items_after (suc skip) n (line ∷ lines) = items_after skip (n + 1) lines
+items_after zero n (line ∷ lines) = item_at n line lines ∷ items_after (lines_of_block (item_at n line lines).block) (n + 1) lines
+
+-- What an item adds to the commands, where `more` is what the items after it give from the session's next blank node on.
 -- A block that doesn't end is refused at its command.
-abbrev pub session_from : ℕ → ℕ → Option OpenBlock → ℕ → List (List ℕ) → Result (List ReadCommand) ℕ
-session_from s first None n [] = Ok []
-session_from s first (Some b) n [] = Err b.start
-session_from s first None n (line ∷ lines) = command_line n (kind_of (command_text line lines)) (λ b. session_from s first b (n + 1) lines)
-session_from s first (Some b) n (line ∷ lines) = if is_block_end line
-    then with_command (block_command b.kind (reads (block_text b.lines) s first)) (session_from s (next_after first (reads (block_text b.lines) s first)) None (n + 1) lines)
-    else session_from s first (Some (record { kind = b.kind; start = b.start; lines = b.lines ++ line ∷ [] })) (n + 1) lines
+abbrev pub with_item : ℕ → ℕ → ℕ → LineKind → Option (List (List ℕ)) → (ℕ → Result (List ReadCommand) ℕ) → Result (List ReadCommand) ℕ
+with_item s first n Skipped block more = more first
+with_item s first n BeginCommand block more = with_command Begin (more first)
+with_item s first n CommitCommand block more = with_command Commit (more first)
+with_item s first n (Block k) (Some lines) more = let reading = reads (block_text lines) s first in with_command (block_command k reading) (more (next_after first reading))
+with_item s first n (Block k) None more = Err n
+with_item s first n Other block more = Err n
+
+-- the commands of items, or the number of the first line that is no command; the session's next blank node has the number
+-- first
+abbrev pub commands_of : ℕ → ℕ → List Item → Result (List ReadCommand) ℕ
+commands_of s first [] = Ok []
+commands_of s first (item ∷ items) = with_item s first item.number item.kind item.block (λ next. commands_of s next items)
 
 -- The commands of session s as they are read, whose lines end with LF; or its first line that is no command.
 abbrev pub session_of : ℕ → List ℕ → Result (List ReadCommand) ℕ
-session_of s bytes = session_from s 1 None 1 (slice_split (λ c. c == 10) bytes)
+session_of s bytes = commands_of s 1 (items_after 0 1 (slice_split (λ c. c == 10) bytes))
 
 -- The commands of session s in this file.
 abbrev pub IsSession : ℕ → List ℕ → List Command → Type 0

@@ -1,8 +1,11 @@
-ghost use Rattle.std.specs.Prelude.{◌≡◌, ℕ, ◌+◌, ◌<◌, ◌≤◌, ◌^◌, Ok, None, Some, [], drop, slice_index_or, IfOk, MatchResult, map, length, ◌==◌};
+ghost use Rattle.std.specs.Prelude.{◌≡◌, ℕ, ◌+◌, ◌<◌, ◌≤◌, ◌^◌, [], List, Result, Ok, drop, slice_index_or, IfOk, IfSome, MatchResult, map, length, ◌==◌};
 ghost use Rattle.std.specs.List.{slice_split};
 ghost use Rattle.ntriples_text.specs.Document.{reads};
-ghost use Rattle.session_reader.specs.SessionFile.{IsSession, session_of, block_command, block_text, next_after};
-ghost use Rattle.session_reader.specs.Progress.{first_text, with_commands, rest_from, IsBefore, IsNextWithin, OpensAt};
+ghost use Rattle.session_reader.specs.declared.line.LineKind.TheVariants as kinds;
+ghost use Rattle.session_reader.specs.declared.read_command.ReadCommand.{ReadCommand as CommandData};
+ghost use Rattle.session_reader.specs.SessionFile;
+ghost use Rattle.session_reader.specs.SessionFile.{IsSession, session_of, block_command, block_text, next_after, block_after, item_at, lines_of_block, with_item, commands_of, items_after};
+ghost use Rattle.session_reader.specs.Progress.{with_commands};
 ghost use Rattle.session_reader.specs.Faults.{Fails};
 
 use crate::checking::check_commands;
@@ -15,13 +18,6 @@ use outside::Maker;
 use rdf_model::Triple;
 use session_model::Command;
 use std::alloc::{AllocError, Global};
-
-// A block that is being read, with the index of its first line.
-#[derive(Clone, Copy, Debug)]
-struct BlockStart {
-    kind: BlockKind,
-    first: usize,
-}
 
 // The parts between the bytes `at`.
 fn parts<'a>(alloc: Global, bytes: &'a [u8], at: u8) -> Result<Vec<&'a [u8]>, AllocError>
@@ -86,6 +82,60 @@ fn read_block(
     }
 }
 
+// A line between commands without its end, which it has where lines follow.
+fn command_text<'a>(line: &'a [u8], after: &[&[u8]]) -> &'a [u8]
+    ensures { result.now ≡ SessionFile.command_text line.now (map (λ l. l.now) after.now) }
+{
+    match after {
+        [] => line,
+        [_, ..] => trimmed(line),
+    }
+}
+
+// How many lines stand before the first that ends a block, if one does.
+fn block_length(lines: &[&[u8]]) -> Option<usize>
+    ensures length { result ≡ SessionFile.block_length (map (λ l. l.now) lines.now) }
+    ensures within { IfSome result (λ n. n < length lines.now) }
+{
+    let mut count = 0;
+    let mut rest = lines;
+    while let [line, after @ ..] = rest {
+        if is_block_end(line) {
+            return Some(count);
+        }
+        count += 1;
+        rest = after;
+    }
+    None
+}
+
+// Reads the block of the command in line `number`, and gives how many lines it has with the one that ends it.
+fn read_block_item(
+    alloc: Global,
+    session: u32,
+    next: &mut u32,
+    number: u64,
+    block: BlockKind,
+    after: &[&[u8]],
+    commands: &mut Sequence<ReadCommand>,
+) -> Result<usize, PrepareFault>
+    requires session { (1 ≤ session) × (session ≤ 64) }
+    requires next { 1 ≤ next.old }
+    requires room { next.old + length (block_text (map (λ l. l.now) after.now)) < 2 ^ 32 }
+    ensures item { (more : ℕ → Result (List CommandData) ℕ) → let lines = block_after (kinds.Block block) (map (λ l. l.now) after.now) in
+        let before = with_commands commands.old (with_item session next.old number (kinds.Block block) lines more) in
+        MatchResult result (λ taken. (taken ≡ lines_of_block lines) × (before ≡ with_commands commands.new (more next.new))) (λ fault. Fails fault before) }
+    ensures next { IfOk result (λ taken. (next.old ≤ next.new) × (taken ≤ length after.now) × (next.new + length (block_text (drop taken (map (λ l. l.now) after.now))) ≤ next.old + length (block_text (map (λ l. l.now) after.now)))) }
+{
+    let Some(count) = block_length(after) else {
+        return Err(PrepareFault::Line(number));
+    };
+    let (lines, _) = after.split_at(count);
+    let command = read_block(alloc, session, next, block, lines)?;
+    commands.push(command)?;
+    Ok(count + 1)
+}
+
 // The line at an index.
 fn line_at<'a>(lines: &[&'a [u8]], i: usize) -> &'a [u8]
     requires { i < length lines.now }
@@ -94,101 +144,61 @@ fn line_at<'a>(lines: &[&'a [u8]], i: usize) -> &'a [u8]
     lines[i]
 }
 
-// The line at an index between commands, without its end.
-fn command_text<'a>(lines: &[&'a [u8]], i: usize) -> &'a [u8]
-    requires { i < length lines.now }
-    ensures { result.now ≡ first_text (drop i (map (λ l. l.now) lines.now)) }
-{
-    let line = line_at(lines, i);
-    if i + 1 < lines.len() {
-        trimmed(line)
-    } else {
-        line
-    }
-}
-
-// Reads the line at index i between commands, and gives the block that it opens.
-fn read_command(
+// Reads the item that begins with the line at an index, and gives how many of the lines after it belong to it.
+fn read_item(
+    alloc: Global,
+    session: u32,
+    next: &mut u32,
     lines: &[&[u8]],
     i: usize,
     commands: &mut Sequence<ReadCommand>,
-) -> Result<Option<BlockStart>, PrepareFault>
-    requires { i < length lines.now }
-    ensures { let texts = map (λ l. l.now) lines.now in
-        MatchResult result
-        (λ next. OpensAt next (i + 1) × ((s first : ℕ) → with_commands commands.old (rest_from s first texts i None) ≡ with_commands commands.new (rest_from s first texts (i + 1) next)))
-        (λ fault. (s first : ℕ) → Fails fault (with_commands commands.old (rest_from s first texts i None))) }
+) -> Result<usize, PrepareFault>
+    requires session { (1 ≤ session) × (session ≤ 64) }
+    requires next { 1 ≤ next.old }
+    requires within { i < length lines.now }
+    requires room { next.old + length (block_text (drop (i + 1) (map (λ l. l.now) lines.now))) < 2 ^ 32 }
+    ensures item { (more : ℕ → Result (List CommandData) ℕ) → let texts = map (λ l. l.now) lines.now in let item = item_at (i + 1) (slice_index_or texts i []) (drop (i + 1) texts) in
+        let before = with_commands commands.old (with_item session next.old (i + 1) item.kind item.block more) in
+        MatchResult result (λ taken. (taken ≡ lines_of_block item.block) × (before ≡ with_commands commands.new (more next.new))) (λ fault. Fails fault before) }
+    ensures next { IfOk result (λ taken. (next.old ≤ next.new) × (i + 1 + taken ≤ length lines.now) × (next.new + length (block_text (drop (i + 1 + taken) (map (λ l. l.now) lines.now))) ≤ next.old + length (block_text (drop (i + 1) (map (λ l. l.now) lines.now))))) }
 {
-    match kind_of(command_text(lines, i)) {
-        LineKind::Skipped => Ok(None),
+    let (_, after) = lines.split_at(i + 1);
+    match kind_of(command_text(line_at(lines, i), after)) {
+        LineKind::Skipped => Ok(0),
         LineKind::BeginCommand => {
             commands.push(ReadCommand::Begin)?;
-            Ok(None)
+            Ok(0)
         }
         LineKind::CommitCommand => {
             commands.push(ReadCommand::Commit)?;
-            Ok(None)
+            Ok(0)
         }
-        LineKind::Block(kind) => Ok(Some(BlockStart { kind, first: i + 1 })),
+        LineKind::Block(kind) => {
+            read_block_item(alloc, session, next, i as u64 + 1, kind, after, commands)
+        }
         LineKind::Other => Err(PrepareFault::Line(i as u64 + 1)),
     }
 }
 
-// Reads the line at index i of a block.
-fn read_in_block(
+// The commands of the items of these lines, in their order.
+fn read_items(
     alloc: Global,
     session: u32,
-    next: &mut u32,
     lines: &[&[u8]],
-    block: BlockStart,
-    i: usize,
-    commands: &mut Sequence<ReadCommand>,
-) -> Result<Option<BlockStart>, AllocError>
+) -> Result<Sequence<ReadCommand>, PrepareFault>
     requires session { (1 ≤ session) × (session ≤ 64) }
-    requires next { IsNextWithin next.old (map (λ l. l.now) lines.now) i (Some block) }
-    requires within { i < length lines.now }
-    requires before { block.first ≤ i }
-    requires room { length (block_text (map (λ l. l.now) lines.now)) < 2 ^ 31 }
-    ensures rest { let texts = map (λ l. l.now) lines.now in
-        IfOk result (λ after. IsBefore after (i + 1) × (with_commands commands.old (rest_from session next.old texts i (Some block)) ≡ with_commands commands.new (rest_from session next.new texts (i + 1) after))) }
-    ensures next { IfOk result (IsNextWithin next.new (map (λ l. l.now) lines.now) (i + 1)) }
+    requires room { length (block_text (map (λ l. l.now) lines.now)) < 2 ^ 32 }
+    ensures { let reading = commands_of session 1 (items_after 0 1 (map (λ l. l.now) lines.now)) in
+        MatchResult result (λ commands. reading ≡ Ok commands) (λ fault. Fails fault reading) }
 {
-    if !is_block_end(line_at(lines, i)) {
-        return Ok(Some(block));
+    let mut commands = Sequence::new(alloc);
+    let mut next = 1;
+    let mut i = 0;
+    while i < lines.len() {
+        let taken = read_item(alloc, session, &mut next, lines, i, &mut commands)?;
+        i += 1 + taken;
     }
-    let command = read_block(alloc, session, next, block.kind, &lines[block.first..i])?;
-    commands.push(command)?;
-    Ok(None)
-}
-
-// Reads the line at index i, and gives the block that is open then.
-fn read_line(
-    alloc: Global,
-    session: u32,
-    next: &mut u32,
-    lines: &[&[u8]],
-    i: usize,
-    block: Option<BlockStart>,
-    commands: &mut Sequence<ReadCommand>,
-) -> Result<Option<BlockStart>, PrepareFault>
-    requires session { (1 ≤ session) × (session ≤ 64) }
-    requires next { IsNextWithin next.old (map (λ l. l.now) lines.now) i block }
-    requires within { i < length lines.now }
-    requires before { IsBefore block i }
-    requires room { length (block_text (map (λ l. l.now) lines.now)) < 2 ^ 31 }
-    ensures rest { let texts = map (λ l. l.now) lines.now in let rest = with_commands commands.old (rest_from session next.old texts i block) in
-        MatchResult result
-        (λ after. IsBefore after (i + 1) × (rest ≡ with_commands commands.new (rest_from session next.new texts (i + 1) after)))
-        (λ fault. Fails fault rest) }
-    ensures next { IfOk result (IsNextWithin next.new (map (λ l. l.now) lines.now) (i + 1)) }
-{
-    match block {
-        Some(open) => {
-            let after = read_in_block(alloc, session, next, lines, open, i, commands)?;
-            Ok(after)
-        }
-        None => read_command(lines, i, commands),
-    }
+    Ok(commands)
 }
 
 // The commands of the file of a session as its lines are read.
@@ -198,20 +208,11 @@ fn read_session(
     bytes: &[u8],
 ) -> Result<Sequence<ReadCommand>, PrepareFault>
     requires session { (1 ≤ session) × (session ≤ 64) }
-    requires room { length bytes.now < 2 ^ 30 }
+    requires room { 1 + length bytes.now < 2 ^ 32 }
     ensures { MatchResult result (λ commands. session_of session bytes.now ≡ Ok commands) (λ fault. Fails fault (session_of session bytes.now)) }
 {
     let lines = parts(alloc, bytes, b'\n')?;
-    let mut commands = Sequence::new(alloc);
-    let mut block = None;
-    let mut next = 1;
-    for i in 0..lines.len() {
-        block = read_line(alloc, session, &mut next, &lines, i, block, &mut commands)?;
-    }
-    match block {
-        None => Ok(commands),
-        Some(open) => Err(PrepareFault::Line(open.first as u64)),
-    }
+    read_items(alloc, session, &lines)
 }
 
 /// The commands of the file of a session, 1 to 64. A block that can't be read as N-Triples 1.1 gives a
@@ -227,7 +228,7 @@ pub fn prepare<M: Maker>(
     bytes: &[u8],
 ) -> Result<Sequence<Command>, PrepareFault>
     requires session { (1 ≤ session) × (session ≤ 64) }
-    requires room { length bytes.now < 2 ^ 30 }
+    requires room { 1 + length bytes.now < 2 ^ 32 }
     ensures answer { MatchResult result (λ commands. IsSession session bytes.now commands) (λ fault. Fails fault (session_of session bytes.now)) }
     ensures maker { maker.new ≡ maker.old }
 {

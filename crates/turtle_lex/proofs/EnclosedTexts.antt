@@ -115,9 +115,16 @@ marks_shape m k (c ∷ cs) = elim (k == 0) as (λ b. (k == 0) ≡ b → (take (c
   ] refl
 ] refl
 
+marks_bound : (m k : ℕ) (cs : List ℕ) → leading_marks m k cs ≤ length cs
+marks_bound m k [] = omega arith
+marks_bound m k (c ∷ cs) = let more = marks_bound m (k - 1) cs in elim (k == 0) as (λ b. cond b 0 (cond (c == m) (suc (leading_marks m (k - 1) cs)) 0) ≤ suc (length cs)) [
+  | true ↦ omega arith
+  | false ↦ elim (c == m) as (λ b. cond b (suc (leading_marks m (k - 1) cs)) 0 ≤ suc (length cs)) [ true ↦ omega arith | false ↦ omega arith ]
+]
+
 abbrev IsPieceOf : Enclosed → Piece → List ℕ → Type 0
 IsPieceOf e (Held n) r = IsPiece e (take n r) × (0 < n)
-IsPieceOf e (Closing n) r = take n r ≡ replicate (closing_length e) (mark e)
+IsPieceOf e (Closing n) r = (take n r ≡ replicate (closing_length e) (mark e)) × (n ≤ length r)
 IsPieceOf e (Faulty f) r = Unit {0}
 
 marked_shape : (e : Enclosed) (n : ℕ) (cs : List ℕ) (p : Piece) → take n cs ≡ replicate n (mark e) → n < closing_length e → IsUnitOf e p (drop n cs) → ((k : ℕ) → p ≡ Closing k → ⊥) → IsPieceOf e (with_marks n p) cs
@@ -145,21 +152,21 @@ piece_shape e cs =
     let n = leading_marks (mark e) (closing_length e) cs in
     let marks = marks_shape (mark e) (closing_length e) cs in
     elim (n == closing_length e) as (λ b. (n == closing_length e) ≡ b → IsPieceOf e (cond b (Closing n) (with_marks n (unit e (drop n cs)))) cs) [
-      | true ↦ λ is. marks.0 ∙ ap (λ k. replicate k (mark e)) (eqb-true n (closing_length e) is)
+      | true ↦ λ is. (marks.0 ∙ ap (λ k. replicate k (mark e)) (eqb-true n (closing_length e) is), marks_bound (mark e) (closing_length e) cs)
       | false ↦ λ is. let few : n < closing_length e = grind (arith, nat_tests, marks.1) in marked_shape e n cs (unit e (drop n cs)) marks.0 few (unit_shape e (drop n cs)) (unit_open e (drop n cs))
     ] refl
 
 abbrev EnclosedAfter : Enclosed → ℕ → Result ℕ FaultKind → List ℕ → Type 0
-EnclosedAfter e k (Ok n) cs = (x : List ℕ) × (take n cs ≡ take k cs ++ x) × IsEnclosed e x
+EnclosedAfter e k (Ok n) cs = (x : List ℕ) × (take n cs ≡ take k cs ++ x) × IsEnclosed e x × (n ≤ length cs)
 EnclosedAfter e k (Err f) cs = Unit {0}
 
 longer : (e : Enclosed) (k : ℕ) (r : Result ℕ FaultKind) (c : ℕ) (cs : List ℕ) → EnclosedAfter e k r cs → EnclosedAfter e (suc k) (one_more r) (c ∷ cs)
-longer e k (Ok n) c cs (x, is, met) = (x, ap (λ y. c ∷ y) is, met)
+longer e k (Ok n) c cs (x, is, met, most) = (x, ap (λ y. c ∷ y) is, met, omega arith)
 longer e k (Err f) c cs met = tt
 
 one_piece : (e : Enclosed) (k : ℕ) (r : Result ℕ FaultKind) (c : ℕ) (cs : List ℕ) → IsPiece e (c ∷ take k cs) → EnclosedAfter e k r cs → EnclosedAfter e 0 (one_more r) (c ∷ cs)
-one_piece e k (Ok n) c cs piece (x, is, (ps, parts, all)) =
-    ((c ∷ take k cs) ++ x, ap (λ y. c ∷ y) is, ((c ∷ take k cs) ∷ ps, ap (λ y. (c ∷ take k cs) ++ y) parts ∙ sym (append_assoc (c ∷ take k cs) (joined_texts ps) (replicate (closing_length e) (mark e))), (piece, all)))
+one_piece e k (Ok n) c cs piece (x, is, (ps, parts, all), most) =
+    ((c ∷ take k cs) ++ x, ap (λ y. c ∷ y) is, ((c ∷ take k cs) ∷ ps, ap (λ y. (c ∷ take k cs) ++ y) parts ∙ sym (append_assoc (c ∷ take k cs) (joined_texts ps) (replicate (closing_length e) (mark e))), (piece, all)), omega arith)
 one_piece e k (Err f) c cs piece met = tt
 
 by_piece : (e : Enclosed) (c : ℕ) (cs : List ℕ) (p : Piece) → IsPieceOf e p (c ∷ cs) → ((k : ℕ) → EnclosedAfter e k (enclosed_length e k cs) cs) → EnclosedAfter e 0 (with_piece p (λ k. enclosed_length e k cs)) (c ∷ cs)
@@ -167,7 +174,7 @@ by_piece e c cs (Held zero) met more = absurd (omega (arith, met.1))
 by_piece e c cs (Held (suc n)) met more =
     let less : suc n - 1 ≡ n = omega arith in
     subst (λ k. EnclosedAfter e 0 (one_more (enclosed_length e k cs)) (c ∷ cs)) (sym less) (one_piece e n (enclosed_length e n cs) c cs met.0 (more n))
-by_piece e c cs (Closing n) met more = (take n (c ∷ cs), refl, ([], met, tt))
+by_piece e c cs (Closing n) met more = (take n (c ∷ cs), refl, ([], met.0, tt), met.1)
 by_piece e c cs (Faulty f) met more = tt
 
 enclosed_after : (e : Enclosed) (k : ℕ) (cs : List ℕ) → EnclosedAfter e k (enclosed_length e k cs) cs
@@ -178,3 +185,10 @@ enclosed_after e zero (c ∷ cs) = by_piece e c cs (next_piece e (c ∷ cs)) (pi
 
 pub enclosed_shape : (e : Enclosed) (cs : List ℕ) (n : ℕ) → enclosed_length e 0 cs ≡ Ok n → IsEnclosed e (take n cs)
 enclosed_shape e cs n is = let met : EnclosedAfter e 0 (Ok n) cs = subst (λ r. EnclosedAfter e 0 r cs) is (enclosed_after e 0 cs) in subst (λ (x : List ℕ). IsEnclosed e x) (sym met.1) met.2
+
+some_left : (e : Enclosed) (cs : List ℕ) (n : ℕ) → enclosed_length e 0 cs ≡ Ok n → 0 < length cs
+some_left e [] n is = cc
+some_left e (c ∷ cs) n is = omega arith
+
+pub enclosed_bound : (e : Enclosed) (cs : List ℕ) (n : ℕ) → enclosed_length e 0 cs ≡ Ok n → (n ≤ length cs) × (0 < length cs)
+enclosed_bound e cs n is = let met : EnclosedAfter e 0 (Ok n) cs = subst (λ r. EnclosedAfter e 0 r cs) is (enclosed_after e 0 cs) in (met.3, some_left e cs n is)

@@ -5,11 +5,13 @@ pub mod Unescaping
 pub mod Runs
 pub mod NumberTokens
 pub mod NumberTexts
+pub mod NumberKinds
 pub mod NameTokens
 pub mod NameTexts
 pub mod EnclosedTokens
 pub mod EnclosedTexts
 pub mod WordTokens
+pub mod Bounds
 pub mod Dispatch
 pub mod Reached
 pub mod Sound

@@ -101,7 +101,7 @@ IsLocalRun t = (ps : List (List ℕ)) × (p : List ℕ) × (t ≡ joined_texts p
 abbrev LocalRun : ℕ → ℕ → List ℕ → Type 0
 LocalRun k n cs = (x : List ℕ) × (take n cs ≡ take k cs ++ x) × ((x ≡ []) ⊎ IsLocalRun x)
 
-dotted_bound : (n m : ℕ) → n ≤ m → with_dot n ≤ suc m
+pub dotted_bound : (n m : ℕ) → n ≤ m → with_dot n ≤ suc m
 dotted_bound zero m h = omega arith
 dotted_bound (suc n) m h = omega arith
 
@@ -109,7 +109,7 @@ piece_bound : (c : ℕ) (cs : List ℕ) (m : ℕ) → local_piece (c ∷ cs) ≡
 piece_bound c cs zero e more = omega arith
 piece_bound c cs (suc m) e more = let inside = more m (piece_shape c m cs e).1 in omega arith
 
-run_bound : (k : ℕ) (cs : List ℕ) → k ≤ length cs → local_run k cs ≤ length cs
+pub run_bound : (k : ℕ) (cs : List ℕ) → k ≤ length cs → local_run k cs ≤ length cs
 run_bound k [] h = omega arith
 run_bound (suc k) (c ∷ cs) h = let more = run_bound k cs (omega arith) in omega arith
 run_bound zero (c ∷ cs) h = let more = run_bound 0 cs (omega arith) in elim (c == 46) as (λ b. cond b (with_dot (local_run 0 cs)) (with_piece (local_piece (c ∷ cs)) (λ n. local_run n cs)) ≤ suc (length cs)) [

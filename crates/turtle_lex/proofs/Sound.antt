@@ -1,6 +1,6 @@
 -- What is found at a place is a token of its kind, and whole.
-use Rattle.std.proofs.Common.{◌≡◌, ◌∙◌, ℕ, zero, suc, ◌+◌, ◌<◌, ◌≤◌, Bool, true, false, cond, ◌==◌, ◌||◌, List, [], ◌∷◌, ◌++◌, length, take, drop, Option, Some, None, Ok, Err, refl, sym, ap, subst, arith, append_assoc, length-append, ◌⊎◌}
-use Rattle.std.specs.Prelude.{codes, replicate}
+use Rattle.std.proofs.Common.{◌≡◌, ◌∙◌, ℕ, zero, suc, ◌+◌, ◌-◌, ◌<◌, ◌≤◌, Bool, true, false, cond, ◌==◌, ◌||◌, List, [], ◌∷◌, ◌++◌, length, take, drop, Option, Some, None, Ok, Err, refl, sym, ap, subst, arith, append_assoc, length-append, length-drop, ◌⊎◌}
+use Rattle.std.specs.Prelude.{codes, replicate, bytes_eq}
 use Rattle.std.proofs.lemmas.Bool.{eqb-true}
 use Rattle.std.proofs.lemmas.Bool.Decides.{nat_tests}
 use Rattle.std.proofs.lemmas.List.{length-take-le, take-append-drop}
@@ -15,19 +15,21 @@ use Rattle.turtle_lex.specs.declared.enclosed.Enclosed.TheVariants.{Iri, Text}
 use Rattle.turtle_lex.specs.Classes.{holds, begins_with, run_length}
 use Rattle.turtle_lex.specs.Names.{name_length, prefix_length, local_length}
 use Rattle.turtle_lex.specs.Numbers.{number}
-use Rattle.turtle_lex.specs.Words.{Lexeme, is_word, word_kind, tag_length, language_tag, directive, lexeme_of, begins_directive, at_word, word}
+use Rattle.turtle_lex.specs.Words.{Lexeme, word_kind, tag_length, language_tag, directive, lexeme_of, begins_directive, at_word, word}
 use Rattle.turtle_lex.specs.Enclosed.{iri_lexeme, iri_ref, enclosed_length, string_lexeme, string_literal, more_quotes, leading_marks}
 use Rattle.turtle_lex.specs.Tokens.{may_begin_number, may_begin_name, label, carets, prefixed, name_at, name_or_word, number_found, no_number, is_cut_number, number_or_dot, punctuation, plain_found, plain_token, token_at}
 use Rattle.turtle_lex.specs.Productions.{IsPrefix, IsLocal, IsString, IsLanguageTag, IsToken, IsWhole}
 use Rattle.turtle_lex.proofs.NumberTexts.{IsNumber, GivesNumber, number_shape}
 use Rattle.turtle_lex.proofs.NameTexts.{tail_shape, prefix_shape, local_shape}
-use Rattle.turtle_lex.proofs.EnclosedTexts.{marks_shape, enclosed_shape}
+use Rattle.turtle_lex.proofs.EnclosedTexts.{marks_shape, enclosed_shape, enclosed_bound}
+use Rattle.turtle_lex.proofs.Bounds.{Within, name_bound, local_bound, number_bound}
+use Rattle.turtle_lex.proofs.Runs.{run_bound}
 use Rattle.turtle_lex.proofs.WordTokens.{word_same, WordIs, word_is, tag_reached, tag_shape, tag_bound, run_ends, name_over}
 use Rattle.turtle_lex.proofs.NameTokens.{label_is_name}
 use Rattle.turtle_lex.proofs.Reached.{two_more}
 
 abbrev pub IsFound : Bool → Lexeme → List ℕ → Type 0
-IsFound m (Ok p) cs = IsToken m p.0 (take p.1 cs) × IsWhole p.0 (take p.1 cs) (drop p.1 cs)
+IsFound m (Ok p) cs = IsToken m p.0 (take p.1 cs) × IsWhole p.0 (take p.1 cs) (drop p.1 cs) × (p.1 ≤ length cs)
 IsFound m (Err f) cs = Unit {0}
 
 empty : (s : List ℕ) → length s ≡ 0 → s ≡ []
@@ -41,7 +43,7 @@ no_lexeme m cs false = tt
 -- IRIs
 iri_found : (m : Bool) (c : ℕ) (cs : List ℕ) → c ≡ 60 → IsFound m (iri_ref cs) (c ∷ cs)
 iri_found m c cs is = elim (enclosed_length Iri 0 cs) as (λ r. enclosed_length Iri 0 cs ≡ r → IsFound m (iri_lexeme r) (c ∷ cs)) [
-  | Ok n ↦ λ e. ((take n cs, ap (λ x. x ∷ take n cs) is, enclosed_shape Iri cs n e), tt)
+  | Ok n ↦ λ e. let most = enclosed_bound Iri cs n e in ((take n cs, ap (λ x. x ∷ take n cs) is, enclosed_shape Iri cs n e), tt, omega (arith, most.0))
   | Err f ↦ λ e. tt
 ] refl
 
@@ -51,7 +53,10 @@ StringAt q c cs = (n : ℕ) → enclosed_length (Text q) 0 (drop (more_quotes q)
 
 by_quotes : (m : Bool) (q : Quotes) (c : ℕ) (cs : List ℕ) → StringAt q c cs → IsFound m (string_lexeme q (enclosed_length (Text q) 0 (drop (more_quotes q) cs))) (c ∷ cs)
 by_quotes m q c cs at = elim (enclosed_length (Text q) 0 (drop (more_quotes q) cs)) as (λ r. enclosed_length (Text q) 0 (drop (more_quotes q) cs) ≡ r → IsFound m (string_lexeme q r) (c ∷ cs)) [
-  | Ok n ↦ λ e. at n e
+  | Ok n ↦ λ e.
+      let most = enclosed_bound (Text q) (drop (more_quotes q) cs) n e in
+      let size : length (drop (more_quotes q) cs) ≡ length cs - more_quotes q = length-drop (more_quotes q) cs in
+      ((at n e).0, (at n e).1, omega (arith, most.0, most.1))
   | Err f ↦ λ e. tt
 ] refl
 
@@ -122,7 +127,7 @@ tag_is_found : (c : ℕ) (cs : List ℕ) → c ≡ 64 → IsFound true (language
 tag_is_found c [] is = tt
 tag_is_found c (d ∷ ds) is = elim (tag_length (d ∷ ds) == 0) as (λ b. (tag_length (d ∷ ds) == 0) ≡ b → IsFound true (cond b (Err NoToken) (Ok (LanguageTag, suc (tag_length (d ∷ ds))))) (c ∷ d ∷ ds)) [
   | true ↦ λ h. tt
-  | false ↦ λ h. let some : 0 < tag_length (d ∷ ds) = grind (arith, nat_tests) in ((refl, subst (λ (x : ℕ). IsLanguageTag (x ∷ take (tag_length (d ∷ ds)) (d ∷ ds))) (sym is) (tag_shape (d ∷ ds) some)), tt)
+  | false ↦ λ h. let some : 0 < tag_length (d ∷ ds) = grind (arith, nat_tests) in ((refl, subst (λ (x : ℕ). IsLanguageTag (x ∷ take (tag_length (d ∷ ds)) (d ∷ ds))) (sym is) (tag_shape (d ∷ ds) some)), tt, let most = tag_bound (d ∷ ds) in omega arith)
 ] refl
 
 directive_whole : (c : ℕ) (cs : List ℕ) → c ≡ 64 → (s r : List ℕ) → drop (tag_length cs) cs ≡ s ++ r → IsLanguageTag ((c ∷ take (tag_length cs) cs) ++ s) → s ≡ []
@@ -139,10 +144,11 @@ directive_whole c cs is s r rest tag =
 directive_is_found : (c : ℕ) (cs : List ℕ) → c ≡ 64 → IsFound false (directive cs) (c ∷ cs)
 directive_is_found c cs is =
     let n = tag_length cs in
-    elim (is_word (take n cs) (codes "prefix")) as (λ b. is_word (take n cs) (codes "prefix") ≡ b → IsFound false (lexeme_of (cond b (Some AtPrefix) (cond (is_word (take n cs) (codes "base")) (Some AtBase) None)) (suc n) (begins_directive cs)) (c ∷ cs)) [
-      | true ↦ λ h. ((refl, ap (λ x. x ∷ take n cs) is ∙ ap (λ x. 64 ∷ x) (word_same (take n cs) (codes "prefix") h)), directive_whole c cs is)
-      | false ↦ λ h. elim (is_word (take n cs) (codes "base")) as (λ b. is_word (take n cs) (codes "base") ≡ b → IsFound false (lexeme_of (cond b (Some AtBase) None) (suc n) (begins_directive cs)) (c ∷ cs)) [
-        | true ↦ λ g. ((refl, ap (λ x. x ∷ take n cs) is ∙ ap (λ x. 64 ∷ x) (word_same (take n cs) (codes "base") g)), directive_whole c cs is)
+    let most = tag_bound cs in
+    elim (bytes_eq (take n cs) (codes "prefix")) as (λ b. bytes_eq (take n cs) (codes "prefix") ≡ b → IsFound false (lexeme_of (cond b (Some AtPrefix) (cond (bytes_eq (take n cs) (codes "base")) (Some AtBase) None)) (suc n) (begins_directive cs)) (c ∷ cs)) [
+      | true ↦ λ h. ((refl, ap (λ x. x ∷ take n cs) is ∙ ap (λ x. 64 ∷ x) (word_same (take n cs) (codes "prefix") h)), directive_whole c cs is, omega arith)
+      | false ↦ λ h. elim (bytes_eq (take n cs) (codes "base")) as (λ b. bytes_eq (take n cs) (codes "base") ≡ b → IsFound false (lexeme_of (cond b (Some AtBase) None) (suc n) (begins_directive cs)) (c ∷ cs)) [
+        | true ↦ λ g. ((refl, ap (λ x. x ∷ take n cs) is ∙ ap (λ x. 64 ∷ x) (word_same (take n cs) (codes "base") g)), directive_whole c cs is, omega arith)
         | false ↦ λ g. no_lexeme false (c ∷ cs) (begins_directive cs)
       ] refl
     ] refl
@@ -156,8 +162,9 @@ label_by_length : (m : Bool) (c d e n : ℕ) (cs : List ℕ) → c ≡ 95 → d 
 label_by_length m c d e zero cs is colon first size some = absurd (omega arith)
 label_by_length m c d e (suc n) cs is colon first size some =
     let count : 2 + suc n ≡ suc (suc (suc n)) = omega arith in
+    let most = name_bound (e ∷ cs) in
     let begin : c ∷ d ∷ e ∷ take n cs ≡ 95 ∷ 58 ∷ e ∷ take n cs = ap (λ x. x ∷ d ∷ e ∷ take n cs) is ∙ ap (λ x. 95 ∷ x ∷ e ∷ take n cs) colon in
-    subst (λ k. IsFound m (Ok (BlankNodeLabel, k)) (c ∷ d ∷ e ∷ cs)) (sym count) ((e, take n cs, begin, first, tail_shape e n cs size), tt)
+    subst (λ k. IsFound m (Ok (BlankNodeLabel, k)) (c ∷ d ∷ e ∷ cs)) (sym count) ((e, take n cs, begin, first, tail_shape e n cs size), tt, omega arith)
 
 label_found : (m : Bool) (c : ℕ) (cs : List ℕ) → c ≡ 95 → IsFound m (label cs) (c ∷ cs)
 label_found m c [] is = tt
@@ -173,52 +180,61 @@ label_found m c (d ∷ e ∷ cs) is = elim (d == 58) as (λ b. (d == 58) ≡ b �
 carets_found : (m : Bool) (c : ℕ) (cs : List ℕ) → c ≡ 94 → IsFound m (carets cs) (c ∷ cs)
 carets_found m c [] is = tt
 carets_found m c (d ∷ cs) is = elim (d == 94) as (λ b. (d == 94) ≡ b → IsFound m (cond b (Ok (Carets, 2)) (Err NoToken)) (c ∷ d ∷ cs)) [
-  | true ↦ λ h. (ap (λ x. x ∷ d ∷ []) is ∙ ap (λ x. 94 ∷ x ∷ []) (eqb-true d 94 h), tt)
+  | true ↦ λ h. (ap (λ x. x ∷ d ∷ []) is ∙ ap (λ x. 94 ∷ x ∷ []) (eqb-true d 94 h), tt, omega arith)
   | false ↦ λ h. tt
 ] refl
 
 -- numbers and the dot
-number_token : (m : Bool) (k : TokenKind) (n : ℕ) (cs : List ℕ) → IsNumber k (take n cs) → IsFound m (Ok (k, n)) cs
-number_token m Integer n cs h = (h, tt)
-number_token m Decimal n cs h = (h, tt)
-number_token m Double n cs h = (h, tt)
-number_token m _ n cs h = absurd h
+number_token : (m : Bool) (k : TokenKind) (n : ℕ) (cs : List ℕ) → n ≤ length cs → IsNumber k (take n cs) → IsFound m (Ok (k, n)) cs
+number_token m Integer n cs most h = (h, tt, most)
+number_token m Decimal n cs most h = (h, tt, most)
+number_token m Double n cs most h = (h, tt, most)
+number_token m _ n cs most h = absurd h
 
 no_number_found : (m : Bool) (cs : List ℕ) → IsFound m (no_number cs) cs
 no_number_found m [] = tt
 no_number_found m (c ∷ cs) = elim (c == 46) as (λ b. (c == 46) ≡ b → IsFound m (cond b (Ok (Dot, 1)) (cond (is_cut_number cs) (Err UnexpectedEnd) (Err NoToken))) (c ∷ cs)) [
-  | true ↦ λ h. (ap (λ x. x ∷ []) (eqb-true c 46 h), tt)
+  | true ↦ λ h. (ap (λ x. x ∷ []) (eqb-true c 46 h), tt, omega arith)
   | false ↦ λ h. no_lexeme m (c ∷ cs) (is_cut_number cs)
 ] refl
 
-number_is_found : (m : Bool) (r : Option (TokenKind × ℕ)) (cs : List ℕ) → GivesNumber r cs → IsFound m (number_found r cs) cs
-number_is_found m None cs h = no_number_found m cs
-number_is_found m (Some p) cs h = number_token m p.0 p.1 cs h
+number_is_found : (m : Bool) (r : Option (TokenKind × ℕ)) (cs : List ℕ) → Within r cs → GivesNumber r cs → IsFound m (number_found r cs) cs
+number_is_found m None cs most h = no_number_found m cs
+number_is_found m (Some p) cs most h = number_token m p.0 p.1 cs most h
 
 -- names and words
-by_kind : (m : Bool) (r : Option TokenKind) (n : ℕ) (cs : List ℕ) (is_cut : Bool) → WordIs r (take n cs) → begins_with Name (drop n cs) ≡ false → IsFound m (lexeme_of r n is_cut) cs
-by_kind m None n cs is_cut is ends = no_lexeme m cs is_cut
-by_kind m (Some k) n cs is_cut is ends = (is.0 m, is.1 (drop n cs) ends)
+by_kind : (m : Bool) (r : Option TokenKind) (n : ℕ) (cs : List ℕ) (is_cut : Bool) → n ≤ length cs → WordIs r (take n cs) → begins_with Name (drop n cs) ≡ false → IsFound m (lexeme_of r n is_cut) cs
+by_kind m None n cs is_cut most is ends = no_lexeme m cs is_cut
+by_kind m (Some k) n cs is_cut most is ends = (is.0 m, is.1 (drop n cs) ends, most)
 
 word_found : (m : Bool) (cs : List ℕ) → IsFound m (word cs) cs
-word_found m cs = by_kind m (word_kind (take (run_length Name cs) cs)) (run_length Name cs) cs (run_length NameOrDot cs == length cs) (word_is (take (run_length Name cs) cs)) (run_ends cs)
+word_found m cs = by_kind m (word_kind (take (run_length Name cs) cs)) (run_length Name cs) cs (run_length NameOrDot cs == length cs) (run_bound Name cs) (word_is (take (run_length Name cs) cs)) (run_ends cs)
 
 colon_taken : (cs ds : List ℕ) (p d n : ℕ) → drop p cs ≡ d ∷ ds → take (p + suc n) cs ≡ take p cs ++ d ∷ take n ds
 colon_taken cs ds p d n rest = take-add p (suc n) cs ∙ ap (λ x. take p cs ++ take (suc n) x) rest
 
+colon_length : (cs ds : List ℕ) (p d : ℕ) → drop p cs ≡ d ∷ ds → length cs ≡ p + suc (length ds)
+colon_length cs ds p d rest = let size : length cs - p ≡ suc (length ds) = sym (length-drop p cs) ∙ ap length rest in omega arith
+
+reaches_colon : (cs ds : List ℕ) (p d : ℕ) → drop p cs ≡ d ∷ ds → p + 1 ≤ length cs
+reaches_colon cs ds p d rest = let whole = colon_length cs ds p d rest in omega arith
+
 named_found : (m : Bool) (cs ds : List ℕ) (p d n : ℕ) → (take p cs ≡ []) ⊎ IsPrefix (take p cs) → drop p cs ≡ d ∷ ds → d ≡ 58 → local_length ds ≡ n → IsFound m (Ok (cond (n == 0) PrefixName PrefixedName, p + 1 + n)) cs
 named_found m cs ds p d zero prefix rest colon size =
+    let most : p + 1 ≤ length cs = reaches_colon cs ds p d rest in
     let count : p + 1 + 0 ≡ p + suc 0 = omega arith in
     let text : take (p + 1 + 0) cs ≡ take p cs ++ 58 ∷ [] = ap (λ k. take k cs) count ∙ colon_taken cs ds p d 0 rest ∙ ap (λ x. take p cs ++ x ∷ []) colon in
-    ((take p cs, text, prefix), tt)
+    ((take p cs, text, prefix), tt, omega arith)
 named_found m cs ds p d (suc n) prefix rest colon size =
+    let whole : length cs ≡ p + suc (length ds) = colon_length cs ds p d rest in
+    let most = local_bound ds in
     let count : p + 1 + suc n ≡ p + suc (suc n) = omega arith in
     let some : (suc n == 0) ≡ false = grind (arith, nat_tests) in
     let text : take (p + 1 + suc n) cs ≡ (take p cs ++ 58 ∷ []) ++ take (suc n) ds =
     ap (λ k. take k cs) count ∙ colon_taken cs ds p d (suc n) rest ∙ ap (λ x. take p cs ++ x ∷ take (suc n) ds) colon ∙ sym (append_assoc (take p cs) (58 ∷ []) (take (suc n) ds)) in
     let local : IsLocal (take (suc n) ds) = subst (λ k. IsLocal (take k ds)) size (local_shape ds n size) in
     subst (λ b. IsFound m (Ok (cond b PrefixName PrefixedName, p + 1 + suc n)) cs) (sym some)
-    ((take p cs ++ 58 ∷ [], take (suc n) ds, text, (take p cs, refl, prefix), local), tt)
+    ((take p cs ++ 58 ∷ [], take (suc n) ds, text, (take p cs, refl, prefix), local), tt, omega arith)
 
 name_found : (m : Bool) (cs r : List ℕ) (p : ℕ) → (take p cs ≡ []) ⊎ IsPrefix (take p cs) → drop p cs ≡ r → IsFound m (name_at cs p r) cs
 name_found m cs [] p prefix rest = word_found m cs
@@ -257,9 +273,9 @@ punctuation_found c = elim (c == 59) as (λ b. (c == 59) ≡ b → OneCharacter 
 ] refl
 
 plain_found_by : (m : Bool) (r : Option TokenKind) (c : ℕ) (cs : List ℕ) → OneCharacter r c → IsFound m (plain_found r c (c ∷ cs)) (c ∷ cs)
-plain_found_by m (Some k) c cs h = h m cs
+plain_found_by m (Some k) c cs h = let met = h m cs in (met.0, met.1, omega arith)
 plain_found_by m None c cs h = elim (may_begin_number c) as (λ b. IsFound m (cond b (number_or_dot (c ∷ cs)) (cond (may_begin_name c) (name_or_word (c ∷ cs)) (Err NoToken))) (c ∷ cs)) [
-  | true ↦ number_is_found m (number (c ∷ cs)) (c ∷ cs) (number_shape (c ∷ cs))
+  | true ↦ number_is_found m (number (c ∷ cs)) (c ∷ cs) (number_bound (c ∷ cs)) (number_shape (c ∷ cs))
   | false ↦ elim (may_begin_name c) as (λ b. IsFound m (cond b (name_or_word (c ∷ cs)) (Err NoToken)) (c ∷ cs)) [
     | true ↦ name_found m (c ∷ cs) (drop (prefix_length (c ∷ cs)) (c ∷ cs)) (prefix_length (c ∷ cs)) (prefix_shape (c ∷ cs)) refl
     | false ↦ tt

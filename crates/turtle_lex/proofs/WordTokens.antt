@@ -1,6 +1,6 @@
 -- The words of the grammar, and language tags.
 use Rattle.std.proofs.Common.{◌≡◌, ◌∙◌, nat_lt, ℕ, zero, suc, ◌+◌, ◌-◌, ◌<◌, ◌≤◌, Bool, true, false, cond, ◌==◌, ◌||◌, ◌&&◌, List, [], ◌∷◌, ◌++◌, length, take, drop, Option, Some, None, refl, sym, ap, subst, arith, append_assoc, append-nil, length-append, length-drop}
-use Rattle.std.specs.Prelude.{map, codes, nat_eq}
+use Rattle.std.specs.Prelude.{map, codes, nat_eq, bytes_eq}
 use Rattle.std.specs.List.{AllByRecursion}
 use Rattle.std.specs.Char.{to_ascii_lowercase}
 use lib.Pointwise.{pointwise}
@@ -13,7 +13,7 @@ use Rattle.turtle_lex.specs.declared.token.TokenKind.TheVariants.{A, True, False
 use Rattle.turtle_lex.specs.declared.class.Class.TheVariants.{Letter, LetterOrDigit, NameStart, Name}
 use Rattle.turtle_lex.specs.Classes.{holds, begins_with, run_length}
 use Rattle.turtle_lex.specs.Names.{name_length}
-use Rattle.turtle_lex.specs.Words.{is_word, is_in_any_case, word_kind, subtags_length, tag_length}
+use Rattle.turtle_lex.specs.Words.{is_in_any_case, word_kind, subtags_length, tag_length}
 use Rattle.turtle_lex.specs.Productions.{AllOf, SomeOf, joined_texts, IsSubtag, IsLanguageTag, IsToken, IsWhole}
 use Rattle.turtle_lex.proofs.Runs.{run_all, run_exact, run_taken, run_begins, run_bound}
 
@@ -46,8 +46,8 @@ abbrev head_of : List ℕ → ℕ
 head_of [] = 0
 head_of (c ∷ cs) = c
 
-apart_words : (t w l : List ℕ) → map to_ascii_lowercase t ≡ l → ((w ≡ t) → map to_ascii_lowercase w ≡ l → ⊥) → is_word t w ≡ false
-apart_words t w l is other = refuted (is_word t w) (λ h. let same = word_same t w h in other (sym same) (ap (map to_ascii_lowercase) (sym same) ∙ is))
+apart_words : (t w l : List ℕ) → map to_ascii_lowercase t ≡ l → ((w ≡ t) → map to_ascii_lowercase w ≡ l → ⊥) → bytes_eq t w ≡ false
+apart_words t w l is other = refuted (bytes_eq t w) (λ h. let same = word_same t w h in other (sym same) (ap (map to_ascii_lowercase) (sym same) ∙ is))
 
 pub prefix_kind : (t : List ℕ) → map to_ascii_lowercase t ≡ codes "prefix" → word_kind t ≡ Some Prefix
 prefix_kind t is =
@@ -104,11 +104,11 @@ WordIs None t = Unit {0}
 WordIs (Some k) t = ((m : Bool) → IsToken m k t) × ((u : List ℕ) → begins_with Name u ≡ false → IsWhole k t u)
 
 pub word_is : (t : List ℕ) → WordIs (word_kind t) t
-word_is t = elim (is_word t (codes "a")) as (λ b. is_word t (codes "a") ≡ b → WordIs (cond b (Some A) (cond (is_word t (codes "true")) (Some True) (cond (is_word t (codes "false")) (Some False) (cond (is_in_any_case t (codes "prefix")) (Some Prefix) (cond (is_in_any_case t (codes "base")) (Some Base) None))))) t) [
+word_is t = elim (bytes_eq t (codes "a")) as (λ b. bytes_eq t (codes "a") ≡ b → WordIs (cond b (Some A) (cond (bytes_eq t (codes "true")) (Some True) (cond (bytes_eq t (codes "false")) (Some False) (cond (is_in_any_case t (codes "prefix")) (Some Prefix) (cond (is_in_any_case t (codes "base")) (Some Base) None))))) t) [
   | true ↦ λ h. ((λ m. word_same t (codes "a") h), λ u e. e)
-  | false ↦ λ h. elim (is_word t (codes "true")) as (λ b. is_word t (codes "true") ≡ b → WordIs (cond b (Some True) (cond (is_word t (codes "false")) (Some False) (cond (is_in_any_case t (codes "prefix")) (Some Prefix) (cond (is_in_any_case t (codes "base")) (Some Base) None)))) t) [
+  | false ↦ λ h. elim (bytes_eq t (codes "true")) as (λ b. bytes_eq t (codes "true") ≡ b → WordIs (cond b (Some True) (cond (bytes_eq t (codes "false")) (Some False) (cond (is_in_any_case t (codes "prefix")) (Some Prefix) (cond (is_in_any_case t (codes "base")) (Some Base) None)))) t) [
     | true ↦ λ h. ((λ m. word_same t (codes "true") h), λ u e. e)
-    | false ↦ λ h. elim (is_word t (codes "false")) as (λ b. is_word t (codes "false") ≡ b → WordIs (cond b (Some False) (cond (is_in_any_case t (codes "prefix")) (Some Prefix) (cond (is_in_any_case t (codes "base")) (Some Base) None))) t) [
+    | false ↦ λ h. elim (bytes_eq t (codes "false")) as (λ b. bytes_eq t (codes "false") ≡ b → WordIs (cond b (Some False) (cond (is_in_any_case t (codes "prefix")) (Some Prefix) (cond (is_in_any_case t (codes "base")) (Some Base) None))) t) [
       | true ↦ λ h. ((λ m. word_same t (codes "false") h), λ u e. e)
       | false ↦ λ h. elim (is_in_any_case t (codes "prefix")) as (λ b. is_in_any_case t (codes "prefix") ≡ b → WordIs (cond b (Some Prefix) (cond (is_in_any_case t (codes "base")) (Some Base) None)) t) [
         | true ↦ λ h. ((λ m. case_same t (codes "prefix") h), λ u e. e)

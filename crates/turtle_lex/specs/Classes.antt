@@ -12,9 +12,12 @@ is_digit c = is_within 48 57 c
 abbrev pub is_local_escape : ℕ → Bool
 is_local_escape c = c == 95 || c == 126 || is_within 45 47 c || c == 33 || is_within 35 44 c || c == 59 || c == 61 || c == 63 || c == 64
 
+-- what PN_LOCAL may begin with: PN_CHARS_U, `[0-9]`, `:` or the first character of PLX
+abbrev pub begins_local : ℕ → Bool
+begins_local c = is_pn_chars_u c || is_digit c || c == 58 || c == 37 || c == 92
+
 -- `[+-]`, `[0-9]`, HEX, `[a-zA-Z]`, `[a-zA-Z0-9]`, PN_CHARS_BASE, `PN_CHARS_U | [0-9]`, PN_CHARS, `PN_CHARS | '.'`,
--- what PN_LOCAL may begin with (PN_CHARS_U, `[0-9]`, `:` or the first character of PLX), `PN_CHARS | ':'`,
--- PN_LOCAL_ESC
+-- the beginnings of PN_LOCAL, `PN_CHARS | ':'`, PN_LOCAL_ESC
 abbrev pub holds : Class → ℕ → Bool
 holds Sign c = c == 43 || c == 45
 holds Digit c = is_digit c
@@ -25,7 +28,7 @@ holds NameStart c = is_pn_chars_base c
 holds NameUnderscoreOrDigit c = is_pn_chars_u c || is_digit c
 holds Name c = is_pn_chars c
 holds NameOrDot c = is_pn_chars c || c == 46
-holds LocalStart c = is_pn_chars_u c || is_digit c || c == 58 || c == 37 || c == 92
+holds LocalStart c = begins_local c
 holds LocalCharacter c = is_pn_chars c || c == 58
 holds LocalEscape c = is_local_escape c
 

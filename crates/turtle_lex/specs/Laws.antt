@@ -12,3 +12,7 @@ FindsLongest = (after_string : Bool) (text : List ℕ) (kind : TokenKind) (n : �
 -- where a fault is found no token stands
 abbrev pub MissesNone : Type 0
 MissesNone = (after_string : Bool) (text : List ℕ) (fault : FaultKind) → token_at after_string text ≡ Err fault → HasNoToken after_string text
+
+-- at most one token stands at the beginning of a text: it has one kind, and so many characters
+abbrev pub StandsAlone : Type 0
+StandsAlone = (after_string : Bool) (text : List ℕ) (kind other : TokenKind) (n m : ℕ) → IsTokenAt after_string text kind n → IsTokenAt after_string text other m → (kind ≡ other) × (n ≡ m)

@@ -176,6 +176,7 @@ IsWhole _ t u = Unit {0}
 
 -- The kind of token with so many characters at the beginning of a text: the longest that stands there.
 pub record IsTokenAt (after_string : Bool) (text : List ℕ) (kind : TokenKind) (n : ℕ) : Type 0 where
+  pub within : n ≤ length text
   pub is : IsToken after_string kind (take n text)
   pub whole : IsWhole kind (take n text) (drop n text)
   pub longest : (other : TokenKind) (t u : List ℕ) → text ≡ t ++ u → IsToken after_string other t → IsWhole other t u → length t ≤ n

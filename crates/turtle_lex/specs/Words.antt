@@ -1,8 +1,7 @@
 -- The words of the grammar, and what `@` begins (Turtle 1.1 sections 6.2 and 6.5).
-use Rattle.std.specs.Prelude.{ℕ, suc, ◌+◌, Bool, true, false, ◌&&◌, ◌||◌, List, [], ◌∷◌, length, take, drop, codes, Option, Some, None, Result, Ok, Err, ◌==◌, nat_eq, if◌then◌else◌}
+use Rattle.std.specs.Prelude.{ℕ, suc, ◌+◌, Bool, true, false, ◌&&◌, ◌||◌, List, [], ◌∷◌, length, take, drop, codes, Option, Some, None, Result, Ok, Err, ◌==◌, nat_eq, if◌then◌else◌, bytes_eq}
 use Rattle.std.specs.List.{starts_with}
 use Rattle.std.specs.Char.{to_ascii_lowercase}
-use lib.Pointwise.{pointwise}
 use Rattle.turtle_lex.specs.declared.token.TokenKind.{TokenKind}
 use Rattle.turtle_lex.specs.declared.token.TokenKind.TheVariants.{A, True, False, Prefix, Base, AtPrefix, AtBase, LanguageTag}
 use Rattle.turtle_lex.specs.declared.token.FaultKind.{FaultKind}
@@ -14,9 +13,6 @@ use Rattle.turtle_lex.specs.Classes.{holds, begins_with, run_length}
 abbrev pub Lexeme : Type 0
 Lexeme = Result (TokenKind × ℕ) FaultKind
 
-abbrev pub is_word : List ℕ → List ℕ → Bool
-is_word word other = pointwise nat_eq word other
-
 -- the same letters, the word's in any case
 abbrev pub is_in_any_case : List ℕ → List ℕ → Bool
 is_in_any_case [] [] = true
@@ -26,9 +22,9 @@ is_in_any_case (c ∷ cs) [] = false
 
 -- a word without a colon: `a`, `true`, `false`, and in any case `prefix` and `base`
 abbrev pub word_kind : List ℕ → Option TokenKind
-word_kind word = if is_word word (codes "a") then Some A else
-    (if is_word word (codes "true") then Some True else
-    (if is_word word (codes "false") then Some False else
+word_kind word = if bytes_eq word (codes "a") then Some A else
+    (if bytes_eq word (codes "true") then Some True else
+    (if bytes_eq word (codes "false") then Some False else
     (if is_in_any_case word (codes "prefix") then Some Prefix else
     (if is_in_any_case word (codes "base") then Some Base else None))))
 
@@ -49,8 +45,8 @@ language_tag (c ∷ cs) = if tag_length (c ∷ cs) == 0 then Err NoToken else Ok
 
 -- elsewhere the word as far as a LANGTAG goes must be `@prefix` or `@base`
 abbrev pub directive_kind : List ℕ → Option TokenKind
-directive_kind word = if is_word word (codes "prefix") then Some AtPrefix else
-    (if is_word word (codes "base") then Some AtBase else None)
+directive_kind word = if bytes_eq word (codes "prefix") then Some AtPrefix else
+    (if bytes_eq word (codes "base") then Some AtBase else None)
 
 -- nothing but the beginning of such a word is left of the text
 abbrev pub begins_directive : List ℕ → Bool

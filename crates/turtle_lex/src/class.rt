@@ -48,25 +48,28 @@ fn is_local_escape(character: char) -> bool
     )
 }
 
+// What PN_LOCAL may begin with: PN_CHARS_U, a digit, a colon or the first character of a PLX.
+fn begins_local(character: char) -> bool
+    ensures { result ≡ Classes.begins_local character }
+{
+    is_pn_chars_u(character) || character.is_ascii_digit() || matches!(character, ':' | '%' | '\\')
+}
+
 impl Class {
     pub fn holds(self, character: char) -> bool
         ensures { result ≡ Classes.holds self character }
     {
         match self {
             Class::Sign => matches!(character, '+' | '-'),
-            Class::Digit => matches!(character, '0'..='9'),
+            Class::Digit => character.is_ascii_digit(),
             Class::Hexadecimal => hex_value(character).is_some(),
-            Class::Letter => matches!(character, 'A'..='Z' | 'a'..='z'),
-            Class::LetterOrDigit => matches!(character, 'A'..='Z' | 'a'..='z' | '0'..='9'),
+            Class::Letter => character.is_ascii_alphabetic(),
+            Class::LetterOrDigit => character.is_ascii_alphanumeric(),
             Class::NameStart => is_pn_chars_base(character),
-            Class::NameUnderscoreOrDigit => {
-                is_pn_chars_u(character) || matches!(character, '0'..='9')
-            }
+            Class::NameUnderscoreOrDigit => is_pn_chars_u(character) || character.is_ascii_digit(),
             Class::Name => is_pn_chars(character),
             Class::NameOrDot => is_pn_chars(character) || character == '.',
-            Class::LocalStart => {
-                is_pn_chars_u(character) || matches!(character, '0'..='9' | ':' | '%' | '\\')
-            }
+            Class::LocalStart => begins_local(character),
             Class::LocalCharacter => is_pn_chars(character) || character == ':',
             Class::LocalEscape => is_local_escape(character),
         }

@@ -1,4 +1,4 @@
-ghost use Rattle.turtle_lex.specs.Laws.{FindsLongest, MissesNone};
+ghost use Rattle.turtle_lex.specs.Laws.{FindsLongest, MissesNone, StandsAlone};
 
 /// What is found at a place is the longest token that stands there, by the productions.
 pub fn finds_longest()
@@ -8,4 +8,9 @@ pub fn finds_longest()
 /// Where a fault is found no token stands, by the productions.
 pub fn misses_none()
     ensures { MissesNone }
+{}
+
+/// At most one token stands at a place: a kind, and how many characters it has.
+pub fn stands_alone()
+    ensures { StandsAlone }
 {}

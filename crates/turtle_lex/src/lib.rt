@@ -17,8 +17,6 @@ mod meanings;
 mod names;
 mod numbers;
 mod places;
-#[cfg(test)]
-mod tests;
 mod token;
 mod words;
 

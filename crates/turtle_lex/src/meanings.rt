@@ -1,7 +1,5 @@
-ghost use Rattle.std.specs.Prelude.{◌≡◌, ◌+◌, ◌<◌, ◌≤◌, IfOk, IfSome, length, encode_utf8_all};
-ghost use Rattle.turtle_lex.specs.Quoting.{quotes_length};
+ghost use Rattle.std.specs.Prelude.{◌≡◌, ◌<◌, ◌≤◌, IfOk, IfSome, length, take, drop, encode_utf8_all};
 ghost use Rattle.turtle_lex.specs.Meanings;
-ghost use Rattle.turtle_lex.specs.Places.{HasSpan};
 
 use crate::class::after;
 use crate::escapes::{Escape, escape_at};
@@ -9,22 +7,45 @@ use crate::token::{Quotes, Token};
 use rdf_text::Text;
 use std::alloc::{AllocError, Global};
 
+// The characters after so many, none where there are fewer.
+fn behind(characters: &[char], count: usize) -> &[char]
+    ensures value { result.now ≡ drop count characters.now }
+    ensures bound { length result.now ≤ length characters.now }
+{
+    if count < characters.len() {
+        after(characters, count)
+    } else {
+        &[]
+    }
+}
+
+// So many of the first characters, all where there are fewer.
+fn front(characters: &[char], count: usize) -> &[char]
+    ensures { result.now ≡ take count characters.now }
+{
+    if count < characters.len() {
+        let (text, _) = characters.split_at(count);
+        text
+    } else {
+        characters
+    }
+}
+
 /// The characters of a token of this text.
 pub fn token_text(characters: &[char], token: Token) -> &[char]
-    requires { HasSpan characters.now token }
     ensures { result.now ≡ Meanings.token_text characters.now token }
 {
-    let (text, _) = after(characters, token.start.at).split_at(token.end.at - token.start.at);
-    text
+    let length = token.end.at.saturating_sub(token.start.at);
+    front(behind(characters, token.start.at), length)
 }
 
 // A text without so many characters at each end.
 fn inner(characters: &[char], count: usize) -> &[char]
-    requires { count + count ≤ length characters.now }
+    requires { count ≤ 3 }
     ensures { result.now ≡ Meanings.inner count characters.now }
 {
-    let (text, _) = after(characters, count).split_at(characters.len() - (count + count));
-    text
+    let length = characters.len().saturating_sub(count + count);
+    front(behind(characters, count), length)
 }
 
 // The character that comes next, itself or by an escape, and how many characters it has.
@@ -56,7 +77,6 @@ fn unescaped(alloc: Global, characters: &[char]) -> Result<Text, AllocError>
 
 /// The IRI that an IRIREF stands for, by the token's characters (Turtle section 6.4).
 pub fn iri_text(alloc: Global, characters: &[char]) -> Result<Text, AllocError>
-    requires { 2 ≤ length characters.now }
     ensures { IfOk result (λ iri. iri ≡ Meanings.iri_text characters.now) }
 {
     unescaped(alloc, inner(characters, 1))
@@ -64,7 +84,6 @@ pub fn iri_text(alloc: Global, characters: &[char]) -> Result<Text, AllocError>
 
 /// The value of a string with these quotes, by the token's characters (Turtle section 6.4).
 pub fn string_value(alloc: Global, quotes: Quotes, characters: &[char]) -> Result<Text, AllocError>
-    requires { quotes_length quotes + quotes_length quotes ≤ length characters.now }
     ensures { IfOk result (λ value. value ≡ Meanings.string_value quotes characters.now) }
 {
     unescaped(alloc, inner(characters, quotes.length()))
