@@ -1,0 +1,13 @@
+use Rattle.std.proofs.Common.{◌∙◌, ◌++◌, ℕ, List, ap}
+use Rattle.std.specs.Prelude.{filter}
+use Rattle.rdf_model.specs.Numbers.{IsJoined}
+use Rattle.overlay_view.specs.Overlays.{is_left, overlaid, triple_of}
+use Rattle.triple_index.proofs.Listings.{listing_as}
+use Rattle.overlay_view.proofs.Lasting.{pairs_laid}
+use Rattle.overlay_view.proofs.overlay.OverlayTriples.with_predicate.Goals as goal
+
+pub returns : goal.returns
+returns g c = listing_as (IsJoined (overlaid (g.R.Triples.triples c.args.self.now.base.now) c.args.self.now.added c.args.self.now.removed) c.args.predicate)
+    (pairs_laid (λ (e : ℕ × ℕ). triple_of e.0 c.args.predicate e.1) (g.R.Triples.triples c.args.self.now.base.now) c.args.self.now.added c.args.self.now.removed c.in_ok-beneath.beneath.items c.in_ok-more.more.items c.in_ok-pairs.pairs.items c.add_pairs.new.into.items c.in_ok-beneath.ensures c.in_ok-more.ensures
+    (c.in_ok-pairs.ensures ∙ ap (λ (es : List (ℕ × ℕ)). filter (λ (e : ℕ × ℕ). is_left c.args.self.now.removed ((λ (e : ℕ × ℕ). triple_of e.0 c.args.predicate e.1) e)) es) c.deref.ensures.value)
+    (c.in_ok-add_pairs.ensures ∙ ap (λ (es : List (ℕ × ℕ)). c.in_ok-pairs.pairs.items ++ es) c.deref-2.ensures.value)) c.in_ok-sorted_once.ensures
