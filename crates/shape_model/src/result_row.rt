@@ -8,7 +8,7 @@ use std::alloc::AllocError;
 use std::cmp::Ordering;
 
 /// One validation result (SHACL section 3.6.2). Equal rows are one result.
-#[derive(Debug, Drop)]
+#[derive(Debug)]
 pub struct ResultRow {
     pub source_shape: Term,
     pub focus_node: Term,
@@ -21,6 +21,21 @@ pub struct ResultRow {
     pub value: Option<Term>,
     /// What else tells two results at one value apart.
     pub other: Option<Term>,
+}
+
+// By hand, so that whoever lets go of a row makes one call.
+impl Drop for ResultRow {
+    fn drop(self) {
+        let ResultRow {
+            source_shape: _,
+            focus_node: _,
+            component: _,
+            parameter: _,
+            about: _,
+            value: _,
+            other: _,
+        } = self;
+    }
 }
 
 impl Ord for ResultRow {
