@@ -5,8 +5,6 @@
 #![tactic(auto)]
 
 mod target_nodes;
-#[cfg(test)]
-mod tests;
 mod whole_graph;
 
 pub use target_nodes::targets;

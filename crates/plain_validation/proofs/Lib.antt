@@ -3,7 +3,6 @@ pub mod Values
 pub mod OwnRows
 pub mod PlainRows
 pub mod Terms
-pub mod Digits
 pub mod Finding
 pub mod PathValues
 pub mod Gathered

@@ -13,7 +13,7 @@ use Rattle.shape_model.specs.Readings.{reading, ValueNode}
 use Rattle.shape_model.specs.ShapeSyntax.{IsShape}
 use Rattle.shape_model.specs.Triples.{Has, IsMember}
 use Rattle.shape_model.specs.Validation.{At, surroundings}
-use Rattle.shape_model.specs.Vocabulary.{ShAnd, ShClass, ShClosed, ShDeactivated, ShDisjoint, ShEquals, ShHasValue, ShIn, ShNode, ShNot, ShOr, ShQualifiedValueShape, ShXone, property_iri, true_literal}
+use Rattle.shape_model.specs.Vocabulary.{ShAnd, ShClass, ShClosed, ShDatatype, ShDeactivated, ShDisjoint, ShEquals, ShHasValue, ShIn, ShLanguageIn, ShLessThan, ShLessThanOrEquals, ShMaxExclusive, ShMaxInclusive, ShMaxLength, ShMinExclusive, ShMinInclusive, ShMinLength, ShNode, ShNot, ShOr, ShPattern, ShQualifiedMaxCount, ShQualifiedMinCount, ShUniqueLang, ShXone, property_iri, true_literal}
 use Rattle.shape_model.specs.WellFormed.{IsWellFormed, unread_predicates}
 use Rattle.shape_model.proofs.Fuel.{unfold_law}
 use Rattle.shape_model.proofs.Listings.{listing_same}
@@ -47,33 +47,33 @@ module _ (s : List Triple) (well : IsWellFormed s) where
 
     own : (c : Component) (r : ResultRow) → ComponentRow c (surroundings (At g s) g (reading s shape) f) (reading s shape) shape f r → OwnRow g s shape f r
     own components.Class r h = absurd (unread 0 shape (property_iri ShClass) h.0 refl h.1)
-    own components.Datatype r h = absurd h
+    own components.Datatype r h = absurd (unread 1 shape (property_iri ShDatatype) h.0 refl h.1)
     own components.NodeKind r h = inl (h.0, h.1, (h.2.0, (same h.2.0).0 h.2.1, (h.2.2, h.2.3)))
     own components.MinCount r h = inr (inl (h.0, h.1, (h.2.0, counts_same (ValueNode g (reading s shape) f) (PlainValue g s shape f) h.2.0 same h.2.1, (h.2.2, h.2.3))))
     own components.MaxCount r h = inr (inr (h.0, h.1, (h.2.0, counts_same (ValueNode g (reading s shape) f) (PlainValue g s shape f) h.2.0 same h.2.1, (h.2.2, h.2.3))))
-    own components.MinExclusive r h = absurd h
-    own components.MinInclusive r h = absurd h
-    own components.MaxExclusive r h = absurd h
-    own components.MaxInclusive r h = absurd h
-    own components.MinLength r h = absurd h
-    own components.MaxLength r h = absurd h
-    own components.Pattern r h = absurd h
-    own components.LanguageIn r h = absurd h
-    own components.UniqueLang r h = absurd h
+    own components.MinExclusive r h = absurd (unread 2 shape (property_iri ShMinExclusive) h.0 refl h.1)
+    own components.MinInclusive r h = absurd (unread 3 shape (property_iri ShMinInclusive) h.0 refl h.1)
+    own components.MaxExclusive r h = absurd (unread 4 shape (property_iri ShMaxExclusive) h.0 refl h.1)
+    own components.MaxInclusive r h = absurd (unread 5 shape (property_iri ShMaxInclusive) h.0 refl h.1)
+    own components.MinLength r h = absurd (unread 6 shape (property_iri ShMinLength) h.0 refl h.1)
+    own components.MaxLength r h = absurd (unread 7 shape (property_iri ShMaxLength) h.0 refl h.1)
+    own components.Pattern r h = absurd (unread 8 shape (property_iri ShPattern) h.0 refl h.1)
+    own components.LanguageIn r h = absurd (unread 10 shape (property_iri ShLanguageIn) h.0 refl h.1)
+    own components.UniqueLang r h = absurd (unread 11 shape (property_iri ShUniqueLang) h.0 refl h.1)
     own components.Equals r h = absurd (unread 12 shape (property_iri ShEquals) h.0 refl h.1)
     own components.Disjoint r h = absurd (unread 13 shape (property_iri ShDisjoint) h.0 refl h.1)
-    own components.LessThan r h = absurd h
-    own components.LessThanOrEquals r h = absurd h
+    own components.LessThan r h = absurd (unread 14 shape (property_iri ShLessThan) h.0 refl h.1)
+    own components.LessThanOrEquals r h = absurd (unread 15 shape (property_iri ShLessThanOrEquals) h.0 refl h.1)
     own components.Not r h = absurd (unread 16 shape (property_iri ShNot) h.0 refl h.1)
-    own components.And r h = absurd (unread 17 shape (property_iri ShAnd) h.0 refl h.2.0)
-    own components.Or r h = absurd (unread 18 shape (property_iri ShOr) h.0 refl h.2.0)
-    own components.Xone r h = absurd (unread 19 shape (property_iri ShXone) h.0 refl h.2.0)
+    own components.And r h = absurd (unread 17 shape (property_iri ShAnd) h.0 refl h.1)
+    own components.Or r h = absurd (unread 18 shape (property_iri ShOr) h.0 refl h.1)
+    own components.Xone r h = absurd (unread 19 shape (property_iri ShXone) h.0 refl h.1)
     own components.Node r h = absurd (unread 20 shape (property_iri ShNode) h.0 refl h.1)
-    own components.QualifiedMinCount r h = absurd (unread 21 shape (property_iri ShQualifiedValueShape) h.0 refl h.1)
-    own components.QualifiedMaxCount r h = absurd (unread 21 shape (property_iri ShQualifiedValueShape) h.0 refl h.1)
-    own components.Closed r h = absurd (unread 25 shape (property_iri ShClosed) true_literal refl h.0)
+    own components.QualifiedMinCount r h = absurd (unread 22 shape (property_iri ShQualifiedMinCount) h.0 refl h.1)
+    own components.QualifiedMaxCount r h = absurd (unread 23 shape (property_iri ShQualifiedMaxCount) h.0 refl h.1)
+    own components.Closed r h = absurd (unread 25 shape (property_iri ShClosed) h.0 refl h.1)
     own components.HasValue r h = absurd (unread 27 shape (property_iri ShHasValue) h.0 refl h.1)
-    own components.In r h = absurd (unread 28 shape (property_iri ShIn) h.0 refl h.2.0)
+    own components.In r h = absurd (unread 28 shape (property_iri ShIn) h.0 refl h.1)
 
     back : (r : ResultRow) → OwnRow g s shape f r → (c : Component) × ComponentRow c (surroundings (At g s) g (reading s shape) f) (reading s shape) shape f r
     back r = elim [

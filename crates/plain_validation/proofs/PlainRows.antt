@@ -17,7 +17,7 @@ use Rattle.plain_validation.proofs.Values.{value_same}
 
 module _ (s : List Triple) (well : IsWellFormed s) where
   has_property : (n m : Term) → HasProperty s n ShProperty m → IsShape s n
-  has_property n m h = inr (inr (inl (ShProperty, m, (λ e. cc, λ e. cc), h)))
+  has_property n m h = inr (inr (inl (ShProperty, m, refl, h)))
 
   is_property : (n m : Term) → HasProperty s n ShProperty m → IsShape s m
   is_property n m h = inr (inr (inr (inl (ShProperty, n, inr (inr (inl refl)), h))))
@@ -43,10 +43,10 @@ module _ (s : List Triple) (well : IsWellFormed s) where
     )
 
     node_target : (n f : Term) → HasProperty s n ShTargetNode f → IsShape s n
-    node_target n f h = inr (inr (inl (ShTargetNode, f, (λ e. cc, λ e. cc), h)))
+    node_target n f h = inr (inr (inl (ShTargetNode, f, refl, h)))
 
     subjects_target : (n p : Term) → HasProperty s n ShTargetSubjectsOf p → IsShape s n
-    subjects_target n p h = inr (inr (inl (ShTargetSubjectsOf, p, (λ e. cc, λ e. cc), h)))
+    subjects_target n p h = inr (inr (inl (ShTargetSubjectsOf, p, refl, h)))
 
     from_target : (n f : Term) (r : ResultRow) → Target g s n f → At g s n f r → PlainResult g s r
     from_target n f r = elim [

@@ -13,6 +13,3 @@ mod rows;
 mod words;
 
 pub use results::listing;
-
-#[cfg(test)]
-mod tests;

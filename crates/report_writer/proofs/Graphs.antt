@@ -1,5 +1,5 @@
 -- What a well-formed shapes graph says of a result, by the compiled shape that gave it.
-use Rattle.std.proofs.Common.{◌≡◌, ◌∙◌, List, [], ◌∷◌, map, refl, sym, ap, inl, inr}
+use Rattle.std.proofs.Common.{◌≡◌, ◌∙◌, List, [], ◌∷◌, refl, sym, ap, arith, inl, inr}
 use Rattle.std.specs.Prelude.{Option, Some, None, codes}
 use Rattle.std.specs.List.{Contains}
 use Rattle.rdf_model.specs.declared.term.Term.{Term}
@@ -14,19 +14,25 @@ use Rattle.shape_model.specs.ShapeSyntax.{HasProperty}
 use Rattle.shape_model.specs.Triples.{Has, IsMember}
 use Rattle.shape_model.specs.Vocabulary.{ShPath, property_iri, sh}
 use Rattle.shape_model.specs.WellFormed.{IsWellFormed, unread_predicates}
-use Rattle.report_writer.specs.Report.{first_of, first_or, is_statement_of, listed, path_by, values_of}
+use Rattle.shape_model.specs.Declarations.{first_or, values_of}
+use Rattle.shape_model.proofs.Declarations.{values_law}
+use Rattle.report_writer.specs.Report.{first_of, listed, path_by}
 use Rattle.report_writer.specs.Defaults.{HasDefaults, compiled_path, own_path}
-use Rattle.report_writer.proofs.Statements.{first_kept, has_statement, is_statement, none_kept, statement_of}
+use Rattle.collections.proofs.Members.{has_head}
+
+no_members : (xs : List Term) → ((v : Term) → Contains xs v → ⊥) → xs ≡ []
+no_members [] none = refl
+no_members (x ∷ xs) none = absurd (none x (has_head x xs))
 
 no_values : (s : List Triple) (n p : Term) → ((v : Term) → Has s n p v → ⊥) → values_of s n p ≡ []
-no_values s n p none = ap (map (λ (t : Triple). t.object)) (none_kept (is_statement_of n p) s (λ t c e. none t.object (has_statement s n p t c e)))
+no_values s n p none = no_members (values_of s n p) (λ v c. none v (((values_law s n p).members v).0 c))
+
+first_is : (xs : List Term) (v : Term) → Contains xs v → ((w : Term) → Contains xs w → w ≡ v) → first_of xs ≡ v ∷ []
+first_is [] v c only = absurd (omega arith)
+first_is (x ∷ xs) v c only = ap (λ (y : Term). y ∷ []) (only x (has_head x xs))
 
 first_value : (s : List Triple) (n p v : Term) → Has s n p v → ((w : Term) → Has s n p w → w ≡ v) → first_of (values_of s n p) ≡ v ∷ []
-first_value s n p v h only =
-    let u : Triple = record { subject = n; predicate = p; object = v } in
-    let kept = first_kept (is_statement_of n p) u s h (is_statement n p v)
-    (λ t c e. statement_of n p t e ∙ ap (λ (x : Term). record { subject = n; predicate = p; object = x }) (only t.object (has_statement s n p t c e))) in
-    ap (λ (ts : List Triple). first_of (map (λ (t : Triple). t.object) ts)) kept.1
+first_value s n p v h only = let listing = values_law s n p in first_is (values_of s n p) v ((listing.members v).1 h) (λ w c. only w ((listing.members w).0 c))
 
 module _ (s : List Triple) (well : IsWellFormed s) where
   unread : (n p : Term) → IsMember unread_predicates p → values_of s n p ≡ []

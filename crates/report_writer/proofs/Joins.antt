@@ -7,7 +7,8 @@ use Rattle.rdf_model.specs.declared.triple.Triple.{Triple}
 use Rattle.rdf_model.specs.NTriples.{term_text}
 use Rattle.shape_model.specs.declared.result_row.ResultRow.{ResultRow}
 use Rattle.shape_model.specs.Vocabulary.{sh}
-use Rattle.report_writer.specs.Report.{component_name, conforms_text, listed, messages_of, result_text, severity_of, statement, statements}
+use Rattle.shape_model.specs.Declarations.{messages_of, severity_of}
+use Rattle.report_writer.specs.Report.{component_name, conforms_text, listed, result_text, statement, statements}
 use Rattle.report_writer.specs.Defaults.{HasDefaults}
 
 in_turn : (o o1 o2 o3 o4 o5 o6 a b c p v s n k : List ℕ) → o1 ≡ o ++ a ++ b ++ c → o2 ≡ o1 ++ p → o3 ≡ o2 ++ v → o4 ≡ o3 ++ s → o5 ≡ o4 ++ (n ++ []) → o6 ≡ o5 ++ k

@@ -1,5 +1,4 @@
 pub mod Joins
-pub mod Statements
 pub mod Graphs
 pub mod Finding
 pub mod Results

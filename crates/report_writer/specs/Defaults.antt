@@ -6,7 +6,8 @@ use Rattle.shape_ast.specs.declared.path.Path.{Path}
 use Rattle.shape_ast.specs.Naming.{path_term}
 use Rattle.shape_model.specs.declared.result_row.ResultRow.{ResultRow}
 use Rattle.shape_model.specs.Vocabulary.{sh}
-use Rattle.report_writer.specs.Report.{messages_of, path_by, path_of, severity_of, listed}
+use Rattle.shape_model.specs.Declarations.{messages_of, severity_of}
+use Rattle.report_writer.specs.Report.{path_by, path_of, listed}
 
 -- the path of a compiled shape
 abbrev pub own_path : Option (Path Term) → List Term

@@ -1,26 +1,15 @@
 -- The text of a validation report (SHACL 3.6): Turtle, one statement a line, by the triples of the shapes graph.
-use Rattle.std.specs.Prelude.{◌+◌, ◌&&◌, ℕ, Bool, List, [], ◌∷◌, ◌++◌, map, filter, Option, Some, None, codes}
+use Rattle.std.specs.Prelude.{◌+◌, ℕ, List, [], ◌∷◌, ◌++◌, Option, Some, None, codes}
 use Rattle.std.specs.List.{flat_map}
 use Rattle.std.specs.Fmt.{decimal}
 use Rattle.rdf_model.specs.declared.term.Term.{Term}
 use Rattle.rdf_model.specs.declared.triple.Triple.{Triple}
-use Rattle.rdf_model.specs.Matching.{same_term}
 use Rattle.rdf_model.specs.NTriples.{term_text}
 use Rattle.shape_model.specs.declared.component.Component.{Component}
 use Rattle.shape_model.specs.declared.component.Component.TheVariants as components
 use Rattle.shape_model.specs.declared.result_row.ResultRow.{ResultRow}
-use Rattle.shape_model.specs.Vocabulary.{sh, ShPath, property_iri}
-
--- the values of the property p at the node, in the order of the triples
-abbrev pub is_statement_of : Term → Term → Triple → Bool
-is_statement_of n p t = same_term n t.subject && same_term p t.predicate
-
-abbrev pub values_of : List Triple → Term → Term → List Term
-values_of s n p = map (λ t. t.object) (filter (is_statement_of n p) s)
-
-abbrev pub first_or : Term → List Term → Term
-first_or t [] = t
-first_or t (x ∷ xs) = x
+use Rattle.shape_model.specs.Declarations.{messages_of, severity_of, values_of}
+use Rattle.shape_model.specs.Vocabulary.{ShPath, property_iri}
 
 abbrev pub first_of : List Term → List Term
 first_of [] = []
@@ -29,14 +18,6 @@ first_of (x ∷ xs) = x ∷ []
 abbrev pub listed : Option Term → List Term
 listed None = []
 listed (Some t) = t ∷ []
-
--- the severity of the shape, sh:Violation where it declares none (SHACL 2.1.4, 3.6.2.4)
-abbrev pub severity_of : List Triple → Term → Term
-severity_of s n = first_or (sh (codes "Violation")) (values_of s n (sh (codes "severity")))
-
--- the messages of the shape (SHACL 2.1.5, 3.6.2.7)
-abbrev pub messages_of : List Triple → Term → List Term
-messages_of s n = values_of s n (sh (codes "message"))
 
 -- the path of a result (SHACL 3.6.2.2): the predicate that a closed shape doesn't allow, else the path of its source
 -- shape, if that is a property shape; each path is an IRI so far

@@ -10,6 +10,3 @@ mod lines;
 mod text;
 
 pub use text::report;
-
-#[cfg(test)]
-mod tests;

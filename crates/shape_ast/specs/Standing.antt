@@ -1,12 +1,12 @@
 -- When compiled shapes stand for a shapes graph: they say of each shape what its triples say.
-use Rattle.std.specs.Prelude.{◌≡◌, ◌<◌, ℕ, List, length, Some, None, slice_get}
+use Rattle.std.specs.Prelude.{◌≡◌, ◌<◌, ℕ, ℤ, List, length, Some, None, slice_get}
 use Rattle.std.specs.List.{All, Contains}
 use Rattle.std.specs.declared.cmp.Ordering.{Ordering}
 use Rattle.collections.specs.Ordered.{IsAscending}
 use Rattle.rdf_model.specs.declared.term.Term.{Term}
 use Rattle.rdf_model.specs.declared.triple.Triple.{Triple}
 use Rattle.rdf_model.specs.Terms.{term_cmp}
-use Rattle.shape_model.specs.Paths.{Path as DefinedPath, Predicate as DefinedPredicate}
+use Rattle.shape_model.specs.Paths.{Predicate as DefinedPredicate}
 use Rattle.shape_model.specs.Readings.{Reading, SameReading, reading}
 use Rattle.shape_model.specs.ShapeSyntax.{IsShape}
 use Rattle.shape_model.specs.TermTests.{count_of}
@@ -24,8 +24,8 @@ abbrev pub ShapeHas : List (Shape Term) → Shape Term → ShapeProperty → Ter
 ShapeHas shapes s ShTargetNode v = Contains s.targets (Node v)
 ShapeHas shapes s ShTargetSubjectsOf v = Contains s.targets (SubjectsOf v)
 ShapeHas shapes s ShNodeKind v = (kind : Kind) × Contains s.constraints (NodeKind kind v)
-ShapeHas shapes s ShMinCount v = (count : ℕ) × Contains s.constraints (MinCount count v)
-ShapeHas shapes s ShMaxCount v = (count : ℕ) × Contains s.constraints (MaxCount count v)
+ShapeHas shapes s ShMinCount v = (count : ℤ) × Contains s.constraints (MinCount count v)
+ShapeHas shapes s ShMaxCount v = (count : ℤ) × Contains s.constraints (MaxCount count v)
 ShapeHas shapes s ShProperty v = (n : ℕ) × (m : Shape Term) × Contains s.properties n × (slice_get shapes n ≡ Some m) × (m.node ≡ v)
 ShapeHas shapes s ShPath v = s.path ≡ Some (Predicate v)
 ShapeHas shapes s p v = ⊥

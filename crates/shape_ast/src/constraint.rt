@@ -6,7 +6,7 @@ pub enum Constraint<T> {
     /// Each value node is of the kind (section 4.1.3).
     NodeKind { kind: NodeKind, parameter: T },
     /// There are at least so many value nodes (section 4.2.1).
-    MinCount { count: u64, parameter: T },
+    MinCount { count: i128, parameter: T },
     /// There are at most so many value nodes (section 4.2.2).
-    MaxCount { count: u64, parameter: T },
+    MaxCount { count: i128, parameter: T },
 }

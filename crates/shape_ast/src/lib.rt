@@ -10,8 +10,6 @@ mod constraint;
 mod node_kind;
 mod path;
 mod shape;
-#[cfg(test)]
-mod tests;
 
 pub use bound::{Bound, bind};
 pub use constraint::Constraint;

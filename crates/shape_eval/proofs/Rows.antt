@@ -1,6 +1,6 @@
 -- Lists that collect results.
-use Rattle.std.proofs.Common.{◌≡◌, ◌∙◌, ℕ, ◌+◌, ◌<◌, ◌≤◌, List, [], ◌∷◌, ◌++◌, length, map, take, get_or, refl, sym, arith, subst, inl, inr}
-use Rattle.std.specs.Prelude.{◌⊎◌, ◌↔◌}
+use Rattle.std.proofs.Common.{◌≡◌, ◌∙◌, ℕ, ◌+◌, ◌<◌, ◌≤◌, true, false, List, [], ◌∷◌, ◌++◌, length, map, take, get_or, refl, sym, arith, subst, inl, inr}
+use Rattle.std.specs.Prelude.{◌⊎◌, ◌↔◌, ℤ, pos, int_lt}
 use Rattle.std.proofs.lemmas.List.{take_more, take_all}
 use Rattle.std.proofs.lemmas.List.Elements.{Contains-append_left, Contains-append_right, Contains-append_cases}
 use Rattle.collections.proofs.Members.{has_cases, has_equal}
@@ -9,6 +9,7 @@ use Rattle.rdf_model.specs.Numbers.{term_at, IsNumbering}
 use Rattle.shape_model.specs.declared.component.Component.TheVariants as components
 use Rattle.shape_model.specs.declared.result_row.ResultRow.{ResultRow}
 use Rattle.shape_model.specs.Components.{row_without_value}
+use Rattle.shape_model.specs.Listings.{Counts}
 use Rattle.shape_ast.specs.declared.constraint.Constraint.TheVariants.{NodeKind, MinCount, MaxCount}
 use Rattle.shape_ast.specs.declared.node_kind.NodeKind.{NodeKind as Kind}
 use Rattle.shape_eval.specs.ValueNodes.{AreNodes, HasNode}
@@ -71,20 +72,24 @@ loop_more {X} Gives xs i d rows more new lt e h k =
 pub loop_end : {X : Type 0} → (Gives : X → ResultRow → Type 0) (xs : List X) (i : ℕ) (rows : List ResultRow) → length xs ≤ i → Collects (FromSome (take i xs) Gives) rows → Collects (FromSome xs Gives) rows
 loop_end {X} Gives xs i rows le h = subst (λ (ys : List X). Collects (FromSome ys Gives) rows) (take_all i xs le) h
 
-module _ (terms : List Term) (numbering : IsNumbering terms) (ns : List ℕ) (nodes : AreNodes terms ns) (count : ℕ) (q shape f : Term) where
-  pub enough : count ≤ length ns → Collects (ConstraintRow (MinCount count q) (HasNode terms ns) shape f) []
-  enough le = collects_none (ConstraintRow (MinCount count q) (HasNode terms ns) shape f)
-      (λ r h. let e : h.0 ≡ length ns = one_count (HasNode terms ns) h.0 (length ns) h.1 (counted terms numbering ns nodes) in let lt : h.0 < count = h.2 in omega arith)
+module _ (terms : List Term) (numbering : IsNumbering terms) (ns : List ℕ) (nodes : AreNodes terms ns) (count : ℤ) (q shape f : Term) where
+  -- the one number of value nodes
+  number : (P : ℕ → Type 0) (n : ℕ) → Counts (HasNode terms ns) n → P n → P (length ns)
+  number P n c p = subst P (one_count (HasNode terms ns) n (length ns) c (counted terms numbering ns nodes)) p
 
-  pub too_few : length ns < count → (row : ResultRow) → row ≡ row_without_value components.MinCount shape f q → (rows : List ResultRow) → rows ≡ row ∷ [] → Collects (ConstraintRow (MinCount count q) (HasNode terms ns) shape f) rows
+  pub enough : int_lt (pos (length ns)) count ≡ false → Collects (ConstraintRow (MinCount count q) (HasNode terms ns) shape f) []
+  enough never = collects_none (ConstraintRow (MinCount count q) (HasNode terms ns) shape f)
+      (λ r h. let k = number (λ (n : ℕ). int_lt (pos n) count ≡ true) h.0 h.1 h.2 in cc (never, k))
+
+  pub too_few : int_lt (pos (length ns)) count ≡ true → (row : ResultRow) → row ≡ row_without_value components.MinCount shape f q → (rows : List ResultRow) → rows ≡ row ∷ [] → Collects (ConstraintRow (MinCount count q) (HasNode terms ns) shape f) rows
   too_few lt row is rows e = subst (λ (all : List ResultRow). Collects (ConstraintRow (MinCount count q) (HasNode terms ns) shape f) all) (sym e)
       (collects_one (ConstraintRow (MinCount count q) (HasNode terms ns) shape f) row (length ns, counted terms numbering ns nodes, lt, is) (λ r h. h.3 ∙ sym is))
 
-  pub few : length ns ≤ count → Collects (ConstraintRow (MaxCount count q) (HasNode terms ns) shape f) []
-  few le = collects_none (ConstraintRow (MaxCount count q) (HasNode terms ns) shape f)
-      (λ r h. let e : h.0 ≡ length ns = one_count (HasNode terms ns) h.0 (length ns) h.1 (counted terms numbering ns nodes) in let lt : count < h.0 = h.2 in omega arith)
+  pub few : int_lt count (pos (length ns)) ≡ false → Collects (ConstraintRow (MaxCount count q) (HasNode terms ns) shape f) []
+  few never = collects_none (ConstraintRow (MaxCount count q) (HasNode terms ns) shape f)
+      (λ r h. let k = number (λ (n : ℕ). int_lt count (pos n) ≡ true) h.0 h.1 h.2 in cc (never, k))
 
-  pub too_many : count < length ns → (row : ResultRow) → row ≡ row_without_value components.MaxCount shape f q → (rows : List ResultRow) → rows ≡ row ∷ [] → Collects (ConstraintRow (MaxCount count q) (HasNode terms ns) shape f) rows
+  pub too_many : int_lt count (pos (length ns)) ≡ true → (row : ResultRow) → row ≡ row_without_value components.MaxCount shape f q → (rows : List ResultRow) → rows ≡ row ∷ [] → Collects (ConstraintRow (MaxCount count q) (HasNode terms ns) shape f) rows
   too_many lt row is rows e = subst (λ (all : List ResultRow). Collects (ConstraintRow (MaxCount count q) (HasNode terms ns) shape f) all) (sym e)
       (collects_one (ConstraintRow (MaxCount count q) (HasNode terms ns) shape f) row (length ns, counted terms numbering ns nodes, lt, is) (λ r h. h.3 ∙ sym is))
 

@@ -1,6 +1,6 @@
 -- The results of a compiled shape are those of its constraints and of its property shapes.
 use Rattle.std.proofs.Common.{◌≡◌, ℕ, List, [], ◌∷◌, refl, sym, subst, inl, inr}
-use Rattle.std.specs.Prelude.{◌⊎◌, ◌↔◌, ◌<◌, Option, Some, None, slice_get, suc, zero}
+use Rattle.std.specs.Prelude.{◌⊎◌, ◌↔◌, ℤ, pos, int_lt, true, Option, Some, None, slice_get, suc, zero}
 use Rattle.std.specs.List.{All, Contains}
 use Rattle.std.proofs.lemmas.List.Elements.{All-contains}
 use Rattle.collections.proofs.Members.{has_equal, has_tail}
@@ -40,7 +40,7 @@ of_place [] n x e = cc
 of_place (y ∷ ys) zero x e = has_equal y ys x (cc)
 of_place (y ∷ ys) (suc n) x e = has_tail y ys x (of_place ys n x e)
 
-same_count : (P : ℕ → Type 0) (o : Option ℕ) (n m : ℕ) → o ≡ Some n → o ≡ Some m → P n → P m
+same_count : (P : ℤ → Type 0) (o : Option ℤ) (n m : ℤ) → o ≡ Some n → o ≡ Some m → P n → P m
 same_count P o n m a b h = let e : n ≡ m = cc in subst P e h
 
 pub counts_same : (P Q : Term → Type 0) → ((v : Term) → P v ↔ Q v) → (n : ℕ) → Counts P n → Counts Q n
@@ -96,44 +96,44 @@ module _ (shapes : List (Shape Term)) (g : List Triple) (row : Term → Term →
   min_row : ComponentRow components.MinCount (surroundings row g (shape_reading shapes c) f) (shape_reading shapes c) c.node f r → OwnRow g c f r
   min_row h =
       let k : count_of h.0 ≡ Some h.1.0 = All-contains IsRead c.constraints (MinCount h.1.0 h.0) read h.1.1 in
-      let fewer : h.2.0 < h.1.0 = same_count (λ (n : ℕ). h.2.0 < n) (count_of h.0) h.2.2.0 h.1.0 h.2.2.1 k h.2.2.2 in
+      let fewer = same_count (λ (n : ℤ). int_lt (pos h.2.0) n ≡ true) (count_of h.0) h.2.2.0 h.1.0 h.2.2.1 k h.2.2.2 in
       (MinCount h.1.0 h.0, h.1.1, (h.2.0, counts_same (ValueNode g (shape_reading shapes c) f) (IsValueNode g c.path f) (values_same shapes g c f) h.2.0 h.2.1, fewer, h.2.3))
 
   max_row : ComponentRow components.MaxCount (surroundings row g (shape_reading shapes c) f) (shape_reading shapes c) c.node f r → OwnRow g c f r
   max_row h =
       let k : count_of h.0 ≡ Some h.1.0 = All-contains IsRead c.constraints (MaxCount h.1.0 h.0) read h.1.1 in
-      let more : h.1.0 < h.2.0 = same_count (λ (n : ℕ). n < h.2.0) (count_of h.0) h.2.2.0 h.1.0 h.2.2.1 k h.2.2.2 in
+      let more = same_count (λ (n : ℤ). int_lt n (pos h.2.0) ≡ true) (count_of h.0) h.2.2.0 h.1.0 h.2.2.1 k h.2.2.2 in
       (MaxCount h.1.0 h.0, h.1.1, (h.2.0, counts_same (ValueNode g (shape_reading shapes c) f) (IsValueNode g c.path f) (values_same shapes g c f) h.2.0 h.2.1, more, h.2.3))
 
   own_to : (k : Component) → ComponentRow k (surroundings row g (shape_reading shapes c) f) (shape_reading shapes c) c.node f r → OwnRow g c f r
   own_to components.Class h = absurd h.1
-  own_to components.Datatype h = absurd h
+  own_to components.Datatype h = absurd h.1
   own_to components.NodeKind h = kind_row h
   own_to components.MinCount h = min_row h
   own_to components.MaxCount h = max_row h
-  own_to components.MinExclusive h = absurd h
-  own_to components.MinInclusive h = absurd h
-  own_to components.MaxExclusive h = absurd h
-  own_to components.MaxInclusive h = absurd h
-  own_to components.MinLength h = absurd h
-  own_to components.MaxLength h = absurd h
-  own_to components.Pattern h = absurd h
-  own_to components.LanguageIn h = absurd h
-  own_to components.UniqueLang h = absurd h
+  own_to components.MinExclusive h = absurd h.1
+  own_to components.MinInclusive h = absurd h.1
+  own_to components.MaxExclusive h = absurd h.1
+  own_to components.MaxInclusive h = absurd h.1
+  own_to components.MinLength h = absurd h.1
+  own_to components.MaxLength h = absurd h.1
+  own_to components.Pattern h = absurd h.1
+  own_to components.LanguageIn h = absurd h.1
+  own_to components.UniqueLang h = absurd h.1
   own_to components.Equals h = absurd h.1
   own_to components.Disjoint h = absurd h.1
-  own_to components.LessThan h = absurd h
-  own_to components.LessThanOrEquals h = absurd h
+  own_to components.LessThan h = absurd h.1
+  own_to components.LessThanOrEquals h = absurd h.1
   own_to components.Not h = absurd h.1
-  own_to components.And h = absurd h.2
-  own_to components.Or h = absurd h.2
-  own_to components.Xone h = absurd h.2
+  own_to components.And h = absurd h.1
+  own_to components.Or h = absurd h.1
+  own_to components.Xone h = absurd h.1
   own_to components.Node h = absurd h.1
   own_to components.QualifiedMinCount h = absurd h.1
   own_to components.QualifiedMaxCount h = absurd h.1
-  own_to components.Closed h = absurd h.0
+  own_to components.Closed h = absurd h.1
   own_to components.HasValue h = absurd h.1
-  own_to components.In h = absurd h.2
+  own_to components.In h = absurd h.1
 
   opened_to : AtIn (surroundings row g (shape_reading shapes c) f) (shape_reading shapes c) c.node f r → Opened
   opened_to h = elim h.1 [
@@ -170,7 +170,7 @@ bridge g y z e f v = (
 -- in a well-formed shapes graph a property shape has no property shapes
 none_nested : (s : List Triple) → IsWellFormed s → (n t u : Term) → HasProperty s n ShProperty t → HasProperty s t ShProperty u → ⊥
 none_nested s well n t u h k = well (record { node = n; rule = rules.Property; value = Some t })
-    (inr (inr (inl (ShProperty, t, (λ e. cc, λ e. cc), h))), (t, h, inr (λ w path. well (record { node = t; rule = rules.Unsupported; value = Some (property_iri ShProperty) }) (inr (u, w, k, path, refl))), refl))
+    (inr (inr (inl (ShProperty, t, refl, h))), (t, h, inr (λ w path. well (record { node = t; rule = rules.Unsupported; value = Some (property_iri ShProperty) }) (inr (u, w, k, path, refl))), refl))
 
 module _ (g s : List Triple) (shapes : List (Shape Term)) (stand : StandFor shapes s) (well : IsWellFormed s) where
   -- a shape's results are those of its compiled form, by the results of its property shapes

@@ -1,5 +1,5 @@
 -- The results that a compiled shape gives at a focus node (SHACL 3.4), by its constraints and its property shapes.
-use Rattle.std.specs.Prelude.{◌≡◌, ◌⊎◌, ◌↔◌, ◌<◌, ℕ, List, Some, false, slice_get}
+use Rattle.std.specs.Prelude.{◌≡◌, ◌⊎◌, ◌↔◌, ℕ, pos, int_lt, List, Some, true, false, slice_get}
 use Rattle.std.specs.List.{Contains}
 use Rattle.rdf_model.specs.declared.term.Term.{Term}
 use Rattle.rdf_model.specs.declared.triple.Triple.{Triple}
@@ -23,8 +23,8 @@ abbrev pub ConstraintRow : Constraint Term → (Term → Type 0) → Term → Te
 -- SHACL 4.1.3: one for each value node that isn't of the kind
 ConstraintRow (NodeKind kind q) IsValue shape f r = (v : Term) × IsValue v × KindRow kind q shape f v r
 -- SHACL 4.2.1 and 4.2.2: one where there are fewer, more value nodes than the count
-ConstraintRow (MinCount count q) IsValue shape f r = (n : ℕ) × Counts IsValue n × (n < count) × (r ≡ row_without_value components.MinCount shape f q)
-ConstraintRow (MaxCount count q) IsValue shape f r = (n : ℕ) × Counts IsValue n × (count < n) × (r ≡ row_without_value components.MaxCount shape f q)
+ConstraintRow (MinCount count q) IsValue shape f r = (n : ℕ) × Counts IsValue n × (int_lt (pos n) count ≡ true) × (r ≡ row_without_value components.MinCount shape f q)
+ConstraintRow (MaxCount count q) IsValue shape f r = (n : ℕ) × Counts IsValue n × (int_lt count (pos n) ≡ true) × (r ≡ row_without_value components.MaxCount shape f q)
 
 -- the results that some item of the list gives
 abbrev pub FromSome : {X : Type 0} → List X → (X → ResultRow → Type 0) → ResultRow → Type 0

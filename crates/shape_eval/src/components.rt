@@ -6,8 +6,10 @@ ghost use Rattle.shape_ast.specs.Naming.{named_constraint, constraint_number};
 ghost use Rattle.shape_eval.specs.ValueNodes.{AreNodes, HasNode};
 ghost use Rattle.shape_eval.specs.CompiledRows.{Collects, ConstraintRow, KindRow};
 
+use collections::both;
 use rdf_model::{Names, Term};
 use shape_ast::{Component, Constraint, NodeKind, ResultRow};
+use shape_model::{is_fewer, is_more};
 use std::alloc::{AllocError, Global};
 
 // The term of a number that has one.
@@ -57,13 +59,17 @@ fn row_at<N: Names>(
     requires focus { focus < length (N.terms names.now) }
     ensures { IfOk result (λ row. row ≡ row_about component source.now (term_at (N.terms names.now) focus) (term_at (N.terms names.now) parameter) value.now) }
 {
+    let ends = both(source.clone(), named(names, focus).clone());
+    let values = both(value.clone(), value.clone());
+    let rest = both(named(names, parameter).clone(), values);
+    let ((source_shape, focus_node), (parameter, (about, value))) = both(ends, rest)?;
     Ok(ResultRow {
-        source_shape: source.clone()?,
-        focus_node: named(names, focus).clone()?,
+        source_shape,
+        focus_node,
         component,
-        parameter: Some(named(names, parameter).clone()?),
-        about: Some(value.clone()?),
-        value: Some(value.clone()?),
+        parameter: Some(parameter),
+        about: Some(about),
+        value: Some(value),
         other: None,
     })
 }
@@ -82,7 +88,7 @@ pub(crate) fn min_count<N: Names>(
     alloc: Global,
     names: &N,
     source: &Term,
-    count: u64,
+    count: &i128,
     parameter: u32,
     focus: u32,
     values: &[u32],
@@ -91,10 +97,10 @@ pub(crate) fn min_count<N: Names>(
     requires nodes { AreNodes (N.terms names.now) values.now }
     requires parameter { parameter < length (N.terms names.now) }
     requires focus { focus < length (N.terms names.now) }
-    ensures { IfOk result (λ rows. Collects (ConstraintRow (Constraint.MinCount count (term_at (N.terms names.now) parameter)) (HasNode (N.terms names.now) values.now)
+    ensures { IfOk result (λ rows. Collects (ConstraintRow (Constraint.MinCount count.now (term_at (N.terms names.now) parameter)) (HasNode (N.terms names.now) values.now)
         source.now (term_at (N.terms names.now) focus)) rows.items) }
 {
-    if count <= values.len() as u64 {
+    if !is_fewer(values.len(), count) {
         return Ok(Vec::new(alloc));
     }
     alone(
@@ -108,7 +114,7 @@ pub(crate) fn max_count<N: Names>(
     alloc: Global,
     names: &N,
     source: &Term,
-    count: u64,
+    count: &i128,
     parameter: u32,
     focus: u32,
     values: &[u32],
@@ -117,10 +123,10 @@ pub(crate) fn max_count<N: Names>(
     requires nodes { AreNodes (N.terms names.now) values.now }
     requires parameter { parameter < length (N.terms names.now) }
     requires focus { focus < length (N.terms names.now) }
-    ensures { IfOk result (λ rows. Collects (ConstraintRow (Constraint.MaxCount count (term_at (N.terms names.now) parameter)) (HasNode (N.terms names.now) values.now)
+    ensures { IfOk result (λ rows. Collects (ConstraintRow (Constraint.MaxCount count.now (term_at (N.terms names.now) parameter)) (HasNode (N.terms names.now) values.now)
         source.now (term_at (N.terms names.now) focus)) rows.items) }
 {
-    if values.len() as u64 <= count {
+    if !is_more(values.len(), count) {
         return Ok(Vec::new(alloc));
     }
     alone(
@@ -197,10 +203,10 @@ pub(crate) fn constraint_rows<N: Names>(
             node_kind(alloc, names, source, *kind, *parameter, focus, values)
         }
         Constraint::MinCount { count, parameter } => {
-            min_count(alloc, names, source, *count, *parameter, focus, values)
+            min_count(alloc, names, source, count, *parameter, focus, values)
         }
         Constraint::MaxCount { count, parameter } => {
-            max_count(alloc, names, source, *count, *parameter, focus, values)
+            max_count(alloc, names, source, count, *parameter, focus, values)
         }
     }
 }

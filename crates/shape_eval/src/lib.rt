@@ -14,6 +14,3 @@ mod value_nodes;
 pub use evaluation::eval;
 pub use rights::Permit;
 pub use steps::{Steps, permit};
-
-#[cfg(test)]
-mod tests;

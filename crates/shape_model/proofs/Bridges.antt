@@ -1,5 +1,5 @@
 -- A compiled form that readings the same of each shape has the same results, looks and targets.
-use Rattle.std.proofs.Common.{ℕ, zero, suc, List, inl, inr, sym, subst}
+use Rattle.std.proofs.Common.{refl, ℕ, zero, suc, List, inl, inr, sym, subst}
 use Rattle.std.specs.Prelude.{◌↔◌}
 use Rattle.rdf_model.specs.declared.term.Term.{Term}
 use Rattle.rdf_model.specs.declared.triple.Triple.{Triple}
@@ -78,11 +78,11 @@ bridge_law g s entries stands acyclic e i f r =
 
 pub makes_shape : (s : List Triple) (shape : Term) → HasTarget (reading s shape) → IsShape s shape
 makes_shape s shape = elim [
-  | inl i ↦ inr (inr (inl (ShTargetNode, i.0, (λ e. cc, λ e. cc), i.1)))
-  | inr (inl i) ↦ inr (inr (inl (ShTargetClass, i.0, (λ e. cc, λ e. cc), i.1)))
+  | inl i ↦ inr (inr (inl (ShTargetNode, i.0, refl, i.1)))
+  | inr (inl i) ↦ inr (inr (inl (ShTargetClass, i.0, refl, i.1)))
   | inr (inr (inl i)) ↦ i.0
-  | inr (inr (inr (inl i))) ↦ inr (inr (inl (ShTargetSubjectsOf, i.0, (λ e. cc, λ e. cc), i.1)))
-  | inr (inr (inr (inr i))) ↦ inr (inr (inl (ShTargetObjectsOf, i.0, (λ e. cc, λ e. cc), i.1)))
+  | inr (inr (inr (inl i))) ↦ inr (inr (inl (ShTargetSubjectsOf, i.0, refl, i.1)))
+  | inr (inr (inr (inr i))) ↦ inr (inr (inl (ShTargetObjectsOf, i.0, refl, i.1)))
 ]
 
 pub compiled_law : CompiledLaw

@@ -1,6 +1,7 @@
 pub mod Chains
 pub mod Walks
 pub mod Surroundings
+pub mod Findings
 pub mod Covers
 pub mod Changes
 pub mod Verdicts
@@ -10,4 +11,4 @@ pub mod Bridges
 pub mod NodeLooks
 pub mod Looks
 pub mod WellFormed
-pub mod Examples
+pub mod Declarations

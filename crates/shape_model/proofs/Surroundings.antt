@@ -1,17 +1,20 @@
 -- Surroundings that no component tells apart give the same results, for two readings of a shape that say the same.
-use Rattle.std.proofs.Common.{ℕ, List, [], ◌∷◌, refl, inl, inr}
-use Rattle.std.specs.Prelude.{◌↔◌}
+use Rattle.std.proofs.Common.{ℕ, List, [], ◌∷◌, refl, inl, inr, subst}
+use Rattle.std.specs.Prelude.{◌⊎◌, ◌↔◌}
 use Rattle.rdf_model.specs.declared.term.Term.{Term}
 use Rattle.shape_model.specs.declared.component.Component.TheVariants as components
-use Rattle.shape_model.specs.Components.{AtIn, ComponentRow, ConformsTo, ForCount, ForEach, ForEachList, ForEachValue, IsQualified, NoneOf, OneOf, SameSurroundings, Surroundings}
+use Rattle.shape_model.specs.Components.{AtIn, ComponentRow, ConformsTo, Finding, ForCount, ForEach, ForEachOfList, ForPairs, ForQualifiedCount, IsQualified, NoneOf, OneOf, RowsOf, SameSurroundings, Surroundings, parameter_of, row_of}
 use Rattle.shape_model.specs.Listings.{Counts}
-use Rattle.shape_model.specs.Readings.{HasMember, HasQualifiedCount, IsCompared, Reading, Refers, SameReading}
+use Rattle.shape_model.specs.Readings.{HasFlags, HasMember, HasQualifiedCount, IsClosed, IsCompared, Reading, Refers, SameReading}
 use Rattle.shape_model.specs.ShapeSyntax.{TakesList}
-use Rattle.shape_model.specs.TermTests.{IsFewer, IsMore, IsOfKind}
+use Rattle.shape_model.specs.TermTests.{IsAtMost, IsFewer, IsInLanguages, IsLess, IsMatched, IsMore, IsOfDatatype, IsOfKind, IsTooLong, IsTooShort}
 use Rattle.shape_model.specs.Triples.{IsMember}
-use Rattle.shape_model.specs.Vocabulary.{ShAnd, ShClass, ShClosed, ShDeactivated, ShDisjoint, ShEquals, ShHasValue, ShIn, ShLessThan, ShLessThanOrEquals, ShMaxCount, ShMinCount, ShNode, ShNodeKind, ShNot, ShOr, ShProperty, ShQualifiedMaxCount, ShQualifiedMinCount, ShQualifiedValueShape, ShXone, ShapeProperty, true_literal}
+use Rattle.shape_model.specs.Vocabulary.{ShAnd, ShClass, ShClosed, ShDeactivated, ShDisjoint, ShEquals, ShFlags, ShIn, ShLanguageIn, ShLessThan, ShLessThanOrEquals, ShNode, ShNot, ShOr, ShProperty, ShQualifiedMaxCount, ShQualifiedMinCount, ShQualifiedValueShape, ShXone, ShapeProperty, true_literal}
 use Rattle.shape_model.specs.declared.component.Component.{Component}
 use Rattle.shape_model.specs.declared.result_row.ResultRow.{ResultRow}
+
+takes_languages : TakesList ShLanguageIn
+takes_languages = inl refl
 
 takes_and : TakesList ShAnd
 takes_and = inr (inl refl)
@@ -104,21 +107,25 @@ module _ (shape f : Term) (y z : Reading) (e : SameReading y z) (a b : Surroundi
   conform : (m v : Term) → Refers y m → a.value_node v → ConformsTo a m v ↔ ConformsTo b m v
   conform m v i w = (λ h r x. h r ((same.row m v i w r).1 x), λ h r x. h r ((same.row m v i w r).0 x))
 
-  each : (c : Component) (q : Term) (P Q : Term → Type 0) (r : ResultRow) → ((v : Term) → a.value_node v → P v → Q v) → ForEach a c shape f q P r → ForEach b c shape f q Q r
-  each c q P Q r to h = (h.0, (same.value_node h.0).0 h.1, to h.0 h.1 h.2, h.3)
+  each : (row : Finding → ResultRow) (P Q : Term → Type 0) (r : ResultRow) → ((v : Term) → a.value_node v → P v → Q v) → ForEach a row P r → ForEach b row Q r
+  each row P Q r to h = (h.0, (same.value_node h.0).0 h.1, to h.0 h.1 h.2, h.3)
 
-  each_value : (c : Component) (word : ShapeProperty) (P Q : Term → Term → Type 0) (r : ResultRow)
-      → ((q : Term) → y.has word q → (v : Term) → a.value_node v → P q v → Q q v)
-      → ForEachValue a y c shape f word P r → ForEachValue b z c shape f word Q r
-  each_value c word P Q r to h = (h.0, (e.has word h.0).0 h.1, each c h.0 (P h.0) (Q h.0) r (to h.0 h.1) h.2)
+  counted : (row : Finding → ResultRow) (P Q : Term → Type 0) (IsWrong : ℕ → Type 0) (r : ResultRow) → ((v : Term) → P v ↔ Q v) → ForCount row P IsWrong r → ForCount row Q IsWrong r
+  counted row P Q IsWrong r k h = (h.0, counts_same P Q h.0 k h.1, h.2, h.3)
 
-  counted : (c : Component) (word : ShapeProperty) (P Q : Term → Type 0) (IsWrong : ℕ → Term → Type 0) (r : ResultRow) → ((q : Term) → y.has word q → (v : Term) → P v ↔ Q v) → ForCount y c shape f word P IsWrong r → ForCount z c shape f word Q IsWrong r
-  counted c word P Q IsWrong r k h = (h.0, (e.has word h.0).0 h.1, (h.2.0, counts_same P Q h.2.0 (k h.0 h.1) h.2.1, h.2.2, h.2.3))
+  of_list : (word : ShapeProperty) → TakesList word → (q : Term) (row : Finding → ResultRow) (P Q : List Term → Term → Type 0) (r : ResultRow)
+      → ((ms : List Term) → y.has_list word q ms → (v : Term) → a.value_node v → P ms v → Q ms v)
+      → ForEachOfList a y word q row P r → ForEachOfList b z word q row Q r
+  of_list word takes q row P Q r to h = (h.0, (e.has_list word takes q h.0).0 h.1, each row (P h.0) (Q h.0) r (to h.0 h.1) h.2)
 
-  of_list : (c : Component) (word : ShapeProperty) → TakesList word → (P Q : List Term → Term → Type 0) (r : ResultRow)
-      → ((n : Term) (ms : List Term) → y.has_list word n ms → (v : Term) → a.value_node v → P ms v → Q ms v)
-      → ForEachList a y c shape f word P r → ForEachList b z c shape f word Q r
-  of_list c word takes P Q r to h = (h.0, h.1, (e.has_list word takes h.0 h.1).0 h.2, each c h.0 (P h.1) (Q h.1) r (to h.0 h.1 h.2) h.3)
+  pairs : (q : Term) (row : Finding → ResultRow) (P : Term → Term → Type 0) (r : ResultRow) → IsCompared y q → ForPairs a q row P r → ForPairs b q row P r
+  pairs q row P r i h = (h.0, h.1, (same.value_node h.0).0 h.2, (same.focus_value q h.1 i).0 h.3, h.4, h.5)
+
+  flags_same : (flags : List ℕ) → HasFlags z flags → HasFlags y flags
+  flags_same flags = elim [
+    | inl h ↦ inl (h.0, (e.has ShFlags h.0).1 h.1, h.2)
+    | inr h ↦ inr (λ q i. h.0 q ((e.has ShFlags q).0 i), h.1)
+  ]
 
   qualify : (m : Term) → HasQualifiedCount y → y.has ShQualifiedValueShape m → (v : Term) → IsQualified a y m v ↔ IsQualified b z m v
   qualify m n i v = (
@@ -134,52 +141,58 @@ module _ (shape f : Term) (y z : Reading) (e : SameReading y z) (a b : Surroundi
     ),
   )
 
-  keep : (c : Component) (r : ResultRow) → ComponentRow c a y shape f r → ComponentRow c b z shape f r
-  keep components.Class r h = each_value components.Class ShClass (λ q v. a.instance v q → ⊥) (λ q v. b.instance v q → ⊥) r (λ q i v w x k. x ((same.instance q v i w).1 k)) h
-  keep components.Datatype r h = h
-  keep components.NodeKind r h = each_value components.NodeKind ShNodeKind (λ q v. IsOfKind q v → ⊥) (λ q v. IsOfKind q v → ⊥) r (λ q i v w x. x) h
-  keep components.MinCount r h = counted components.MinCount ShMinCount a.value_node b.value_node IsFewer r (λ q i. same.value_node) h
-  keep components.MaxCount r h = counted components.MaxCount ShMaxCount a.value_node b.value_node IsMore r (λ q i. same.value_node) h
-  keep components.MinExclusive r h = h
-  keep components.MinInclusive r h = h
-  keep components.MaxExclusive r h = h
-  keep components.MaxInclusive r h = h
-  keep components.MinLength r h = h
-  keep components.MaxLength r h = h
-  keep components.Pattern r h = h
-  keep components.LanguageIn r h = h
-  keep components.UniqueLang r h = h
-  keep components.Equals r h = (
-    h.0,
-    (e.has ShEquals h.0).0 h.1,
-    elim h.2 [
-      | inl x ↦ inl (each components.Equals h.0 (λ v. a.focus_value h.0 v → ⊥) (λ v. b.focus_value h.0 v → ⊥) r (λ v w x k. x ((same.focus_value h.0 v (inl h.1)).1 k)) x)
-      | inr x ↦ inr (x.0, (same.focus_value h.0 x.0 (inl h.1)).0 x.1, λ k. x.2 ((same.value_node x.0).1 k), x.3)
-    ],
-  )
-  keep components.Disjoint r h = each_value components.Disjoint ShDisjoint (λ q v. a.focus_value q v) (λ q v. b.focus_value q v) r (λ q i v w x. (same.focus_value q v (inr (inl i))).0 x) h
-  keep components.LessThan r h = h
-  keep components.LessThanOrEquals r h = h
-  keep components.Not r h = each_value components.Not ShNot (λ q v. ConformsTo a q v) (λ q v. ConformsTo b q v) r (λ q i v w x. (conform q v (inl i) w).0 x) h
-  keep components.And r h = of_list components.And ShAnd takes_and (λ ms v. ((m : Term) → IsMember ms m → ConformsTo a m v) → ⊥) (λ ms v. ((m : Term) → IsMember ms m → ConformsTo b m v) → ⊥) r
-      (λ n ms l v w x k. x (λ m i. (conform m v (inr (inr (inr (inl (n, ms, l, i))))) w).1 (k m i))) h
-  keep components.Or r h = of_list components.Or ShOr takes_or (λ ms v. NoneOf (λ m. ConformsTo a m v) ms) (λ ms v. NoneOf (λ m. ConformsTo b m v) ms) r
-      (λ n ms l v w x m i k. x m i ((conform m v (inr (inr (inr (inr (inl (n, ms, l, i)))))) w).1 k)) h
-  keep components.Xone r h = of_list components.Xone ShXone takes_xone (λ ms v. OneOf (λ m. ConformsTo a m v) ms → ⊥) (λ ms v. OneOf (λ m. ConformsTo b m v) ms → ⊥) r
-      (λ n ms l v w x k. x (one_same (λ m. ConformsTo b m v) (λ m. ConformsTo a m v) ms
-      (λ m i. let c = conform m v (inr (inr (inr (inr (inr (inl (n, ms, l, i))))))) w in (c.1, c.0)) k)) h
-  keep components.Node r h = each_value components.Node ShNode (λ q v. ConformsTo a q v → ⊥) (λ q v. ConformsTo b q v → ⊥) r (λ q i v w x k. x ((conform q v (inr (inl i)) w).1 k)) h
-  keep components.QualifiedMinCount r h = (h.0, (e.has ShQualifiedValueShape h.0).0 h.1, counted components.QualifiedMinCount ShQualifiedMinCount (IsQualified a y h.0) (IsQualified b z h.0) IsFewer r (λ q i. qualify h.0 (q, inl i) h.1) h.2)
-  keep components.QualifiedMaxCount r h = (h.0, (e.has ShQualifiedValueShape h.0).0 h.1, counted components.QualifiedMaxCount ShQualifiedMaxCount (IsQualified a y h.0) (IsQualified b z h.0) IsMore r (λ q i. qualify h.0 (q, inr i) h.1) h.2)
-  keep components.Closed r h = ((e.has ShClosed true_literal).0 h.0, (h.1.0, h.1.1, h.1.2, (same.value_node h.1.0).0 h.1.3, (same.triple h.0 h.1.0 h.1.1 h.1.2 h.1.3).0 h.1.4, λ k. h.1.5 ((e.allowed h.1.1).1 k), h.1.6))
-  keep components.HasValue r h = (h.0, (e.has ShHasValue h.0).0 h.1, λ k. h.2 ((same.value_node h.0).1 k), h.3)
-  keep components.In r h = of_list components.In ShIn takes_in (λ ms v. IsMember ms v → ⊥) (λ ms v. IsMember ms v → ⊥) r (λ n ms l v w x. x) h
+  qualified : (q : Term) → (y.has ShQualifiedMinCount q ⊎ y.has ShQualifiedMaxCount q) → (row : Finding → ResultRow) (IsWrong : ℕ → Type 0) (r : ResultRow) → ForQualifiedCount a y row IsWrong r → ForQualifiedCount b z row IsWrong r
+  qualified q n row IsWrong r h = (h.0, (e.has ShQualifiedValueShape h.0).0 h.1, counted row (IsQualified a y h.0) (IsQualified b z h.0) IsWrong r (qualify h.0 (q, n) h.1) h.2)
+
+  -- the results at one value of the parameter
+  keep : (c : Component) (q : Term) (row : Finding → ResultRow) (r : ResultRow) → y.has (parameter_of c) q → RowsOf c a y q row r → RowsOf c b z q row r
+  keep components.Class q row r i h = each row (λ v. a.instance v q → ⊥) (λ v. b.instance v q → ⊥) r (λ v w x k. x ((same.instance q v i w).1 k)) h
+  keep components.Datatype q row r i h = each row (λ v. IsOfDatatype q v → ⊥) (λ v. IsOfDatatype q v → ⊥) r (λ v w x. x) h
+  keep components.NodeKind q row r i h = each row (λ v. IsOfKind q v → ⊥) (λ v. IsOfKind q v → ⊥) r (λ v w x. x) h
+  keep components.MinCount q row r i h = counted row a.value_node b.value_node (λ n. IsFewer n q) r same.value_node h
+  keep components.MaxCount q row r i h = counted row a.value_node b.value_node (λ n. IsMore n q) r same.value_node h
+  keep components.MinExclusive q row r i h = each row (λ v. IsLess q v → ⊥) (λ v. IsLess q v → ⊥) r (λ v w x. x) h
+  keep components.MinInclusive q row r i h = each row (λ v. IsAtMost q v → ⊥) (λ v. IsAtMost q v → ⊥) r (λ v w x. x) h
+  keep components.MaxExclusive q row r i h = each row (λ v. IsLess v q → ⊥) (λ v. IsLess v q → ⊥) r (λ v w x. x) h
+  keep components.MaxInclusive q row r i h = each row (λ v. IsAtMost v q → ⊥) (λ v. IsAtMost v q → ⊥) r (λ v w x. x) h
+  keep components.MinLength q row r i h = each row (λ v. IsTooShort q v) (λ v. IsTooShort q v) r (λ v w x. x) h
+  keep components.MaxLength q row r i h = each row (λ v. IsTooLong q v) (λ v. IsTooLong q v) r (λ v w x. x) h
+  keep components.Pattern q row r i h = each row (λ v. ((flags : List ℕ) × HasFlags y flags × IsMatched q flags v) → ⊥) (λ v. ((flags : List ℕ) × HasFlags z flags × IsMatched q flags v) → ⊥) r
+      (λ v w x k. x (k.0, flags_same k.0 k.1, k.2)) h
+  keep components.LanguageIn q row r i h = of_list ShLanguageIn takes_languages q row (λ ms v. IsInLanguages ms v → ⊥) (λ ms v. IsInLanguages ms v → ⊥) r (λ ms l v w x. x) h
+  keep components.UniqueLang q row r i h = (h.0, (h.1.0, h.1.1, h.1.2, h.1.3, (same.value_node h.1.1).0 h.1.4, (same.value_node h.1.2).0 h.1.5, h.1.6, h.1.7, h.1.8))
+  keep components.Equals q row r i h = elim h [
+    | inl x ↦ inl (each row (λ v. a.focus_value q v → ⊥) (λ v. b.focus_value q v → ⊥) r (λ v w x k. x ((same.focus_value q v (inl i)).1 k)) x)
+    | inr x ↦ inr (x.0, (same.focus_value q x.0 (inl i)).0 x.1, λ k. x.2 ((same.value_node x.0).1 k), x.3)
+  ]
+  keep components.Disjoint q row r i h = each row (λ v. a.focus_value q v) (λ v. b.focus_value q v) r (λ v w x. (same.focus_value q v (inr (inl i))).0 x) h
+  keep components.LessThan q row r i h = pairs q row IsLess r (inr (inr (inl i))) h
+  keep components.LessThanOrEquals q row r i h = pairs q row IsAtMost r (inr (inr (inr i))) h
+  keep components.Not q row r i h = each row (λ v. ConformsTo a q v) (λ v. ConformsTo b q v) r (λ v w x. (conform q v (inl i) w).0 x) h
+  keep components.And q row r i h = of_list ShAnd takes_and q row (λ ms v. ((m : Term) → IsMember ms m → ConformsTo a m v) → ⊥) (λ ms v. ((m : Term) → IsMember ms m → ConformsTo b m v) → ⊥) r
+      (λ ms l v w x k. x (λ m j. (conform m v (inr (inr (inr (inl (q, ms, l, j))))) w).1 (k m j))) h
+  keep components.Or q row r i h = of_list ShOr takes_or q row (λ ms v. NoneOf (λ m. ConformsTo a m v) ms) (λ ms v. NoneOf (λ m. ConformsTo b m v) ms) r
+      (λ ms l v w x m j k. x m j ((conform m v (inr (inr (inr (inr (inl (q, ms, l, j)))))) w).1 k)) h
+  keep components.Xone q row r i h = of_list ShXone takes_xone q row (λ ms v. OneOf (λ m. ConformsTo a m v) ms → ⊥) (λ ms v. OneOf (λ m. ConformsTo b m v) ms → ⊥) r
+      (λ ms l v w x k. x (one_same (λ m. ConformsTo b m v) (λ m. ConformsTo a m v) ms
+      (λ m j. let c = conform m v (inr (inr (inr (inr (inr (inl (q, ms, l, j))))))) w in (c.1, c.0)) k)) h
+  keep components.Node q row r i h = each row (λ v. ConformsTo a q v → ⊥) (λ v. ConformsTo b q v → ⊥) r (λ v w x k. x ((conform q v (inr (inl i)) w).1 k)) h
+  keep components.QualifiedMinCount q row r i h = qualified q (inl i) row (λ n. IsFewer n q) r h
+  keep components.QualifiedMaxCount q row r i h = qualified q (inr i) row (λ n. IsMore n q) r h
+  keep components.Closed q row r i h =
+      let closed : IsClosed y = subst (λ (x : Term). y.has ShClosed x) h.0 i in
+      (h.0, (h.1.0, h.1.1, h.1.2, (same.value_node h.1.0).0 h.1.3, (same.triple closed h.1.0 h.1.1 h.1.2 h.1.3).0 h.1.4, λ k. h.1.5 ((e.allowed h.1.1).1 k), h.1.6))
+  keep components.HasValue q row r i h = (λ k. h.0 ((same.value_node q).1 k), h.1)
+  keep components.In q row r i h = of_list ShIn takes_in q row (λ ms v. IsMember ms v → ⊥) (λ ms v. IsMember ms v → ⊥) r (λ ms l v w x. x) h
+
+  keep_row : (c : Component) (r : ResultRow) → ComponentRow c a y shape f r → ComponentRow c b z shape f r
+  keep_row c r h = (h.0, (e.has (parameter_of c) h.0).0 h.1, keep c h.0 (row_of c shape f h.0) r h.1 h.2)
 
   keep_all : (r : ResultRow) → AtIn a y shape f r → AtIn b z shape f r
   keep_all r h = (
     λ k. h.0 ((e.has ShDeactivated true_literal).1 k),
     elim h.1 [
-      | inl x ↦ inl (x.0, keep x.0 r x.1)
+      | inl x ↦ inl (x.0, keep_row x.0 r x.1)
       | inr x ↦ inr (x.0, (e.has ShProperty x.0).0 x.1, (x.2.0, (same.value_node x.2.0).0 x.2.1, (same.row x.0 x.2.0 (inr (inr (inl x.1))) x.2.1 r).0 x.2.2))
     ],
   )

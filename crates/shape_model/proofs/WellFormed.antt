@@ -55,7 +55,7 @@ module _ (s : List Triple) (well : IsWellFormed s) where
   no_further n t u r k =
       let h = refers n t r in
       well (record { node = n; rule = rules.Property; value = Some t })
-      (inr (inr (inl (ShProperty, t, (λ e. cc, λ e. cc), h))), (t, h, inr (λ w path. property_alone t u w (refers t u k) path), refl))
+      (inr (inr (inl (ShProperty, t, refl, h))), (t, h, inr (λ w path. property_alone t u w (refers t u k) path), refl))
 
 pub acyclic_law : AcyclicLaw
 acyclic_law s well a [] c = no_further s well a a a c.0 c.0

@@ -9,6 +9,7 @@ use Rattle.rdf_model.specs.declared.look.Look.{Look}
 use Rattle.shape_model.specs.Agreement.{Agree, AgreesAt}
 use Rattle.shape_model.specs.CompiledShapes.{CompiledEntry, StandsFor, compiled_reading}
 use Rattle.shape_model.specs.Components.{AtIn}
+use Rattle.shape_model.specs.Declarations.{values_of}
 use Rattle.shape_model.specs.Instances.{Instance, class_path}
 use Rattle.shape_model.specs.Listings.{Counts}
 use Rattle.shape_model.specs.Looks.{LookRow, Matches, PathLook}
@@ -23,7 +24,9 @@ use Rattle.shape_model.specs.Walks.{Walk}
 use Rattle.shape_model.specs.declared.result_row.ResultRow.{ResultRow}
 use Rattle.shape_model.specs.declared.broken_rule.BrokenRule.{BrokenRule}
 use Rattle.shape_model.specs.WellFormed.{IsWellFormed, IsLeastBroken}
-use Rattle.rdf_model.specs.Terms.{triple_cmp}
+use Rattle.collections.specs.Listings.{IsListing}
+use Rattle.rdf_model.specs.Terms.{term_cmp, triple_cmp}
+use Rattle.shape_model.specs.Triples.{Has}
 use Rattle.rdf_model.specs.Graphs.{after}
 use Rattle.rdf_model.specs.Matching.{is_read_by}
 
@@ -104,3 +107,7 @@ LeastLaw = (s : List Triple) (b c : BrokenRule) → IsLeastBroken s b → IsLeas
 -- In a well-formed shapes graph no shape refers to itself.
 abbrev pub AcyclicLaw : Type 0
 AcyclicLaw = (s : List Triple) → IsWellFormed s → IsAcyclic s
+
+-- The values of a property of a node are listed each once, in the order of terms.
+abbrev pub ValuesLaw : Type 0
+ValuesLaw = (s : List Triple) (n p : Term) → IsListing term_cmp (Has s n p) (values_of s n p)

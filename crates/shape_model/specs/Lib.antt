@@ -11,6 +11,7 @@ pub mod Instances
 pub mod ShapeSyntax
 pub mod Readings
 pub mod Listings
+pub mod Patterns
 pub mod TermTests
 pub mod Targets
 pub mod Components
@@ -22,5 +23,5 @@ pub mod Touching
 pub mod CompiledShapes
 pub mod NodeLooks
 pub mod WellFormed
-pub mod Examples
+pub mod Declarations
 pub mod Laws

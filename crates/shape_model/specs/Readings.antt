@@ -1,8 +1,9 @@
 -- What a shapes graph says of a shape.
-use Rattle.std.specs.Prelude.{◌≡◌, ◌⊎◌, ◌↔◌, List, [], ◌∷◌, ◌++◌}
+use Rattle.std.specs.Prelude.{◌≡◌, ◌⊎◌, ◌↔◌, ℕ, List, [], ◌∷◌, ◌++◌, Some}
 use Rattle.rdf_model.specs.declared.term.Term.{Term}
 use Rattle.rdf_model.specs.declared.triple.Triple.{Triple}
-use Rattle.shape_model.specs.Vocabulary.{rdfs_class, true_literal, ShapeProperty, ShEquals, ShDisjoint, ShLessThan, ShLessThanOrEquals, ShNot, ShAnd, ShOr, ShXone, ShNode, ShProperty, ShQualifiedValueShape, ShQualifiedMinCount, ShQualifiedMaxCount, ShQualifiedValueShapesDisjoint, ShClosed, ShIgnoredProperties, ShDeactivated, ShPath}
+use Rattle.literal_order.specs.Texts.{string_value}
+use Rattle.shape_model.specs.Vocabulary.{rdfs_class, true_literal, ShapeProperty, ShFlags, ShEquals, ShDisjoint, ShLessThan, ShLessThanOrEquals, ShNot, ShAnd, ShOr, ShXone, ShNode, ShProperty, ShQualifiedValueShape, ShQualifiedMinCount, ShQualifiedMaxCount, ShQualifiedValueShapesDisjoint, ShClosed, ShIgnoredProperties, ShDeactivated, ShPath}
 use Rattle.shape_model.specs.Triples.{IsMember}
 use Rattle.shape_model.specs.Paths.{Path}
 use Rattle.shape_model.specs.Walks.{Walk}
@@ -81,6 +82,12 @@ IsClosed y = y.has ShClosed true_literal
 -- the properties whose values at the focus node are compared with the value nodes (SHACL 4.5)
 abbrev pub IsCompared : Reading → Term → Type 0
 IsCompared y p = y.has ShEquals p ⊎ y.has ShDisjoint p ⊎ y.has ShLessThan p ⊎ y.has ShLessThanOrEquals p
+
+-- the flags of the shape's patterns (SHACL 4.4.3): the text of its sh:flags, and none without it
+abbrev pub HasFlags : Reading → List ℕ → Type 0
+HasFlags y flags =
+    ((q : Term) × y.has ShFlags q × (string_value q ≡ Some flags))
+    ⊎ (((q : Term) → y.has ShFlags q → ⊥) × (flags ≡ []))
 
 -- a qualified count, without which a qualified value shape is no constraint (SHACL 4.7.3)
 abbrev pub HasQualifiedCount : Reading → Type 0

@@ -1,8 +1,8 @@
 -- Lists, paths and shapes by the triples of a shapes graph.
-use Rattle.std.specs.Prelude.{◌≡◌, ◌≢◌, ◌⊎◌, ℕ, List, [], ◌∷◌, codes}
+use Rattle.std.specs.Prelude.{◌≡◌, ◌⊎◌, ℕ, Bool, true, false, List, [], ◌∷◌, codes}
 use Rattle.rdf_model.specs.declared.term.Term.{Term}
 use Rattle.rdf_model.specs.declared.triple.Triple.{Triple}
-use Rattle.shape_model.specs.Vocabulary.{sh, rdf_first, rdf_rest, rdf_nil, ShapeProperty, ShLanguageIn, ShNot, ShAnd, ShOr, ShXone, ShNode, ShProperty, ShQualifiedValueShape, ShIgnoredProperties, ShIn, ShDeactivated, ShPath, property_iri}
+use Rattle.shape_model.specs.Vocabulary.{sh, rdf_first, rdf_rest, rdf_nil, ShapeProperty, ShLanguageIn, ShNot, ShAnd, ShOr, ShXone, ShNode, ShProperty, ShQualifiedValueShape, ShIgnoredProperties, ShIn, property_iri, ShTargetNode, ShTargetClass, ShTargetSubjectsOf, ShTargetObjectsOf, ShClass, ShDatatype, ShNodeKind, ShMinCount, ShMaxCount, ShMinExclusive, ShMinInclusive, ShMaxExclusive, ShMaxInclusive, ShMinLength, ShMaxLength, ShPattern, ShFlags, ShUniqueLang, ShEquals, ShDisjoint, ShLessThan, ShLessThanOrEquals, ShQualifiedMinCount, ShQualifiedMaxCount, ShQualifiedValueShapesDisjoint, ShClosed, ShHasValue}
 use Rattle.shape_model.specs.Triples.{Has, HasOnly, HasNone, IsBlank, IsIri, IsMember}
 use Rattle.shape_model.specs.Paths.{Path, Predicate, Inverse, Sequence, Alternative, ZeroOrMore, OneOrMore, ZeroOrOne, Paths, Last, Also, AreSeveral}
 use Rattle.shape_model.specs.Instances.{Instance}
@@ -44,10 +44,51 @@ abbrev mutual
   PathsOf s n (Last p) = (m : Term) × (k : Term) × IsCell s n m k × IsListEnd s k × PathOf s m p
   PathsOf s n (Also p ps) = (m : Term) × (k : Term) × IsCell s n m k × PathOf s m p × PathsOf s k ps
 
--- Shapes (SHACL 2.1): the properties that make their subject a shape are the declarations of targets and the
--- parameters of components, all of these properties but sh:path and sh:deactivated
+-- Shapes (SHACL 2.1): the properties that make their subject a shape are the declarations of targets (2.1.3) ..
+abbrev pub makes_shape : ShapeProperty → Bool
+makes_shape ShTargetNode = true
+makes_shape ShTargetClass = true
+makes_shape ShTargetSubjectsOf = true
+makes_shape ShTargetObjectsOf = true
+-- .. and the parameters: those that take a shape, those that take a list of shapes,
+makes_shape ShNot = true
+makes_shape ShNode = true
+makes_shape ShProperty = true
+makes_shape ShQualifiedValueShape = true
+makes_shape ShAnd = true
+makes_shape ShOr = true
+makes_shape ShXone = true
+-- and the others
+makes_shape ShClass = true
+makes_shape ShDatatype = true
+makes_shape ShNodeKind = true
+makes_shape ShMinCount = true
+makes_shape ShMaxCount = true
+makes_shape ShMinExclusive = true
+makes_shape ShMinInclusive = true
+makes_shape ShMaxExclusive = true
+makes_shape ShMaxInclusive = true
+makes_shape ShMinLength = true
+makes_shape ShMaxLength = true
+makes_shape ShPattern = true
+makes_shape ShFlags = true
+makes_shape ShLanguageIn = true
+makes_shape ShUniqueLang = true
+makes_shape ShEquals = true
+makes_shape ShDisjoint = true
+makes_shape ShLessThan = true
+makes_shape ShLessThanOrEquals = true
+makes_shape ShQualifiedMinCount = true
+makes_shape ShQualifiedMaxCount = true
+makes_shape ShQualifiedValueShapesDisjoint = true
+makes_shape ShClosed = true
+makes_shape ShIgnoredProperties = true
+makes_shape ShHasValue = true
+makes_shape ShIn = true
+makes_shape p = false
+
 abbrev pub MakesShape : ShapeProperty → Type 0
-MakesShape p = (p ≢ ShPath) × (p ≢ ShDeactivated)
+MakesShape p = makes_shape p ≡ true
 
 -- a shape-expecting parameter that takes a shape (SHACL 2.1)
 abbrev pub TakesShape : ShapeProperty → Type 0

@@ -43,6 +43,10 @@ true_literal = Literal (codes "true") (codes "http://www.w3.org/2001/XMLSchema#b
 unfoldable pub xsd_integer : List ℕ
 xsd_integer = codes "http://www.w3.org/2001/XMLSchema#integer"
 
+-- a literal of xsd:string (RDF 1.1 Concepts 3.3)
+unfoldable pub string_literal : List ℕ → Term
+string_literal text = Literal text (codes "http://www.w3.org/2001/XMLSchema#string") None
+
 -- The properties of the SHACL vocabulary that a validation reads at a shape: the parameters of the components
 -- (section 4, in its order), sh:deactivated (2.1.6), sh:path (2.3.1) and the declarations of targets (2.1.3).
 pub data ShapeProperty : Type 0 where

@@ -1,5 +1,5 @@
 // Each function promises a theorem on the definitions, and does nothing.
-ghost use Rattle.shape_model.specs.Laws.{AcyclicLaw, BesideLaw, BridgeLaw, ClassPathLaw, CompiledLaw, ConformsLaw, CountLaw, CoverLaw, FuelLaw, LeastLaw, ListingLaw, LookLaw, NoShapesLaw, ReadsLaw, TouchedLaw, UnfoldLaw, VerdictLaw, WalkLaw};
+ghost use Rattle.shape_model.specs.Laws.{AcyclicLaw, BesideLaw, BridgeLaw, ClassPathLaw, CompiledLaw, ConformsLaw, CountLaw, CoverLaw, FuelLaw, LeastLaw, ListingLaw, LookLaw, NoShapesLaw, ReadsLaw, TouchedLaw, UnfoldLaw, ValuesLaw, VerdictLaw, WalkLaw};
 
 /// A node walks along the class path to just the classes that it is an instance of.
 pub fn class_path_law()
@@ -89,4 +89,9 @@ pub fn least_law()
 /// In a well-formed shapes graph no shape refers to itself.
 pub fn acyclic_law()
     ensures { AcyclicLaw }
+{}
+
+/// The values of a property of a node are listed each once, in the order of terms.
+pub fn values_law()
+    ensures { ValuesLaw }
 {}

@@ -9,6 +9,7 @@
 
 mod broken_rule;
 mod component;
+mod count;
 pub mod laws;
 mod optional_term;
 mod result_row;
@@ -16,8 +17,6 @@ mod rule;
 
 pub use broken_rule::BrokenRule;
 pub use component::Component;
+pub use count::{count_of, is_fewer, is_more};
 pub use result_row::ResultRow;
 pub use rule::Rule;
-
-#[cfg(test)]
-mod tests;

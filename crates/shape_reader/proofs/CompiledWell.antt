@@ -1,5 +1,5 @@
 -- What a well-formed graph says, and that the shapes compiled from it say the same.
-use Rattle.std.proofs.Common.{◌≡◌, ◌∙◌, ℕ, ◌<◌, Bool, true, false, List, [], ◌∷◌, length, get_or, map, Option, Some, None, refl, sym, ap, subst, arith, lit<, inl, inr}
+use Rattle.std.proofs.Common.{ℤ, ◌≡◌, ◌∙◌, ℕ, ◌<◌, Bool, true, false, List, [], ◌∷◌, length, get_or, map, Option, Some, None, refl, sym, ap, subst, arith, lit<, inl, inr}
 use Rattle.std.specs.Prelude.{◌↔◌, ◌⊎◌, MatchOption, codes, slice_get}
 use Rattle.std.specs.List.{Contains}
 use Rattle.std.proofs.lemmas.List.{length-map}
@@ -216,10 +216,10 @@ module _ (s : List Triple) (well : IsWellFormed s) where
   kind_said : (n : Term) → IsShape s n → (v : Term) → HasProperty s n ShNodeKind v → (kind : Kind) × (v ≡ kind_iri kind)
   kind_said n shape v h = kind_unless v (λ other. well (record { node = n; rule = rules.NodeKind; value = Some v }) (shape, (v, h, other, refl)))
 
-  min_said : (n : Term) → IsShape s n → (v : Term) → HasProperty s n ShMinCount v → (count : ℕ) × (count_of v ≡ Some count)
+  min_said : (n : Term) → IsShape s n → (v : Term) → HasProperty s n ShMinCount v → (count : ℤ) × (count_of v ≡ Some count)
   min_said n shape v h = some_unless (count_of v) (λ none. well (record { node = n; rule = rules.Count; value = Some v }) (ShMinCount, inl refl, (shape, (v, h, none, refl))))
 
-  max_said : (n : Term) → IsShape s n → (v : Term) → HasProperty s n ShMaxCount v → (count : ℕ) × (count_of v ≡ Some count)
+  max_said : (n : Term) → IsShape s n → (v : Term) → HasProperty s n ShMaxCount v → (count : ℤ) × (count_of v ≡ Some count)
   max_said n shape v h = some_unless (count_of v) (λ none. well (record { node = n; rule = rules.Count; value = Some v }) (ShMaxCount, inr refl, (shape, (v, h, none, refl))))
 
   -- an IRI stands for itself alone

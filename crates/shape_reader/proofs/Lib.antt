@@ -1,6 +1,5 @@
 pub mod Classes
 pub mod CompiledWell
-pub mod CountBounds
 pub mod Equals
 pub mod LeastRows
 pub mod Lists

@@ -5,7 +5,7 @@ use Rattle.std.specs.List.{Contains, list_all}
 use Rattle.rdf_model.specs.declared.term.Term.{Term}
 use Rattle.shape_model.specs.Vocabulary.{ShapeProperty, property_iri, sh, rdf_type, sub_class_of, ShClass, ShDatatype, ShNodeKind, ShMinCount, ShMaxCount, ShMinExclusive, ShMinInclusive, ShMaxExclusive, ShMaxInclusive, ShMinLength, ShMaxLength, ShPattern, ShFlags, ShLanguageIn, ShUniqueLang, ShEquals, ShDisjoint, ShLessThan, ShLessThanOrEquals, ShNot, ShAnd, ShOr, ShXone, ShNode, ShProperty, ShQualifiedValueShape, ShQualifiedMinCount, ShQualifiedMaxCount, ShQualifiedValueShapesDisjoint, ShClosed, ShIgnoredProperties, ShHasValue, ShIn, ShDeactivated, ShPath, ShTargetNode, ShTargetClass, ShTargetSubjectsOf, ShTargetObjectsOf}
 use Rattle.shape_model.specs.Triples.{IsMember}
-use Rattle.shape_model.specs.ShapeSyntax.{MakesShape, TakesShape, TakesShapes}
+use Rattle.shape_model.specs.ShapeSyntax.{MakesShape, TakesShape, TakesShapes, makes_shape}
 use Rattle.shape_model.specs.WellFormed.{IsCountProperty, TakesOne, unread_predicates}
 use Rattle.shape_reader.specs.Shapes.{IsPropertyOf}
 use Rattle.shape_reader.proofs.Scans.{has_cases, image_from, image_of, member_back, member_either, member_front}
@@ -51,47 +51,6 @@ making =
     ∷ ShTargetObjectsOf
     ∷ []
 
-makes : ShapeProperty → Bool
-makes ShClass = true
-makes ShDatatype = true
-makes ShNodeKind = true
-makes ShMinCount = true
-makes ShMaxCount = true
-makes ShMinExclusive = true
-makes ShMinInclusive = true
-makes ShMaxExclusive = true
-makes ShMaxInclusive = true
-makes ShMinLength = true
-makes ShMaxLength = true
-makes ShPattern = true
-makes ShFlags = true
-makes ShLanguageIn = true
-makes ShUniqueLang = true
-makes ShEquals = true
-makes ShDisjoint = true
-makes ShLessThan = true
-makes ShLessThanOrEquals = true
-makes ShNot = true
-makes ShAnd = true
-makes ShOr = true
-makes ShXone = true
-makes ShNode = true
-makes ShProperty = true
-makes ShQualifiedValueShape = true
-makes ShQualifiedMinCount = true
-makes ShQualifiedMaxCount = true
-makes ShQualifiedValueShapesDisjoint = true
-makes ShClosed = true
-makes ShIgnoredProperties = true
-makes ShHasValue = true
-makes ShIn = true
-makes ShDeactivated = false
-makes ShPath = false
-makes ShTargetNode = true
-makes ShTargetClass = true
-makes ShTargetSubjectsOf = true
-makes ShTargetObjectsOf = true
-
 all_pass : {X : Type 0} → (p : X → Bool) (xs : List X) → list_all p xs ≡ true → (x : X) → Contains xs x → p x ≡ true
 all_pass p [] e x c = absurd (omega arith)
 all_pass p (y ∷ ys) e x c = elim (has_cases y ys x c) [
@@ -102,10 +61,6 @@ all_pass p (y ∷ ys) e x c = elim (has_cases y ys x c) [
     both : (a b : Bool) → (a && b) ≡ true → (a ≡ true) × (b ≡ true)
     both true b h = (refl, h)
     both false b h = cc
-
-made : (q : ShapeProperty) → makes q ≡ true → MakesShape q
-unfolding makes
-made q h = (λ e. let k = ap makes e in cc, λ e. let k = ap makes e in cc)
 
 among : (q : ShapeProperty) → MakesShape q → Contains making q
 among ShClass m = (0, lit< tt, refl)
@@ -141,17 +96,16 @@ among ShClosed m = (29, lit< tt, refl)
 among ShIgnoredProperties m = (30, lit< tt, refl)
 among ShHasValue m = (31, lit< tt, refl)
 among ShIn m = (32, lit< tt, refl)
-among ShDeactivated m = absurd (m.1 refl)
-among ShPath m = absurd (m.0 refl)
+among ShDeactivated m = let never : false ≡ true = m in cc
+among ShPath m = let never : false ≡ true = m in cc
 among ShTargetNode m = (33, lit< tt, refl)
 among ShTargetClass m = (34, lit< tt, refl)
 among ShTargetSubjectsOf m = (35, lit< tt, refl)
 among ShTargetObjectsOf m = (36, lit< tt, refl)
 
 pub shape_making : (t : Term) → IsMember (map property_iri making) t ↔ IsPropertyOf MakesShape t
-unfolding makes
 shape_making t = (
-  λ i. let q = image_from property_iri making t i in (q.0, made q.0 (all_pass makes making refl q.0 q.1), sym q.2),
+  λ i. let q = image_from property_iri making t i in (q.0, all_pass makes_shape making refl q.0 q.1, sym q.2),
   λ h. image_of property_iri making h.0 t (among h.0 h.1) (sym h.2),
 )
 

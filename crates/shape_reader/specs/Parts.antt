@@ -1,5 +1,5 @@
 -- The parts of a compiled shape that a triple of the shapes graph says.
-use Rattle.std.specs.Prelude.{◌≡◌, ◌⊎◌, ◌↔◌, ℕ, List, Some, MatchOption, slice_get}
+use Rattle.std.specs.Prelude.{◌≡◌, ◌⊎◌, ◌↔◌, ℕ, ℤ, List, Some, MatchOption, slice_get}
 use Rattle.std.specs.List.{Contains}
 use Rattle.rdf_model.specs.declared.term.Term.{Term}
 use Rattle.rdf_model.specs.declared.triple.Triple.{Triple}
@@ -40,10 +40,10 @@ abbrev pub IsKindAt : Term → Triple → Constraint Term → Type 0
 IsKindAt n t x = Says n ShNodeKind t × ((kind : Kind) × (t.object ≡ kind_iri kind) × (x ≡ NodeKind kind t.object))
 
 abbrev pub IsMinCountAt : Term → Triple → Constraint Term → Type 0
-IsMinCountAt n t x = Says n ShMinCount t × ((count : ℕ) × (count_of t.object ≡ Some count) × (x ≡ MinCount count t.object))
+IsMinCountAt n t x = Says n ShMinCount t × ((count : ℤ) × (count_of t.object ≡ Some count) × (x ≡ MinCount count t.object))
 
 abbrev pub IsMaxCountAt : Term → Triple → Constraint Term → Type 0
-IsMaxCountAt n t x = Says n ShMaxCount t × ((count : ℕ) × (count_of t.object ≡ Some count) × (x ≡ MaxCount count t.object))
+IsMaxCountAt n t x = Says n ShMaxCount t × ((count : ℤ) × (count_of t.object ≡ Some count) × (x ≡ MaxCount count t.object))
 
 abbrev pub IsConstraintAt : Term → Triple → Constraint Term → Type 0
 IsConstraintAt n t x = IsKindAt n t x ⊎ IsMinCountAt n t x ⊎ IsMaxCountAt n t x

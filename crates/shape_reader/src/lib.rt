@@ -23,6 +23,3 @@ mod words;
 pub use fault::ShapeFault;
 pub use least::least_broken;
 pub use read::read_shapes;
-
-#[cfg(test)]
-mod tests;

@@ -14,10 +14,11 @@ ghost use Rattle.shape_reader.specs.Parts.{IsConstraintAt, IsKindAt, IsMaxCountA
 
 use crate::graph::is_word_triple;
 use crate::kinds::kind_of;
-use crate::terms::{count_of, is_same};
+use crate::terms::is_same;
 use collections::Sequence;
 use rdf_model::{Term, Triple};
 use shape_ast::{Constraint, Path, Target};
+use shape_model::count_of;
 use std::alloc::{AllocError, Global};
 
 // The path of the shape at the node, if it has one.

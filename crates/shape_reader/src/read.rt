@@ -1,13 +1,15 @@
-ghost use Rattle.std.specs.Prelude.{◌≡◌, ◌↔◌, IfOk, MatchResult, map};
+ghost use Rattle.std.specs.Prelude.{◌≡◌, ◌↔◌, ℕ, IfOk, MatchResult, map};
 ghost use Rattle.std.specs.List.{Contains};
 ghost use Rattle.collections.specs.Ordered.{IsAscending};
 ghost use Rattle.rdf_model.specs.declared.term.Term.{Term};
 ghost use Rattle.rdf_model.specs.Terms.{term_cmp};
+ghost use Rattle.shape_ast.specs.declared.constraint.Constraint.{Constraint as ConstraintData};
 ghost use Rattle.shape_ast.specs.declared.shape.Shape.{Shape};
+ghost use Rattle.shape_ast.specs.declared.shape.Target.{Target as TargetData};
 ghost use Rattle.shape_ast.specs.Standing.{StandFor};
 ghost use Rattle.shape_model.specs.WellFormed.{IsWellFormed};
 ghost use Rattle.shape_reader.specs.Faults.{IsCause};
-ghost use Rattle.shape_reader.specs.Parts.{IsCompiled};
+ghost use Rattle.shape_reader.specs.Parts.{IsCompiled, IsConstraintAt, IsPropertyAt, IsSaid, IsTargetAt};
 
 use crate::ShapeFault;
 use crate::least::least_broken;
@@ -16,8 +18,33 @@ use crate::parts::{constraints_of, path_of, properties_of, targets_of};
 use collections::Sequence;
 use outside::Maker;
 use rdf_model::{Term, Triple};
-use shape_ast::{Shape, Shapes};
+use shape_ast::{Constraint, Shape, Shapes, Target};
 use std::alloc::{AllocError, Global};
+
+// The targets, the constraints and the property shapes of the node.
+type Parts = (
+    Sequence<Target<Term>>,
+    Sequence<Constraint<Term>>,
+    Sequence<usize>,
+);
+
+fn parts_of(
+    alloc: Global,
+    triples: &[Triple],
+    nodes: &[Term],
+    node: &Term,
+) -> Result<Parts, AllocError>
+    requires { IsAscending term_cmp nodes.now }
+    ensures targets { IfOk result (λ parts. (x : TargetData Term) → Contains parts.0 x ↔ IsSaid (IsTargetAt node.now) triples.now x) }
+    ensures constraints { IfOk result (λ parts. (x : ConstraintData Term) → Contains parts.1 x ↔ IsSaid (IsConstraintAt node.now) triples.now x) }
+    ensures properties { IfOk result (λ parts. (k : ℕ) → Contains parts.2 k ↔ IsSaid (IsPropertyAt nodes.now node.now) triples.now k) }
+{
+    Ok((
+        targets_of(alloc, triples, node)?,
+        constraints_of(alloc, triples, node)?,
+        properties_of(alloc, triples, nodes, node)?,
+    ))
+}
 
 // The shape at the node.
 fn compile_shape(
@@ -30,12 +57,13 @@ fn compile_shape(
     ensures node { IfOk result (λ shape. shape.node ≡ node.now) }
     ensures compiled { IfOk result (λ shape. IsCompiled triples.now nodes.now shape) }
 {
+    let (targets, constraints, properties) = parts_of(alloc, triples, nodes, node)?;
     Ok(Shape {
         node: node.clone()?,
         path: path_of(triples, node)?,
-        targets: targets_of(alloc, triples, node)?,
-        constraints: constraints_of(alloc, triples, node)?,
-        properties: properties_of(alloc, triples, nodes, node)?,
+        targets,
+        constraints,
+        properties,
     })
 }
 

@@ -6,8 +6,6 @@
 
 mod numbering;
 mod sorted_names;
-#[cfg(test)]
-mod tests;
 mod validation;
 
 pub use validation::listing;

@@ -8,8 +8,6 @@
 mod fault;
 mod names;
 mod rows;
-#[cfg(test)]
-mod tests;
 
 pub use fault::RowsFault;
 pub use rows::{BothListings, both_listings};

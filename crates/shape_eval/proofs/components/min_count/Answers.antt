@@ -1,4 +1,4 @@
-use Rattle.std.proofs.Common.{◌≡◌, ◌∷◌, []}
+use Rattle.std.proofs.Common.{◌≡◌, ◌∙◌, ◌∷◌, [], sym}
 use Rattle.std.proofs.lemmas.Result.{IfOk-weaker}
 use Rattle.rdf_model.specs.Numbers.{term_at}
 use Rattle.shape_ast.specs.declared.constraint.Constraint.TheVariants.{MinCount}
@@ -7,15 +7,15 @@ use Rattle.shape_eval.specs.CompiledRows.{Collects, ConstraintRow}
 use Rattle.shape_eval.proofs.Rows.{enough, too_few}
 use Rattle.shape_eval.proofs.components.min_count.Goals as goal
 
-pub returns-then-count-values : goal.returns-then-count-values
-returns-then-count-values g c =
+pub returns-then-not-is_fewer : goal.returns-then-not-is_fewer
+returns-then-not-is_fewer g c =
     let terms = g.N.Names.terms c.args.names.now in
-    rw c.new.ensures.items (enough terms c.requires.numbering c.args.values.now c.requires.nodes c.args.count (term_at terms c.args.parameter) c.args.source.now (term_at terms c.args.focus) c.if-count-values.true)
+    rw c.new.ensures.items (enough terms c.requires.numbering c.args.values.now c.requires.nodes c.args.count.now (term_at terms c.args.parameter) c.args.source.now (term_at terms c.args.focus) (sym c.is_fewer.ensures ∙ c.if-not-is_fewer.true))
 
 pub returns : goal.returns
 returns g c =
     let terms = g.N.Names.terms c.args.names.now in
     IfOk-weaker c.alone.result (λ rows. rows.items ≡ c.in_ok-row_alone.field-0 ∷ [])
-    (λ rows. Collects (ConstraintRow (MinCount c.args.count (term_at terms c.args.parameter)) (HasNode terms c.args.values.now) c.args.source.now (term_at terms c.args.focus)) rows.items)
-    (λ rows e. too_few terms c.requires.numbering c.args.values.now c.requires.nodes c.args.count (term_at terms c.args.parameter) c.args.source.now (term_at terms c.args.focus) c.if-count-values.false c.in_ok-row_alone.field-0 c.in_ok-row_alone.ensures rows.items e)
+    (λ rows. Collects (ConstraintRow (MinCount c.args.count.now (term_at terms c.args.parameter)) (HasNode terms c.args.values.now) c.args.source.now (term_at terms c.args.focus)) rows.items)
+    (λ rows e. too_few terms c.requires.numbering c.args.values.now c.requires.nodes c.args.count.now (term_at terms c.args.parameter) c.args.source.now (term_at terms c.args.focus) (sym c.is_fewer.ensures ∙ c.if-not-is_fewer.false) c.in_ok-row_alone.field-0 c.in_ok-row_alone.ensures rows.items e)
     c.alone.ensures

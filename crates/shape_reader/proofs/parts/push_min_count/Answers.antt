@@ -1,4 +1,8 @@
-use Rattle.std.proofs.Common.{◌≡◌, ℕ, sym, ap, ◌∙◌}
+use Rattle.std.proofs.Common.{◌≡◌, sym, ap, ◌∙◌, rules}
+use Rattle.std.proofs.lemmas.Int.{to_z-of_z}
+use Rattle.std.specs.Prelude.{ℤ}
+use mir.Syntax.{w128}
+use mir.Val.{SFits}
 use Rattle.shape_ast.specs.declared.constraint.Constraint.TheVariants.{MinCount}
 use Rattle.shape_reader.specs.Parts.{IsMinCountAt}
 use Rattle.shape_reader.proofs.SaidParts.{pushed, unpushed}
@@ -6,10 +10,12 @@ use Rattle.shape_reader.proofs.parts.push_min_count.Goals as goal
 
 pub returns-in_ok-push-in-Some : goal.returns-in_ok-push-in-Some
 returns-in_ok-push-in-Some c =
+    let fits : SFits w128 c.in-Some.count = search rules in
+    let told = simp to_z-of_z at c.in_ok-push-in-Some.ensures.ok in
     let made = ap (MinCount c.in-Some.count) c.in_ok-parameter-in-Some.ensures.cases in
-    pushed (IsMinCountAt c.args.node.now c.args.triple.now) c.args.constraints.now c.push.new.self _ c.in_ok-push-in-Some.ensures.ok (c.is_word_triple.ensures.0 c.if-is_word_triple.true, (c.in-Some.count, sym c.in-Some.ensures, made)) (λ x h.
+    pushed (IsMinCountAt c.args.node.now c.args.triple.now) c.args.constraints.now c.push.new.self _ told (c.is_word_triple.ensures.0 c.if-is_word_triple.true, (c.in-Some.count, sym c.in-Some.ensures, made)) (λ x h.
     let same : h.1.0 ≡ c.in-Some.count = let e = sym h.1.1 ∙ sym c.in-Some.ensures in cc in
-    h.1.2 ∙ ap (λ (count : ℕ). MinCount count c.args.triple.now.object) same ∙ sym made)
+    h.1.2 ∙ ap (λ (count : ℤ). MinCount count c.args.triple.now.object) same ∙ sym made)
 
 pub returns-else-is_word_triple : goal.returns-else-is_word_triple
 returns-else-is_word_triple c = unpushed (IsMinCountAt c.args.node.now c.args.triple.now) c.args.constraints.now (λ x h. let k = c.is_word_triple.ensures.1 h.0 in cc)

@@ -1,0 +1,8 @@
+pub mod Gathering
+pub mod Properties
+pub mod Table
+pub mod Rows
+pub mod Tests
+pub mod Syntax
+pub mod Broken
+pub mod Steps

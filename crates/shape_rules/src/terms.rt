@@ -1,0 +1,189 @@
+// What the rules ask of a term alone.
+ghost use Rattle.std.specs.Prelude.{◌≡◌, ◌⊎◌, ◌↔◌, IsTrue, Option, None, codes, length};
+ghost use Rattle.std.specs.List.{list_all};
+ghost use Rattle.rdf_model.specs.declared.term.Term.TheVariants as data_terms;
+ghost use Rattle.shape_model.specs.Triples.{IsBlank, IsIri, IsLiteral, IsMember};
+ghost use Rattle.shape_model.specs.WellFormed.{IsNodeKind};
+ghost use Rattle.shape_rules.specs.Tests;
+ghost use Rattle.shape_rules.specs.Tests.{xsd_boolean, xsd_integer, xsd_string};
+
+use literal_order::Lexical;
+use rdf_model::Term;
+
+pub(crate) fn is_same(term: &Term, other: &Term) -> bool
+    ensures { IsTrue result ↔ (term.now ≡ other.now) }
+{
+    term == other
+}
+
+pub(crate) fn is_blank(term: &Term) -> bool
+    ensures { IsTrue result ↔ IsBlank term.now }
+{
+    matches!(term, Term::Blank { .. })
+}
+
+pub(crate) fn is_iri(term: &Term) -> bool
+    ensures { IsTrue result ↔ IsIri term.now }
+{
+    matches!(term, Term::Iri(_))
+}
+
+pub(crate) fn is_literal(term: &Term) -> bool
+    ensures { IsTrue result ↔ IsLiteral term.now }
+{
+    matches!(term, Term::Literal { .. })
+}
+
+// Whether the term is the IRI.
+pub(crate) fn is_named(term: &Term, iri: &str) -> bool
+    ensures { IsTrue result ↔ (term.now ≡ data_terms.Iri iri.now) }
+{
+    match term {
+        Term::Iri(text) => text.as_str() == iri,
+        _ => false,
+    }
+}
+
+// Whether the term is one of the six node kinds.
+#[tactic(auto, unfolding(shape_model::specs::Vocabulary::sh))]
+pub(crate) fn is_node_kind(term: &Term) -> bool
+    ensures { IsTrue result ↔ IsNodeKind term.now }
+{
+    is_named(term, "http://www.w3.org/ns/shacl#BlankNode")
+        || is_named(term, "http://www.w3.org/ns/shacl#IRI")
+        || is_named(term, "http://www.w3.org/ns/shacl#Literal")
+        || is_named(term, "http://www.w3.org/ns/shacl#BlankNodeOrIRI")
+        || is_named(term, "http://www.w3.org/ns/shacl#BlankNodeOrLiteral")
+        || is_named(term, "http://www.w3.org/ns/shacl#IRIOrLiteral")
+}
+
+fn has_datatype(term: &Term, iri: &str) -> bool
+    ensures { result ≡ Tests.has_datatype iri.now term.now }
+{
+    match term {
+        Term::Literal {
+            datatype,
+            language: None,
+            ..
+        } => datatype.as_str() == iri,
+        _ => false,
+    }
+}
+
+fn is_well_typed(term: &Term) -> bool
+    ensures { result ≡ Tests.is_well_typed term.now }
+{
+    match literal_order::value(term) {
+        Lexical::Value(_) => true,
+        Lexical::NotTyped | Lexical::IllTyped => false,
+    }
+}
+
+#[tactic(auto, unfolding(crate::specs::Tests::xsd_integer))]
+pub(crate) fn is_integer(term: &Term) -> bool
+    ensures { IsTrue result ↔ (IsTrue (Tests.has_datatype xsd_integer term.now) × IsTrue (Tests.is_well_typed term.now)) }
+{
+    has_datatype(term, "http://www.w3.org/2001/XMLSchema#integer") && is_well_typed(term)
+}
+
+#[tactic(auto, unfolding(crate::specs::Tests::xsd_boolean))]
+pub(crate) fn is_boolean(term: &Term) -> bool
+    ensures { IsTrue result ↔ (IsTrue (Tests.has_datatype xsd_boolean term.now) × IsTrue (Tests.is_well_typed term.now)) }
+{
+    has_datatype(term, "http://www.w3.org/2001/XMLSchema#boolean") && is_well_typed(term)
+}
+
+#[tactic(auto, unfolding(crate::specs::Tests::xsd_string))]
+pub(crate) fn is_text(term: &Term) -> bool
+    ensures { result ≡ Tests.has_datatype xsd_string term.now }
+{
+    has_datatype(term, "http://www.w3.org/2001/XMLSchema#string")
+}
+
+// The lexical form of a literal, and nothing of any other term.
+fn text_of(term: &Term) -> &str
+    ensures { result.now ≡ Tests.text_of term.now }
+{
+    match term {
+        Term::Blank { .. } => "",
+        Term::Iri(_) => "",
+        Term::Literal { lexical, .. } => lexical.as_str(),
+    }
+}
+
+pub(crate) fn text_len(term: &Term) -> usize
+    ensures { result ≡ length (Tests.text_of term.now) }
+{
+    text_of(term).len()
+}
+
+fn is_flag(byte: u8) -> bool
+    ensures { result ≡ Tests.is_flag byte }
+{
+    byte == b'i' || byte == b's' || byte == b'm' || byte == b'x'
+}
+
+fn has_only_flags(text: &str) -> bool
+    ensures { result ≡ list_all Tests.is_flag text.now }
+{
+    text.as_bytes().iter().all(|byte| is_flag(*byte))
+}
+
+pub(crate) fn is_flags(term: &Term) -> bool
+    ensures { result ≡ Tests.is_flags term.now }
+{
+    is_text(term) && has_only_flags(text_of(term))
+}
+
+fn is_tagged(term: &Term) -> bool
+    ensures { result ≡ Tests.is_tagged term.now }
+{
+    matches!(
+        term,
+        Term::Literal {
+            language: Some(_),
+            ..
+        }
+    )
+}
+
+pub(crate) fn is_message(term: &Term) -> bool
+    ensures { IsTrue result ↔ (IsTrue (Tests.has_datatype xsd_string term.now) ⊎ IsTrue (Tests.is_tagged term.now)) }
+{
+    is_text(term) || is_tagged(term)
+}
+
+#[tactic(auto, unfolding(crate::specs::Tests::xsd_boolean))]
+fn is_boolean_term(term: &Term, form: &str) -> bool
+    ensures { IsTrue result ↔ (term.now ≡ data_terms.Literal form.now xsd_boolean None) }
+{
+    match term {
+        Term::Literal {
+            lexical,
+            datatype,
+            language: None,
+        } => {
+            lexical.as_str() == form
+                && datatype.as_str() == "http://www.w3.org/2001/XMLSchema#boolean"
+        }
+        _ => false,
+    }
+}
+
+pub(crate) fn is_true_or_false(term: &Term) -> bool
+    ensures { IsTrue result ↔ ((term.now ≡ data_terms.Literal (codes "true") xsd_boolean None) ⊎ (term.now ≡ data_terms.Literal (codes "false") xsd_boolean None)) }
+{
+    is_boolean_term(term, "true") || is_boolean_term(term, "false")
+}
+
+// Whether a term is in the list.
+pub(crate) fn has_class(classes: &[Term], iri: &str) -> bool
+    ensures { IsTrue result ↔ IsMember classes.now (data_terms.Iri iri.now) }
+{
+    for class in classes {
+        if is_named(class, iri) {
+            return true;
+        }
+    }
+    false
+}

@@ -1,0 +1,14 @@
+use Rattle.validation_tests.proofs.Examples.{node_kind_example, min_count_example, count_example, unread_example}
+use Rattle.validation_tests.proofs.definitions.worked_rows.Goals as goal
+
+pub returns-clause-node_kind : goal.returns-clause-node_kind
+returns-clause-node_kind c = node_kind_example
+
+pub returns-clause-min_count : goal.returns-clause-min_count
+returns-clause-min_count c = min_count_example
+
+pub returns-clause-count : goal.returns-clause-count
+returns-clause-count c = count_example
+
+pub returns-clause-unread : goal.returns-clause-unread
+returns-clause-unread c = unread_example
