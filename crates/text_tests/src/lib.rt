@@ -1,0 +1,16 @@
+//! Tests of the crates that read texts, with values from the standards: N-Triples 1.1, Turtle 1.1, RFC 3986, XML Schema
+//! Datatypes 1.1, SPARQL 1.1 and RFC 4647.
+#![tactic(auto)]
+
+#[cfg(test)]
+mod characters;
+#[cfg(test)]
+mod iris;
+#[cfg(test)]
+mod literals;
+#[cfg(test)]
+mod ntriples;
+#[cfg(test)]
+mod rows;
+#[cfg(test)]
+mod turtle_tokens;
