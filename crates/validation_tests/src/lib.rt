@@ -1,7 +1,18 @@
-//! Worked rows of validation, by which its definitions are checked.
-//!
-//! Each function of `definitions` promises that the definitions of `shape_model` give rows that were worked
-//! out by hand.
+//! Tests of validation: the definitions, the reader of shapes graphs, the table of rules, single evaluations,
+//! whole listings in two ways, and reports, each as a table of rows that were worked out by hand.
 #![tactic(auto)]
 
-pub mod definitions;
+#[cfg(test)]
+mod definitions;
+#[cfg(test)]
+mod evaluations;
+#[cfg(test)]
+mod listings;
+#[cfg(test)]
+mod reading;
+#[cfg(test)]
+mod reports;
+#[cfg(test)]
+mod rules;
+#[cfg(test)]
+mod short_forms;

@@ -1,0 +1,171 @@
+ghost use Rattle.std.specs.Prelude.{◌≡◌, IsTrue};
+ghost use Rattle.std.specs.List.{list_all, list_any};
+ghost use Rattle.rdf_model.specs.Matching.{same_term};
+ghost use Rattle.report_writer.specs.Sources.{HaveSources};
+
+use crate::short_forms::{optional_term, term};
+use collections::Sequence;
+use rdf_model::Term;
+use report_writer::report;
+use shape_ast::{Component, Path, ResultRow, Shape, Shapes};
+use std::alloc::{AllocError, Global};
+use std::process::Abort;
+use std::test::Fail;
+
+// A shape as far as a report reads it.
+fn shape(alloc: Global, node: Term, path: Option<Path<Term>>) -> Shape<Term> {
+    Shape {
+        node,
+        path,
+        targets: Sequence::new(alloc),
+        constraints: Sequence::new(alloc),
+        properties: Sequence::new(alloc),
+    }
+}
+
+// A node shape, and the property shape e:P of e:p.
+fn shapes(alloc: Global) -> Result<Shapes, AllocError> {
+    let mut shapes = Sequence::new(alloc);
+    shapes.push(shape(alloc, term(alloc, "_2")?, None))?;
+    let node = term(alloc, "e:P")?;
+    let path = Path::Predicate(term(alloc, "e:p")?);
+    shapes.push(shape(alloc, node, Some(path)))?;
+    Ok(Shapes { shapes })
+}
+
+// A result as far as a report writes it: the source shape, the focus node, the component, the value and
+// what else tells results apart.
+type Parts = (
+    &'static str,
+    &'static str,
+    Component,
+    &'static str,
+    &'static str,
+);
+
+// e:a has no value of e:p.
+const TOO_FEW: Parts = ("e:P", "e:a", Component::MinCount, "", "");
+
+// A literal is no IRI.
+const WRONG_KIND: Parts = ("_2", "\"x", Component::NodeKind, "\"x", "");
+
+// A value of e:p at e:a has the value "x" of e:q, which isn't allowed.
+const NOT_ALLOWED: Parts = ("e:P", "e:a", Component::Closed, "\"x", "e:q");
+
+fn row(alloc: Global, parts: &Parts) -> Result<ResultRow, AllocError> {
+    let (source_shape, focus_node, component, value, other) = *parts;
+    Ok(ResultRow {
+        source_shape: term(alloc, source_shape)?,
+        focus_node: term(alloc, focus_node)?,
+        component,
+        parameter: None,
+        about: None,
+        value: optional_term(alloc, value)?,
+        other: optional_term(alloc, other)?,
+    })
+}
+
+fn rows(alloc: Global, table: &[Parts]) -> Result<Vec<ResultRow>, AllocError> {
+    let mut rows = Vec::new(alloc);
+    for parts in table {
+        rows.push(row(alloc, parts)?)?;
+    }
+    Ok(rows)
+}
+
+// Whether the result's source is among the shapes.
+fn has_source(row: &ResultRow, shapes: &[Shape<Term>]) -> bool
+    ensures { result ≡ list_any (λ c. same_term c.node row.now.source_shape) shapes.now }
+{
+    shapes.iter().any(|shape| shape.node == row.source_shape)
+}
+
+fn all_have(rows: &[ResultRow], shapes: &[Shape<Term>]) -> bool
+    ensures { result ≡ list_all (λ r. list_any (λ c. same_term c.node r.source_shape) shapes.now) rows.now }
+{
+    rows.iter().all(|row| has_source(row, shapes))
+}
+
+fn have_sources(rows: &[ResultRow], shapes: &Shapes) -> bool
+    ensures { IsTrue result → HaveSources shapes.now.shapes rows.now }
+{
+    all_have(rows, shapes.shapes.as_slice())
+}
+
+fn printed(rt: &impl Abort, alloc: Global, rows: &[ResultRow]) -> Result<String, Fail> {
+    let shapes = shapes(alloc)?;
+    assert!(rt; have_sources(rows, &shapes));
+    Ok(report(alloc, rows, &shapes)?)
+}
+
+// Results of the shapes, each with the report.
+const REPORTS: [(&str, &[Parts], &str); 4] = [
+    (
+        "no result (SHACL section 3.6.1.1)",
+        &[],
+        "@prefix sh: <http://www.w3.org/ns/shacl#> .\n\
+         _:r a sh:ValidationReport .\n\
+         _:r sh:conforms true .\n",
+    ),
+    (
+        "one result",
+        &[TOO_FEW],
+        "@prefix sh: <http://www.w3.org/ns/shacl#> .\n\
+         _:r a sh:ValidationReport .\n\
+         _:r sh:conforms false .\n\
+         _:r sh:result _:r1 .\n\
+         _:r1 a sh:ValidationResult .\n\
+         _:r1 sh:focusNode <e:a> .\n\
+         _:r1 sh:resultPath <e:p> .\n\
+         _:r1 sh:resultSeverity <http://www.w3.org/ns/shacl#Violation> .\n\
+         _:r1 sh:sourceShape <e:P> .\n\
+         _:r1 sh:sourceConstraintComponent sh:MinCountConstraintComponent .\n",
+    ),
+    (
+        "the path of a property shape, and none of a node shape",
+        &[TOO_FEW, WRONG_KIND],
+        "@prefix sh: <http://www.w3.org/ns/shacl#> .\n\
+         _:r a sh:ValidationReport .\n\
+         _:r sh:conforms false .\n\
+         _:r sh:result _:r1 .\n\
+         _:r1 a sh:ValidationResult .\n\
+         _:r1 sh:focusNode <e:a> .\n\
+         _:r1 sh:resultPath <e:p> .\n\
+         _:r1 sh:resultSeverity <http://www.w3.org/ns/shacl#Violation> .\n\
+         _:r1 sh:sourceShape <e:P> .\n\
+         _:r1 sh:sourceConstraintComponent sh:MinCountConstraintComponent .\n\
+         _:r sh:result _:r2 .\n\
+         _:r2 a sh:ValidationResult .\n\
+         _:r2 sh:focusNode \"x\" .\n\
+         _:r2 sh:value \"x\" .\n\
+         _:r2 sh:resultSeverity <http://www.w3.org/ns/shacl#Violation> .\n\
+         _:r2 sh:sourceShape _:s1x2 .\n\
+         _:r2 sh:sourceConstraintComponent sh:NodeKindConstraintComponent .\n",
+    ),
+    (
+        "the predicate that a closed shape doesn't allow as the path",
+        &[NOT_ALLOWED],
+        "@prefix sh: <http://www.w3.org/ns/shacl#> .\n\
+         _:r a sh:ValidationReport .\n\
+         _:r sh:conforms false .\n\
+         _:r sh:result _:r1 .\n\
+         _:r1 a sh:ValidationResult .\n\
+         _:r1 sh:focusNode <e:a> .\n\
+         _:r1 sh:resultPath <e:q> .\n\
+         _:r1 sh:value \"x\" .\n\
+         _:r1 sh:resultSeverity <http://www.w3.org/ns/shacl#Violation> .\n\
+         _:r1 sh:sourceShape <e:P> .\n\
+         _:r1 sh:sourceConstraintComponent sh:ClosedConstraintComponent .\n",
+    ),
+];
+
+#[test]
+fn reports(rt: HostRuntime) -> Result<(), Fail> {
+    let alloc = rt.alloc();
+    for (name, table, expected) in REPORTS {
+        let rows = rows(alloc, table)?;
+        let text = printed(&rt, alloc, rows.as_slice())?;
+        assert_eq!(rt; text.as_str(), expected, "{name}");
+    }
+    Ok(())
+}

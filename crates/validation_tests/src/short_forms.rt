@@ -1,0 +1,113 @@
+// Terms, triples and results in short forms, for tables.
+
+use rdf_model::{Term, Text, Triple};
+use shape_model::ResultRow;
+use std::alloc::{AllocError, Global};
+
+const SHACL: &str = "http://www.w3.org/ns/shacl#";
+
+const RDF: &str = "http://www.w3.org/1999/02/22-rdf-syntax-ns#";
+
+const RDFS: &str = "http://www.w3.org/2000/01/rdf-schema#";
+
+const XSD: &str = "http://www.w3.org/2001/XMLSchema#";
+
+fn joined(alloc: Global, first: &str, last: &str) -> Result<Text, AllocError> {
+    let text = format!(in alloc; "{first}{last}")?;
+    Ok(Text::from_string(text))
+}
+
+fn literal(alloc: Global, lexical: &str, datatype: &str) -> Result<Term, AllocError> {
+    Ok(Term::Literal {
+        lexical: Text::new(alloc, lexical)?,
+        datatype: joined(alloc, XSD, datatype)?,
+        language: None,
+    })
+}
+
+// An IRI, with the prefixes sh, rdf and rdfs.
+fn iri(alloc: Global, short: &str) -> Result<Term, AllocError> {
+    let text = match short.split_once(':') {
+        Some(("sh", name)) => joined(alloc, SHACL, name)?,
+        Some(("rdf", name)) => joined(alloc, RDF, name)?,
+        Some(("rdfs", name)) => joined(alloc, RDFS, name)?,
+        _ => Text::new(alloc, short)?,
+    };
+    Ok(Term::Iri(text))
+}
+
+// A term by its short form: `_1` and `_2` are blank nodes, `'5` is an integer, `%true` a boolean,
+// `"x` a string, and all else is an IRI.
+pub(crate) fn term(alloc: Global, short: &str) -> Result<Term, AllocError> {
+    for (name, number) in [("_1", 1), ("_2", 2)] {
+        if short == name {
+            return Ok(Term::Blank { session: 1, number });
+        }
+    }
+    if let Some(lexical) = short.strip_prefix('\'') {
+        return literal(alloc, lexical, "integer");
+    }
+    if let Some(lexical) = short.strip_prefix('%') {
+        return literal(alloc, lexical, "boolean");
+    }
+    match short.strip_prefix('"') {
+        Some(lexical) => literal(alloc, lexical, "string"),
+        None => iri(alloc, short),
+    }
+}
+
+// The same, where an empty text stands for no term.
+pub(crate) fn optional_term(alloc: Global, short: &str) -> Result<Option<Term>, AllocError> {
+    if short.is_empty() {
+        return Ok(None);
+    }
+    Ok(Some(term(alloc, short)?))
+}
+
+// Subject, predicate and object.
+pub(crate) type Shorts = (&'static str, &'static str, &'static str);
+
+fn triple(alloc: Global, shorts: &Shorts) -> Result<Triple, AllocError> {
+    let (subject, predicate, object) = *shorts;
+    Ok(Triple {
+        subject: term(alloc, subject)?,
+        predicate: term(alloc, predicate)?,
+        object: term(alloc, object)?,
+    })
+}
+
+pub(crate) fn triples(alloc: Global, rows: &[Shorts]) -> Result<Vec<Triple>, AllocError> {
+    let mut triples = Vec::new(alloc);
+    for shorts in rows {
+        triples.push(triple(alloc, shorts)?)?;
+    }
+    Ok(triples)
+}
+
+pub(crate) fn push_optional(text: &mut String, term: &Option<Term>) -> Result<(), AllocError> {
+    match term {
+        Some(term) => write!(text, " {term}"),
+        None => text.push_str(" -"),
+    }
+}
+
+// A line of a result: the source shape, the focus node, the component, its parameter, the value node that
+// it is about, the value, and what else tells results apart.
+fn push_row(text: &mut String, row: &ResultRow) -> Result<(), AllocError> {
+    let source_shape = &row.source_shape;
+    let focus_node = &row.focus_node;
+    let component = row.component;
+    write!(text, "{source_shape} {focus_node} {component:?}")?;
+    for part in [&row.parameter, &row.about, &row.value, &row.other] {
+        push_optional(text, part)?;
+    }
+    text.push_str("\n")
+}
+
+pub(crate) fn text_of_rows(alloc: Global, rows: &[ResultRow]) -> Result<String, AllocError> {
+    let mut text = String::new(alloc);
+    for row in rows {
+        push_row(&mut text, row)?;
+    }
+    Ok(text)
+}
