@@ -2,4 +2,8 @@
 #![tactic(auto)]
 
 #[cfg(test)]
+mod dict;
+#[cfg(test)]
+mod index;
+#[cfg(test)]
 mod pages;

@@ -1,0 +1,88 @@
+use collections::{Sequence, contains_item};
+use rdf_model::{ListNames, Names, Term, Text};
+use std::alloc::{AllocError, Global};
+use std::process::Abort;
+use std::test::Fail;
+use term_dict::{Dict, NameFault};
+
+fn node(number: u32) -> Term {
+    Term::Blank { session: 1, number }
+}
+
+fn nodes(alloc: Global, numbers: &[u32]) -> Result<Vec<Term>, AllocError> {
+    let mut terms = Vec::new(alloc);
+    for number in numbers {
+        terms.push(node(*number))?;
+    }
+    Ok(terms)
+}
+
+// Each row names a list, and has the numbers that it gets, or none and the count that is too high.
+#[test]
+fn terms_get_numbers(rt: HostRuntime) -> Result<(), Fail> {
+    let alloc = rt.alloc();
+    let mut dict = Dict::new(alloc, 4)?;
+    let rows: [(&[u32], &[u32], usize); 5] = [
+        (&[7, 5, 7], &[2, 3, 2], 0),
+        (&[9, 8, 6, 9], &[], 5),
+        (&[9, 5], &[4, 3], 0),
+        (&[6, 7, 9], &[5, 2, 4], 0),
+        (&[4], &[], 5),
+    ];
+    for (named, want, too_many) in rows {
+        let terms = nodes(alloc, named)?;
+        match dict.name_all(&terms) {
+            Ok(numbers) => assert_eq!(rt; numbers.as_slice(), want),
+            Err(fault) => assert_eq!(rt; fault, NameFault::Full { count: too_many }),
+        }
+    }
+    Ok(())
+}
+
+// The two answer alike for a number and for a term.
+fn same_names<N: Names>(rt: &impl Abort, names: &N, list: &ListNames, number: u32) {
+    assert_eq!(rt; names.count(), list.count());
+    assert_eq!(rt; names.term(number), list.term(number));
+    assert_eq!(rt; names.id(&node(number)), list.id(&node(number)));
+}
+
+// The two terms that have a number from the start.
+fn first_two(alloc: Global) -> Result<Vec<Term>, AllocError> {
+    let mut terms = Vec::new(alloc);
+    for iri in [
+        "http://www.w3.org/1999/02/22-rdf-syntax-ns#type",
+        "http://www.w3.org/2000/01/rdf-schema#subClassOf",
+    ] {
+        terms.push(Term::Iri(Text::new(alloc, iri)?))?;
+    }
+    Ok(terms)
+}
+
+// A plain list of terms answers as the dictionary does, and a share keeps the names of before.
+#[test]
+fn a_plain_list_agrees(rt: HostRuntime) -> Result<(), Fail> {
+    let alloc = rt.alloc();
+    let mut dict = Dict::new(alloc, 2000)?;
+    let share = dict.share()?;
+    let mut plain = first_two(alloc)?;
+    let mut seed = 1u32;
+    for _ in 0..1000u32 {
+        seed = seed.wrapping_mul(1_664_525).wrapping_add(1_013_904_223);
+        let term = node((seed >> 8) % 400);
+        if !contains_item(&plain, &term) {
+            plain.push(term.clone()?)?;
+        }
+        let numbers = dict.name_all(&[term]).ok();
+        assert!(rt; numbers.is_some());
+    }
+    assert_eq!(rt; share.count(), 2);
+    if plain.len() < 1000 {
+        let list = ListNames::from_terms(Sequence::from_vec(plain));
+        for number in 0..410u32 {
+            same_names(&rt, &dict, &list, number);
+        }
+        return Ok(());
+    }
+    assert!(rt; false, "too many terms");
+    Ok(())
+}

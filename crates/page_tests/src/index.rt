@@ -1,0 +1,189 @@
+ghost use Rattle.std.specs.Prelude.{◌<◌, IfSome, length};
+ghost use Rattle.rdf_model.specs.Numbers.{AsksForOne};
+
+use collections::Sequence;
+use overlay_view::Overlay;
+use rdf_model::{Ids, ListGraph, Look, Triples};
+use std::alloc::{AllocError, Global};
+use std::process::Abort;
+use std::test::Fail;
+use triple_index::{Index, NumberedChange};
+
+// The next number of a sequence without order.
+fn next(seed: u32) -> u32 {
+    seed.wrapping_mul(1_664_525).wrapping_add(1_013_904_223)
+}
+
+fn triple_of(seed: u32) -> Ids {
+    Ids {
+        subject: (seed >> 16) % 13,
+        predicate: (seed >> 8) % 5,
+        object: (seed >> 20) % 29,
+    }
+}
+
+fn change_of(seed: u32, adds: u32) -> NumberedChange {
+    if (seed >> 4) % 8 < adds {
+        NumberedChange::Add(triple_of(seed))
+    } else {
+        NumberedChange::Remove(triple_of(seed))
+    }
+}
+
+// Where a triple stands in a plain vector.
+fn place_of(plain: &[Ids], triple: Ids) -> Option<usize>
+    ensures { IfSome result (λ place. place < length plain.now) }
+{
+    for (place, other) in plain.iter().enumerate() {
+        if *other == triple {
+            return Some(place);
+        }
+    }
+    None
+}
+
+// Makes the change in a plain vector.
+fn change_plain(plain: &mut Vec<Ids>, change: NumberedChange) -> Result<(), AllocError> {
+    match change {
+        NumberedChange::Add(triple) => {
+            if place_of(plain, triple).is_none() {
+                plain.push(triple)?;
+            }
+        }
+        NumberedChange::Remove(triple) => {
+            if let Some(place) = place_of(plain, triple) {
+                let _ = plain.remove(place);
+            }
+        }
+    }
+    Ok(())
+}
+
+// Both find the same.
+fn same_found<R: Triples>(
+    rt: &impl Abort,
+    alloc: Global,
+    graph: &R,
+    list: &ListGraph,
+    look: &Look<u32>,
+) -> Result<(), AllocError>
+    requires { AsksForOne look.now }
+{
+    assert_eq!(rt;
+        graph.find(alloc, look)?.as_slice(),
+        list.find(alloc, look)?.as_slice()
+    );
+    Ok(())
+}
+
+// All reads round a triple answer as a plain list does.
+fn same_reads<R: Triples>(
+    rt: &impl Abort,
+    alloc: Global,
+    graph: &R,
+    plain: &Vec<Ids>,
+    triple: Ids,
+) -> Result<(), AllocError> {
+    let list = ListGraph::from_triples(Sequence::from_vec(plain.clone()?));
+    let Ids {
+        subject,
+        predicate,
+        object,
+    } = triple;
+    same_found(rt, alloc, graph, &list, &Look::Out(subject, predicate))?;
+    same_found(rt, alloc, graph, &list, &Look::In(predicate, object))?;
+    assert_eq!(rt;
+        graph.edges(alloc, subject)?.as_slice(),
+        list.edges(alloc, subject)?.as_slice()
+    );
+    assert_eq!(rt;
+        graph.with_predicate(alloc, predicate)?.as_slice(),
+        list.with_predicate(alloc, predicate)?.as_slice()
+    );
+    assert_eq!(rt; graph.contains(triple), list.contains(triple));
+    Ok(())
+}
+
+fn fits(wanted: Option<u32>, number: u32) -> bool {
+    match wanted {
+        Some(other) => other == number,
+        None => true,
+    }
+}
+
+// How many triples of the list a pattern asks for.
+fn count_of(
+    plain: &[Ids],
+    subject: Option<u32>,
+    predicate: Option<u32>,
+    object: Option<u32>,
+) -> u32 {
+    let mut count = 0u32;
+    for triple in plain {
+        if fits(subject, triple.subject)
+            && fits(predicate, triple.predicate)
+            && fits(object, triple.object)
+        {
+            count = count.wrapping_add(1);
+        }
+    }
+    count
+}
+
+// The eight patterns round a triple find as many as there are.
+fn same_patterns(
+    rt: &impl Abort,
+    index: &Index,
+    plain: &Vec<Ids>,
+    triple: Ids,
+) -> Result<(), AllocError> {
+    for given in 0..8u32 {
+        let subject = if given % 2 == 1 {
+            Some(triple.subject)
+        } else {
+            None
+        };
+        let predicate = if given / 2 % 2 == 1 {
+            Some(triple.predicate)
+        } else {
+            None
+        };
+        let object = if given / 4 == 1 {
+            Some(triple.object)
+        } else {
+            None
+        };
+        let found = index.find_pattern(subject, predicate, object)?;
+        assert_eq!(rt;
+            found.len() as u64,
+            u64::from(count_of(plain, subject, predicate, object))
+        );
+    }
+    Ok(())
+}
+
+// A plain list answers as the index does, while it grows and while it shrinks, and as a net over it does.
+#[test]
+fn a_plain_list_agrees(rt: HostRuntime) -> Result<(), Fail> {
+    let mut index = Index::new(rt.alloc());
+    let mut plain = Vec::new(rt.alloc());
+    let mut seed = 1;
+    for round in 0..3000u32 {
+        seed = next(seed);
+        let change = change_of(seed, if round < 1500 { 6 } else { 2 });
+        if round % 100 == 0 {
+            same_reads(&rt, rt.alloc(), &index, &plain, triple_of(seed))?;
+            same_patterns(&rt, &index, &plain, triple_of(seed))?;
+            let net = [change, change_of(next(seed), 4)];
+            let overlay = Overlay::new(rt.alloc(), &index, &net)?;
+            let mut after = plain.clone()?;
+            change_plain(&mut after, net[0])?;
+            change_plain(&mut after, net[1])?;
+            same_reads(&rt, rt.alloc(), &overlay, &after, triple_of(seed))?;
+        }
+        index.apply(&[change])?;
+        change_plain(&mut plain, change)?;
+        assert_eq!(rt; index.len(), plain.len());
+    }
+    Ok(())
+}
