@@ -2,6 +2,7 @@
 
 use crate::rows::same;
 use std::alloc::Global;
+use std::process::Abort;
 use std::test::Fail;
 use turtle_lex::{
     Place, Quotes, TokenKind, iri_text, local_name, next_token, plain_text, split_name,
@@ -35,8 +36,8 @@ fn listing(alloc: Global, text: &str) -> Result<String, Fail> {
 }
 
 // Whether the text has these tokens, as `listing` gives them.
-fn expect_tokens(rt: &HostRuntime, text: &str, wanted: &str) -> Result<(), Fail> {
-    let found = listing(rt.alloc(), text)?;
+fn expect_tokens(rt: &impl Abort, alloc: Global, text: &str, wanted: &str) -> Result<(), Fail> {
+    let found = listing(alloc, text)?;
     same(rt, text, found.as_str(), wanted);
     Ok(())
 }
@@ -65,7 +66,7 @@ const NUMBERS: [(&str, &str); 18] = [
 #[test]
 fn numbers(rt: HostRuntime) -> Result<(), Fail> {
     for (text, wanted) in NUMBERS {
-        expect_tokens(&rt, text, wanted)?;
+        expect_tokens(&rt, rt.alloc(), text, wanted)?;
     }
     Ok(())
 }
@@ -96,7 +97,7 @@ const NAMES_AND_WHITE_SPACE: [(&str, &str); 17] = [
 #[test]
 fn names_and_white_space(rt: HostRuntime) -> Result<(), Fail> {
     for (text, wanted) in NAMES_AND_WHITE_SPACE {
-        expect_tokens(&rt, text, wanted)?;
+        expect_tokens(&rt, rt.alloc(), text, wanted)?;
     }
     Ok(())
 }
@@ -134,7 +135,7 @@ const DIRECTIVES_AND_TAGS: [(&str, &str); 18] = [
 #[test]
 fn directives_and_tags(rt: HostRuntime) -> Result<(), Fail> {
     for (text, wanted) in DIRECTIVES_AND_TAGS {
-        expect_tokens(&rt, text, wanted)?;
+        expect_tokens(&rt, rt.alloc(), text, wanted)?;
     }
     Ok(())
 }
@@ -156,7 +157,7 @@ const WORDS: [(&str, &str); 11] = [
 #[test]
 fn words(rt: HostRuntime) -> Result<(), Fail> {
     for (text, wanted) in WORDS {
-        expect_tokens(&rt, text, wanted)?;
+        expect_tokens(&rt, rt.alloc(), text, wanted)?;
     }
     Ok(())
 }
@@ -196,7 +197,7 @@ const STRINGS: [(&str, &str); 23] = [
 #[test]
 fn strings(rt: HostRuntime) -> Result<(), Fail> {
     for (text, wanted) in STRINGS {
-        expect_tokens(&rt, text, wanted)?;
+        expect_tokens(&rt, rt.alloc(), text, wanted)?;
     }
     Ok(())
 }
@@ -218,7 +219,7 @@ const IRIS: [(&str, &str); 11] = [
 #[test]
 fn iris(rt: HostRuntime) -> Result<(), Fail> {
     for (text, wanted) in IRIS {
-        expect_tokens(&rt, text, wanted)?;
+        expect_tokens(&rt, rt.alloc(), text, wanted)?;
     }
     Ok(())
 }
