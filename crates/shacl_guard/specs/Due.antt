@@ -1,10 +1,10 @@
 -- What the program has to print, and with which status.
-use Rattle.std.specs.Prelude.{◌≡◌, ℕ, ◌<◌, Bool, not, ◌&&◌, List, [], ◌∷◌, ◌++◌, length, Option, Some, None, Ok, Err, nat_lt, ◌==◌, if◌then◌else◌, slice_index, codes}
+use Rattle.std.specs.Prelude.{◌≡◌, ℕ, ◌<◌, Bool, not, ◌&&◌, List, [], ◌∷◌, ◌++◌, length, Option, Some, None, Ok, Err, nat_lt, ◌==◌, if◌then◌else◌, slice_index, bytes_eq, codes}
 use Rattle.std.specs.Fmt.{decimal}
 use Rattle.store_model.specs.declared.event.Limits.{Limits}
 use Rattle.session_model.specs.declared.command.Command.{Command}
 use Rattle.session_model.specs.Print.{IsPrint, line}
-use Rattle.session_reader.specs.SessionFile.{IsSession, same_text, session_of}
+use Rattle.session_reader.specs.SessionFile.{IsSession, session_of}
 use Rattle.outside.specs.Files.{Contents, Loads}
 use Rattle.shacl_guard.specs.declared.status.Status.{Status}
 use Rattle.shacl_guard.specs.declared.status.Status.TheVariants.{Done, Usage, ReadFault, WriteFault, BadSession, Memory, TooLong}
@@ -18,8 +18,16 @@ abbrev pub file_of : List (List ℕ) → Option (List ℕ)
 file_of [] = None
 file_of (p ∷ []) = None
 file_of (p ∷ r ∷ []) = None
-file_of (p ∷ r ∷ f ∷ []) = if same_text r (codes "run") && is_file_name f then Some f else None
+file_of (p ∷ r ∷ f ∷ []) = if bytes_eq r (codes "run") && is_file_name f then Some f else None
 file_of (p ∷ r ∷ f ∷ x ∷ xs) = None
+
+-- the files of the words, in order; none where the words aren't taken
+abbrev pub listed : Option (List ℕ) → List (List ℕ)
+listed None = []
+listed (Some name) = name ∷ []
+
+abbrev pub files_of : List (List ℕ) → List (List ℕ)
+files_of words = listed (file_of words)
 
 -- a file may have 16,777,216 bytes; one more is asked for, to see whether it has
 abbrev pub room : ℕ
@@ -55,7 +63,3 @@ IsDue words held (TooLong i) text = IsFileDue words held (TooLong i) text
 IsDue words held ReadFault text = ⊥
 IsDue words held WriteFault text = ⊥
 IsDue words held Memory text = ⊥
-
--- the name of the file of the words joined those whose loads failed
-abbrev pub HasFailed : List (List ℕ) → List (List ℕ) → List (List ℕ) → Type 0
-HasFailed words old new = (name : List ℕ) × (file_of words ≡ Some name) × (new ≡ old ++ name ∷ [])

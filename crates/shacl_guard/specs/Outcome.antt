@@ -5,25 +5,28 @@ use Rattle.session_reader.specs.SessionFile.{session_of}
 use Rattle.outside.specs.Files.{Contents, grown}
 use Rattle.shacl_guard.specs.declared.status.Status.{Status}
 use Rattle.shacl_guard.specs.declared.status.Status.TheVariants.{Done, Usage, ReadFault, WriteFault, BadSession, Memory, TooLong}
-use Rattle.shacl_guard.specs.Due.{IsDue, HasFailed, file_of, room}
+use Rattle.shacl_guard.specs.Due.{IsDue, file_of, room}
+use Rattle.shacl_guard.specs.World.{Call, LoadsEach, LoadsFirst, NoneFailed, OneFailed}
 
--- the whole text that is due with the status was taken, and no load failed
-abbrev pub PrintsAll : Status → List (List ℕ) → Option Contents → List (List ℕ) → List (List ℕ) → Option (List ℕ) → Option (List ℕ) → Type 0
-PrintsAll s words held failed failed' old new = (failed' ≡ failed) × ((text : List ℕ) × IsDue words held s text × (new ≡ grown old text))
+-- the whole text that is due with the status was taken, each file was loaded once and no load failed
+abbrev pub PrintsAll : Status → Call → Type 0
+PrintsAll s c = LoadsEach c.words c.before.loads c.after.loads × NoneFailed c.before.loads c.after.loads
+    × ((text : List ℕ) × IsDue c.words c.held s text × (c.after.taken ≡ grown c.before.taken text))
 
--- a part of what was due with some status was taken, and no load failed
-abbrev pub PrintsPart : List (List ℕ) → Option Contents → List (List ℕ) → List (List ℕ) → Option (List ℕ) → Option (List ℕ) → Type 0
-PrintsPart words held failed failed' old new = (failed' ≡ failed) × ((s : Status) × (text : List ℕ) × (n : ℕ) × IsDue words held s text × (new ≡ grown old (take n text)))
+-- a part of what was due with some status was taken, and not all of it
+abbrev pub PrintsPart : Call → Type 0
+PrintsPart c = LoadsEach c.words c.before.loads c.after.loads × NoneFailed c.before.loads c.after.loads
+    × ((s : Status) × (text : List ℕ) × (n : ℕ) × (n < length text) × IsDue c.words c.held s text × (c.after.taken ≡ grown c.before.taken (take n text)))
 
 -- By the status: what the words and the files are, and what the sink took. Want of memory prints nothing.
-abbrev pub IsOutcome : Status → List (List ℕ) → Option Contents → List (List ℕ) → List (List ℕ) → Option (List ℕ) → Option (List ℕ) → Type 0
-IsOutcome Done words held failed failed' old new = PrintsAll Done words held failed failed' old new
-IsOutcome Usage words held failed failed' old new = PrintsAll Usage words held failed failed' old new
-IsOutcome (BadSession i n) words held failed failed' old new = PrintsAll (BadSession i n) words held failed failed' old new
-IsOutcome (TooLong i) words held failed failed' old new = PrintsAll (TooLong i) words held failed failed' old new
-IsOutcome ReadFault words held failed failed' old new = HasFailed words failed failed' × (new ≡ old)
-IsOutcome WriteFault words held failed failed' old new = PrintsPart words held failed failed' old new
-IsOutcome Memory words held failed failed' old new = (failed' ≡ failed) × (new ≡ old)
+abbrev pub IsOutcome : Status → Call → Type 0
+IsOutcome Done c = PrintsAll Done c
+IsOutcome Usage c = PrintsAll Usage c
+IsOutcome (BadSession i n) c = PrintsAll (BadSession i n) c
+IsOutcome (TooLong i) c = PrintsAll (TooLong i) c
+IsOutcome ReadFault c = LoadsEach c.words c.before.loads c.after.loads × OneFailed c.words c.before.loads c.after.loads × (c.after.taken ≡ c.before.taken)
+IsOutcome WriteFault c = PrintsPart c
+IsOutcome Memory c = LoadsFirst c.words c.before.loads c.after.loads × NoneFailed c.before.loads c.after.loads × (c.after.taken ≡ c.before.taken)
 
 -- a file that the words name is there, within its length, and a session file
 abbrev pub HasSession : List (List ℕ) → Option Contents → Type 0

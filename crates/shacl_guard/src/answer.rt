@@ -1,7 +1,7 @@
-ghost use Rattle.std.specs.Prelude.{◌≡◌, ◌≤◌, ◌∷◌, [], ◌++◌, IfOk, IfErr, List, ℕ, map, length, string_bytes};
+ghost use Rattle.std.specs.Prelude.{◌≡◌, ◌≤◌, ◌∷◌, [], ◌++◌, IfOk, IfErr, OnOk, List, ℕ, map, length, string_bytes};
 ghost use Rattle.std.specs.Option.{option_copied};
 ghost use Rattle.session_model.specs.Print.{IsPrint};
-ghost use Rattle.shacl_guard.specs.Due.{IsDue, IsTextOf, file_of, room, no_limits};
+ghost use Rattle.shacl_guard.specs.Due.{IsDue, IsTextOf, file_of, files_of, room, no_limits};
 ghost use Rattle.shacl_guard.specs.Faults.{Fails};
 
 use crate::Status;
@@ -88,8 +88,10 @@ pub fn answer_to<F: Files, M: Maker>(
 ) -> Result<Answer, Status>
     ensures due { let given = map (λ w. w.now) words.now in
         IfOk result (λ a. IsDue given (F.holds files.old) a.status (string_bytes a.text) × (F.failed files.new ≡ F.failed files.old)) }
-    ensures fault { let given = map (λ w. w.now) words.now in
-        IfErr result (λ s. Fails s given (F.failed files.old) (F.failed files.new)) }
+    ensures loaded { OnOk result (F.loaded files.new ≡ F.loaded files.old ++ files_of (map (λ w. w.now) words.now)) }
+    ensures fault { IfErr result (λ s. Fails s (map (λ w. w.now) words.now)
+        (record { loaded = F.loaded files.old; failed = F.failed files.old })
+        (record { loaded = F.loaded files.new; failed = F.failed files.new })) }
     ensures maker { maker.new ≡ maker.old }
 {
     let Some(name) = file_in(words) else {

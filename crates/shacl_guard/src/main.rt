@@ -45,5 +45,5 @@ fn main(rt: HostRuntime) -> ExitCode {
         Ok(status) => status,
         Err(_) => Status::Memory,
     };
-    ExitCode::from(status.code())
+    status.exit_code()
 }

@@ -20,8 +20,13 @@ pub fn run_command<R, F: Files, K: Sink, M: Maker, G: Gate>(
     maker: &mut M,
     _gate: &G,
 ) -> Status
-    // By the status: what the words and the files are, and exactly what the sink took.
-    ensures outcome { IsOutcome result (map (λ w. w.now) words.now) (F.holds files.old) (F.failed files.old) (F.failed files.new) (K.taken out.old) (K.taken out.new) }
+    // By the status: what the words and the files are, which files were loaded, and exactly what the sink took.
+    ensures outcome { IsOutcome result (record {
+      words = map (λ w. w.now) words.now;
+      held = F.holds files.old;
+      before = record { loads = record { loaded = F.loaded files.old; failed = F.failed files.old }; taken = K.taken out.old };
+      after = record { loads = record { loaded = F.loaded files.new; failed = F.failed files.new }; taken = K.taken out.new };
+    }) }
     ensures write_fault { result ≡ Status.WriteFault → Rose (K.faults out.old) (K.faults out.new) }
 
     // A session file within its length is run, unless a load or a write failed or memory ran out.

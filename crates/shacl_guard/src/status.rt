@@ -1,4 +1,7 @@
 ghost use Rattle.std.specs.Prelude.{◌≡◌};
+ghost use Rattle.std.specs.Process.{exit_status};
+
+use std::process::ExitCode;
 
 /// How the program ends.
 #[derive(Clone, Copy, Debug, PartialEq, Eq)]
@@ -35,5 +38,12 @@ impl Status {
             Status::Memory => 6,
             Status::TooLong { .. } => 7,
         }
+    }
+
+    /// The code that the process ends with, whose number is that of the status.
+    pub fn exit_code(&self) -> ExitCode
+        ensures { exit_status result ≡ code_of self.now }
+    {
+        ExitCode::from(self.code())
     }
 }

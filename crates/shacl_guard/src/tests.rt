@@ -224,6 +224,17 @@ fn stops_where_the_sink_fails(rt: HostRuntime) -> Result<(), Fail> {
     assert_eq!(rt; status, Status::WriteFault);
     assert_eq!(rt; out.taken(), b"session 1\nbegin ".as_slice());
     assert_eq!(rt; out.faults(), 1);
+    assert_eq!(rt; out.calls(), 3);
+    Ok(())
+}
+
+// 51 bytes, 8 a write: each write offers all that is left.
+#[test]
+fn writes_no_more_often_than_the_sink_asks_for(rt: HostRuntime) -> Result<(), Fail> {
+    let (status, out) = run_file(&rt, FIRST_RUN, 8, Vec::new(rt.alloc()))?;
+    assert_eq!(rt; status, Status::Done);
+    assert_eq!(rt; out.taken().len(), 51);
+    assert_eq!(rt; out.calls(), 7);
     Ok(())
 }
 
