@@ -58,31 +58,41 @@ fn first_two(alloc: Global) -> Result<Vec<Term>, AllocError> {
     Ok(terms)
 }
 
+// Names the term in the dictionary and in a plain list.
+fn name_in_both(
+    rt: &impl Abort,
+    dict: &mut Dict,
+    plain: &mut Vec<Term>,
+    term: Term,
+) -> Result<(), AllocError> {
+    if !contains_item(plain, &term) {
+        plain.push(term.clone()?)?;
+    }
+    assert!(rt; dict.name_all(&[term]).is_ok());
+    Ok(())
+}
+
+// The dictionary answers as the list of its terms does.
+fn same_list(rt: &impl Abort, dict: &Dict, plain: Vec<Term>) {
+    assert!(rt; plain.len() < 1000);
+    let list = ListNames::from_terms(Sequence::from_vec(plain));
+    for number in 0..410u32 {
+        same_names(rt, dict, &list, number);
+    }
+}
+
 // A plain list of terms answers as the dictionary does, and a share keeps the names of before.
 #[test]
 fn a_plain_list_agrees(rt: HostRuntime) -> Result<(), Fail> {
-    let alloc = rt.alloc();
-    let mut dict = Dict::new(alloc, 2000)?;
+    let mut dict = Dict::new(rt.alloc(), 2000)?;
     let share = dict.share()?;
-    let mut plain = first_two(alloc)?;
+    let mut plain = first_two(rt.alloc())?;
     let mut seed = 1u32;
     for _ in 0..1000u32 {
         seed = seed.wrapping_mul(1_664_525).wrapping_add(1_013_904_223);
-        let term = node((seed >> 8) % 400);
-        if !contains_item(&plain, &term) {
-            plain.push(term.clone()?)?;
-        }
-        let numbers = dict.name_all(&[term]).ok();
-        assert!(rt; numbers.is_some());
+        name_in_both(&rt, &mut dict, &mut plain, node((seed >> 8) % 400))?;
     }
     assert_eq!(rt; share.count(), 2);
-    if plain.len() < 1000 {
-        let list = ListNames::from_terms(Sequence::from_vec(plain));
-        for number in 0..410u32 {
-            same_names(&rt, &dict, &list, number);
-        }
-        return Ok(());
-    }
-    assert!(rt; false, "too many terms");
+    same_list(&rt, &dict, plain);
     Ok(())
 }

@@ -162,6 +162,47 @@ fn same_patterns(
     Ok(())
 }
 
+// All reads and patterns round a triple answer as a plain list does.
+fn same_index(
+    rt: &impl Abort,
+    alloc: Global,
+    index: &Index,
+    plain: &Vec<Ids>,
+    triple: Ids,
+) -> Result<(), AllocError> {
+    same_reads(rt, alloc, index, plain, triple)?;
+    same_patterns(rt, index, plain, triple)
+}
+
+// A net of two changes over the index answers as a plain list after them.
+fn same_overlay(
+    rt: &impl Abort,
+    alloc: Global,
+    index: &Index,
+    plain: &Vec<Ids>,
+    net: [NumberedChange; 2],
+    triple: Ids,
+) -> Result<(), AllocError> {
+    let mut after = plain.clone()?;
+    change_plain(&mut after, net[0])?;
+    change_plain(&mut after, net[1])?;
+    let overlay = Overlay::new(alloc, index, &net)?;
+    same_reads(rt, alloc, &overlay, &after, triple)
+}
+
+// Makes the change in both, which then are as long.
+fn change_both(
+    rt: &impl Abort,
+    index: &mut Index,
+    plain: &mut Vec<Ids>,
+    change: NumberedChange,
+) -> Result<(), AllocError> {
+    index.apply(&[change])?;
+    change_plain(plain, change)?;
+    assert_eq!(rt; index.len(), plain.len());
+    Ok(())
+}
+
 // A plain list answers as the index does, while it grows and while it shrinks, and as a net over it does.
 #[test]
 fn a_plain_list_agrees(rt: HostRuntime) -> Result<(), Fail> {
@@ -172,18 +213,11 @@ fn a_plain_list_agrees(rt: HostRuntime) -> Result<(), Fail> {
         seed = next(seed);
         let change = change_of(seed, if round < 1500 { 6 } else { 2 });
         if round % 100 == 0 {
-            same_reads(&rt, rt.alloc(), &index, &plain, triple_of(seed))?;
-            same_patterns(&rt, &index, &plain, triple_of(seed))?;
             let net = [change, change_of(next(seed), 4)];
-            let overlay = Overlay::new(rt.alloc(), &index, &net)?;
-            let mut after = plain.clone()?;
-            change_plain(&mut after, net[0])?;
-            change_plain(&mut after, net[1])?;
-            same_reads(&rt, rt.alloc(), &overlay, &after, triple_of(seed))?;
+            same_index(&rt, rt.alloc(), &index, &plain, triple_of(seed))?;
+            same_overlay(&rt, rt.alloc(), &index, &plain, net, triple_of(seed))?;
         }
-        index.apply(&[change])?;
-        change_plain(&mut plain, change)?;
-        assert_eq!(rt; index.len(), plain.len());
+        change_both(&rt, &mut index, &mut plain, change)?;
     }
     Ok(())
 }
