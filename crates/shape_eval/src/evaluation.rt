@@ -157,8 +157,8 @@ fn compiled_rows<R: Triples, N: Names>(
 
 /// The results of a shape, by its place among the compiled shapes, at a focus node (SHACL section
 /// 3.4): each once, in the order of results. They are those of each well-formed shapes graph that
-/// the shapes stand for. The looks that were made are added to the footprint, and the permit is
-/// used up.
+/// the shapes stand for. The permit is used up. The footprint takes looks that were made; which, no
+/// clause says yet.
 pub fn eval<R: Triples, N: Names>(
     alloc: Global,
     graph: &R,
