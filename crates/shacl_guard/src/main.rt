@@ -6,8 +6,6 @@
 #![tactic(auto)]
 
 mod answer;
-#[cfg(test)]
-mod guard_tests;
 mod run;
 mod status;
 #[cfg(test)]

@@ -1,0 +1,4 @@
+pub mod Fields
+pub mod Days
+pub mod Times
+pub mod Forms
