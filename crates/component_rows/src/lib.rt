@@ -1,0 +1,13 @@
+//! What the components of SHACL Core share: the results that they give, made of the numbers of terms.
+//!
+//! A component tells the value nodes that it refuses by a `ValueTest`, or by an answer to each of them;
+//! `failing` and `refused` ensure exactly one result about each. The definitions say when a list of results is what a component gives.
+#![tactic(auto)]
+
+mod answered;
+mod result;
+mod value_test;
+
+pub use answered::{is_among, refused};
+pub use result::{named, row_about, row_alone};
+pub use value_test::{ValueTest, failing};
