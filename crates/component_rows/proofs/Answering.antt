@@ -47,7 +47,7 @@ at_one_place xs s i j h k e = by_tests (nat_lt i j) (nat_lt j i) refl refl
     by_tests false false a b = grind (arith, nat_tests)
 
 -- where a number of a list stands
-place_in : (xs : List ℕ) (x : ℕ) → Contains xs x → (i : ℕ) × (i < length xs) × (get_or xs i 0 ≡ x)
+pub place_in : (xs : List ℕ) (x : ℕ) → Contains xs x → (i : ℕ) × (i < length xs) × (get_or xs i 0 ≡ x)
 place_in [] x c = absurd (omega arith)
 place_in (y ∷ ys) x c = elim (has_cases y ys x c) [
   | inl e ↦ (0, omega arith, e)

@@ -60,15 +60,10 @@ pub fn has_value<N: Names>(
         source.now (term_at (N.terms names.now) focus) (term_at (N.terms names.now) parameter) rows.items) }
 {
     let mut rows = Vec::new(alloc);
-    if !is_among(values, parameter) {
-        rows.push(row_alone(
-            names,
-            source,
-            Component::HasValue,
-            parameter,
-            focus,
-        )?)?;
+    if is_among(values, parameter) {
+        return Ok(rows);
     }
+    rows.push(row_alone(names, source, Component::HasValue, parameter, focus)?)?;
     Ok(rows)
 }
 
