@@ -1,15 +1,19 @@
 -- When a list of results is what a component gives at the value nodes of a focus node.
-use Rattle.std.specs.Prelude.{◌≡◌, ◌↔◌, List}
+use Rattle.std.specs.Prelude.{◌≡◌, ◌↔◌, List, Some}
 use Rattle.std.specs.List.{Contains}
 use Rattle.rdf_model.specs.declared.term.Term.{Term}
 use Rattle.shape_model.specs.declared.component.Component.{Component}
 use Rattle.shape_model.specs.declared.result_row.ResultRow.{ResultRow}
-use Rattle.shape_model.specs.Components.{Surroundings, RowsOf, row_of}
+use Rattle.shape_model.specs.Components.{Surroundings, Finding, RowsOf, row_of}
 use Rattle.shape_model.specs.Readings.{Reading}
 
 -- the list has just the results of which P holds, in any order, each once or more
 abbrev pub Collects : (ResultRow → Type 0) → List ResultRow → Type 0
 Collects P rows = (r : ResultRow) → Contains rows r ↔ P r
+
+-- about one node, with another value and what else tells the result apart
+abbrev pub found_with : Term → Term → Term → Finding
+found_with about value other = record { about = Some about; value = Some value; other = Some other }
 
 -- Surroundings of which the value nodes alone are told, and a shape of which nothing is told: for components that ask for no more.
 abbrev pub at_nodes : (Term → Type 0) → Surroundings

@@ -9,5 +9,5 @@ mod result;
 mod value_test;
 
 pub use answered::{is_among, refused};
-pub use result::{named, row_about, row_alone};
+pub use result::{named, row_about, row_alone, row_beside};
 pub use value_test::{ValueTest, failing};

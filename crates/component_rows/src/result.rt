@@ -1,6 +1,7 @@
 ghost use Rattle.std.specs.Prelude.{◌≡◌, ◌<◌, IfOk, length};
 ghost use Rattle.rdf_model.specs.Numbers.{term_at};
 ghost use Rattle.shape_model.specs.Components.{row_of, found_alone, found_at};
+ghost use Rattle.component_rows.specs.Listed.{found_with};
 
 use collections::both;
 use rdf_model::{Names, Term};
@@ -68,5 +69,43 @@ pub fn row_about<N: Names>(
         about: Some(about),
         value: Some(value),
         other: None,
+    })
+}
+
+/// The result of a component about a value node, with what it names beside: the value and what else tells
+/// it apart (SHACL section 3.6.2).
+pub fn row_beside<N: Names>(
+    names: &N,
+    source: &Term,
+    component: Component,
+    parameter: u32,
+    focus: u32,
+    about: u32,
+    value: u32,
+    other: u32,
+) -> Result<ResultRow, AllocError>
+    requires parameter { parameter < length (N.terms names.now) }
+    requires focus { focus < length (N.terms names.now) }
+    requires about { about < length (N.terms names.now) }
+    requires value { value < length (N.terms names.now) }
+    requires other { other < length (N.terms names.now) }
+    ensures { IfOk result (λ row. row ≡ row_of component source.now (term_at (N.terms names.now) focus) (term_at (N.terms names.now) parameter)
+        (found_with (term_at (N.terms names.now) about) (term_at (N.terms names.now) value) (term_at (N.terms names.now) other))) }
+{
+    let ends = both(source.clone(), named(names, focus).clone());
+    let values = both(named(names, about).clone(), named(names, value).clone());
+    let rest = both(named(names, parameter).clone(), named(names, other).clone());
+    let (((source_shape, focus_node), (about, value)), (parameter, other)) = both(
+        both(ends, values),
+        rest,
+    )?;
+    Ok(ResultRow {
+        source_shape,
+        focus_node,
+        component,
+        parameter: Some(parameter),
+        about: Some(about),
+        value: Some(value),
+        other: Some(other),
     })
 }

@@ -5,10 +5,12 @@
 //! parameter; so none is missing, and none is there that shouldn't be.
 #![tactic(auto)]
 
+mod closed_shape;
 mod literal_type;
 mod range;
 mod set;
 
+pub use closed_shape::closed;
 pub use literal_type::datatype;
 pub use range::{max_exclusive, max_inclusive, min_exclusive, min_inclusive};
 pub use set::{class, has_value, in_list};

@@ -1,0 +1,115 @@
+-- Results of triples that a closed shape doesn't allow, edge by edge and value node by value node.
+use Rattle.std.proofs.Common.{◌≡◌, ◌∙◌, ℕ, ◌+◌, ◌<◌, ◌≤◌, List, [], ◌∷◌, ◌++◌, length, take, get_or, refl, sym, ap, arith, subst, append_assoc, inl, inr}
+use Rattle.std.specs.List.{Contains}
+use Rattle.std.proofs.lemmas.List.{take_all}
+use Rattle.collections.specs.Listings.{IsListing}
+use Rattle.collections.specs.Pairs.{pair_cmp}
+use Rattle.collections.proofs.Members.{has_cases}
+use Rattle.rdf_model.specs.declared.term.Term.{Term}
+use Rattle.rdf_model.specs.declared.triple.Triple.{Triple}
+use Rattle.rdf_model.specs.declared.ids.Ids.{Ids}
+use Rattle.rdf_model.specs.Numbers.{term_at, triple_at, IsNumbering, AreNumbered, IsEdge}
+use Rattle.shape_model.specs.Vocabulary.{true_literal}
+use Rattle.shape_model.specs.declared.component.Component.TheVariants as components
+use Rattle.shape_model.specs.declared.result_row.ResultRow.{ResultRow}
+use Rattle.shape_model.specs.Components.{Finding, RowsOf}
+use Rattle.component_rows.specs.Listed.{Collects, found_with, with_allowed}
+use Rattle.component_rows.specs.Nodes.{AreNodes, HasNode}
+use Rattle.component_rows.proofs.Collecting.{FromSome, collects_same, loop_more, mapped_from, mapped_to}
+use Rattle.value_constraints.specs.Closing.{in_graph, ForbiddenEdge, ForbiddenAt}
+
+-- the results of all edges of a value node
+abbrev pub ForbiddenOf : List Term → List Ids → (Finding → ResultRow) → List ℕ → ℕ → ResultRow → Type 0
+ForbiddenOf terms ids row allowed value r = (e : ℕ × ℕ) × IsEdge ids value e × ForbiddenEdge terms row allowed value e r
+
+-- results that were added before, and those of one item more
+pub grown : {X : Type 0} → (Gives : X → ResultRow → Type 0) (xs : List X) (i : ℕ) (d : X) (old rows new : List ResultRow) → i < length xs
+    → ((more : List ResultRow) × (rows ≡ old ++ more) × Collects (FromSome (take i xs) Gives) more)
+    → ((more : List ResultRow) × (new ≡ rows ++ more) × Collects (Gives (get_or xs i d)) more)
+    → (more : List ResultRow) × (new ≡ old ++ more) × Collects (FromSome (take (i + 1) xs) Gives) more
+grown {X} Gives xs i d old rows new lt h k =
+    (h.0 ++ k.0, k.1 ∙ ap (λ (rs : List ResultRow). rs ++ k.0) h.1 ∙ append_assoc old h.0 k.0, loop_more Gives xs i d h.0 (h.0 ++ k.0) lt h.2 (k.0, refl, k.2))
+
+pub all_grown : {X : Type 0} → (Gives : X → ResultRow → Type 0) (xs : List X) (i : ℕ) (old rows : List ResultRow) → length xs ≤ i
+    → ((more : List ResultRow) × (rows ≡ old ++ more) × Collects (FromSome (take i xs) Gives) more)
+    → (more : List ResultRow) × (rows ≡ old ++ more) × Collects (FromSome xs Gives) more
+all_grown {X} Gives xs i old rows le h = (h.0, h.1, subst (λ (ys : List X). Collects (FromSome ys Gives) h.0) (take_all i xs le) h.2)
+
+module _ (terms : List Term) (numbering : IsNumbering terms) (ids : List Ids) (numbered : AreNumbered terms ids) where
+  all_in : (is : List Ids) → AreNumbered terms is → (i : Ids) → Contains is i → (i.subject < length terms) × (i.predicate < length terms) × (i.object < length terms)
+  all_in [] a i c = absurd (omega arith)
+  all_in (j ∷ js) a i c = elim (has_cases j js i c) [
+    | inl e ↦ subst (λ (k : Ids). (k.subject < length terms) × (k.predicate < length terms) × (k.object < length terms)) e a.0
+    | inr d ↦ all_in js a.1 i d
+  ]
+
+  -- the edges that a graph lists have terms
+  pub edges_named : (n : ℕ) (edges : List (ℕ × ℕ)) → IsListing pair_cmp (IsEdge ids n) edges → (e : ℕ × ℕ) → Contains edges e → (e.0 < length terms) × (e.1 < length terms)
+  edges_named n edges listing e c =
+      let in_range = all_in ids numbered (record { subject = n; predicate = e.0; object = e.1 }) ((listing.members e).0 c) in
+      (in_range.1, in_range.2)
+
+  module _ (row : Finding → ResultRow) (allowed values : List ℕ) (named : AreNodes terms allowed) (nodes : AreNodes terms values) where
+    -- the results of the listed edges are those of all
+    pub of_listed : (n : ℕ) (edges : List (ℕ × ℕ)) (old new : List ResultRow) → IsListing pair_cmp (IsEdge ids n) edges
+        → ((more : List ResultRow) × (new ≡ old ++ more) × Collects (ForbiddenAt terms row allowed n edges) more)
+        → (more : List ResultRow) × (new ≡ old ++ more) × Collects (ForbiddenOf terms ids row allowed n) more
+    of_listed n edges old new listing h = (
+      h.0,
+      h.1,
+      collects_same (ForbiddenAt terms row allowed n edges) (ForbiddenOf terms ids row allowed n) h.0
+          (λ r. (λ k. (k.0, (listing.members k.0).0 k.1, k.2), λ k. (k.0, (listing.members k.0).1 k.1, k.2))) h.2,
+    )
+
+    -- an allowed predicate is one whose number is allowed
+    allowed_number : (p : ℕ) → p < length terms → HasNode terms allowed (term_at terms p) → Contains allowed p
+    allowed_number p lt h =
+        let k = mapped_from (term_at terms) allowed (term_at terms p) h in
+        subst (λ (m : ℕ). Contains allowed m) (numbering k.0 p (named.named k.0 k.1) lt k.2) k.1
+
+    abbrev ClosedRow : Term → ResultRow → Type 0
+    ClosedRow q = RowsOf components.Closed (in_graph terms ids values) (with_allowed (HasNode terms allowed)) q row
+
+    from_numbers : (q : Term) → q ≡ true_literal → (r : ResultRow) → FromSome values (ForbiddenOf terms ids row allowed) r → ClosedRow q r
+    from_numbers q is r h =
+        let n = h.0 in
+        let edge = h.2.0 in
+        let forbidden = h.2.2 in
+        let in_range = all_in ids numbered (record { subject = n; predicate = edge.0; object = edge.1 }) h.2.1 in (
+          is,
+          (
+            term_at terms n,
+            term_at terms edge.0,
+            term_at terms edge.1,
+            mapped_to (term_at terms) values n h.1,
+            mapped_to (triple_at terms) ids (record { subject = n; predicate = edge.0; object = edge.1 }) h.2.1,
+            (λ a. forbidden.0 (allowed_number edge.0 in_range.1 a)),
+            forbidden.1,
+          ),
+        )
+
+    to_numbers : (q : Term) (r : ResultRow) → ClosedRow q r → FromSome values (ForbiddenOf terms ids row allowed) r
+    to_numbers q r h =
+        let t = h.1 in
+        let n = mapped_from (term_at terms) values t.0 t.3 in
+        let i = mapped_from (triple_at terms) ids (record { subject = t.0; predicate = t.1; object = t.2 }) t.4 in
+        let in_range = all_in ids numbered i.0 i.1 in
+        let subject : term_at terms i.0.subject ≡ t.0 = ap (λ (x : Triple). x.subject) i.2 in
+        let predicate : term_at terms i.0.predicate ≡ t.1 = ap (λ (x : Triple). x.predicate) i.2 in
+        let object : term_at terms i.0.object ≡ t.2 = ap (λ (x : Triple). x.object) i.2 in
+        let same : i.0.subject ≡ n.0 = numbering i.0.subject n.0 in_range.0 (nodes.named n.0 n.1) (subject ∙ sym n.2) in (
+          n.0,
+          n.1,
+          (
+            (i.0.predicate, i.0.object),
+            subst (λ (s : ℕ). Contains ids (record { subject = s; predicate = i.0.predicate; object = i.0.object })) same i.1,
+            (
+              (λ c. t.5 (subst (λ (p : Term). HasNode terms allowed p) predicate (mapped_to (term_at terms) allowed i.0.predicate c))),
+              t.6 ∙ (λ j. row (found_with (sym n.2 j) (sym object j) (sym predicate j))),
+            ),
+          ),
+        )
+
+    pub all_closed : (q : Term) → q ≡ true_literal → (i : ℕ) (rows : List ResultRow) → length values ≤ i → Collects (FromSome (take i values) (ForbiddenOf terms ids row allowed)) rows → Collects (ClosedRow q) rows
+    all_closed q is i rows le h = collects_same (FromSome values (ForbiddenOf terms ids row allowed)) (ClosedRow q) rows (λ r. (from_numbers q is r, to_numbers q r))
+        (subst (λ (ns : List ℕ). Collects (FromSome ns (ForbiddenOf terms ids row allowed)) rows) (take_all i values le) h)
