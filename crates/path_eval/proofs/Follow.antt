@@ -4,6 +4,7 @@ use Rattle.std.specs.Prelude.{◌⊎◌, ◌↔◌}
 use Rattle.std.specs.List.{Contains}
 use Rattle.std.specs.Ordering.{nat_cmp}
 use Rattle.collections.specs.Listings.{IsListing}
+use Rattle.collections.specs.Ordered.{IsAscending}
 use Rattle.rdf_model.specs.declared.look.Look.{Look}
 use Rattle.path_eval.specs.Relations.{NumberChain, Repeated, FromSome, IsFollowed}
 use Rattle.path_eval.specs.NumberedLooks.{AtRepeated}
@@ -12,7 +13,7 @@ use Rattle.path_eval.proofs.Growing.{listing_same, adds_then, adds_same}
 some_same : {Y : Type 0} → (xs : List ℕ) (R S : ℕ → Y → Type 0) → ((x : ℕ) (y : Y) → R x y ↔ S x y) → (y : Y) → FromSome xs R y ↔ FromSome xs S y
 some_same {Y} xs R S e y = (λ h. (h.0, h.1, (e h.0 y).0 h.2), λ h. (h.0, h.1, (e h.0 y).1 h.2))
 
-some_either : {Y : Type 0} → (xs : List ℕ) (R S : ℕ → Y → Type 0) → (y : Y) → (FromSome xs R y ⊎ FromSome xs S y) ↔ FromSome xs (λ x y. R x y ⊎ S x y) y
+pub some_either : {Y : Type 0} → (xs : List ℕ) (R S : ℕ → Y → Type 0) → (y : Y) → (FromSome xs R y ⊎ FromSome xs S y) ↔ FromSome xs (λ x y. R x y ⊎ S x y) y
 some_either {Y} xs R S y = (
   elim [ inl h ↦ (h.0, h.1, inl h.2) | inr h ↦ (h.0, h.1, inr h.2) ],
   λ h. elim h.2 [ inl r ↦ inl (h.0, h.1, r) | inr s ↦ inr (h.0, h.1, s) ],
@@ -87,3 +88,29 @@ module _ (starts : List ℕ) (R : ℕ → ℕ → Type 0) (L : ℕ → Look ℕ 
         λ i. at_later i.1.0 x i.0 look i.1.1 i.2,
       ))
       (followed_then starts R (Repeated R) L (AtRepeated R L) old mid new first ends h k)
+
+-- from the same nodes in order
+pub followed_from : (starts nodes : List ℕ) (R : ℕ → ℕ → Type 0) (L : ℕ → Look ℕ → Type 0) (old new : List (Look ℕ)) (ends : List ℕ) → IsListing nat_cmp (Contains starts) nodes
+    → IsFollowed nodes R L old new ends → IsFollowed starts R L old new ends
+followed_from starts nodes R L old new ends n h = record {
+  listed = listing_same nat_cmp (FromSome nodes R) (FromSome starts R) (λ y. (λ k. (k.0, (n.members k.0).0 k.1, k.2), λ k. (k.0, (n.members k.0).1 k.1, k.2))) ends h.listed;
+  looks = adds_same old new (FromSome nodes L) (FromSome starts L) (λ look. (λ k. (k.0, (n.members k.0).0 k.1, k.2), λ k. (k.0, (n.members k.0).1 k.1, k.2))) h.looks;
+}
+
+-- along no path
+pub followed_nowhere : (starts nodes : List ℕ) (looks : List (Look ℕ)) → IsListing nat_cmp (Contains starts) nodes → IsFollowed starts (λ x y. x ≡ y) (λ x look. ⊥) looks looks nodes
+followed_nowhere starts nodes looks n = record {
+  listed = listing_same nat_cmp (Contains starts) (FromSome starts (λ x y. x ≡ y)) (λ y. (λ c. (y, c, refl), λ k. subst (λ (z : ℕ). Contains starts z) k.2 k.1)) nodes n;
+  looks = λ look. (λ c. inl c, elim [ inl c ↦ c | inr k ↦ absurd k.2 ]);
+}
+
+-- the items that ascend are the listing of themselves
+pub listing_itself : (nodes : List ℕ) → IsAscending nat_cmp nodes → IsListing nat_cmp (Contains nodes) nodes
+listing_itself nodes a = record { ascending = a; members = λ x. (λ c. c, λ c. c) }
+
+-- one part of what is left has been taken
+pub taken : (A B P Q S T : Type 0) → B ↔ (A ⊎ P) → S ↔ (P ⊎ Q) → (A ⊎ S) ↔ T → (B ⊎ Q) ↔ T
+taken A B P Q S T b s t = (
+  elim [ inl x ↦ elim (b.0 x) [ inl a ↦ t.0 (inl a) | inr p ↦ t.0 (inr (s.1 (inl p))) ] | inr q ↦ t.0 (inr (s.1 (inr q))) ],
+  λ x. elim (t.1 x) [ inl a ↦ inl (b.1 (inl a)) | inr i ↦ elim (s.0 i) [ inl p ↦ inl (b.1 (inr p)) | inr q ↦ inr q ] ],
+)

@@ -1,4 +1,4 @@
--- Paths, looks and nodes by number, with each number read as the term that it has.
+-- What a walk along a path of numbers finds and reads, with each number read as the term that it has.
 use Rattle.std.specs.Prelude.{◌<◌, ℕ, Bool, List, length, map}
 use Rattle.std.specs.List.{Contains}
 use Rattle.std.specs.Ordering.{nat_cmp}
@@ -9,48 +9,20 @@ use Rattle.rdf_model.specs.declared.look.Look.{Look}
 use Rattle.rdf_model.specs.declared.look.Look.TheVariants as looks
 use Rattle.rdf_model.specs.declared.look.Look.TheVariants.{Out, In, OutAny}
 use Rattle.rdf_model.specs.Numbers.{term_at, graph_of, IsNumbering, AreNumbered}
-use Rattle.shape_model.specs.Paths as defined
 use Rattle.shape_model.specs.Walks.{Walk}
 use Rattle.shape_model.specs.Looks.{turn}
 use Rattle.shape_model.specs.NodeLooks.{PathReads}
-use Rattle.path_eval.specs.declared.path.Path.{Path, Predicate, Inverse', Sequence', Alternative', ZeroOrMore', OneOrMore', ZeroOrOne'}
-use Rattle.path_eval.specs.declared.path.Members.{Members, Last', Also'}
+use Rattle.path_eval.specs.declared.path.Path.{Path}
+use Rattle.path_eval.specs.PathReadings.{IsBoundPath, path_of}
 use Rattle.path_eval.specs.Relations.{Adds}
 
-abbrev mutual
-  pub path_of : List Term → Path ℕ → defined.Path
-  path_of terms (Predicate p) = defined.Predicate (term_at terms p)
-  path_of terms (Inverse' _ p) = defined.Inverse (path_of terms p)
-  path_of terms (Sequence' _ ps) = defined.Sequence (members_of terms ps)
-  path_of terms (Alternative' _ ps) = defined.Alternative (members_of terms ps)
-  path_of terms (ZeroOrMore' _ p) = defined.ZeroOrMore (path_of terms p)
-  path_of terms (OneOrMore' _ p) = defined.OneOrMore (path_of terms p)
-  path_of terms (ZeroOrOne' _ p) = defined.ZeroOrOne (path_of terms p)
-
-  pub members_of : List Term → Members ℕ → defined.Paths
-  members_of terms (Last' _ p) = defined.Last (path_of terms p)
-  members_of terms (Also' _ p _ ps) = defined.Also (path_of terms p) (members_of terms ps)
-
--- each number of the path has a term, of so many terms
-abbrev mutual
-  pub IsBoundPath : ℕ → Path ℕ → Type 0
-  IsBoundPath n (Predicate p) = p < n
-  IsBoundPath n (Inverse' _ p) = IsBoundPath n p
-  IsBoundPath n (Sequence' _ ps) = AreBoundPaths n ps
-  IsBoundPath n (Alternative' _ ps) = AreBoundPaths n ps
-  IsBoundPath n (ZeroOrMore' _ p) = IsBoundPath n p
-  IsBoundPath n (OneOrMore' _ p) = IsBoundPath n p
-  IsBoundPath n (ZeroOrOne' _ p) = IsBoundPath n p
-
-  pub AreBoundPaths : ℕ → Members ℕ → Type 0
-  AreBoundPaths n (Last' _ p) = IsBoundPath n p
-  AreBoundPaths n (Also' _ p _ ps) = IsBoundPath n p × AreBoundPaths n ps
-
+-- the look of terms
 abbrev pub look_of : List Term → Look ℕ → Look Term
 look_of terms (Out x p) = looks.Out (term_at terms x) (term_at terms p)
 look_of terms (In p x) = looks.In (term_at terms p) (term_at terms x)
 look_of terms (OutAny x) = looks.OutAny (term_at terms x)
 
+-- each of its numbers has a term, of so many
 abbrev pub IsBoundLook : ℕ → Look ℕ → Type 0
 IsBoundLook n (Out x p) = (x < n) × (p < n)
 IsBoundLook n (In p x) = (p < n) × (x < n)

@@ -4,11 +4,11 @@ ghost use Rattle.std.specs.Ordering.{nat_cmp};
 ghost use Rattle.collections.specs.Listings.{IsListing};
 ghost use Rattle.rdf_model.specs.Numbers.{AsksForOne, IsFound};
 ghost use Rattle.path_eval.specs.Relations.{Adds, Enters, FromSome, IsFollowed, Repeated};
-ghost use Rattle.path_eval.specs.NumberedWalks.{Reaches, ReachesSome, ReachesThrough, look_from};
-ghost use Rattle.path_eval.specs.NumberedLooks.{AtRepeated, Reads, ReadsSome, ReadsThrough};
+ghost use Rattle.path_eval.specs.NumberedWalks.{Backward, Onward, Reaches, ReachesSome, look_from};
+ghost use Rattle.path_eval.specs.NumberedLooks.{AtRepeated, Reads, ReadsBackward, ReadsOnward, ReadsSome};
 
+use crate::Path;
 use crate::visited::{Visited, enter_all};
-use crate::{Members, Path};
 use collections::sorted_once;
 use rdf_model::{Footprint, Look, Triples};
 use std::alloc::{AllocError, Global};
@@ -79,8 +79,20 @@ pub(crate) fn step<R: Triples>(
     match path {
         Path::Predicate(predicate) => edges(alloc, graph, *predicate, turned, starts, footprint),
         Path::Inverse(inner) => step(alloc, graph, inner, !turned, starts, footprint),
-        Path::Sequence(members) => through(alloc, graph, members, turned, starts, footprint),
-        Path::Alternative(members) => any_of(alloc, graph, members, turned, starts, footprint),
+        Path::Sequence(first, others) => {
+            if turned {
+                let middle = backward(alloc, graph, others, starts, footprint)?;
+                step(alloc, graph, first, true, &middle, footprint)
+            } else {
+                let middle = step(alloc, graph, first, false, starts, footprint)?;
+                onward(alloc, graph, others, &middle, footprint)
+            }
+        }
+        Path::Alternative(first, others) => {
+            let ends = step(alloc, graph, first, turned, starts, footprint)?;
+            let more = any_of(alloc, graph, others, turned, starts, footprint)?;
+            united(ends, more)
+        }
         Path::ZeroOrMore(inner) => repeated(alloc, graph, inner, turned, starts, footprint),
         Path::OneOrMore(inner) => {
             let first = step(alloc, graph, inner, turned, starts, footprint)?;
@@ -93,51 +105,62 @@ pub(crate) fn step<R: Triples>(
     }
 }
 
-// The same along one member after another.
+// The same along one path after another, from the first to the last.
 #[cycle(walk)]
-fn through<R: Triples>(
+fn onward<R: Triples>(
     alloc: Global,
     graph: &R,
-    members: &Members<u32>,
-    turned: bool,
+    paths: &[Path<u32>],
     starts: &[u32],
     footprint: &mut Footprint,
 ) -> Result<Vec<u32>, AllocError>
-    ensures { IfOk result (λ ends. IsFollowed starts.now (ReachesThrough (R.triples graph.now) turned members.now) (ReadsThrough (R.triples graph.now) turned members.now) footprint.old footprint.new ends.items) }
+    ensures { IfOk result (λ ends. IsFollowed starts.now (Onward (R.triples graph.now) paths.now) (ReadsOnward (R.triples graph.now) paths.now) footprint.old footprint.new ends.items) }
 {
-    match members {
-        Members::Last(path) => step(alloc, graph, path, turned, starts, footprint),
-        Members::Also(path, rest) if turned => {
-            let middle = through(alloc, graph, rest, true, starts, footprint)?;
-            step(alloc, graph, path, true, &middle, footprint)
-        }
-        Members::Also(path, rest) => {
-            let middle = step(alloc, graph, path, false, starts, footprint)?;
-            through(alloc, graph, rest, false, &middle, footprint)
-        }
+    let mut level = themselves(alloc, starts)?;
+    for path in paths {
+        level = step(alloc, graph, path, false, &level, footprint)?;
     }
+    Ok(level)
 }
 
-// The same along any member.
+// The same along the ways back, from the last path to the first.
+#[cycle(walk)]
+fn backward<R: Triples>(
+    alloc: Global,
+    graph: &R,
+    paths: &[Path<u32>],
+    starts: &[u32],
+    footprint: &mut Footprint,
+) -> Result<Vec<u32>, AllocError>
+    ensures { IfOk result (λ ends. IsFollowed starts.now (Backward (R.triples graph.now) paths.now) (ReadsBackward (R.triples graph.now) paths.now) footprint.old footprint.new ends.items) }
+{
+    let mut level = themselves(alloc, starts)?;
+    let mut left = paths.len();
+    while left > 0 {
+        left -= 1;
+        level = step(alloc, graph, &paths[left], true, &level, footprint)?;
+    }
+    Ok(level)
+}
+
+// The same along any of the paths.
 #[cycle(walk)]
 fn any_of<R: Triples>(
     alloc: Global,
     graph: &R,
-    members: &Members<u32>,
+    paths: &[Path<u32>],
     turned: bool,
     starts: &[u32],
     footprint: &mut Footprint,
 ) -> Result<Vec<u32>, AllocError>
-    ensures { IfOk result (λ ends. IsFollowed starts.now (ReachesSome (R.triples graph.now) turned members.now) (ReadsSome (R.triples graph.now) turned members.now) footprint.old footprint.new ends.items) }
+    ensures { IfOk result (λ ends. IsFollowed starts.now (ReachesSome (R.triples graph.now) turned paths.now) (ReadsSome (R.triples graph.now) turned paths.now) footprint.old footprint.new ends.items) }
 {
-    match members {
-        Members::Last(path) => step(alloc, graph, path, turned, starts, footprint),
-        Members::Also(path, rest) => {
-            let first = step(alloc, graph, path, turned, starts, footprint)?;
-            let others = any_of(alloc, graph, rest, turned, starts, footprint)?;
-            united(first, others)
-        }
+    let mut ends = Vec::new(alloc);
+    for path in paths {
+        let mut more = step(alloc, graph, path, turned, starts, footprint)?;
+        ends.append(&mut more)?;
     }
+    Ok(sorted_once(ends)?)
 }
 
 // The nodes one step further than the visited ones from a place on are entered.
