@@ -23,7 +23,7 @@ use Rattle.path_eval.proofs.Growing.{listing_same, adds_same}
 use Rattle.path_eval.proofs.Mirrors.{Mirrors, mapped_to, mirrors}
 use Rattle.path_eval.proofs.MirroredLooks.{Shows, shows}
 
-from_one : {Y : Type 0} → (x : ℕ) (R : ℕ → Y → Type 0) (y : Y) → FromSome (x ∷ []) R y ↔ R x y
+pub from_one : {Y : Type 0} → (x : ℕ) (R : ℕ → Y → Type 0) (y : Y) → FromSome (x ∷ []) R y ↔ R x y
 from_one {Y} x R y = (
   λ h. elim (has_cases x [] h.0 h.1) [ inl e ↦ subst (λ (z : ℕ). R z y) (sym e) h.2 | inr c ↦ absurd (omega arith) ],
   λ r. (x, has_head x [], r),
@@ -36,7 +36,7 @@ pub one_read : (R : ℕ → ℕ → Type 0) (L : ℕ → Look ℕ → Type 0) (x
 one_read R L x old new ends h = adds_same old new (FromSome (x ∷ []) L) (L x) (from_one x L) h.looks
 
 -- two looks of numbers that have terms are one if they are looks of the same terms
-one_look : (terms : List Term) → IsNumbering terms → (k l : Look ℕ) → IsBoundLook (length terms) k → IsBoundLook (length terms) l → look_of terms k ≡ look_of terms l → k ≡ l
+pub one_look : (terms : List Term) → IsNumbering terms → (k l : Look ℕ) → IsBoundLook (length terms) k → IsBoundLook (length terms) l → look_of terms k ≡ look_of terms l → k ≡ l
 one_look terms numbering (Out x p) (Out y q) a b e = let h : x ≡ y = numbering x y a.0 b.0 (cc) in let k : p ≡ q = numbering p q a.1 b.1 (cc) in cc
 one_look terms numbering (In p x) (In q y) a b e = let h : x ≡ y = numbering x y a.1 b.1 (cc) in let k : p ≡ q = numbering p q a.0 b.0 (cc) in cc
 one_look terms numbering (OutAny x) (OutAny y) a b e = let h : x ≡ y = numbering x y a b (cc) in cc
