@@ -1,0 +1,114 @@
+-- The paths that stand in a sequence or an alternative, as the vector that holds them.
+use Rattle.std.proofs.Common.{◌≡◌, ◌∙◌, ℕ, List, ◌∷◌, Vec, Box, Global, Bool, true, false, map, refl, ap, sym, subst}
+use Rattle.std.specs.Prelude.{◌⊎◌, ◌↔◌}
+use Rattle.std.specs.List.{All}
+use Rattle.std.proofs.lemmas.List.Elements.{All-nil, All-cons, All-head, All-tail}
+use mathlib.Core.Former.{Count}
+use Rattle.rdf_model.specs.declared.term.Term.{Term}
+use Rattle.rdf_model.specs.declared.ids.Ids.{Ids}
+use Rattle.shape_model.specs.Paths as defined
+use Rattle.path_eval.specs.declared.path.Path.{Path, Sequence, Sequence', Row_of-Path, end_of-Path, more_of-Path, items-the_row-Path, items_hidden-the_row-Path-0, Alternative}
+use Rattle.path_eval.specs.PathReadings.{HasEach, RowHasEach, members, read_path, read_row}
+use Rattle.path_eval.specs.NumberedWalks.{Backward, Onward, Reaches, ReachesSome, RowBackward, RowOnward, RowSome}
+use Rattle.path_eval.specs.NumberedLooks.{Reads, ReadsBackward, ReadsOnward, ReadsSome, RowReadsBackward, RowReadsOnward, RowReadsSome}
+
+abbrev pub row_of : {P : Type 0} → Path P → (m : Count) × Row_of-Path P m
+row_of (Sequence' _ _ _ row) = (_, row)
+row_of _ = (_, end_of-Path)
+
+module _ (ids : List Ids) where
+  onward_items : (m : _) (ps : Row_of-Path ℕ m) → RowOnward ids ps ≡ Onward ids (items-the_row-Path ℕ m ps)
+  onward_items m end_of-Path = refl
+  onward_items m (more_of-Path p ps) = λ i x y. (z : ℕ) × Reaches ids false p x z × onward_items _ ps i z y
+
+  backward_items : (m : _) (ps : Row_of-Path ℕ m) → RowBackward ids ps ≡ Backward ids (items-the_row-Path ℕ m ps)
+  backward_items m end_of-Path = refl
+  backward_items m (more_of-Path p ps) = λ i x y. (z : ℕ) × backward_items _ ps i x z × Reaches ids true p z y
+
+  some_items : (turned : Bool) (m : _) (ps : Row_of-Path ℕ m) → RowSome ids turned ps ≡ ReachesSome ids turned (items-the_row-Path ℕ m ps)
+  some_items turned m end_of-Path = refl
+  some_items turned m (more_of-Path p ps) = λ i x y. Reaches ids turned p x y ⊎ some_items turned _ ps i x y
+
+  reads_onward_items : (m : _) (ps : Row_of-Path ℕ m) → RowReadsOnward ids ps ≡ ReadsOnward ids (items-the_row-Path ℕ m ps)
+  reads_onward_items m end_of-Path = refl
+  reads_onward_items m (more_of-Path p ps) = λ i x look. Reads ids false p x look ⊎ ((z : ℕ) × Reaches ids false p x z × reads_onward_items _ ps i z look)
+
+  reads_backward_items : (m : _) (ps : Row_of-Path ℕ m) → RowReadsBackward ids ps ≡ ReadsBackward ids (items-the_row-Path ℕ m ps)
+  reads_backward_items m end_of-Path = refl
+  reads_backward_items m (more_of-Path p ps) = λ i x look. reads_backward_items _ ps i x look ⊎ ((z : ℕ) × backward_items _ ps i x z × Reads ids true p z look)
+
+  reads_some_items : (turned : Bool) (m : _) (ps : Row_of-Path ℕ m) → RowReadsSome ids turned ps ≡ ReadsSome ids turned (items-the_row-Path ℕ m ps)
+  reads_some_items turned m end_of-Path = refl
+  reads_some_items turned m (more_of-Path p ps) = λ i x look. Reads ids turned p x look ⊎ reads_some_items turned _ ps i x look
+
+  -- a sequence and an alternative, by the first path and the vector of the others
+  module _ (first : Box (Path ℕ) Global) (others : Vec (Path ℕ) Global) where
+    onward_is : RowOnward ids (row_of (Sequence first others)).1 ≡ Onward ids others.items
+    onward_is = let row = row_of (Sequence first others) in onward_items row.0 row.1 ∙ ap (Onward ids) (items_hidden-the_row-Path-0 ℕ others)
+
+    backward_is : RowBackward ids (row_of (Sequence first others)).1 ≡ Backward ids others.items
+    backward_is = let row = row_of (Sequence first others) in backward_items row.0 row.1 ∙ ap (Backward ids) (items_hidden-the_row-Path-0 ℕ others)
+
+    reads_onward_is : RowReadsOnward ids (row_of (Sequence first others)).1 ≡ ReadsOnward ids others.items
+    reads_onward_is = let row = row_of (Sequence first others) in reads_onward_items row.0 row.1 ∙ ap (ReadsOnward ids) (items_hidden-the_row-Path-0 ℕ others)
+
+    reads_backward_is : RowReadsBackward ids (row_of (Sequence first others)).1 ≡ ReadsBackward ids others.items
+    reads_backward_is = let row = row_of (Sequence first others) in reads_backward_items row.0 row.1 ∙ ap (ReadsBackward ids) (items_hidden-the_row-Path-0 ℕ others)
+
+    pub sequence_reaches : Reaches ids false (Sequence first others) ≡ (λ x y. (z : ℕ) × Reaches ids false first.value x z × Onward ids others.items z y)
+    sequence_reaches = λ i x y. (z : ℕ) × Reaches ids false first.value x z × onward_is i z y
+
+    pub sequence_reads : Reads ids false (Sequence first others) ≡ (λ x look. Reads ids false first.value x look ⊎ ((z : ℕ) × Reaches ids false first.value x z × ReadsOnward ids others.items z look))
+    sequence_reads = λ i x look. Reads ids false first.value x look ⊎ ((z : ℕ) × Reaches ids false first.value x z × reads_onward_is i z look)
+
+    pub turned_reaches : Reaches ids true (Sequence first others) ≡ (λ x y. (z : ℕ) × Backward ids others.items x z × Reaches ids true first.value z y)
+    turned_reaches = λ i x y. (z : ℕ) × backward_is i x z × Reaches ids true first.value z y
+
+    pub turned_reads : Reads ids true (Sequence first others) ≡ (λ x look. ReadsBackward ids others.items x look ⊎ ((z : ℕ) × Backward ids others.items x z × Reads ids true first.value z look))
+    turned_reads = λ i x look. reads_backward_is i x look ⊎ ((z : ℕ) × backward_is i x z × Reads ids true first.value z look)
+
+    some_is : (turned : Bool) → RowSome ids turned (row_of (Sequence first others)).1 ≡ ReachesSome ids turned others.items
+    some_is turned = let row = row_of (Sequence first others) in some_items turned row.0 row.1 ∙ ap (ReachesSome ids turned) (items_hidden-the_row-Path-0 ℕ others)
+
+    reads_some_is : (turned : Bool) → RowReadsSome ids turned (row_of (Sequence first others)).1 ≡ ReadsSome ids turned others.items
+    reads_some_is turned = let row = row_of (Sequence first others) in reads_some_items turned row.0 row.1 ∙ ap (ReadsSome ids turned) (items_hidden-the_row-Path-0 ℕ others)
+
+    pub alternative_reaches : (turned : Bool) → Reaches ids turned (Alternative first others) ≡ (λ x y. Reaches ids turned first.value x y ⊎ ReachesSome ids turned others.items x y)
+    alternative_reaches turned = λ i x y. Reaches ids turned first.value x y ⊎ some_is turned i x y
+
+    pub alternative_reads : (turned : Bool) → Reads ids turned (Alternative first others) ≡ (λ x look. Reads ids turned first.value x look ⊎ ReadsSome ids turned others.items x look)
+    alternative_reads turned = λ i x look. Reads ids turned first.value x look ⊎ reads_some_is turned i x look
+
+-- what is said of each predicate, and the path that is read
+module _ {P : Type 0} where
+  each_items : (Q : P → Type 0) (m : _) (ps : Row_of-Path P m) → RowHasEach Q ps ↔ All (HasEach Q) (items-the_row-Path P m ps)
+  each_items Q m end_of-Path = (λ h. All-nil (HasEach Q), λ h. tt)
+  each_items Q m (more_of-Path p ps) = let k = each_items Q _ ps in (
+    λ h. All-cons (HasEach Q) p _ h.0 (k.0 h.1),
+    λ h. (All-head (HasEach Q) p _ h, k.1 (All-tail (HasEach Q) p _ h)),
+  )
+
+  read_items : (read : P → Term) (m : _) (ps : Row_of-Path P m) → read_row read ps ≡ map (read_path read) (items-the_row-Path P m ps)
+  read_items read m end_of-Path = refl
+  read_items read m (more_of-Path p ps) = λ i. read_path read p ∷ read_items read _ ps i
+
+  module _ (first : Box (Path P) Global) (others : Vec (Path P) Global) where
+    pub sequence_each : (Q : P → Type 0) → HasEach Q (Sequence first others) ↔ (HasEach Q first.value × All (HasEach Q) others.items)
+    sequence_each Q =
+        let row = row_of (Sequence first others) in
+        let k = each_items Q row.0 row.1 in
+        let same = items_hidden-the_row-Path-0 P others in
+        (λ h. (h.0, subst (All (HasEach Q)) same (k.0 h.1)), λ h. (h.0, k.1 (subst (All (HasEach Q)) (sym same) h.1)))
+
+    pub sequence_read : (read : P → Term) → read_path read (Sequence first others) ≡ defined.Sequence (members (read_path read first.value) (map (read_path read) others.items))
+    sequence_read read =
+        let row = row_of (Sequence first others) in
+        ap (λ (ps : List defined.Path). defined.Sequence (members (read_path read first.value) ps)) (read_items read row.0 row.1 ∙ ap (map (read_path read)) (items_hidden-the_row-Path-0 P others))
+
+    pub alternative_each : (Q : P → Type 0) → HasEach Q (Alternative first others) ↔ (HasEach Q first.value × All (HasEach Q) others.items)
+    alternative_each = sequence_each
+
+    pub alternative_read : (read : P → Term) → read_path read (Alternative first others) ≡ defined.Alternative (members (read_path read first.value) (map (read_path read) others.items))
+    alternative_read read =
+        let row = row_of (Sequence first others) in
+        ap (λ (ps : List defined.Path). defined.Alternative (members (read_path read first.value) ps)) (read_items read row.0 row.1 ∙ ap (map (read_path read)) (items_hidden-the_row-Path-0 P others))

@@ -1,0 +1,18 @@
+//! The nodes to which a node walks along a property path (SHACL section 2.3.1), and instances of classes.
+//!
+//! `values` and `back` ensure exactly the ends of walks and of walks turned round, each once, ascending,
+//! and exactly the looks that decide them; `is_instance` and `class_instances` say which nodes walk along
+//! the class path to a class. Repetitions go level by level, and each node is gone on from once.
+#![tactic(auto)]
+
+mod binding;
+mod instances;
+mod path;
+mod queries;
+mod visited;
+mod walk;
+
+pub use binding::bind_path;
+pub use instances::{ClassWords, class_instances, is_instance};
+pub use path::Path;
+pub use queries::{back, values};

@@ -1,0 +1,216 @@
+use collections::Sequence;
+use path_eval::{ClassWords, Path, back, is_instance, values};
+use rdf_model::{Footprint, Ids, ListGraph};
+use std::alloc::{AllocError, Global};
+use std::process::Abort;
+use std::test::Fail;
+
+// A path with its parts before it, a node, the values at it, and the nodes that walk to it.
+const ROWS: [(&str, u32, u64, u64); 36] = [
+    ("p", 1, 2, 3),
+    ("p", 3, 14, 2),
+    ("p", 4, 4, 34),
+    ("p", 6, 0, 0),
+    ("n", 1, 0, 0),
+    ("p^", 1, 3, 2),
+    ("p^", 4, 34, 4),
+    ("q^", 7, 2, 0),
+    ("pq/", 3, 5, 0),
+    ("pq/", 1, 7, 0),
+    ("ppq,", 2, 5, 0),
+    ("ppq,^", 5, 234, 0),
+    ("pq/^", 5, 34, 0),
+    ("pq/^^", 3, 5, 0),
+    ("pq|", 4, 45, 34),
+    ("qp|^", 4, 34, 45),
+    ("p*", 1, 1234, 123),
+    ("p*", 6, 6, 6),
+    ("p*^", 4, 1234, 4),
+    ("p+", 1, 1234, 123),
+    ("p+", 4, 4, 1234),
+    ("p+", 6, 0, 0),
+    ("p?", 1, 12, 13),
+    ("p?", 4, 4, 34),
+    ("p?^", 4, 34, 4),
+    ("rr/", 1, 6, 0),
+    ("r*", 1, 1689, 1),
+    ("r+^", 6, 189, 0),
+    ("p*q/", 1, 57, 0),
+    ("p+*", 2, 1234, 123),
+    ("pq*/*", 1, 123457, 123),
+    ("pr|+", 1, 1234689, 123),
+    ("p^r/", 2, 89, 0),
+    ("pq|*^", 5, 12345, 5),
+    ("n*", 3, 3, 3),
+    ("nq|", 4, 5, 0),
+];
+
+const WORDS: ClassWords = ClassWords {
+    rdf_type: b'q' as u32,
+    sub_class_of: b'p' as u32,
+};
+
+fn triple(subject: u32, predicate: u8, object: u32) -> Ids {
+    Ids {
+        subject,
+        predicate: predicate as u32,
+        object,
+    }
+}
+
+// A cycle and a node that leads to itself by p, a literal as 7 by q, and a diamond by r.
+fn graph(alloc: Global) -> Result<ListGraph, AllocError> {
+    let mut triples = Sequence::new(alloc);
+    for (subject, predicate, object) in [
+        (1, b'p', 2),
+        (2, b'p', 3),
+        (3, b'p', 1),
+        (3, b'p', 4),
+        (4, b'p', 4),
+        (4, b'q', 5),
+        (2, b'q', 7),
+        (1, b'r', 8),
+        (1, b'r', 9),
+        (8, b'r', 6),
+        (9, b'r', 6),
+    ] {
+        triples.push(triple(subject, predicate, object))?;
+    }
+    Ok(ListGraph::from_triples(triples))
+}
+
+fn top(alloc: Global, stack: &mut Vec<Path<u32>>) -> Result<Box<Path<u32>>, AllocError> {
+    match stack.pop() {
+        Some(path) => Ok(Box::new(alloc, path)?),
+        None => Ok(Box::new(alloc, Path::Predicate(0))?),
+    }
+}
+
+// The last so many paths of the stack, in their order.
+fn last(
+    alloc: Global,
+    stack: &mut Vec<Path<u32>>,
+    count: usize,
+) -> Result<Vec<Path<u32>>, AllocError> {
+    let mut paths = Vec::new(alloc);
+    for _ in 0..count {
+        if let Some(path) = stack.pop() {
+            paths.push(path)?;
+        }
+    }
+    paths.reverse();
+    Ok(paths)
+}
+
+// A path's next part behind its parts: a predicate, or what is made of the parts before it.
+fn add_part(alloc: Global, stack: &mut Vec<Path<u32>>, byte: u8) -> Result<(), AllocError> {
+    let path = match byte {
+        b'^' => Path::Inverse(top(alloc, stack)?),
+        b'*' => Path::ZeroOrMore(top(alloc, stack)?),
+        b'+' => Path::OneOrMore(top(alloc, stack)?),
+        b'?' => Path::ZeroOrOne(top(alloc, stack)?),
+        b'/' => {
+            let others = last(alloc, stack, 1)?;
+            Path::Sequence(top(alloc, stack)?, others)
+        }
+        b',' => {
+            let others = last(alloc, stack, 2)?;
+            Path::Sequence(top(alloc, stack)?, others)
+        }
+        b'|' => {
+            let others = last(alloc, stack, 1)?;
+            Path::Alternative(top(alloc, stack)?, others)
+        }
+        predicate => Path::Predicate(predicate as u32),
+    };
+    stack.push(path)?;
+    Ok(())
+}
+
+fn path(alloc: Global, text: &str) -> Result<Box<Path<u32>>, AllocError> {
+    let mut stack = Vec::new(alloc);
+    for byte in text.as_bytes() {
+        add_part(alloc, &mut stack, *byte)?;
+    }
+    top(alloc, &mut stack)
+}
+
+// A number whose decimal digits are the nodes.
+fn told(nodes: &[u32]) -> u64 {
+    let mut all: u64 = 0;
+    for node in nodes {
+        all = all.wrapping_mul(10).wrapping_add(*node as u64);
+    }
+    all
+}
+
+// What a walk from the node and one back to it find, and how many looks they make.
+fn found(
+    alloc: Global,
+    graph: &ListGraph,
+    path: &Path<u32>,
+    node: u32,
+) -> Result<(u64, u64, usize), AllocError> {
+    let mut footprint = Footprint::new(alloc);
+    let ends = values(alloc, graph, path, node, &mut footprint)?;
+    let starts = back(alloc, graph, path, node, &mut footprint)?;
+    Ok((told(&ends), told(&starts), footprint.looks().len()))
+}
+
+fn found_by_text(
+    alloc: Global,
+    graph: &ListGraph,
+    text: &str,
+    node: u32,
+) -> Result<(u64, u64, usize), AllocError> {
+    let path = path(alloc, text)?;
+    found(alloc, graph, &path, node)
+}
+
+fn all_rows(rt: &impl Abort, alloc: Global) -> Result<(), AllocError> {
+    let graph = graph(alloc)?;
+    for (text, node, ends, starts) in ROWS {
+        let (values, walkers, _looks) = found_by_text(alloc, &graph, text, node)?;
+        assert_eq!(rt; (values, walkers), (ends, starts), "{text} {node}");
+    }
+    Ok(())
+}
+
+#[test]
+fn each_kind_of_path(rt: HostRuntime) -> Result<(), Fail> {
+    all_rows(&rt, rt.alloc())?;
+    Ok(())
+}
+
+// So many parts one after another.
+fn long_sequence(alloc: Global, count: u32) -> Result<Path<u32>, AllocError> {
+    let mut others = Vec::new(alloc);
+    for _ in 0..count {
+        others.push(Path::Predicate(b'p' as u32))?;
+    }
+    Ok(Path::Sequence(path(alloc, "p")?, others))
+}
+
+fn class_answers(alloc: Global) -> Result<(bool, bool), AllocError> {
+    let graph = graph(alloc)?;
+    let mut footprint = Footprint::new(alloc);
+    let own = is_instance(alloc, &graph, WORDS, 4, 5, &mut footprint)?;
+    let other = is_instance(alloc, &graph, WORDS, 1, 2, &mut footprint)?;
+    Ok((own, other))
+}
+
+// p any number of times from 1 looks for values at 1, 2, 3 and 4, and back for subjects at 1, 2 and 3.
+fn looks_and_ends(alloc: Global) -> Result<(usize, u64), AllocError> {
+    let graph = graph(alloc)?;
+    let (_ends, _starts, looks) = found_by_text(alloc, &graph, "p*", 1)?;
+    let path = long_sequence(alloc, 20_000)?;
+    let (ends, _starts, _looks) = found(alloc, &graph, &path, 4)?;
+    Ok((looks, ends))
+}
+
+#[test]
+fn looks_long_sequences_and_classes(rt: HostRuntime) -> Result<(), Fail> {
+    assert_eq!(rt; looks_and_ends(rt.alloc())?, (7, 4));
+    assert_eq!(rt; class_answers(rt.alloc())?, (true, false));
+    Ok(())
+}

@@ -1,0 +1,28 @@
+//! Walks along a property path, read from their end.
+//!
+//! `back` ensures exactly the nodes from which a walk leads to a node, each once, ascending, and exactly
+//! the looks of the way back, by which a changed triple's focus nodes are found.
+#![tactic(auto)]
+
+ghost use Rattle.std.specs.Prelude.{IfOk, OnOk};
+ghost use Rattle.path_eval.specs.Naming.{Numbered};
+ghost use Rattle.reverse_walk.specs.Walkers.{AddsBackReads, AreWalkers};
+
+use path_eval::Path;
+use rdf_model::{Footprint, Triples};
+use std::alloc::{AllocError, Global};
+
+/// The nodes with a walk to the node along the path (SHACL section 2.3.1), each once, ascending by
+/// number. The looks of the way back are added to the footprint.
+pub fn back<R: Triples>(
+    alloc: Global,
+    graph: &R,
+    path: &Path<u32>,
+    node: u32,
+    footprint: &mut Footprint,
+) -> Result<Vec<u32>, AllocError>
+    ensures walkers { IfOk result (λ walkers. Numbered (R.triples graph.now) path.now node (λ terms. AreWalkers terms (R.triples graph.now) path.now node walkers.items)) }
+    ensures looks { OnOk result (Numbered (R.triples graph.now) path.now node (λ terms. AddsBackReads terms (R.triples graph.now) path.now node footprint.old footprint.new)) }
+{
+    Ok(path_eval::back(alloc, graph, path, node, footprint)?)
+}

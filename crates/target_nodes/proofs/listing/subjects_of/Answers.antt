@@ -1,0 +1,5 @@
+use Rattle.target_nodes.proofs.Pairs.{first_members}
+use Rattle.target_nodes.proofs.listing.subjects_of.Goals as goal
+
+pub returns : goal.returns
+returns g c = first_members (g.R.Triples.triples c.args.graph.now) c.args.predicate c.in_ok-pairs.pairs.items c.deref.result.now c.in_ok-pairs.ensures c.deref.ensures.value c.in_ok-firsts.field-0.items c.in_ok-firsts.ensures
