@@ -18,15 +18,15 @@ use Rattle.rdf_model.specs.declared.triple.Triple.{Triple}
 use Rattle.rdf_model.specs.Terms.{triple_cmp}
 use Rattle.rdf_model.specs.Graphs.{with_each}
 use Rattle.rdf_model.specs.NTriples.{xsd_string}
-use Rattle.ntriples_text.specs.declared.refusal.RefusalKind.{RefusalKind}
-use Rattle.ntriples_text.specs.declared.refusal.RefusalKind.TheVariants.{NotUtf8, NoToken, RelativeIri}
+use Rattle.rdf_lexical.specs.declared.refusal.RefusalKind.{RefusalKind}
+use Rattle.rdf_lexical.specs.declared.refusal.RefusalKind.TheVariants.{NotUtf8, NoToken, RelativeIri}
 use Rattle.ntriples_text.specs.declared.token.Token.{Token}
 use Rattle.ntriples_text.specs.declared.token.Token.TheVariants.{IriRef, Quoted, Label, LanguageTag, Carets, Dot, LineEnd, TextEnd}
 use Rattle.ntriples_text.specs.declared.enclosed.Enclosed.TheVariants.{InAngles, InQuotes}
 use Rattle.ntriples_text.specs.declared.statement.Node.{Node}
 use Rattle.ntriples_text.specs.declared.statement.Node.TheVariants.{Labelled, Plain}
 use Rattle.ntriples_text.specs.declared.statement.Statement.{Statement}
-use Rattle.ntriples_text.specs.Faults.{◌>>=◌}
+use Rattle.rdf_lexical.specs.Refusals.{◌>>=◌}
 use Rattle.ntriples_text.specs.Tokens.{Reading, is_line_end, is_blank, enclosed, from_line_end, skipped, begins_label, label_length, label_from, label_at, tag_length, tag_at, lower_case, second_caret, mark_at, token_at, token}
 use Rattle.literal_order.specs.Values.{reading, profile}
 use Rattle.literal_order.specs.Datatypes.{datatype_of, local_datatype}

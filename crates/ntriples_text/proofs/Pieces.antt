@@ -7,7 +7,7 @@ use Rattle.std.proofs.lemmas.Str.{encodes-append}
 use Rattle.std.proofs.lemmas.Grind.{common_steps}
 use lib.Utf8.{encodes, encode}
 use Rattle.ntriples_text.specs.declared.enclosed.Enclosed.{Enclosed}
-use Rattle.ntriples_text.specs.Faults.{◌>>=◌}
+use Rattle.rdf_lexical.specs.Refusals.{◌>>=◌}
 use Rattle.ntriples_text.specs.Tokens.{Reading, closing, piece_at, with_front, enclosed_after, enclosed, is_label_char, label_length, with_dot}
 
 -- the characters of an escape are passed over

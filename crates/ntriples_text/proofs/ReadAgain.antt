@@ -14,14 +14,14 @@ use Rattle.iri_ref.specs.Scheme.{has_scheme}
 use Rattle.rdf_model.specs.declared.term.Term.{Term}
 use Rattle.rdf_model.specs.declared.term.Term.TheVariants.{Blank, Iri, Literal}
 use Rattle.rdf_model.specs.NTriples.{xsd_string}
-use Rattle.ntriples_text.specs.declared.refusal.RefusalKind.{RefusalKind}
-use Rattle.ntriples_text.specs.declared.refusal.RefusalKind.TheVariants.{NoToken, RelativeIri}
+use Rattle.rdf_lexical.specs.declared.refusal.RefusalKind.{RefusalKind}
+use Rattle.rdf_lexical.specs.declared.refusal.RefusalKind.TheVariants.{NoToken, RelativeIri}
 use Rattle.ntriples_text.specs.declared.token.Token.TheVariants.{IriRef, Quoted, LanguageTag}
 use Rattle.ntriples_text.specs.declared.enclosed.Enclosed.{Enclosed}
 use Rattle.ntriples_text.specs.declared.enclosed.Enclosed.TheVariants.{InAngles, InQuotes}
 use Rattle.ntriples_text.specs.declared.statement.Node.TheVariants.{Plain}
 use Rattle.ntriples_text.specs.declared.statement.Statement.{Statement}
-use Rattle.ntriples_text.specs.Faults.{◌>>=◌}
+use Rattle.rdf_lexical.specs.Refusals.{◌>>=◌}
 use Rattle.ntriples_text.specs.Tokens.{Reading, Piece, is_line_end, is_string_char, may_hold, closing, escape, if_allowed, piece_at, with_front, enclosed_after, enclosed, is_tag_char, begins_part, tag_length, lower_case, tag_at, token}
 use Rattle.ntriples_text.specs.Grammar.{rdf_lang_string, iri_of, iri, predicate, literal, literal_at, literal_from, object_at, object, dot, end, statement_from, line}
 use Rattle.ntriples_text.specs.Document.{lines}

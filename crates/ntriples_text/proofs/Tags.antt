@@ -8,11 +8,11 @@ use Rattle.std.proofs.lemmas.Bool.Decides.{nat_tests}
 use lib.Utf8.{encodes, encode, scalars, scalar}
 use Rattle.rdf_lexical.specs.Characters.{is_within, is_ascii_letter}
 use Rattle.rdf_lexical.specs.Escapes.{escaped_char, scalar_of, hex_number_from, numbered_char}
-use Rattle.ntriples_text.specs.declared.refusal.RefusalKind.{RefusalKind}
-use Rattle.ntriples_text.specs.declared.refusal.RefusalKind.TheVariants.{NoToken, BadEscape, UnexpectedEnd}
+use Rattle.rdf_lexical.specs.declared.refusal.RefusalKind.{RefusalKind}
+use Rattle.rdf_lexical.specs.declared.refusal.RefusalKind.TheVariants.{NoToken, BadEscape, UnexpectedEnd}
 use Rattle.ntriples_text.specs.declared.enclosed.Enclosed.{Enclosed}
 use Rattle.ntriples_text.specs.declared.enclosed.Enclosed.TheVariants.{InAngles, InQuotes}
-use Rattle.ntriples_text.specs.Faults.{◌>>=◌}
+use Rattle.rdf_lexical.specs.Refusals.{◌>>=◌}
 use Rattle.ntriples_text.specs.Tokens.{Reading, is_digit, may_hold, may_stand_for, closing, short_escape, is_hex, piece, numbered_piece, escape, if_allowed, piece_at, with_front, enclosed_after, enclosed, is_tag_char, begins_part, tag_length, lower_case}
 use Rattle.ntriples_text.specs.Laws.{IsTagChars}
 

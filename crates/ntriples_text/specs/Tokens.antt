@@ -5,13 +5,13 @@ use Rattle.std.specs.List.{list_all}
 use lib.Utf8.{encodes}
 use Rattle.rdf_lexical.specs.Characters.{is_within, is_ascii_letter, is_pn_chars_u, is_pn_chars, is_iri_char}
 use Rattle.rdf_lexical.specs.Escapes.{escaped_char, hex_value, numbered_char}
-use Rattle.ntriples_text.specs.declared.refusal.RefusalKind.{RefusalKind}
-use Rattle.ntriples_text.specs.declared.refusal.RefusalKind.TheVariants.{NoToken, BadEscape, UnexpectedEnd}
+use Rattle.rdf_lexical.specs.declared.refusal.RefusalKind.{RefusalKind}
+use Rattle.rdf_lexical.specs.declared.refusal.RefusalKind.TheVariants.{NoToken, BadEscape, UnexpectedEnd}
 use Rattle.ntriples_text.specs.declared.token.Token.{Token}
 use Rattle.ntriples_text.specs.declared.token.Token.TheVariants.{IriRef, Quoted, Label, LanguageTag, Carets, Dot, LineEnd, TextEnd}
 use Rattle.ntriples_text.specs.declared.enclosed.Enclosed.{Enclosed}
 use Rattle.ntriples_text.specs.declared.enclosed.Enclosed.TheVariants.{InAngles, InQuotes}
-use Rattle.ntriples_text.specs.Faults.{◌>>=◌}
+use Rattle.rdf_lexical.specs.Refusals.{◌>>=◌}
 
 -- What was read, and the characters after it; or the kind of the refusal.
 abbrev pub Reading : Type 0 → Type 0

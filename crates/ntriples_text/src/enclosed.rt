@@ -3,8 +3,8 @@ ghost use Rattle.std.specs.List.{list_all};
 ghost use Rattle.ntriples_text.specs.Faults.{Gives};
 ghost use Rattle.ntriples_text.specs.Tokens;
 
-use crate::refusal::{LineFault, RefusalKind};
-use rdf_lexical::{escaped_char, hex_value, is_iri_char, numbered_char};
+use crate::line_fault::LineFault;
+use rdf_lexical::{RefusalKind, escaped_char, hex_value, is_iri_char, numbered_char};
 use rdf_text::Text;
 use std::alloc::Global;
 

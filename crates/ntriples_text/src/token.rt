@@ -5,8 +5,8 @@ ghost use Rattle.ntriples_text.specs.Tokens;
 ghost use Rattle.ntriples_text.specs.Progress.{TakesOne};
 
 use crate::enclosed::{Enclosed, read_enclosed};
-use crate::refusal::{LineFault, RefusalKind};
-use rdf_lexical::{is_pn_chars, is_pn_chars_u};
+use crate::line_fault::LineFault;
+use rdf_lexical::{RefusalKind, is_pn_chars, is_pn_chars_u};
 use rdf_text::Text;
 use std::alloc::{AllocError, Global};
 

@@ -1,22 +1,22 @@
 -- A token that ends where what closes it comes, a piece after another.
 use Rattle.std.proofs.Common.{◌≡◌, ◌∙◌, ℕ, zero, suc, ◌+◌, ◌-◌, ◌<◌, ◌≤◌, List, [], ◌∷◌, length, drop, Result, Ok, Err, refl, sym, ap, arith}
-use Rattle.turtle_lex.specs.declared.token.FaultKind.{FaultKind}
-use Rattle.turtle_lex.specs.declared.token.FaultKind.TheVariants.{UnexpectedEnd}
+use Rattle.rdf_lexical.specs.declared.refusal.RefusalKind.{RefusalKind}
+use Rattle.rdf_lexical.specs.declared.refusal.RefusalKind.TheVariants.{UnexpectedEnd}
 use Rattle.turtle_lex.specs.declared.enclosed.Enclosed.{Enclosed}
 use Rattle.turtle_lex.specs.declared.enclosed.Enclosed.TheVariants.{Iri, Text}
 use Rattle.turtle_lex.specs.declared.token.Quotes.TheVariants.{Double, Single, LongDouble, LongSingle}
 use Rattle.turtle_lex.specs.declared.enclosed.Piece.TheVariants.{Held, Closing, Faulty}
 use Rattle.turtle_lex.specs.Enclosed.{next_piece, one_more, with_piece, enclosed_length, opened}
 
-pub opened_zero : (r : Result ℕ FaultKind) → opened 0 r ≡ r
+pub opened_zero : (r : Result ℕ RefusalKind) → opened 0 r ≡ r
 opened_zero (Ok n) = let e : 0 + n ≡ n = omega arith in ap (λ x. Ok x) e
 opened_zero (Err f) = refl
 
-one_opened : (n : ℕ) (r : Result ℕ FaultKind) → one_more (opened n r) ≡ opened (suc n) r
+one_opened : (n : ℕ) (r : Result ℕ RefusalKind) → one_more (opened n r) ≡ opened (suc n) r
 one_opened n (Ok m) = let e : suc (n + m) ≡ suc n + m = omega arith in ap (λ x. Ok x) e
 one_opened n (Err f) = refl
 
-opened_twice : (n m : ℕ) (r : Result ℕ FaultKind) → opened n (opened m r) ≡ opened (n + m) r
+opened_twice : (n m : ℕ) (r : Result ℕ RefusalKind) → opened n (opened m r) ≡ opened (n + m) r
 opened_twice n m (Ok k) = let e : n + (m + k) ≡ (n + m) + k = omega arith in ap (λ x. Ok x) e
 opened_twice n m (Err f) = refl
 
@@ -49,6 +49,6 @@ nothing_left (Text Single) = refl
 nothing_left (Text LongDouble) = refl
 nothing_left (Text LongSingle) = refl
 
-pub faulty_piece : (e : Enclosed) (cs : List ℕ) (f : FaultKind) → next_piece e cs ≡ Faulty f → enclosed_length e 0 cs ≡ Err f
+pub faulty_piece : (e : Enclosed) (cs : List ℕ) (f : RefusalKind) → next_piece e cs ≡ Faulty f → enclosed_length e 0 cs ≡ Err f
 faulty_piece e [] f is = let end = nothing_left e in cc
 faulty_piece e (c ∷ cs) f is = ap (λ p. with_piece p (λ k. enclosed_length e k cs)) is

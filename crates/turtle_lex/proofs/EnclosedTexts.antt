@@ -7,8 +7,8 @@ use Rattle.std.proofs.lemmas.List.{length-take-le}
 use Rattle.std.proofs.Math.Seq.{take-add}
 use Rattle.rdf_lexical.specs.Characters.{is_iri_char}
 use Rattle.rdf_lexical.specs.Escapes.{escaped_char, numbered_char}
-use Rattle.turtle_lex.specs.declared.token.FaultKind.{FaultKind}
-use Rattle.turtle_lex.specs.declared.token.FaultKind.TheVariants.{NoToken, BadEscape}
+use Rattle.rdf_lexical.specs.declared.refusal.RefusalKind.{RefusalKind}
+use Rattle.rdf_lexical.specs.declared.refusal.RefusalKind.TheVariants.{NoToken, BadEscape}
 use Rattle.turtle_lex.specs.declared.class.Class.{Class}
 use Rattle.turtle_lex.specs.declared.class.Class.TheVariants.{Hexadecimal}
 use Rattle.turtle_lex.specs.declared.enclosed.Enclosed.{Enclosed}
@@ -156,15 +156,15 @@ piece_shape e cs =
       | false ↦ λ is. let few : n < closing_length e = grind (arith, nat_tests, marks.1) in marked_shape e n cs (unit e (drop n cs)) marks.0 few (unit_shape e (drop n cs)) (unit_open e (drop n cs))
     ] refl
 
-abbrev EnclosedAfter : Enclosed → ℕ → Result ℕ FaultKind → List ℕ → Type 0
+abbrev EnclosedAfter : Enclosed → ℕ → Result ℕ RefusalKind → List ℕ → Type 0
 EnclosedAfter e k (Ok n) cs = (x : List ℕ) × (take n cs ≡ take k cs ++ x) × IsEnclosed e x × (n ≤ length cs)
 EnclosedAfter e k (Err f) cs = Unit {0}
 
-longer : (e : Enclosed) (k : ℕ) (r : Result ℕ FaultKind) (c : ℕ) (cs : List ℕ) → EnclosedAfter e k r cs → EnclosedAfter e (suc k) (one_more r) (c ∷ cs)
+longer : (e : Enclosed) (k : ℕ) (r : Result ℕ RefusalKind) (c : ℕ) (cs : List ℕ) → EnclosedAfter e k r cs → EnclosedAfter e (suc k) (one_more r) (c ∷ cs)
 longer e k (Ok n) c cs (x, is, met, most) = (x, ap (λ y. c ∷ y) is, met, omega arith)
 longer e k (Err f) c cs met = tt
 
-one_piece : (e : Enclosed) (k : ℕ) (r : Result ℕ FaultKind) (c : ℕ) (cs : List ℕ) → IsPiece e (c ∷ take k cs) → EnclosedAfter e k r cs → EnclosedAfter e 0 (one_more r) (c ∷ cs)
+one_piece : (e : Enclosed) (k : ℕ) (r : Result ℕ RefusalKind) (c : ℕ) (cs : List ℕ) → IsPiece e (c ∷ take k cs) → EnclosedAfter e k r cs → EnclosedAfter e 0 (one_more r) (c ∷ cs)
 one_piece e k (Ok n) c cs piece (x, is, (ps, parts, all), most) =
     ((c ∷ take k cs) ++ x, ap (λ y. c ∷ y) is, ((c ∷ take k cs) ∷ ps, ap (λ y. (c ∷ take k cs) ++ y) parts ∙ sym (append_assoc (c ∷ take k cs) (joined_texts ps) (replicate (closing_length e) (mark e))), (piece, all)), omega arith)
 one_piece e k (Err f) c cs piece met = tt

@@ -8,7 +8,7 @@ use Rattle.std.proofs.lemmas.List.{length-replicate}
 use Rattle.std.proofs.Math.Seq.{drop-append_seam, take-append_seam}
 use Rattle.rdf_lexical.specs.Escapes.{escaped_char, numbered_char}
 use Rattle.turtle_lex.specs.declared.token.Quotes.TheVariants.{Double, Single, LongDouble, LongSingle}
-use Rattle.turtle_lex.specs.declared.token.FaultKind.TheVariants.{NoToken, BadEscape}
+use Rattle.rdf_lexical.specs.declared.refusal.RefusalKind.TheVariants.{NoToken, BadEscape}
 use Rattle.turtle_lex.specs.declared.class.Class.TheVariants.{Hexadecimal}
 use Rattle.turtle_lex.specs.declared.enclosed.Enclosed.{Enclosed}
 use Rattle.turtle_lex.specs.declared.enclosed.Enclosed.TheVariants.{Iri, Text}

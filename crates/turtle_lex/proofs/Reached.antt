@@ -13,7 +13,7 @@ use Rattle.turtle_lex.specs.declared.token.Quotes.{Quotes}
 use Rattle.turtle_lex.specs.declared.token.Quotes.TheVariants as quotes
 use Rattle.turtle_lex.specs.declared.token.TokenKind.{TokenKind}
 use Rattle.turtle_lex.specs.declared.token.TokenKind.TheVariants.{IriRef, PrefixName, PrefixedName, BlankNodeLabel, LanguageTag, Integer, Decimal, Double, StringLiteral, Dot, Semicolon, Comma, OpenBracket, CloseBracket, OpenParenthesis, CloseParenthesis, Carets, A, True, False, Prefix, Base, AtPrefix, AtBase}
-use Rattle.turtle_lex.specs.declared.token.FaultKind.TheVariants.{NoToken}
+use Rattle.rdf_lexical.specs.declared.refusal.RefusalKind.TheVariants.{NoToken}
 use Rattle.turtle_lex.specs.declared.class.Class.TheVariants.{Sign, Digit, Letter, NameStart, Name, NameOrDot}
 use Rattle.turtle_lex.specs.declared.enclosed.Enclosed.TheVariants.{Iri, Text}
 use Rattle.turtle_lex.specs.Classes.{holds, begins_with, run_length}

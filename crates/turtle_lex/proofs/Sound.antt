@@ -7,7 +7,7 @@ use Rattle.std.proofs.lemmas.List.{length-take-le, take-append-drop}
 use Rattle.std.proofs.Math.Seq.{take-add}
 use Rattle.turtle_lex.specs.declared.token.Quotes.{Quotes}
 use Rattle.turtle_lex.specs.declared.token.Quotes.TheVariants as quotes
-use Rattle.turtle_lex.specs.declared.token.FaultKind.TheVariants.{NoToken, UnexpectedEnd}
+use Rattle.rdf_lexical.specs.declared.refusal.RefusalKind.TheVariants.{NoToken, UnexpectedEnd}
 use Rattle.turtle_lex.specs.declared.token.TokenKind.{TokenKind}
 use Rattle.turtle_lex.specs.declared.token.TokenKind.TheVariants.{PrefixName, PrefixedName, BlankNodeLabel, LanguageTag, Integer, Decimal, Double, StringLiteral, Dot, Semicolon, Comma, OpenBracket, CloseBracket, OpenParenthesis, CloseParenthesis, Carets, AtPrefix, AtBase}
 use Rattle.turtle_lex.specs.declared.class.Class.TheVariants.{NameUnderscoreOrDigit, Name, NameOrDot}

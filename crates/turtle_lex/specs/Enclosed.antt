@@ -3,8 +3,8 @@ use Rattle.std.specs.Prelude.{ℕ, zero, suc, ◌+◌, ◌-◌, ◌<◌, ◌≤�
 use Rattle.rdf_lexical.specs.Characters.{is_iri_char}
 use Rattle.turtle_lex.specs.declared.token.Quotes.{Quotes}
 use Rattle.turtle_lex.specs.declared.token.Quotes.TheVariants.{Double, Single, LongDouble, LongSingle}
-use Rattle.turtle_lex.specs.declared.token.FaultKind.{FaultKind}
-use Rattle.turtle_lex.specs.declared.token.FaultKind.TheVariants.{NoToken, BadEscape, UnexpectedEnd}
+use Rattle.rdf_lexical.specs.declared.refusal.RefusalKind.{RefusalKind}
+use Rattle.rdf_lexical.specs.declared.refusal.RefusalKind.TheVariants.{NoToken, BadEscape, UnexpectedEnd}
 use Rattle.turtle_lex.specs.declared.token.TokenKind.TheVariants.{IriRef, StringLiteral}
 use Rattle.turtle_lex.specs.declared.enclosed.Enclosed.{Enclosed}
 use Rattle.turtle_lex.specs.declared.enclosed.Enclosed.TheVariants.{Iri, Text}
@@ -76,27 +76,27 @@ piece_after e marks cs = if marks == closing_length e then Closing marks else wi
 abbrev pub next_piece : Enclosed → List ℕ → Piece
 next_piece e cs = piece_after e (leading_marks (mark e) (closing_length e) cs) cs
 
-abbrev pub one_more : Result ℕ FaultKind → Result ℕ FaultKind
+abbrev pub one_more : Result ℕ RefusalKind → Result ℕ RefusalKind
 one_more (Ok n) = Ok (suc n)
 one_more (Err fault) = Err fault
 
-abbrev pub with_piece : Piece → (ℕ → Result ℕ FaultKind) → Result ℕ FaultKind
+abbrev pub with_piece : Piece → (ℕ → Result ℕ RefusalKind) → Result ℕ RefusalKind
 with_piece (Held n) more = one_more (more (n - 1))
 with_piece (Closing n) more = Ok n
 with_piece (Faulty fault) more = Err fault
 
 -- How many characters the token has, with what closes it, after so many that belong to a piece before.
-abbrev pub enclosed_length : Enclosed → ℕ → List ℕ → Result ℕ FaultKind
+abbrev pub enclosed_length : Enclosed → ℕ → List ℕ → Result ℕ RefusalKind
 enclosed_length e n [] = Err UnexpectedEnd
 enclosed_length e (suc n) (c ∷ cs) = one_more (enclosed_length e n cs)
 enclosed_length e zero (c ∷ cs) = with_piece (next_piece e (c ∷ cs)) (λ n. enclosed_length e n cs)
 
-abbrev pub opened : ℕ → Result ℕ FaultKind → Result ℕ FaultKind
+abbrev pub opened : ℕ → Result ℕ RefusalKind → Result ℕ RefusalKind
 opened n (Ok m) = Ok (n + m)
 opened n (Err fault) = Err fault
 
 -- IRIREF, after `<`
-abbrev pub iri_lexeme : Result ℕ FaultKind → Lexeme
+abbrev pub iri_lexeme : Result ℕ RefusalKind → Lexeme
 iri_lexeme (Ok n) = Ok (IriRef, suc n)
 iri_lexeme (Err fault) = Err fault
 
@@ -115,7 +115,7 @@ more_quotes Single = 0
 more_quotes LongDouble = 2
 more_quotes LongSingle = 2
 
-abbrev pub string_lexeme : Quotes → Result ℕ FaultKind → Lexeme
+abbrev pub string_lexeme : Quotes → Result ℕ RefusalKind → Lexeme
 string_lexeme quotes (Ok n) = Ok (StringLiteral quotes, suc (more_quotes quotes + n))
 string_lexeme quotes (Err fault) = Err fault
 

@@ -1,4 +1,3 @@
-pub mod Faults
 pub mod Quoting
 pub mod Classes
 pub mod Names

@@ -2,8 +2,8 @@
 -- tokens say the productions; these definitions add the faults: no token, a bad escape, or an end of the text within a
 -- token, which is where all the rest of the text is the beginning of one and nothing of it is a token.
 use Rattle.std.specs.Prelude.{ℕ, ◌+◌, Bool, true, false, ◌||◌, List, [], ◌∷◌, length, drop, Option, Some, None, Result, Ok, Err, ◌==◌, if◌then◌else◌}
-use Rattle.turtle_lex.specs.declared.token.FaultKind.{FaultKind}
-use Rattle.turtle_lex.specs.declared.token.FaultKind.TheVariants.{NoToken, BadEscape, UnexpectedEnd}
+use Rattle.rdf_lexical.specs.declared.refusal.RefusalKind.{RefusalKind}
+use Rattle.rdf_lexical.specs.declared.refusal.RefusalKind.TheVariants.{NoToken, UnexpectedEnd}
 use Rattle.turtle_lex.specs.declared.token.LexFault.{LexFault}
 use Rattle.turtle_lex.specs.declared.token.Token.{Token}
 use Rattle.turtle_lex.specs.declared.token.TokenKind.{TokenKind}
@@ -93,10 +93,9 @@ token_at after_string (c ∷ cs) =
     (if c == 94 then carets cs else plain_token c (c ∷ cs)))))
 
 -- the line of a fault: that of the token's start, or of the text's end where that came too early
-abbrev pub fault_line : List ℕ → ℕ → FaultKind → ℕ
+abbrev pub fault_line : List ℕ → ℕ → RefusalKind → ℕ
 fault_line text start UnexpectedEnd = (place_at text (length text)).line
-fault_line text start NoToken = (place_at text start).line
-fault_line text start BadEscape = (place_at text start).line
+fault_line text start _ = (place_at text start).line
 
 abbrev pub placed : List ℕ → ℕ → Lexeme → Result Token LexFault
 placed text start (Ok token) = Ok (record { kind = token.0; start = place_at text start; end = place_at text (start + token.1) })

@@ -4,14 +4,14 @@ use Rattle.std.specs.List.{starts_with}
 use Rattle.std.specs.Char.{to_ascii_lowercase}
 use Rattle.turtle_lex.specs.declared.token.TokenKind.{TokenKind}
 use Rattle.turtle_lex.specs.declared.token.TokenKind.TheVariants.{A, True, False, Prefix, Base, AtPrefix, AtBase, LanguageTag}
-use Rattle.turtle_lex.specs.declared.token.FaultKind.{FaultKind}
-use Rattle.turtle_lex.specs.declared.token.FaultKind.TheVariants.{NoToken, UnexpectedEnd}
+use Rattle.rdf_lexical.specs.declared.refusal.RefusalKind.{RefusalKind}
+use Rattle.rdf_lexical.specs.declared.refusal.RefusalKind.TheVariants.{NoToken, UnexpectedEnd}
 use Rattle.turtle_lex.specs.declared.class.Class.TheVariants.{Letter, LetterOrDigit, Name, NameOrDot}
 use Rattle.turtle_lex.specs.Classes.{holds, begins_with, run_length}
 
 -- the kind of a token and how many characters it has, or why there is none
 abbrev pub Lexeme : Type 0
-Lexeme = Result (TokenKind × ℕ) FaultKind
+Lexeme = Result (TokenKind × ℕ) RefusalKind
 
 -- the same letters, the word's in any case
 abbrev pub is_in_any_case : List ℕ → List ℕ → Bool

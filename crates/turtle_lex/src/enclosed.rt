@@ -4,8 +4,8 @@ ghost use Rattle.turtle_lex.specs.Enclosed.{IsWithin};
 
 use crate::class::after;
 use crate::escapes::{Escape, escape_at};
-use crate::token::{FaultKind, Quotes, TokenKind};
-use rdf_lexical::is_iri_char;
+use crate::token::{Quotes, TokenKind};
+use rdf_lexical::{RefusalKind, is_iri_char};
 
 // The tokens that end where what closes them comes.
 #[derive(Clone, Copy, Debug, PartialEq, Eq)]
@@ -20,7 +20,7 @@ pub enum Enclosed {
 pub enum Piece {
     Held { length: usize },
     Closing { length: usize },
-    Faulty(FaultKind),
+    Faulty(RefusalKind),
 }
 
 impl Enclosed {
@@ -93,23 +93,23 @@ fn unit(kind: Enclosed, characters: &[char]) -> Piece
     ensures bound { IsWithin result (length characters.now) }
 {
     match characters {
-        [] => Piece::Faulty(FaultKind::UnexpectedEnd),
+        [] => Piece::Faulty(RefusalKind::UnexpectedEnd),
         ['\\', rest @ ..] => match escape_at(rest) {
             Escape::Character { character, length } => {
                 if kind.may_hold_escaped(character, length) {
                     Piece::Held { length: 1 + length }
                 } else {
-                    Piece::Faulty(FaultKind::BadEscape)
+                    Piece::Faulty(RefusalKind::BadEscape)
                 }
             }
-            Escape::Cut => Piece::Faulty(FaultKind::UnexpectedEnd),
-            Escape::Faulty => Piece::Faulty(FaultKind::BadEscape),
+            Escape::Cut => Piece::Faulty(RefusalKind::UnexpectedEnd),
+            Escape::Faulty => Piece::Faulty(RefusalKind::BadEscape),
         },
         [character, ..] => {
             if kind.may_hold(*character) {
                 Piece::Held { length: 1 }
             } else {
-                Piece::Faulty(FaultKind::NoToken)
+                Piece::Faulty(RefusalKind::NoToken)
             }
         }
     }
@@ -133,7 +133,7 @@ fn next_piece(kind: Enclosed, characters: &[char]) -> Piece
 }
 
 // How many characters the token has from here on, with what closes it.
-pub fn enclosed_length(kind: Enclosed, characters: &[char]) -> Result<usize, FaultKind>
+pub fn enclosed_length(kind: Enclosed, characters: &[char]) -> Result<usize, RefusalKind>
     ensures value { result ≡ spec.enclosed_length kind 0 characters.now }
     ensures bound { IfOk result (λ count. count ≤ length characters.now) }
 {
@@ -152,7 +152,7 @@ pub fn enclosed_length(kind: Enclosed, characters: &[char]) -> Result<usize, Fau
 }
 
 /// The IRIREF by the characters after its `<`.
-pub fn iri_ref(characters: &[char]) -> Result<(TokenKind, usize), FaultKind>
+pub fn iri_ref(characters: &[char]) -> Result<(TokenKind, usize), RefusalKind>
     ensures value { result ≡ spec.iri_ref characters.now }
     ensures bound { IfOk result (λ token. (0 < token.1) × (token.1 ≤ suc (length characters.now))) }
 {
@@ -184,7 +184,7 @@ fn more_quotes(quotes: Quotes) -> usize
 }
 
 /// The string that begins with a quote, by the characters after it.
-pub fn string_literal(quote: char, characters: &[char]) -> Result<(TokenKind, usize), FaultKind>
+pub fn string_literal(quote: char, characters: &[char]) -> Result<(TokenKind, usize), RefusalKind>
     ensures value { result ≡ spec.string_literal quote characters.now }
     ensures bound { IfOk result (λ token. (0 < token.1) × (token.1 ≤ suc (length characters.now))) }
 {

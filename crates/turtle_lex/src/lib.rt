@@ -22,4 +22,5 @@ mod words;
 
 pub use lexer::next_token;
 pub use meanings::{iri_text, local_name, plain_text, split_name, string_value, token_text};
-pub use token::{FaultKind, LexFault, Place, Quotes, Token, TokenKind};
+pub use rdf_lexical::RefusalKind;
+pub use token::{LexFault, Place, Quotes, Token, TokenKind};

@@ -1,6 +1,7 @@
 ghost use Rattle.std.specs.Prelude.{◌≡◌};
-ghost use Rattle.turtle_lex.specs.Faults.{number_of};
 ghost use Rattle.turtle_lex.specs.Quoting.{quotes_length};
+
+use rdf_lexical::RefusalKind;
 
 /// The productions of strings (Turtle section 6.5), by what stands before and after the text.
 #[derive(Clone, Copy, Debug, PartialEq, Eq)]
@@ -81,35 +82,10 @@ pub struct Token {
     pub end: Place,
 }
 
-/// Why no token is read.
-#[derive(Clone, Copy, Debug, PartialEq, Eq)]
-pub enum FaultKind {
-    /// No token starts there, or an IRIREF or a string meets a character that it may not hold.
-    NoToken,
-    /// In an IRIREF or a string a backslash begins no escape, or the escape stands for what is no
-    /// character or may not stand there.
-    BadEscape,
-    /// The text ends within a token.
-    UnexpectedEnd,
-}
-
-impl FaultKind {
-    /// The number by which a kind is known.
-    pub fn number(self) -> u8
-        ensures { result ≡ number_of self }
-    {
-        match self {
-            FaultKind::NoToken => 2,
-            FaultKind::BadEscape => 6,
-            FaultKind::UnexpectedEnd => 14,
-        }
-    }
-}
-
-/// A fault: its kind, and the line of the token's start, or of the text's end where that came too
-/// early.
+/// Why no token is read: NoToken, BadEscape or UnexpectedEnd, and the line of the token's start, or
+/// of the text's end where that came too early.
 #[derive(Clone, Copy, Debug, PartialEq, Eq)]
 pub struct LexFault {
     pub line: u64,
-    pub kind: FaultKind,
+    pub kind: RefusalKind,
 }

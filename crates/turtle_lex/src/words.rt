@@ -2,7 +2,8 @@ ghost use Rattle.std.specs.Prelude.{◌≡◌, ◌<◌, ◌≤◌, suc, false, I
 ghost use Rattle.turtle_lex.specs.Words;
 
 use crate::class::{Class, after, begins_with, run_length};
-use crate::token::{FaultKind, TokenKind};
+use crate::token::TokenKind;
+use rdf_lexical::RefusalKind;
 
 const A: [char; 1] = ['a'];
 
@@ -108,7 +109,7 @@ fn begins_directive(characters: &[char]) -> bool
     PREFIX.starts_with(characters) || BASE.starts_with(characters)
 }
 
-fn language_tag(characters: &[char]) -> Result<(TokenKind, usize), FaultKind>
+fn language_tag(characters: &[char]) -> Result<(TokenKind, usize), RefusalKind>
     ensures value { result ≡ Words.language_tag characters.now }
     ensures bound { IfOk result (λ token. (0 < token.1) × (token.1 ≤ suc (length characters.now))) }
 {
@@ -116,13 +117,13 @@ fn language_tag(characters: &[char]) -> Result<(TokenKind, usize), FaultKind>
     if length > 0 {
         Ok((TokenKind::LanguageTag, 1 + length))
     } else if characters.is_empty() {
-        Err(FaultKind::UnexpectedEnd)
+        Err(RefusalKind::UnexpectedEnd)
     } else {
-        Err(FaultKind::NoToken)
+        Err(RefusalKind::NoToken)
     }
 }
 
-fn directive(characters: &[char]) -> Result<(TokenKind, usize), FaultKind>
+fn directive(characters: &[char]) -> Result<(TokenKind, usize), RefusalKind>
     ensures value { result ≡ Words.directive characters.now }
     ensures bound { IfOk result (λ token. (0 < token.1) × (token.1 ≤ suc (length characters.now))) }
 {
@@ -132,16 +133,16 @@ fn directive(characters: &[char]) -> Result<(TokenKind, usize), FaultKind>
         Some(kind) => Ok((kind, 1 + length)),
         None => {
             if begins_directive(characters) {
-                Err(FaultKind::UnexpectedEnd)
+                Err(RefusalKind::UnexpectedEnd)
             } else {
-                Err(FaultKind::NoToken)
+                Err(RefusalKind::NoToken)
             }
         }
     }
 }
 
 /// The token that begins with `@`, by the characters after that.
-pub fn at_word(after_string: bool, characters: &[char]) -> Result<(TokenKind, usize), FaultKind>
+pub fn at_word(after_string: bool, characters: &[char]) -> Result<(TokenKind, usize), RefusalKind>
     ensures value { result ≡ Words.at_word after_string characters.now }
     ensures bound { IfOk result (λ token. (0 < token.1) × (token.1 ≤ suc (length characters.now))) }
 {
@@ -153,7 +154,7 @@ pub fn at_word(after_string: bool, characters: &[char]) -> Result<(TokenKind, us
 }
 
 /// The word without a colon that begins here.
-pub fn word(characters: &[char]) -> Result<(TokenKind, usize), FaultKind>
+pub fn word(characters: &[char]) -> Result<(TokenKind, usize), RefusalKind>
     ensures value { result ≡ Words.word characters.now }
     ensures bound { IfOk result (λ token. (0 < token.1) × (token.1 ≤ length characters.now)) }
 {
@@ -163,9 +164,9 @@ pub fn word(characters: &[char]) -> Result<(TokenKind, usize), FaultKind>
         Some(kind) => Ok((kind, length)),
         None => {
             if run_length(Class::NameOrDot, characters) == characters.len() {
-                Err(FaultKind::UnexpectedEnd)
+                Err(RefusalKind::UnexpectedEnd)
             } else {
-                Err(FaultKind::NoToken)
+                Err(RefusalKind::NoToken)
             }
         }
     }

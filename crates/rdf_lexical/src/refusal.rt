@@ -1,9 +1,10 @@
 ghost use Rattle.std.specs.Prelude.{◌≡◌};
-ghost use Rattle.ntriples_text.specs.Faults.{number_of, kind_of_literal};
+ghost use Rattle.rdf_lexical.specs.Refusals.{number_of, kind_of_literal};
 
 use std::alloc::AllocError;
 
-/// Why a text is refused.
+/// Why a text of N-Triples or Turtle is refused. Reading goes from left to right, and the first
+/// refusal counts.
 #[derive(Clone, Copy, Debug, PartialEq, Eq)]
 pub enum RefusalKind {
     /// Its bytes are no UTF-8.
@@ -12,9 +13,12 @@ pub enum RefusalKind {
     NoToken,
     /// The grammar doesn't allow this token here.
     UnexpectedToken,
-    /// An IRI has no scheme.
+    /// The prefix of a name isn't declared (Turtle alone).
+    UndeclaredPrefix,
+    /// An IRI has no scheme, and there is no base.
     RelativeIri,
-    /// A backslash begins no escape, or an escape of no character that may stand there.
+    /// In an IRIREF or a string a backslash begins no escape, or the escape stands for what is no
+    /// character or may not stand there.
     BadEscape,
     /// A literal of xsd:float or xsd:double.
     FloatingPoint,
@@ -24,14 +28,18 @@ pub enum RefusalKind {
     YearOutOfRange,
     /// rdf:langString is written as a datatype.
     LanguageString,
-    /// A blank node label where a predicate may stand.
+    /// More than 256 brackets and parentheses are open (Turtle alone).
+    TooDeep,
+    /// A blank node label that is no label of the store, where those are asked for.
+    NoStoreLabel,
+    /// A blank node label, or in Turtle a bracket, where a predicate may stand.
     BlankPredicate,
     /// The text ends within a token, an escape or a triple.
     UnexpectedEnd,
 }
 
 impl RefusalKind {
-    // The kind of a literal that isn't kept, by its number.
+    /// The kind of a literal that isn't kept, by its number: 7 to 10.
     pub fn of_literal(number: u8) -> RefusalKind
         ensures { result ≡ kind_of_literal number }
     {
@@ -43,7 +51,7 @@ impl RefusalKind {
         }
     }
 
-    /// The number by which a kind is known.
+    /// The number by which a kind is known, 1 to 14.
     pub fn number(self) -> u8
         ensures { result ≡ number_of self }
     {
@@ -51,23 +59,19 @@ impl RefusalKind {
             RefusalKind::NotUtf8 => 1,
             RefusalKind::NoToken => 2,
             RefusalKind::UnexpectedToken => 3,
+            RefusalKind::UndeclaredPrefix => 4,
             RefusalKind::RelativeIri => 5,
             RefusalKind::BadEscape => 6,
             RefusalKind::FloatingPoint => 7,
             RefusalKind::TooManyDigits => 8,
             RefusalKind::YearOutOfRange => 9,
             RefusalKind::LanguageString => 10,
+            RefusalKind::TooDeep => 11,
+            RefusalKind::NoStoreLabel => 12,
             RefusalKind::BlankPredicate => 13,
             RefusalKind::UnexpectedEnd => 14,
         }
     }
-}
-
-// Why a line is refused, or memory.
-#[derive(Clone, Copy, Debug, PartialEq, Eq)]
-pub enum LineFault {
-    Refused(RefusalKind),
-    Memory,
 }
 
 /// Why a text was not read.
@@ -78,19 +82,8 @@ pub enum ReadFault {
     Memory,
 }
 
-impl From<AllocError> for LineFault {
-    ghost use Rattle.ntriples_text.specs.declared.refusal.LineFault.TheVariants as faults;
-    ghost use Rattle.std.specs.Prelude.{◌≡◌};
-
-    ghost from_gives = { λ _ e. e ≡ faults.Memory };
-
-    fn from(_error: AllocError) -> Self {
-        LineFault::Memory
-    }
-}
-
 impl From<AllocError> for ReadFault {
-    ghost use Rattle.ntriples_text.specs.declared.refusal.ReadFault.TheVariants as faults;
+    ghost use Rattle.rdf_lexical.specs.declared.refusal.ReadFault.TheVariants as faults;
     ghost use Rattle.std.specs.Prelude.{◌≡◌};
 
     ghost from_gives = { λ _ e. e ≡ faults.Memory };
