@@ -1,5 +1,5 @@
 -- The lines of N-Triples 1.1, by the productions of section 7.
-use Rattle.std.specs.Prelude.{ℕ, Bool, true, false, ◌||◌, List, Option, Some, None, Result, Ok, Err, if◌then◌else◌, codes}
+use Rattle.std.specs.Prelude.{ℕ, Bool, true, false, List, Option, Some, None, Result, Ok, Err, if◌then◌else◌, codes}
 use Rattle.rdf_model.specs.declared.term.Term.{Term}
 use Rattle.rdf_model.specs.declared.term.Term.TheVariants.{Iri, Literal}
 use Rattle.rdf_model.specs.NTriples.{xsd_string}

@@ -6,10 +6,10 @@
 #![tactic(auto)]
 
 mod document;
-mod enclosed;
 mod grammar;
 mod labels;
 pub mod laws;
+mod lexeme;
 mod line_fault;
 mod numbering;
 mod statement;

@@ -8,10 +8,11 @@ use Rattle.turtle_lex.specs.declared.token.LexFault.{LexFault}
 use Rattle.turtle_lex.specs.declared.token.Token.{Token}
 use Rattle.turtle_lex.specs.declared.token.TokenKind.{TokenKind}
 use Rattle.turtle_lex.specs.declared.token.TokenKind.TheVariants.{PrefixName, PrefixedName, BlankNodeLabel, Carets, Dot, Semicolon, Comma, OpenBracket, CloseBracket, OpenParenthesis, CloseParenthesis}
-use Rattle.turtle_lex.specs.declared.class.Class.TheVariants.{Sign, Digit, NameStart, NameUnderscoreOrDigit}
-use Rattle.turtle_lex.specs.Classes.{holds}
+use Rattle.rdf_lexical.specs.declared.classes.Class.TheVariants.{Sign, Digit, NameStart, NameUnderscoreOrDigit, Name}
+use Rattle.rdf_lexical.specs.Classes.{holds}
 use Rattle.turtle_lex.specs.Blanks.{blank_length}
-use Rattle.turtle_lex.specs.Names.{name_length, prefix_length, local_length}
+use Rattle.rdf_lexical.specs.Names.{name_length}
+use Rattle.turtle_lex.specs.Names.{prefix_length, local_length}
 use Rattle.turtle_lex.specs.Numbers.{number}
 use Rattle.turtle_lex.specs.Words.{Lexeme, at_word, word}
 use Rattle.turtle_lex.specs.Enclosed.{iri_ref, string_literal}
@@ -20,7 +21,7 @@ use Rattle.turtle_lex.specs.Places.{place_at}
 -- BLANK_NODE_LABEL, after `_:` and after `_`
 abbrev pub label_after_colon : List ℕ → Lexeme
 label_after_colon [] = Err UnexpectedEnd
-label_after_colon (c ∷ cs) = if holds NameUnderscoreOrDigit c then Ok (BlankNodeLabel, 2 + name_length (c ∷ cs)) else Err NoToken
+label_after_colon (c ∷ cs) = if holds NameUnderscoreOrDigit c then Ok (BlankNodeLabel, 2 + name_length Name (c ∷ cs)) else Err NoToken
 
 abbrev pub label : List ℕ → Lexeme
 label [] = Err UnexpectedEnd

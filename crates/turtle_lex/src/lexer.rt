@@ -6,14 +6,13 @@ ghost use Rattle.turtle_lex.specs.Productions.{IsNextToken, HasNoToken};
 ghost use Rattle.turtle_lex.specs.Places.{IsPlace, HasSpan};
 
 use crate::blanks::blank_length;
-use crate::class::{Class, after, begins_with};
 use crate::enclosed::{iri_ref, string_literal};
-use crate::names::{local_length, name_length, prefix_length};
+use crate::names::{local_length, prefix_length};
 use crate::numbers::number;
 use crate::places::place_after;
 use crate::token::{LexFault, Place, Token, TokenKind};
 use crate::words::{at_word, word};
-use rdf_lexical::RefusalKind;
+use rdf_lexical::{Class, RefusalKind, after, begins_with, name_length};
 
 // The label by the characters after its `_`.
 fn label_after_colon(characters: &[char]) -> Result<(TokenKind, usize), RefusalKind>
@@ -23,7 +22,10 @@ fn label_after_colon(characters: &[char]) -> Result<(TokenKind, usize), RefusalK
     if characters.is_empty() {
         Err(RefusalKind::UnexpectedEnd)
     } else if begins_with(Class::NameUnderscoreOrDigit, characters) {
-        Ok((TokenKind::BlankNodeLabel, 2 + name_length(characters)))
+        Ok((
+            TokenKind::BlankNodeLabel,
+            2 + name_length(Class::Name, characters),
+        ))
     } else {
         Err(RefusalKind::NoToken)
     }

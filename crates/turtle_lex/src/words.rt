@@ -1,9 +1,8 @@
-ghost use Rattle.std.specs.Prelude.{◌≡◌, ◌<◌, ◌≤◌, suc, false, IfOk, length};
+ghost use Rattle.std.specs.Prelude.{◌≡◌, ◌<◌, ◌≤◌, suc, IfOk, length};
 ghost use Rattle.turtle_lex.specs.Words;
 
-use crate::class::{Class, after, begins_with, run_length};
 use crate::token::TokenKind;
-use rdf_lexical::RefusalKind;
+use rdf_lexical::{Class, RefusalKind, run_length, tag_length};
 
 const A: [char; 1] = ['a'];
 
@@ -52,40 +51,6 @@ fn word_kind(word: &[char]) -> Option<TokenKind>
         Some(TokenKind::Base)
     } else {
         None
-    }
-}
-
-// How many characters of a LANGTAG follow its letters; whether a subtag has begun.
-fn subtags_length(characters: &[char]) -> usize
-    ensures value { result ≡ Words.subtags_length false characters.now }
-    ensures bound { result ≤ length characters.now }
-{
-    let mut inside = false;
-    let mut count = 0;
-    let mut rest = characters;
-    while let [character, after @ ..] = rest {
-        let goes_on = inside && Class::LetterOrDigit.holds(*character);
-        let begins = *character == '-' && begins_with(Class::LetterOrDigit, after);
-        if !goes_on && !begins {
-            return count;
-        }
-        inside = true;
-        count += 1;
-        rest = after;
-    }
-    count
-}
-
-// How many characters the longest LANGTAG has after its `@`; 0 where none begins.
-fn tag_length(characters: &[char]) -> usize
-    ensures value { result ≡ Words.tag_length characters.now }
-    ensures bound { result ≤ length characters.now }
-{
-    let letters = run_length(Class::Letter, characters);
-    if letters == 0 {
-        0
-    } else {
-        letters + subtags_length(after(characters, letters))
     }
 }
 
