@@ -14,7 +14,7 @@ use Rattle.collections.specs.Ordered.{with_item}
 use Rattle.rdf_lexical.specs.declared.refusal.RefusalKind.{RefusalKind}
 use Rattle.rdf_lexical.specs.declared.refusal.RefusalKind.TheVariants.{NotUtf8}
 use Rattle.ntriples_text.specs.declared.statement.Statement.{Statement}
-use Rattle.ntriples_text.specs.Tokens.{is_line_end}
+use Rattle.rdf_lexical.specs.Characters.{is_line_end}
 use Rattle.ntriples_text.specs.Grammar.{line}
 use Rattle.ntriples_text.specs.Blanks.{all_labels, once, triple_of}
 use Rattle.ntriples_text.specs.Document.{line_of, lines, lines_from, number_after, numbered, reads, with_line, with_statement}
