@@ -6,11 +6,11 @@ use Rattle.std.specs.Str.Lossy.{utf8_valid_len}
 use Rattle.std.proofs.lemmas.Str.{encodes-chars, length-le-encodes, is_utf8-from_IsUtf8, IsUtf8-from_is_utf8}
 use Rattle.std.proofs.lemmas.Bool.{false_from_ne_true}
 use Rattle.rdf_model.specs.declared.triple.Triple.{Triple}
-use Rattle.ntriples_text.specs.declared.refusal.RefusalKind.{RefusalKind}
-use Rattle.ntriples_text.specs.declared.refusal.RefusalKind.TheVariants.{NotUtf8}
-use Rattle.ntriples_text.specs.declared.refusal.ReadFault.{ReadFault}
+use Rattle.rdf_lexical.specs.declared.refusal.RefusalKind.{RefusalKind}
+use Rattle.rdf_lexical.specs.declared.refusal.RefusalKind.TheVariants.{NotUtf8}
+use Rattle.rdf_lexical.specs.declared.refusal.ReadFault.{ReadFault}
 use Rattle.ntriples_text.specs.declared.statement.Statement.{Statement}
-use Rattle.ntriples_text.specs.Faults.{Refuses}
+use Rattle.rdf_lexical.specs.Refusals.{Refuses}
 use Rattle.ntriples_text.specs.Document.{lines, lines_from, numbered, line_of, reads}
 
 -- as many characters as bytes, or fewer

@@ -1,15 +1,24 @@
 -- What a text gives can be written and read again, but for its blank nodes, which have the numbers of its labels.
-use Rattle.std.proofs.Common.{◌≡◌, ◌∙◌, ℕ, suc, ◌+◌, ◌<◌, ◌≤◌, Bool, true, false, cond, not, ◌||◌, List, [], ◌∷◌, map, length, take, drop, Option, Some, None, Result, Ok, Err, refl, sym, ap, subst, eqb, arith}
-use Rattle.std.specs.Prelude.{bytes_eq}
+use Rattle.std.proofs.Common.{◌≡◌, ◌∙◌, ℕ, zero, suc, ◌+◌, ◌<◌, ◌≤◌, Bool, true, false, cond, not, ◌||◌, List, [], ◌∷◌, ◌++◌, map, length, take, drop, Option, Some, None, Result, Ok, Err, refl, sym, ap, subst, eqb, arith}
+use Rattle.std.specs.Prelude.{bytes_eq, replicate}
 use Rattle.std.specs.List.{AllByRecursion, list_all, list_any, position_or_len, onto_first}
 use Rattle.std.specs.Str.{IsUtf8, is_utf8, chars}
 use Rattle.std.specs.Str.Lossy.{utf8_valid_len}
 use Rattle.std.proofs.lemmas.Str.{chars-encodes, scalars-chars, IsUtf8-from_is_utf8}
+use Rattle.std.proofs.lemmas.Bool.Decides.{nat_tests}
 use Rattle.std.proofs.lemmas.Bool.{and_parts, and_from}
 use Rattle.std.specs.Ordering.{match_ordering}
 use Rattle.std.specs.declared.cmp.Ordering.TheVariants.{Less, Equal, Greater}
 use lib.Utf8.{encodes, encode, scalars, scalar}
-use Rattle.rdf_lexical.specs.Characters.{is_iri_char, is_ascii_letter}
+use Rattle.rdf_lexical.specs.declared.quoting.Quotes.TheVariants.{Double}
+use Rattle.rdf_lexical.specs.declared.enclosing.Enclosed.{Enclosed}
+use Rattle.rdf_lexical.specs.declared.enclosing.Enclosed.TheVariants as enclosed
+use Rattle.rdf_lexical.specs.Characters.{is_within, is_iri_char, is_line_end}
+use Rattle.rdf_lexical.specs.Enclosed.{mark, closing_length}
+use Rattle.rdf_lexical.specs.Meanings.{inner, unescaped, lower_case, lower_text}
+use Rattle.rdf_lexical.specs.Productions.{joined_texts, IsEnclosed, IsLanguageTag}
+use Rattle.rdf_lexical.proofs.LowerTags.{lower_tag}
+use Rattle.rdf_lexical.proofs.Contents.{may_stand_for, scalars_parts, pieces_value}
 use Rattle.iri_ref.specs.Scheme.{has_scheme}
 use Rattle.collections.specs.Ordered.{IsAscending, with_item}
 use Rattle.rdf_model.specs.declared.term.Term.{Term}
@@ -18,16 +27,18 @@ use Rattle.rdf_model.specs.declared.triple.Triple.{Triple}
 use Rattle.rdf_model.specs.Terms.{triple_cmp}
 use Rattle.rdf_model.specs.Graphs.{with_each}
 use Rattle.rdf_model.specs.NTriples.{xsd_string}
-use Rattle.ntriples_text.specs.declared.refusal.RefusalKind.{RefusalKind}
-use Rattle.ntriples_text.specs.declared.refusal.RefusalKind.TheVariants.{NotUtf8, NoToken, RelativeIri}
+use Rattle.rdf_lexical.specs.declared.refusal.RefusalKind.{RefusalKind}
+use Rattle.rdf_lexical.specs.declared.refusal.RefusalKind.TheVariants.{NotUtf8, RelativeIri}
+use Rattle.ntriples_text.specs.declared.lexeme.TokenKind.{TokenKind}
+use Rattle.ntriples_text.specs.declared.lexeme.TokenKind.TheVariants as kinds
 use Rattle.ntriples_text.specs.declared.token.Token.{Token}
 use Rattle.ntriples_text.specs.declared.token.Token.TheVariants.{IriRef, Quoted, Label, LanguageTag, Carets, Dot, LineEnd, TextEnd}
-use Rattle.ntriples_text.specs.declared.enclosed.Enclosed.TheVariants.{InAngles, InQuotes}
 use Rattle.ntriples_text.specs.declared.statement.Node.{Node}
 use Rattle.ntriples_text.specs.declared.statement.Node.TheVariants.{Labelled, Plain}
 use Rattle.ntriples_text.specs.declared.statement.Statement.{Statement}
-use Rattle.ntriples_text.specs.Faults.{◌>>=◌}
-use Rattle.ntriples_text.specs.Tokens.{Reading, is_line_end, is_blank, enclosed, from_line_end, skipped, begins_label, label_length, label_from, label_at, tag_length, tag_at, lower_case, second_caret, mark_at, token_at, token}
+use Rattle.rdf_lexical.specs.Refusals.{◌>>=◌}
+use Rattle.ntriples_text.specs.Tokens.{Lexeme, is_blank, from_line_end, skipped, lexeme, token_of, token_at, token}
+use Rattle.ntriples_text.specs.Productions.{IsToken}
 use Rattle.literal_order.specs.Values.{reading, profile}
 use Rattle.literal_order.specs.Datatypes.{datatype_of, local_datatype}
 use Rattle.ntriples_text.specs.Grammar.{rdf_lang_string, kept, iri_of, iri, node_of, predicate_of, predicate, literal, literal_at, literal_from, object_at, object, dot, is_end, end, statement_from, line}
@@ -36,7 +47,8 @@ use Rattle.ntriples_text.specs.Document.{lines, lines_from, number_after, with_l
 use Rattle.ntriples_text.specs.Progress.{with_more}
 use Rattle.ntriples_text.specs.Laws.{IsIriText, IsTagChars, IsReadableSubject, IsReadableObject, IsReadable, IsNone, IsWithin, GivesReadable}
 use Rattle.ntriples_text.proofs.Sorting.{each_ascends}
-use Rattle.ntriples_text.proofs.Tags.{bind_ok, scalars_drop, body_text, tag_text}
+use Rattle.ntriples_text.proofs.Lexemes.{IsFound, token_found}
+use Rattle.ntriples_text.proofs.ReadAgain.{inner_one}
 use Rattle.ntriples_text.proofs.Numbers.{Texts, IsNumbered, numbered_more, node_numbered, more_twice, once_all}
 
 -- a token whose text is read again, before characters
@@ -53,89 +65,85 @@ IsTokenOf TextEnd rest = scalars rest ≡ true
 is_token : (t u : Token × List ℕ) → t ≡ u → IsTokenOf u.0 u.1 → IsTokenOf t.0 t.1
 is_token t u is h = subst (λ (x : Token × List ℕ). IsTokenOf x.0 x.1) (sym is) h
 
-angles : (cs : List ℕ) (t : Token × List ℕ) → scalars cs ≡ true → (enclosed InAngles cs >>= λ r. Ok (IriRef r.0, r.1)) ≡ Ok t → IsTokenOf t.0 t.1
-angles cs t s h = let b = bind_ok (enclosed InAngles cs) (λ r. Ok (IriRef r.0, r.1)) t h in let k = b.2 in is_token t (IriRef b.0.0, b.0.1) (cc) (body_text InAngles cs b.0 s b.1)
+-- a reading of two steps that succeeds
+bind_ok : {A B : Type 0} (r : Result A RefusalKind) (f : A → Result B RefusalKind) (y : B) → (r >>= f) ≡ Ok y → (x : A) × (r ≡ Ok x) × (f x ≡ Ok y)
+bind_ok (Ok x) f y h = (x, refl, h)
+bind_ok (Err k) f y h = cc
 
-quotes : (cs : List ℕ) (t : Token × List ℕ) → scalars cs ≡ true → (enclosed InQuotes cs >>= λ r. Ok (Quoted r.0, r.1)) ≡ Ok t → IsTokenOf t.0 t.1
-quotes cs t s h =
-    let b = bind_ok (enclosed InQuotes cs) (λ r. Ok (Quoted r.0, r.1)) t h in
-    let k = b.2 in
-    let body = body_text InQuotes cs b.0 s b.1 in
-    is_token t (Quoted b.0.0, b.0.1) (cc) (body.0, body.2)
+scalars_drop : (n : ℕ) (cs : List ℕ) → scalars cs ≡ true → scalars (drop n cs) ≡ true
+scalars_drop zero cs s = s
+scalars_drop (suc n) [] s = refl
+scalars_drop (suc n) (c ∷ cs) s = scalars_drop n cs ((and_parts (scalar c) (scalars cs) s).1)
 
-label_gives : (cs : List ℕ) (t : Token × List ℕ) → scalars cs ≡ true → label_from cs ≡ Ok t → IsTokenOf t.0 t.1
-label_gives [] t s h = cc
-label_gives (c ∷ cs) t s h =
-    let p = and_parts (scalar c) (scalars cs) s in
-    let n = label_length cs in
-    elim (begins_label c) as (λ b. cond b (Ok (Label (encodes (c ∷ take n cs)), drop n cs)) (Err NoToken) ≡ Ok t → IsTokenOf t.0 t.1) [
-      | true ↦ λ k. is_token t (Label (encodes (c ∷ take n cs)), drop n cs) (cc) (scalars_drop n cs p.1)
-      | false ↦ λ k. cc
-    ] h
+scalars_take : (n : ℕ) (cs : List ℕ) → scalars cs ≡ true → scalars (take n cs) ≡ true
+scalars_take zero cs s = refl
+scalars_take (suc n) [] s = refl
+scalars_take (suc n) (c ∷ cs) s = let p = and_parts (scalar c) (scalars cs) s in and_from (scalar c) (scalars (take n cs)) p.0 (scalars_take n cs p.1)
 
-labels : (cs : List ℕ) (t : Token × List ℕ) → scalars cs ≡ true → label_at cs ≡ Ok t → IsTokenOf t.0 t.1
-labels [] t s h = cc
-labels (c ∷ cs) t s h =
-    let p = and_parts (scalar c) (scalars cs) s in
-    elim (eqb c 58) as (λ b. cond b (label_from cs) (Err NoToken) ≡ Ok t → IsTokenOf t.0 t.1) [
-      | true ↦ λ k. label_gives cs t p.1 k
-      | false ↦ λ k. cc
-    ] h
+lower_scalar : (c : ℕ) → scalar c ≡ true → scalar (lower_case c) ≡ true
+lower_scalar c h = elim (is_within 65 90 c) as (λ b. is_within 65 90 c ≡ b → scalar (cond b (c + 32) c) ≡ true) [ true ↦ λ q. grind (arith, nat_tests) | false ↦ λ q. h ] refl
 
-tags : (cs : List ℕ) (t : Token × List ℕ) → scalars cs ≡ true → tag_at cs ≡ Ok t → IsTokenOf t.0 t.1
-tags [] t s h = cc
-tags (c ∷ cs) t s h =
-    let p = and_parts (scalar c) (scalars cs) s in
-    let n = tag_length false cs in
-    let text = encodes (map lower_case (c ∷ take n cs)) in
-    elim (is_ascii_letter c) as (λ b. is_ascii_letter c ≡ b → cond b (Ok (LanguageTag text, drop n cs)) (Err NoToken) ≡ Ok t → IsTokenOf t.0 t.1) [
-      | true ↦ λ q k. let g = tag_text c cs p.0 p.1 q in is_token t (LanguageTag text, drop n cs) (cc) (g.0, g.1, scalars_drop n cs p.1)
-      | false ↦ λ q k. cc
-    ] refl h
+not_upper : (c : ℕ) → is_within 65 90 c ≡ true → is_within 65 90 (c + 32) ≡ false
+not_upper c h = grind (arith, nat_tests)
 
-carets : (cs : List ℕ) (t : Token × List ℕ) → scalars cs ≡ true → second_caret cs ≡ Ok t → IsTokenOf t.0 t.1
-carets [] t s h = cc
-carets (c ∷ cs) t s h =
-    let p = and_parts (scalar c) (scalars cs) s in
-    elim (eqb c 94) as (λ b. cond b (Ok (Carets, cs)) (Err NoToken) ≡ Ok t → IsTokenOf t.0 t.1) [
-      | true ↦ λ k. is_token t (Carets, cs) (cc) p.1
-      | false ↦ λ k. cc
-    ] h
+lower_twice : (c : ℕ) → lower_case (lower_case c) ≡ lower_case c
+lower_twice c = elim (is_within 65 90 c) as (λ b. is_within 65 90 c ≡ b → lower_case (cond b (c + 32) c) ≡ cond b (c + 32) c) [
+  | true ↦ λ q. ap (λ b. cond b ((c + 32) + 32) (c + 32)) (not_upper c q)
+  | false ↦ λ q. ap (λ b. cond b (c + 32) c) q
+] refl
 
-marks : (c : ℕ) (cs : List ℕ) (t : Token × List ℕ) → scalars cs ≡ true → mark_at c cs ≡ Ok t → IsTokenOf t.0 t.1
-marks c cs t s h =
-    let last : Reading Token = cond (is_line_end c) (Ok (LineEnd, cs)) (Err NoToken) in
-    elim (eqb c 94) as (λ b. cond b (second_caret cs) (cond (eqb c 46) (Ok (Dot, cs)) last) ≡ Ok t → IsTokenOf t.0 t.1) [
-      | true ↦ λ k. carets cs t s k
-      | false ↦ λ k. elim (eqb c 46) as (λ b. cond b (Ok (Dot, cs)) last ≡ Ok t → IsTokenOf t.0 t.1) [
-        | true ↦ λ k. is_token t (Dot, cs) (cc) s
-        | false ↦ λ k. elim (is_line_end c) as (λ b. cond b (Ok (LineEnd, cs)) (Err NoToken) ≡ Ok t → IsTokenOf t.0 t.1) [
-          | true ↦ λ k. is_token t (LineEnd, cs) (cc) s
-          | false ↦ λ k. cc
-        ] k
-      ] k
-    ] h
+lower_all : (cs : List ℕ) → map lower_case (map lower_case cs) ≡ map lower_case cs
+lower_all [] = refl
+lower_all (c ∷ cs) = ap (λ x. x ∷ map lower_case (map lower_case cs)) (lower_twice c) ∙ ap (λ xs. lower_case c ∷ xs) (lower_all cs)
+
+lower_scalars : (cs : List ℕ) → scalars cs ≡ true → scalars (map lower_case cs) ≡ true
+lower_scalars [] s = refl
+lower_scalars (c ∷ cs) s = let p = and_parts (scalar c) (scalars cs) s in and_from (scalar (lower_case c)) (scalars (map lower_case cs)) (lower_scalar c p.0) (lower_scalars cs p.1)
+
+-- what stands between one character on each side
+abbrev IsBody : Enclosed → List ℕ → Type 0
+IsBody e a = IsUtf8 a × (list_all (may_stand_for e) (chars a) ≡ true)
+
+body_of : (e : Enclosed) (a : ℕ) (t b : List ℕ) → closing_length e ≡ 1 → t ≡ a ∷ b → scalars t ≡ true → IsEnclosed e b → IsBody e (unescaped 0 (inner 1 t))
+body_of e a t b one is s (ps, f, all) =
+    let js = joined_texts ps in
+    let close : replicate (closing_length e) (mark e) ≡ mark e ∷ [] = ap (λ n. replicate n (mark e)) one in
+    let whole : t ≡ a ∷ (js ++ mark e ∷ []) = is ∙ ap (λ x. a ∷ x) (f ∙ ap (λ x. js ++ x) close) in
+    let all_scalars : scalars (a ∷ (js ++ mark e ∷ [])) ≡ true = subst (λ (x : List ℕ). scalars x ≡ true) whole s in
+    let inside = (scalars_parts js (mark e ∷ []) ((and_parts (scalar a) (scalars (js ++ mark e ∷ [])) all_scalars).1)).0 in
+    let v = pieces_value e ps one all inside in
+    let text : unescaped 0 (inner 1 t) ≡ encodes v.0 = ap (λ x. unescaped 0 (inner 1 x)) whole ∙ ap (unescaped 0) (inner_one a (mark e) js) ∙ v.1 in
+    let same : chars (encodes v.0) ≡ v.0 = chars-encodes v.0 v.3 in
+    let body : IsBody e (encodes v.0) = ((v.0, (v.3, refl)), ap (list_all (may_stand_for e)) same ∙ v.2) in
+    subst (λ (x : List ℕ). IsBody e x) (sym text) body
+
+tag_of : (t : List ℕ) → scalars t ≡ true → IsLanguageTag t → IsUtf8 (lower_text (drop 1 t)) × IsTagChars (chars (lower_text (drop 1 t)))
+tag_of t s (l, ts, is, some, all) =
+    let y = l ++ joined_texts ts in
+    let rest : drop 1 t ≡ y = ap (drop 1) is in
+    let whole : scalars (64 ∷ y) ≡ true = subst (λ (x : List ℕ). scalars x ≡ true) is s in
+    let are : scalars (map lower_case y) ≡ true = lower_scalars y ((and_parts (scalar 64) (scalars y) whole).1) in
+    let tag : IsTagChars (map lower_case y) = (lower_tag y (l, ts, refl, some, all), lower_all y) in
+    let utf8 : IsUtf8 (encodes (map lower_case y)) = (map lower_case y, (are, refl)) in
+    let both : IsUtf8 (lower_text y) × IsTagChars (chars (lower_text y)) = (utf8, subst (λ (xs : List ℕ). IsTagChars xs) (sym (chars-encodes (map lower_case y) are)) tag) in
+    subst (λ (x : List ℕ). IsUtf8 (lower_text x) × IsTagChars (chars (lower_text x))) (sym rest) both
+
+token_means : (k : TokenKind) (t rest : List ℕ) → scalars t ≡ true → scalars rest ≡ true → IsToken k t → IsTokenOf (token_of k t) rest
+token_means kinds.IriRef t rest s r (b, e, body) = let a = body_of enclosed.Iri 60 t b refl e s body in (a.0, a.1, r)
+token_means kinds.StringLiteral t rest s r (b, e, body) = let a = body_of (enclosed.Text Double) 34 t b refl e s body in (a.0, r)
+token_means kinds.BlankNodeLabel t rest s r h = r
+token_means kinds.LanguageTag t rest s r h = let a = tag_of t s h in (a.0, a.1, r)
+token_means kinds.Carets t rest s r h = r
+token_means kinds.Dot t rest s r h = r
+token_means kinds.LineEnd t rest s r h = r
+
+by_lexeme : (cs : List ℕ) (r : Lexeme) (t : Token × List ℕ) → scalars cs ≡ true → IsFound r cs → (r >>= λ p. Ok (token_of p.0 (take p.1 cs), drop p.1 cs)) ≡ Ok t → IsTokenOf t.0 t.1
+by_lexeme cs (Ok p) t s found h = is_token t (token_of p.0 (take p.1 cs), drop p.1 cs) (cc) (token_means p.0 (take p.1 cs) (drop p.1 cs) (scalars_take p.1 cs s) (scalars_drop p.1 cs s) found.0)
+by_lexeme cs (Err k) t s found h = cc
 
 token_from : (cs : List ℕ) (t : Token × List ℕ) → scalars cs ≡ true → token_at cs ≡ Ok t → IsTokenOf t.0 t.1
 token_from [] t s h = is_token t (TextEnd, []) (cc) refl
-token_from (c ∷ cs) t s h =
-    let p = and_parts (scalar c) (scalars cs) s in
-    let tagged : Reading Token = cond (eqb c 64) (tag_at cs) (mark_at c cs) in
-    let labelled : Reading Token = cond (eqb c 95) (label_at cs) tagged in
-    let quoted : Reading Token = cond (eqb c 34) (enclosed InQuotes cs >>= λ r. Ok (Quoted r.0, r.1)) labelled in
-    elim (eqb c 60) as (λ b. cond b (enclosed InAngles cs >>= λ r. Ok (IriRef r.0, r.1)) quoted ≡ Ok t → IsTokenOf t.0 t.1) [
-      | true ↦ λ k. angles cs t p.1 k
-      | false ↦ λ k. elim (eqb c 34) as (λ b. cond b (enclosed InQuotes cs >>= λ r. Ok (Quoted r.0, r.1)) labelled ≡ Ok t → IsTokenOf t.0 t.1) [
-        | true ↦ λ k. quotes cs t p.1 k
-        | false ↦ λ k. elim (eqb c 95) as (λ b. cond b (label_at cs) tagged ≡ Ok t → IsTokenOf t.0 t.1) [
-          | true ↦ λ k. labels cs t p.1 k
-          | false ↦ λ k. elim (eqb c 64) as (λ b. cond b (tag_at cs) (mark_at c cs) ≡ Ok t → IsTokenOf t.0 t.1) [
-            | true ↦ λ k. tags cs t p.1 k
-            | false ↦ λ k. marks c cs t p.1 k
-          ] k
-        ] k
-      ] k
-    ] h
+token_from (c ∷ cs) t s h = by_lexeme (c ∷ cs) (lexeme (c ∷ cs)) t s (token_found (c ∷ cs)) h
 
 comment_scalars : (cs : List ℕ) → scalars cs ≡ true → scalars (from_line_end cs) ≡ true
 comment_scalars [] s = refl

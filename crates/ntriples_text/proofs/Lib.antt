@@ -1,11 +1,11 @@
 pub mod Sets
 pub mod Sorting
 pub mod Lines
-pub mod Pieces
+pub mod Lexemes
 pub mod Characters
 pub mod Numbers
 pub mod Written
 pub mod ReadAgain
 pub mod RoundTrip
-pub mod Tags
 pub mod Gives
+pub mod TokenLaws

@@ -2,7 +2,7 @@
 use Rattle.std.proofs.Common.{◌≡◌, ◌∙◌, ℕ, zero, suc, ◌+◌, ◌<◌, true, false, cond, List, [], ◌∷◌, ◌++◌, length, get_or, take, drop, sym, ap, subst, arith, add-one}
 use Rattle.std.specs.List.{onto_first}
 use Rattle.std.proofs.lemmas.List.{take_more}
-use Rattle.ntriples_text.specs.Tokens.{is_line_end}
+use Rattle.rdf_lexical.specs.Characters.{is_line_end}
 use Rattle.ntriples_text.specs.Document.{lines}
 
 -- no character ends the line

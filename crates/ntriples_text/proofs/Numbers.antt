@@ -10,13 +10,13 @@ use Rattle.rdf_model.specs.declared.term.Term.{Term}
 use Rattle.rdf_model.specs.declared.term.Term.TheVariants.{Blank, Iri, Literal}
 use Rattle.rdf_model.specs.declared.triple.Triple.{Triple}
 use Rattle.rdf_model.specs.Graphs.{with_each}
-use Rattle.ntriples_text.specs.declared.refusal.RefusalKind.{RefusalKind}
-use Rattle.ntriples_text.specs.declared.refusal.ReadFault.{ReadFault}
-use Rattle.ntriples_text.specs.declared.refusal.ReadFault.TheVariants.{Refusal, Memory}
+use Rattle.rdf_lexical.specs.declared.refusal.RefusalKind.{RefusalKind}
+use Rattle.rdf_lexical.specs.declared.refusal.ReadFault.{ReadFault}
+use Rattle.rdf_lexical.specs.declared.refusal.ReadFault.TheVariants.{Refusal, Memory}
 use Rattle.ntriples_text.specs.declared.statement.Node.{Node}
 use Rattle.ntriples_text.specs.declared.statement.Node.TheVariants.{Labelled, Plain}
 use Rattle.ntriples_text.specs.declared.statement.Statement.{Statement}
-use Rattle.ntriples_text.specs.Faults.{Refuses}
+use Rattle.rdf_lexical.specs.Refusals.{Refuses}
 use Rattle.ntriples_text.specs.Blanks.{node_labels, statement_labels, all_labels, once, term_of, triple_of}
 use Rattle.ntriples_text.specs.Document.{lines, lines_from, numbered, with_labels, with_statement, with_line}
 use Rattle.std.specs.Str.{chars}

@@ -1,130 +1,147 @@
 -- What the tokens and lines of a written text give.
-use Rattle.std.proofs.Common.{◌≡◌, ◌∙◌, ℕ, suc, Bool, true, false, cond, ◌&&◌, ◌||◌, List, [], ◌∷◌, ◌++◌, map, length, take, drop, Some, None, Result, Ok, Err, refl, sym, ap, subst, eqb, arith}
+use Rattle.std.proofs.Common.{◌≡◌, ◌∙◌, ℕ, suc, ◌+◌, ◌-◌, append_assoc, length-append, inl, inr, Bool, true, false, cond, ◌||◌, List, [], ◌∷◌, ◌++◌, length, take, Some, None, Result, Ok, Err, refl, sym, ap, subst, eqb, arith}
 use Rattle.std.specs.Prelude.{bytes_eq}
-use Rattle.std.specs.List.{list_all, onto_first}
+use Rattle.std.specs.List.{AllByRecursion, list_all, onto_first}
 use Rattle.std.specs.Str.{IsUtf8, chars}
-use Rattle.std.proofs.Math.Seq.{take-append_seam, drop-append_seam}
+use Rattle.std.proofs.Math.Seq.{take-append_seam}
 use Rattle.std.proofs.lemmas.Str.{encodes-chars}
-use Rattle.std.proofs.lemmas.Bool.{and_parts, and_from, false_from_ne_true, eqb-true}
+use Rattle.std.proofs.lemmas.Bool.{and_parts, eqb-true}
 use Rattle.std.proofs.lemmas.Bool.Decides.{nat_tests}
 use Rattle.std.proofs.lemmas.Slice.Eq.{bytes_eq-Decides}
 use lib.Utf8.{encodes, encode}
-use Rattle.rdf_lexical.specs.Characters.{is_iri_char}
+use Rattle.rdf_lexical.specs.declared.classes.Class.TheVariants.{LetterOrDigit}
+use Rattle.rdf_lexical.specs.declared.quoting.Quotes.TheVariants.{Double}
+use Rattle.rdf_lexical.specs.declared.enclosing.Enclosed.{Enclosed}
+use Rattle.rdf_lexical.specs.declared.enclosing.Enclosed.TheVariants as enclosed
+use Rattle.rdf_lexical.specs.Characters.{is_iri_char, is_line_end}
+use Rattle.rdf_lexical.specs.Escapes.{escaped_char}
+use Rattle.rdf_lexical.specs.Classes.{holds}
+use Rattle.rdf_lexical.specs.Enclosed.{is_held, may_hold}
+use Rattle.rdf_lexical.specs.Meanings.{inner, unescaped, iri_text, string_value, lower_text}
+use Rattle.rdf_lexical.specs.Productions.{joined_texts, IsEchar, IsUnit, IsPiece, IsIriRef, IsString}
+use Rattle.rdf_lexical.proofs.EnclosedTokens.{some_closing}
+use Rattle.rdf_lexical.proofs.Contents.{plain_value, echar_value}
+use Rattle.rdf_lexical.proofs.LowerTags.{tag_all}
 use Rattle.iri_ref.specs.Scheme.{has_scheme}
 use Rattle.rdf_model.specs.declared.term.Term.{Term}
 use Rattle.rdf_model.specs.declared.term.Term.TheVariants.{Blank, Iri, Literal}
 use Rattle.rdf_model.specs.NTriples.{xsd_string}
-use Rattle.ntriples_text.specs.declared.refusal.RefusalKind.{RefusalKind}
-use Rattle.ntriples_text.specs.declared.refusal.RefusalKind.TheVariants.{NoToken, RelativeIri}
+use Rattle.rdf_lexical.specs.declared.refusal.RefusalKind.{RefusalKind}
+use Rattle.rdf_lexical.specs.declared.refusal.RefusalKind.TheVariants.{RelativeIri}
+use Rattle.ntriples_text.specs.declared.lexeme.TokenKind.TheVariants as kinds
 use Rattle.ntriples_text.specs.declared.token.Token.TheVariants.{IriRef, Quoted, LanguageTag}
-use Rattle.ntriples_text.specs.declared.enclosed.Enclosed.{Enclosed}
-use Rattle.ntriples_text.specs.declared.enclosed.Enclosed.TheVariants.{InAngles, InQuotes}
 use Rattle.ntriples_text.specs.declared.statement.Node.TheVariants.{Plain}
 use Rattle.ntriples_text.specs.declared.statement.Statement.{Statement}
-use Rattle.ntriples_text.specs.Faults.{◌>>=◌}
-use Rattle.ntriples_text.specs.Tokens.{Reading, Piece, is_line_end, is_string_char, may_hold, closing, escape, if_allowed, piece_at, with_front, enclosed_after, enclosed, is_tag_char, begins_part, tag_length, lower_case, tag_at, token}
+use Rattle.rdf_lexical.specs.Refusals.{◌>>=◌}
+use Rattle.ntriples_text.specs.Tokens.{token_at, token}
 use Rattle.ntriples_text.specs.Grammar.{rdf_lang_string, iri_of, iri, predicate, literal, literal_at, literal_from, object_at, object, dot, end, statement_from, line}
 use Rattle.ntriples_text.specs.Document.{lines}
 use Rattle.ntriples_text.specs.Laws.{IsIriText, IsTagChars, IsReadableObject, IsNone}
+use Rattle.ntriples_text.proofs.Lexemes.{iri_met, string_met, tag_before_space, found_token}
 use Rattle.ntriples_text.proofs.Written.{in_angles, in_quotes, escape_chars, all_escaped, suffix_chars, end_chars, object_chars, parts_chars}
 
--- what may be held doesn't close, and isn't a backslash
-not_closing : (e : Enclosed) (c : ℕ) → may_hold e c ≡ true → eqb c (closing e) ≡ false
-not_closing InAngles c h = false_from_ne_true (eqb c 62) (λ q. let bad : is_iri_char 62 ≡ true = subst (λ (x : ℕ). is_iri_char x ≡ true) (eqb-true c 62 q) h in cc)
-not_closing InQuotes c h = false_from_ne_true (eqb c 34) (λ q. let bad : is_string_char 34 ≡ true = subst (λ (x : ℕ). is_string_char x ≡ true) (eqb-true c 34 q) h in cc)
+-- what stands between one character on each side
+pub inner_one : (a b : ℕ) (cs : List ℕ) → inner 1 (a ∷ (cs ++ b ∷ [])) ≡ cs
+inner_one a b cs =
+    let size : length (cs ++ b ∷ []) ≡ length cs + 1 = length-append cs (b ∷ []) in
+    let n : suc (length (cs ++ b ∷ [])) - (1 + 1) ≡ length cs = omega arith in
+    ap (λ k. take k (cs ++ b ∷ [])) n ∙ take-append_seam cs (b ∷ [])
 
-not_backslash : (e : Enclosed) (c : ℕ) → may_hold e c ≡ true → eqb c 92 ≡ false
-not_backslash InAngles c h = false_from_ne_true (eqb c 92) (λ q. let bad : is_iri_char 92 ≡ true = subst (λ (x : ℕ). is_iri_char x ≡ true) (eqb-true c 92 q) h in cc)
-not_backslash InQuotes c h = false_from_ne_true (eqb c 92) (λ q. let bad : is_string_char 92 ≡ true = subst (λ (x : ℕ). is_string_char x ≡ true) (eqb-true c 92 q) h in cc)
+-- characters that stand for themselves
+abbrev singles : List ℕ → List (List ℕ)
+singles [] = []
+singles (c ∷ cs) = (c ∷ []) ∷ singles cs
 
--- a character that stands for itself
-held_read : (e : Enclosed) (c : ℕ) (more : List ℕ) → may_hold e c ≡ true → enclosed e (c ∷ more) ≡ with_front (encode c) (enclosed e more)
-held_read e c more h =
-    let go : Piece → Reading (List ℕ) = λ q. q >>= λ p. with_front (encode p.0) (enclosed_after e p.1 more) in
-    let itself : Piece = Ok (c, 0) in
-    let held : Bool → Piece = λ b. cond b itself (Err NoToken) in
-    ap (λ b. cond b (Ok ([], more)) (go (piece_at e c more))) (not_closing e c h)
-    ∙ (ap (λ b. go (cond b (escape e more >>= if_allowed e) (held (may_hold e c)))) (not_backslash e c h)
-    ∙ ap (λ b. go (held b)) h)
+joined_singles : (cs : List ℕ) → joined_texts (singles cs) ≡ cs
+joined_singles [] = refl
+joined_singles (c ∷ cs) = ap (λ x. c ∷ x) (joined_singles cs)
 
-closed : (e : Enclosed) (rest : List ℕ) → enclosed e (closing e ∷ rest) ≡ Ok ([], rest)
-closed InAngles rest = refl
-closed InQuotes rest = refl
+singles_are : (e : Enclosed) (cs : List ℕ) → list_all (may_hold e) cs ≡ true → AllByRecursion (IsPiece e) (singles cs)
+singles_are e [] h = tt
+singles_are e (c ∷ cs) h =
+    let p = and_parts (may_hold e c) (list_all (may_hold e) cs) h in
+    ((0, c ∷ [], refl, some_closing e, inl (c, refl, p.0)), singles_are e cs p.1)
 
-all_angles : (cs rest : List ℕ) → list_all is_iri_char cs ≡ true → enclosed InAngles (cs ++ 62 ∷ rest) ≡ Ok (encodes cs, rest)
-all_angles [] rest h = closed InAngles rest
-all_angles (c ∷ cs) rest h =
-    let p = and_parts (is_iri_char c) (list_all is_iri_char cs) h in
-    held_read InAngles c (cs ++ 62 ∷ rest) p.0 ∙ ap (with_front (encode c)) (all_angles cs rest p.1)
+plain_text : (e : Enclosed) (cs : List ℕ) → list_all (may_hold e) cs ≡ true → unescaped 0 cs ≡ encodes cs
+plain_text e [] h = refl
+plain_text e (c ∷ cs) h =
+    let p = and_parts (may_hold e c) (list_all (may_hold e) cs) h in
+    plain_value e c cs p.0 ∙ ap (λ x. encode c ++ x) (plain_text e cs p.1)
+
+iri_shape : (cs : List ℕ) → list_all is_iri_char cs ≡ true → IsIriRef (60 ∷ (cs ++ 62 ∷ []))
+iri_shape cs h = (cs ++ 62 ∷ [], refl, (singles cs, ap (λ x. x ++ 62 ∷ []) (sym (joined_singles cs)), singles_are enclosed.Iri cs h))
+
+token_in_angles : (a rest : List ℕ) → IsUtf8 a → list_all is_iri_char (chars a) ≡ true → token (in_angles a rest) ≡ Ok (IriRef a, rest)
+unfolding token
+token_in_angles a rest u h =
+    let cs = chars a in
+    let t = 60 ∷ (cs ++ 62 ∷ []) in
+    let whole : in_angles a rest ≡ t ++ rest = ap (λ x. 60 ∷ x) (sym (append_assoc cs (62 ∷ []) rest)) in
+    let text : iri_text t ≡ a = ap (unescaped 0) (inner_one 60 62 cs) ∙ plain_text enclosed.Iri cs h ∙ encodes-chars a u in
+    ap token_at whole ∙ found_token kinds.IriRef t rest (omega arith) (iri_met t rest (iri_shape cs h)) ∙ ap (λ x. Ok (IriRef x, rest)) text
 
 -- a character that is escaped where it must be
-plain_char : (c : ℕ) → eqb c 34 ≡ false → eqb c 92 ≡ false → eqb c 10 ≡ false → eqb c 13 ≡ false → is_string_char c ≡ true
+plain_char : (c : ℕ) → eqb c 34 ≡ false → eqb c 92 ≡ false → eqb c 10 ≡ false → eqb c 13 ≡ false → is_held Double c ≡ true
 plain_char c a b d e = grind (arith, nat_tests)
 
-abbrev front_of : ℕ → List ℕ → Reading (List ℕ)
-front_of c more = with_front (encode c) (enclosed InQuotes more)
+abbrev Escaped : ℕ → List ℕ → Type 0
+Escaped c t = IsUnit (enclosed.Text Double) t × ((r : List ℕ) → unescaped 0 (t ++ r) ≡ encode c ++ unescaped 0 r)
 
-escaped_read : (c : ℕ) (more : List ℕ) → enclosed InQuotes (escape_chars c ++ more) ≡ front_of c more
-escaped_read c more = elim (eqb c 34) as (λ b. eqb c 34 ≡ b → enclosed InQuotes (cond b (92 ∷ 34 ∷ []) (cond (eqb c 92) (92 ∷ 92 ∷ []) (cond (eqb c 10) (92 ∷ 110 ∷ []) (cond (eqb c 13) (92 ∷ 114 ∷ []) (c ∷ [])))) ++ more) ≡ front_of c more) [
-  | true ↦ λ q. ap (λ x. front_of x more) (sym (eqb-true c 34 q))
-  | false ↦ λ n34. elim (eqb c 92) as (λ b. eqb c 92 ≡ b → enclosed InQuotes (cond b (92 ∷ 92 ∷ []) (cond (eqb c 10) (92 ∷ 110 ∷ []) (cond (eqb c 13) (92 ∷ 114 ∷ []) (c ∷ []))) ++ more) ≡ front_of c more) [
-    | true ↦ λ q. ap (λ x. front_of x more) (sym (eqb-true c 92 q))
-    | false ↦ λ n92. elim (eqb c 10) as (λ b. eqb c 10 ≡ b → enclosed InQuotes (cond b (92 ∷ 110 ∷ []) (cond (eqb c 13) (92 ∷ 114 ∷ []) (c ∷ [])) ++ more) ≡ front_of c more) [
-      | true ↦ λ q. ap (λ x. front_of x more) (sym (eqb-true c 10 q))
-      | false ↦ λ n10. elim (eqb c 13) as (λ b. eqb c 13 ≡ b → enclosed InQuotes (cond b (92 ∷ 114 ∷ []) (c ∷ []) ++ more) ≡ front_of c more) [
-        | true ↦ λ q. ap (λ x. front_of x more) (sym (eqb-true c 13 q))
-        | false ↦ λ n13. held_read InQuotes c more (plain_char c n34 n92 n10 n13)
+by_backslash : (d c : ℕ) → escaped_char d ≡ Some c → Escaped c (92 ∷ d ∷ [])
+by_backslash d c is = let echar : IsEchar (92 ∷ d ∷ []) c = (d, refl, is) in (inr (c, inr echar), echar_value (92 ∷ d ∷ []) c echar)
+
+same_escaped : (c d n : ℕ) → eqb c n ≡ true → escaped_char d ≡ Some n → Escaped c (92 ∷ d ∷ [])
+same_escaped c d n q is = subst (λ (x : ℕ). Escaped x (92 ∷ d ∷ [])) (sym (eqb-true c n q)) (by_backslash d n is)
+
+escaped_is : (c : ℕ) → Escaped c (escape_chars c)
+escaped_is c = elim (eqb c 34) as (λ b. eqb c 34 ≡ b → Escaped c (cond b (92 ∷ 34 ∷ []) (cond (eqb c 92) (92 ∷ 92 ∷ []) (cond (eqb c 10) (92 ∷ 110 ∷ []) (cond (eqb c 13) (92 ∷ 114 ∷ []) (c ∷ [])))))) [
+  | true ↦ λ q. same_escaped c 34 34 q refl
+  | false ↦ λ n34. elim (eqb c 92) as (λ b. eqb c 92 ≡ b → Escaped c (cond b (92 ∷ 92 ∷ []) (cond (eqb c 10) (92 ∷ 110 ∷ []) (cond (eqb c 13) (92 ∷ 114 ∷ []) (c ∷ []))))) [
+    | true ↦ λ q. same_escaped c 92 92 q refl
+    | false ↦ λ n92. elim (eqb c 10) as (λ b. eqb c 10 ≡ b → Escaped c (cond b (92 ∷ 110 ∷ []) (cond (eqb c 13) (92 ∷ 114 ∷ []) (c ∷ [])))) [
+      | true ↦ λ q. same_escaped c 110 10 q refl
+      | false ↦ λ n10. elim (eqb c 13) as (λ b. eqb c 13 ≡ b → Escaped c (cond b (92 ∷ 114 ∷ []) (c ∷ []))) [
+        | true ↦ λ q. same_escaped c 114 13 q refl
+        | false ↦ λ n13. let held = plain_char c n34 n92 n10 n13 in (inl (c, refl, held), λ r. plain_value (enclosed.Text Double) c r held)
       ] refl
     ] refl
   ] refl
 ] refl
 
-all_quotes : (cs rest : List ℕ) → enclosed InQuotes (all_escaped cs (34 ∷ rest)) ≡ Ok (encodes cs, rest)
-all_quotes [] rest = closed InQuotes rest
-all_quotes (c ∷ cs) rest = escaped_read c (all_escaped cs (34 ∷ rest)) ∙ ap (with_front (encode c)) (all_quotes cs rest)
+abbrev escapes_of : List ℕ → List (List ℕ)
+escapes_of [] = []
+escapes_of (c ∷ cs) = escape_chars c ∷ escapes_of cs
 
-token_in_angles : (a rest : List ℕ) → IsUtf8 a → list_all is_iri_char (chars a) ≡ true → token (in_angles a rest) ≡ Ok (IriRef a, rest)
-unfolding token
-token_in_angles a rest u h = ap (λ r. r >>= λ x. Ok (IriRef x.0, x.1)) (all_angles (chars a) rest h) ∙ ap (λ x. Ok (IriRef x, rest)) (encodes-chars a u)
+joined_escapes : (cs rest : List ℕ) → joined_texts (escapes_of cs) ++ rest ≡ all_escaped cs rest
+joined_escapes [] rest = refl
+joined_escapes (c ∷ cs) rest = append_assoc (escape_chars c) (joined_texts (escapes_of cs)) rest ∙ ap (λ x. escape_chars c ++ x) (joined_escapes cs rest)
+
+escapes_are : (cs : List ℕ) → AllByRecursion (IsPiece (enclosed.Text Double)) (escapes_of cs)
+escapes_are [] = tt
+escapes_are (c ∷ cs) = ((0, escape_chars c, refl, some_closing (enclosed.Text Double), (escaped_is c).0), escapes_are cs)
+
+escapes_value : (cs : List ℕ) → unescaped 0 (joined_texts (escapes_of cs)) ≡ encodes cs
+escapes_value [] = refl
+escapes_value (c ∷ cs) = (escaped_is c).1 (joined_texts (escapes_of cs)) ∙ ap (λ x. encode c ++ x) (escapes_value cs)
 
 token_in_quotes : (l rest : List ℕ) → IsUtf8 l → token (in_quotes l rest) ≡ Ok (Quoted l, rest)
 unfolding token
-token_in_quotes l rest u = ap (λ r. r >>= λ x. Ok (Quoted x.0, x.1)) (all_quotes (chars l) rest) ∙ ap (λ x. Ok (Quoted x, rest)) (encodes-chars l u)
+token_in_quotes l rest u =
+    let cs = chars l in
+    let js = joined_texts (escapes_of cs) in
+    let t = 34 ∷ (js ++ 34 ∷ []) in
+    let whole : in_quotes l rest ≡ t ++ rest = ap (λ x. 34 ∷ x) (sym (append_assoc js (34 ∷ []) rest ∙ joined_escapes cs (34 ∷ rest))) in
+    let text : string_value Double t ≡ l = ap (unescaped 0) (inner_one 34 34 js) ∙ escapes_value cs ∙ encodes-chars l u in
+    let shape : IsString Double t = (js ++ 34 ∷ [], refl, (escapes_of cs, refl, escapes_are cs)) in
+    ap token_at whole ∙ found_token kinds.StringLiteral t rest (omega arith) (string_met t rest shape) ∙ ap (λ x. Ok (Quoted x, rest)) text
 
 -- a language tag
-begins_same : (cs rest : List ℕ) → begins_part (cs ++ 32 ∷ rest) ≡ begins_part cs
-begins_same [] rest = refl
-begins_same (c ∷ cs) rest = refl
-
-tag_ends : (later : Bool) (cs rest : List ℕ) → tag_length later cs ≡ length cs → tag_length later (cs ++ 32 ∷ rest) ≡ length cs
-tag_ends true [] rest h = refl
-tag_ends false [] rest h = refl
-tag_ends later (c ∷ cs) rest h =
-    let more = cs ++ 32 ∷ rest in
-    ap (λ b. cond (is_tag_char later c) (suc (tag_length later more)) (cond (eqb c 45 && b) (suc (tag_length true more)) 0)) (begins_same cs rest)
-    ∙ elim (is_tag_char later c) as (λ b. cond b (suc (tag_length later cs)) (cond (eqb c 45 && begins_part cs) (suc (tag_length true cs)) 0) ≡ suc (length cs) → cond b (suc (tag_length later more)) (cond (eqb c 45 && begins_part cs) (suc (tag_length true more)) 0) ≡ suc (length cs)) [
-      | true ↦ λ k. ap suc (tag_ends later cs rest (omega arith))
-      | false ↦ λ k. elim (eqb c 45 && begins_part cs) as (λ b. cond b (suc (tag_length true cs)) 0 ≡ suc (length cs) → cond b (suc (tag_length true more)) 0 ≡ suc (length cs)) [
-        | true ↦ λ j. ap suc (tag_ends true cs rest (omega arith))
-        | false ↦ λ j. absurd (omega arith)
-      ] k
-    ] h
-
-tag_token : (cs rest : List ℕ) → IsTagChars cs → tag_at (cs ++ 32 ∷ rest) ≡ Ok (LanguageTag (encodes cs), 32 ∷ rest)
-tag_token [] rest h = absurd h
-tag_token (c ∷ cs) rest h =
-    let more = cs ++ 32 ∷ rest in
-    let n : tag_length false more ≡ length cs = tag_ends false cs rest h.1 in
-    let front : take (tag_length false more) more ≡ cs = ap (λ m. take m more) n ∙ take-append_seam cs (32 ∷ rest) in
-    let back : drop (tag_length false more) more ≡ 32 ∷ rest = ap (λ m. drop m more) n ∙ drop-append_seam cs (32 ∷ rest) in
-    ap (λ b. cond b (Ok (LanguageTag (encodes (map lower_case (c ∷ take (tag_length false more) more))), drop (tag_length false more) more)) (Err NoToken)) h.0
-    ∙ (ap (λ xs. Ok (LanguageTag (encodes (map lower_case (c ∷ xs))), drop (tag_length false more) more)) front
-    ∙ (ap (λ ys. Ok (LanguageTag (encodes ys), drop (tag_length false more) more)) h.2
-    ∙ ap (λ zs. Ok (LanguageTag (encodes (c ∷ cs)), zs)) back))
-
 token_tag : (tag rest : List ℕ) → IsUtf8 tag → IsTagChars (chars tag) → token (64 ∷ (chars tag ++ 32 ∷ rest)) ≡ Ok (LanguageTag tag, 32 ∷ rest)
 unfolding token
-token_tag tag rest u h = tag_token (chars tag) rest h ∙ ap (λ x. Ok (LanguageTag x, 32 ∷ rest)) (encodes-chars tag u)
+token_tag tag rest u h =
+    let cs = chars tag in
+    let text : lower_text cs ≡ tag = ap encodes h.1 ∙ encodes-chars tag u in
+    found_token kinds.LanguageTag (64 ∷ cs) (32 ∷ rest) (omega arith) (tag_before_space cs rest h.0) ∙ ap (λ x. Ok (LanguageTag x, 32 ∷ rest)) text
 
 after_blank : (cs : List ℕ) → token (32 ∷ cs) ≡ token cs
 unfolding token
@@ -218,7 +235,7 @@ read_parts a b o ha hb ho =
 not_end_iri : (c : ℕ) → is_iri_char c ≡ true → is_line_end c ≡ false
 not_end_iri c h = grind (arith, nat_tests)
 
-not_end_string : (c : ℕ) → is_string_char c ≡ true → is_line_end c ≡ false
+not_end_string : (c : ℕ) → is_held Double c ≡ true → is_line_end c ≡ false
 not_end_string c h = grind (arith, nat_tests)
 
 one_on : (c : ℕ) (rest l : List ℕ) (ls : List (List ℕ)) → is_line_end c ≡ false → lines rest ≡ l ∷ ls → lines (c ∷ rest) ≡ (c ∷ l) ∷ ls
@@ -253,31 +270,13 @@ all_escaped_on (c ∷ cs) rest l ls e = escape_on c (all_escaped cs rest) (all_e
 
 -- what a language tag is made of
 abbrev is_tag_part : ℕ → Bool
-is_tag_part c = is_tag_char true c || eqb c 45
-
-part_of_tag : (later : Bool) (c : ℕ) → is_tag_char later c ≡ true → is_tag_part c ≡ true
-part_of_tag true c h = ap (λ b. b || eqb c 45) h
-part_of_tag false c h = grind (arith, nat_tests)
-
-hyphen_part : (c : ℕ) → eqb c 45 ≡ true → is_tag_part c ≡ true
-hyphen_part c h = elim (is_tag_char true c) as (λ b. (b || eqb c 45) ≡ true) [ true ↦ refl | false ↦ h ]
-
-tag_parts : (later : Bool) (cs : List ℕ) → tag_length later cs ≡ length cs → list_all is_tag_part cs ≡ true
-tag_parts later [] h = refl
-tag_parts later (c ∷ cs) h = elim (is_tag_char later c) as (λ b. is_tag_char later c ≡ b → cond b (suc (tag_length later cs)) (cond (eqb c 45 && begins_part cs) (suc (tag_length true cs)) 0) ≡ suc (length cs) → (is_tag_part c && list_all is_tag_part cs) ≡ true) [
-  | true ↦ λ q k. and_from (is_tag_part c) (list_all is_tag_part cs) (part_of_tag later c q) (tag_parts later cs (omega arith))
-  | false ↦ λ q k. elim (eqb c 45 && begins_part cs) as (λ b. (eqb c 45 && begins_part cs) ≡ b → cond b (suc (tag_length true cs)) 0 ≡ suc (length cs) → (is_tag_part c && list_all is_tag_part cs) ≡ true) [
-    | true ↦ λ p j. and_from (is_tag_part c) (list_all is_tag_part cs) (hyphen_part c ((and_parts (eqb c 45) (begins_part cs) p).0)) (tag_parts true cs (omega arith))
-    | false ↦ λ p j. absurd (omega arith)
-  ] refl k
-] refl h
+is_tag_part c = holds LetterOrDigit c || eqb c 45
 
 not_end_tag : (c : ℕ) → is_tag_part c ≡ true → is_line_end c ≡ false
 not_end_tag c h = grind (arith, nat_tests)
 
 all_tag_parts : (cs : List ℕ) → IsTagChars cs → list_all is_tag_part cs ≡ true
-all_tag_parts [] h = refl
-all_tag_parts (c ∷ cs) h = and_from (is_tag_part c) (list_all is_tag_part cs) (part_of_tag false c (ap (λ b. b || false) h.0)) (tag_parts false cs h.1)
+all_tag_parts cs h = tag_all is_tag_part (λ c e. ap (λ b. b || eqb c 45) e) refl cs h.0
 
 angles_on : (a rest l : List ℕ) (ls : List (List ℕ)) → IsIriText a → lines rest ≡ l ∷ ls → lines (in_angles a rest) ≡ in_angles a l ∷ ls
 angles_on a rest l ls r e = one_on 60 (chars a ++ 62 ∷ rest) (chars a ++ 62 ∷ l) ls refl (all_on is_iri_char not_end_iri (chars a) (62 ∷ rest) (62 ∷ l) ls r.1 (one_on 62 rest l ls refl e))

@@ -3,7 +3,7 @@ use Rattle.std.proofs.Common.{◌≡◌, List, [], ◌∷◌, subst, inl, inr, a
 use Rattle.std.specs.Prelude.{◌⊎◌}
 use Rattle.std.specs.List.{Contains}
 use Rattle.collections.specs.Listings.{IsListing}
-use Rattle.collections.specs.Ordered.{AllAbove, IsAscending, with_item}
+use Rattle.collections.specs.Ordered.{IsAscending, with_item}
 use Rattle.collections.proofs.Ascending.{IsAscending-with_item}
 use Rattle.rdf_model.specs.declared.triple.Triple.{Triple}
 use Rattle.rdf_model.specs.Terms.{triple_cmp}

@@ -1,18 +1,18 @@
 -- The lines of N-Triples 1.1, by the productions of section 7.
-use Rattle.std.specs.Prelude.{ℕ, Bool, true, false, ◌||◌, List, Option, Some, None, Result, Ok, Err, if◌then◌else◌, codes}
+use Rattle.std.specs.Prelude.{ℕ, Bool, true, false, List, Option, Some, None, Result, Ok, Err, if◌then◌else◌, codes}
 use Rattle.rdf_model.specs.declared.term.Term.{Term}
 use Rattle.rdf_model.specs.declared.term.Term.TheVariants.{Iri, Literal}
 use Rattle.rdf_model.specs.NTriples.{xsd_string}
 use Rattle.iri_ref.specs.Scheme.{has_scheme}
 use Rattle.literal_order.specs.Values.{profile}
-use Rattle.ntriples_text.specs.declared.refusal.RefusalKind.{RefusalKind}
-use Rattle.ntriples_text.specs.declared.refusal.RefusalKind.TheVariants.{UnexpectedToken, RelativeIri, BlankPredicate, UnexpectedEnd}
+use Rattle.rdf_lexical.specs.declared.refusal.RefusalKind.{RefusalKind}
+use Rattle.rdf_lexical.specs.declared.refusal.RefusalKind.TheVariants.{UnexpectedToken, RelativeIri, BlankPredicate, UnexpectedEnd}
 use Rattle.ntriples_text.specs.declared.token.Token.{Token}
 use Rattle.ntriples_text.specs.declared.token.Token.TheVariants.{IriRef, Quoted, Label, LanguageTag, Carets, Dot, LineEnd, TextEnd}
 use Rattle.ntriples_text.specs.declared.statement.Node.{Node}
 use Rattle.ntriples_text.specs.declared.statement.Node.TheVariants.{Labelled, Plain}
 use Rattle.ntriples_text.specs.declared.statement.Statement.{Statement}
-use Rattle.ntriples_text.specs.Faults.{◌>>=◌, kind_of_literal}
+use Rattle.rdf_lexical.specs.Refusals.{◌>>=◌, kind_of_literal}
 use Rattle.ntriples_text.specs.Tokens.{Reading, token}
 
 -- where a token is none that the grammar asks for: the text's end comes too early, any other isn't allowed

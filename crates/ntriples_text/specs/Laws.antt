@@ -1,15 +1,22 @@
 -- Which triples a text can give, and that their text gives them.
-use Rattle.std.specs.Prelude.{◌≡◌, ℕ, ◌<◌, ◌≤◌, true, false, List, [], ◌∷◌, map, length, Some, None, Ok, bytes_eq}
+use Rattle.std.specs.Prelude.{◌≡◌, ℕ, ◌<◌, ◌≤◌, true, List, [], ◌∷◌, map, take, drop, Some, None, Ok, Err, bytes_eq, ◌⊎◌}
 use Rattle.std.specs.List.{AllByRecursion, list_all, list_any}
 use Rattle.std.specs.Str.{IsUtf8, chars}
 use Rattle.iri_ref.specs.Scheme.{has_scheme}
-use Rattle.rdf_lexical.specs.Characters.{is_iri_char, is_ascii_letter}
+use Rattle.rdf_lexical.specs.Characters.{is_iri_char}
 use Rattle.rdf_model.specs.declared.term.Term.{Term}
 use Rattle.rdf_model.specs.declared.term.Term.TheVariants.{Blank, Iri, Literal}
 use Rattle.rdf_model.specs.declared.triple.Triple.{Triple}
 use Rattle.rdf_model.specs.Terms.{triple_cmp}
 use Rattle.collections.specs.Ordered.{IsAscending}
-use Rattle.ntriples_text.specs.Tokens.{lower_case, tag_length}
+use Rattle.rdf_lexical.specs.Meanings.{lower_case}
+use Rattle.rdf_lexical.specs.Productions.{IsLanguageTag}
+use Rattle.rdf_lexical.specs.declared.refusal.RefusalKind.{RefusalKind}
+use Rattle.ntriples_text.specs.declared.lexeme.TokenKind.{TokenKind}
+use Rattle.ntriples_text.specs.declared.token.Token.{Token}
+use Rattle.ntriples_text.specs.declared.token.Token.TheVariants.{TextEnd}
+use Rattle.ntriples_text.specs.Tokens.{skipped, token_of, token}
+use Rattle.ntriples_text.specs.Productions.{IsTokenAt, HasNoToken}
 use Rattle.ntriples_text.specs.declared.statement.Node.TheVariants.{Labelled}
 use Rattle.ntriples_text.specs.Grammar.{literal, rdf_lang_string}
 use Rattle.ntriples_text.specs.Blanks.{once, term_of}
@@ -20,10 +27,9 @@ use Rattle.ntriples_text.specs.Writing.{written}
 abbrev pub IsIriText : List ℕ → Type 0
 IsIriText a = IsUtf8 a × (list_all is_iri_char (chars a) ≡ true) × (has_scheme a ≡ true)
 
--- the characters of a language tag, which are those of one LANGTAG after its `@`, in lower case
+-- the characters of a language tag: those of a LANGTAG after its `@`, in lower case
 abbrev pub IsTagChars : List ℕ → Type 0
-IsTagChars [] = ⊥
-IsTagChars (c ∷ cs) = (is_ascii_letter c ≡ true) × (tag_length false cs ≡ length cs) × (map lower_case (c ∷ cs) ≡ c ∷ cs)
+IsTagChars cs = IsLanguageTag (64 ∷ cs) × (map lower_case cs ≡ cs)
 
 -- The triples that a text can give, but for the blank nodes, which are those of a given kind.
 
@@ -74,3 +80,17 @@ GivesReadable = (bytes : List ℕ) (session first next : ℕ) (triples : List Tr
 abbrev pub LabelsStayApart : Type 0
 LabelsStayApart = (session first : ℕ) (labels : List (List ℕ)) (a b : List ℕ) → list_any (bytes_eq a) labels ≡ true → list_any (bytes_eq b) labels ≡ true
     → term_of session first (once labels) (Labelled a) ≡ term_of session first (once labels) (Labelled b) → a ≡ b
+
+-- The tokens by the productions. What is found behind blanks and a comment is the longest token that stands there, and
+-- what follows is left; or it is the text's end.
+abbrev pub FindsLongest : Type 0
+FindsLongest = (text rest : List ℕ) (t : Token) → token text ≡ Ok (t, rest) → ((skipped text ≡ []) × (t ≡ TextEnd) × (rest ≡ []))
+    ⊎ ((kind : TokenKind) × (n : ℕ) × IsTokenAt (skipped text) kind n × (t ≡ token_of kind (take n (skipped text))) × (rest ≡ drop n (skipped text)))
+
+-- where a fault is found no token stands
+abbrev pub MissesNone : Type 0
+MissesNone = (text : List ℕ) (fault : RefusalKind) → token text ≡ Err fault → HasNoToken (skipped text)
+
+-- at most one token stands at the beginning of a text: it has one kind, and so many characters
+abbrev pub StandsAlone : Type 0
+StandsAlone = (text : List ℕ) (kind other : TokenKind) (n m : ℕ) → IsTokenAt text kind n → IsTokenAt text other m → (kind ≡ other) × (n ≡ m)

@@ -1,5 +1,6 @@
 pub mod Faults
 pub mod Tokens
+pub mod Productions
 pub mod Grammar
 pub mod Blanks
 pub mod Document

@@ -2,9 +2,9 @@
 use Rattle.std.specs.Prelude.{ℕ, ◌<◌, ◌≤◌, List, [], ◌∷◌, ◌++◌, Result, Ok, Err, bytes_eq}
 use Rattle.rdf_model.specs.declared.triple.Triple.{Triple}
 use Rattle.indexmap.specs.IndexSet.{insert_key}
-use Rattle.ntriples_text.specs.declared.refusal.RefusalKind.{RefusalKind}
+use Rattle.rdf_lexical.specs.declared.refusal.RefusalKind.{RefusalKind}
 use Rattle.ntriples_text.specs.declared.token.Token.{Token}
-use Rattle.ntriples_text.specs.declared.token.Token.TheVariants.{IriRef, Quoted, Label, LanguageTag, Carets, Dot, LineEnd, TextEnd}
+use Rattle.ntriples_text.specs.declared.token.Token.TheVariants.{TextEnd}
 use Rattle.ntriples_text.specs.declared.statement.Statement.{Statement}
 use Rattle.ntriples_text.specs.Blanks.{statement_labels, all_labels, triple_of}
 

@@ -1,20 +1,21 @@
 ghost use Rattle.std.specs.Prelude.{◌≡◌, ℕ, ◌+◌, ◌<◌, ◌≤◌, ◌^◌, Ok, [], List, Result, length, MatchResult, OnOk, OnErr};
 ghost use Rattle.std.specs.Str.{chars};
-ghost use Rattle.ntriples_text.specs.declared.refusal.RefusalKind.{RefusalKind as KindData};
+ghost use Rattle.rdf_lexical.specs.declared.refusal.RefusalKind.{RefusalKind as KindData};
 ghost use Rattle.ntriples_text.specs.declared.statement.Statement.{Statement as StatementData};
 ghost use Rattle.ntriples_text.specs.Document;
 ghost use Rattle.ntriples_text.specs.Document.{lines, lines_from, with_line, with_statement, numbered, reads};
 ghost use Rattle.ntriples_text.specs.Grammar;
 ghost use Rattle.ntriples_text.specs.Progress.{going_on};
-ghost use Rattle.ntriples_text.specs.Faults.{Refuses};
+ghost use Rattle.rdf_lexical.specs.Refusals.{Refuses};
 
 use crate::grammar::read_line;
 use crate::labels::Labels;
+use crate::line_fault::LineFault;
 use crate::numbering::Numbering;
-use crate::refusal::{LineFault, ReadFault, RefusalKind};
 use crate::statement::Statement;
 use crate::text_line::{number_after, split_line};
 use collections::{Sequence, sorted_once};
+use rdf_lexical::{ReadFault, RefusalKind};
 use rdf_model::Triple;
 use std::alloc::Global;
 

@@ -4,11 +4,12 @@ ghost use Rattle.rdf_model.specs.NTriples.{xsd_string};
 ghost use Rattle.ntriples_text.specs.Faults.{Gives};
 ghost use Rattle.ntriples_text.specs.Grammar;
 
-use crate::refusal::{LineFault, RefusalKind};
+use crate::line_fault::LineFault;
 use crate::statement::{Node, Statement};
 use crate::token::{Token, next_token};
 use iri_ref::has_scheme;
 use literal_order::profile;
+use rdf_lexical::RefusalKind;
 use rdf_model::Term;
 use rdf_text::Text;
 use std::alloc::Global;

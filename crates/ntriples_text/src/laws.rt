@@ -1,4 +1,4 @@
-ghost use Rattle.ntriples_text.specs.Laws.{ReadsAgain, GivesReadable, LabelsStayApart};
+ghost use Rattle.ntriples_text.specs.Laws.{ReadsAgain, GivesReadable, LabelsStayApart, FindsLongest, MissesNone, StandsAlone};
 
 /// Reading what was written gives the same triples, whatever triples without blank nodes a text can
 /// give.
@@ -15,4 +15,19 @@ pub fn read_gives_readable()
 /// Two labels of a text are one node only where they are one label.
 pub fn labels_stay_apart()
     ensures { LabelsStayApart }
+{}
+
+/// What is found is the longest token that stands there, by the productions of section 7.
+pub fn finds_longest()
+    ensures { FindsLongest }
+{}
+
+/// Where a fault is found no token stands, by the productions.
+pub fn misses_none()
+    ensures { MissesNone }
+{}
+
+/// At most one token stands at a place: a kind, and how many characters it has.
+pub fn stands_alone()
+    ensures { StandsAlone }
 {}

@@ -6,17 +6,17 @@
 #![tactic(auto)]
 
 mod document;
-mod enclosed;
 mod grammar;
 mod labels;
 pub mod laws;
+mod lexeme;
+mod line_fault;
 mod numbering;
-mod refusal;
 mod statement;
 mod text_line;
 mod token;
 mod writing;
 
 pub use document::read;
-pub use refusal::{ReadFault, RefusalKind};
+pub use rdf_lexical::{ReadFault, RefusalKind};
 pub use writing::write;

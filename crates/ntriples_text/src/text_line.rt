@@ -1,7 +1,7 @@
 ghost use Rattle.std.specs.Prelude.{◌≡◌, ◌+◌, ◌<◌, ◌^◌, ◌∷◌, length};
 ghost use Rattle.ntriples_text.specs.Document;
 
-use crate::token::is_line_end;
+use rdf_lexical::is_line_end;
 
 /// The first line of a text, with the character that ends it, and the text after it.
 pub fn split_line(text: &[char]) -> (&[char], &[char])

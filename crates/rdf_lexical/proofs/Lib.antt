@@ -1,1 +1,11 @@
 pub mod Numbers
+pub mod Joined
+pub mod Runs
+pub mod NameTails
+pub mod TagTexts
+pub mod EnclosedSteps
+pub mod EnclosedTexts
+pub mod EnclosedTokens
+pub mod Unescaping
+pub mod Contents
+pub mod LowerTags

@@ -4,6 +4,10 @@ use Rattle.std.specs.Prelude.{ℕ, Bool, ◌&&◌, ◌||◌, not, nat_le, nat_lt
 abbrev pub is_within : ℕ → ℕ → ℕ → Bool
 is_within low high c = nat_le low c && nat_le c high
 
+-- LF and CR, which end a comment, and in N-Triples a line
+abbrev pub is_line_end : ℕ → Bool
+is_line_end c = c == 10 || c == 13
+
 abbrev pub is_ascii_letter : ℕ → Bool
 is_ascii_letter c = is_within 65 90 c || is_within 97 122 c
 

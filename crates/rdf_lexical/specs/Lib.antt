@@ -1,2 +1,11 @@
 pub mod Characters
 pub mod Escapes
+pub mod Classes
+pub mod Escaping
+pub mod Quoting
+pub mod Refusals
+pub mod Enclosed
+pub mod Names
+pub mod Tags
+pub mod Meanings
+pub mod Productions

@@ -1,6 +1,13 @@
 ghost use Rattle.std.specs.Prelude.{◌≡◌};
 ghost use Rattle.rdf_lexical.specs.Characters;
 
+/// Whether a character is LF or CR, which end a comment, and in N-Triples a line.
+pub fn is_line_end(character: char) -> bool
+    ensures { result ≡ Characters.is_line_end character }
+{
+    character == '\n' || character == '\r'
+}
+
 /// Whether a character is one of PN_CHARS_BASE (Turtle section 6.5).
 pub fn is_pn_chars_base(character: char) -> bool
     ensures { result ≡ Characters.is_pn_chars_base character }

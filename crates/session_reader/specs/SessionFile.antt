@@ -11,9 +11,9 @@ use Rattle.session_reader.specs.declared.line.LineKind.{LineKind}
 use Rattle.session_reader.specs.declared.line.LineKind.TheVariants.{Skipped, BeginCommand, CommitCommand, Block, Other}
 use Rattle.session_reader.specs.declared.read_command.ReadCommand.{ReadCommand}
 use Rattle.session_reader.specs.declared.read_command.ReadCommand.TheVariants.{Begin, Add, BadAdd, Shapes, BadShapes, Commit}
-use Rattle.ntriples_text.specs.declared.refusal.RefusalKind.{RefusalKind}
+use Rattle.rdf_lexical.specs.declared.refusal.RefusalKind.{RefusalKind}
 use Rattle.ntriples_text.specs.Document.{reads}
-use Rattle.ntriples_text.specs.Faults.{number_of}
+use Rattle.rdf_lexical.specs.Refusals.{number_of}
 use Rattle.session_reader.specs.Checking.{AreChecked}
 
 -- a line without a CR at its end

@@ -1,20 +1,13 @@
 -- A name or a number has no more characters than the text.
-use Rattle.std.proofs.Common.{◌≡◌, ℕ, zero, suc, ◌+◌, ◌-◌, ◌≤◌, true, false, cond, ◌==◌, ◌||◌, List, [], ◌∷◌, length, drop, Option, Some, None, arith, length-drop}
+use Rattle.std.proofs.Common.{◌≡◌, ℕ, suc, ◌+◌, ◌-◌, ◌≤◌, true, false, cond, ◌==◌, ◌||◌, List, [], ◌∷◌, length, drop, Option, Some, None, arith, length-drop}
 use Rattle.turtle_lex.specs.declared.token.TokenKind.{TokenKind}
 use Rattle.turtle_lex.specs.declared.token.TokenKind.TheVariants.{Decimal, Double}
-use Rattle.turtle_lex.specs.declared.class.Class.TheVariants.{Sign, Digit, Name, LocalStart}
-use Rattle.turtle_lex.specs.Classes.{holds, begins_with, run_length}
-use Rattle.turtle_lex.specs.Names.{with_dot, name_length, local_run, local_length}
+use Rattle.rdf_lexical.specs.declared.classes.Class.TheVariants.{Sign, Digit, LocalStart}
+use Rattle.rdf_lexical.specs.Classes.{holds, begins_with, run_length}
+use Rattle.turtle_lex.specs.Names.{local_run, local_length}
 use Rattle.turtle_lex.specs.Numbers.{sign_length, point_length, signed_digits, exponent_length, number_kind, number_length, with_length, unsigned_number, after_sign, number}
-use Rattle.turtle_lex.proofs.Runs as runs
+use Rattle.rdf_lexical.proofs.Runs as runs
 use Rattle.turtle_lex.proofs.NameTexts as names
-
-pub name_bound : (cs : List ℕ) → name_length cs ≤ length cs
-name_bound [] = omega arith
-name_bound (c ∷ cs) = let more = name_bound cs in elim (holds Name c) as (λ b. cond b (suc (name_length cs)) (cond (c == 46) (with_dot (name_length cs)) 0) ≤ suc (length cs)) [
-  | true ↦ omega arith
-  | false ↦ elim (c == 46) as (λ b. cond b (with_dot (name_length cs)) 0 ≤ suc (length cs)) [ true ↦ names.dotted_bound (name_length cs) (length cs) more | false ↦ omega arith ]
-]
 
 pub local_bound : (cs : List ℕ) → local_length cs ≤ length cs
 local_bound cs = elim (begins_with LocalStart cs) as (λ b. cond b (local_run 0 cs) 0 ≤ length cs) [ true ↦ names.run_bound 0 cs (omega arith) | false ↦ omega arith ]

@@ -2,10 +2,10 @@
 use Rattle.std.proofs.Common.{◌≡◌, ◌∙◌, nat_le, ℕ, ◌<◌, ◌≤◌, Bool, true, false, ◌&&◌, List, ◌∷◌, None, refl, sym, ap, arith}
 use Rattle.std.proofs.lemmas.Bool.Decides.{nat_tests}
 use Rattle.rdf_lexical.specs.Characters.{is_within}
-use Rattle.turtle_lex.specs.declared.class.Class.TheVariants.{Digit}
-use Rattle.turtle_lex.specs.Classes.{holds}
+use Rattle.rdf_lexical.specs.declared.classes.Class.TheVariants.{Digit}
+use Rattle.rdf_lexical.specs.Classes.{holds}
 use Rattle.turtle_lex.specs.Tokens.{may_begin_number, may_begin_name, plain_token, punctuation, number_or_dot, name_or_word, token_at}
-use Rattle.turtle_lex.proofs.Runs.{apart}
+use Rattle.rdf_lexical.proofs.Runs.{apart}
 
 below : (low high c : ℕ) → c ≤ 57 → 57 < low → is_within low high c ≡ false
 below low high c small large = let e : nat_le low c ≡ false = grind (arith, nat_tests) in ap (λ b. b && nat_le c high) e

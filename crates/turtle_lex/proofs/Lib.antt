@@ -1,15 +1,10 @@
-pub mod Joined
-pub mod EnclosedSteps
+pub mod LocalSteps
 pub mod PlaceSteps
-pub mod Unescaping
-pub mod Runs
 pub mod NumberTokens
 pub mod NumberTexts
 pub mod NumberKinds
 pub mod NameTokens
 pub mod NameTexts
-pub mod EnclosedTokens
-pub mod EnclosedTexts
 pub mod WordTokens
 pub mod Bounds
 pub mod Dispatch

@@ -1,60 +1,23 @@
 -- The longest names are those of the productions.
-use Rattle.std.proofs.Common.{◌≡◌, ◌∙◌, ℕ, zero, suc, ◌≤◌, true, false, cond, ◌==◌, ◌||◌, ◌&&◌, List, [], ◌∷◌, ◌++◌, length, take, refl, sym, ap, subst, arith, append_assoc, append-nil, ◌⊎◌, inl, inr}
+use Rattle.std.proofs.Common.{◌≡◌, ◌∙◌, ℕ, zero, suc, ◌≤◌, true, false, cond, ◌==◌, ◌&&◌, List, [], ◌∷◌, ◌++◌, length, take, refl, sym, ap, subst, arith, append_assoc, append-nil, ◌⊎◌, inl, inr}
 use Rattle.std.specs.List.{AllByRecursion}
 use Rattle.std.proofs.lemmas.Bool.{eqb-true}
-use Rattle.turtle_lex.specs.declared.class.Class.TheVariants.{Hexadecimal, NameStart, Name, NameOrDot, LocalStart, LocalCharacter, LocalEscape}
-use Rattle.turtle_lex.specs.Classes.{holds, begins_with}
-use Rattle.turtle_lex.specs.Names.{with_dot, name_length, begins_with_pair, local_piece, with_piece, local_run, local_length, prefix_length}
-use Rattle.turtle_lex.specs.Productions.{AllOf, joined_texts, IsNameTail, IsPrefix, IsLocalPiece, IsLocalPieceOrDot, IsLocal}
+use Rattle.rdf_lexical.specs.declared.classes.Class.TheVariants.{Hexadecimal, NameStart, Name, LocalStart, NameOrColon, LocalEscape}
+use Rattle.rdf_lexical.specs.Classes.{holds, begins_with}
+use Rattle.rdf_lexical.specs.Names.{with_dot, name_length}
+use Rattle.rdf_lexical.proofs.NameTails.{tail_shape, dotted_bound}
+use Rattle.turtle_lex.specs.Names.{begins_with_pair, local_piece, with_piece, local_run, local_length, prefix_length}
+use Rattle.rdf_lexical.specs.Productions.{joined_texts}
+use Rattle.turtle_lex.specs.Productions.{IsPrefix, IsLocalPiece, IsLocalPieceOrDot, IsLocal}
 
--- characters of a name and dots, up to one of a name; or nothing
-abbrev IsNameRun : List ℕ → Type 0
-IsNameRun t = (v : List ℕ) × (c : ℕ) × (t ≡ v ++ c ∷ []) × AllOf NameOrDot v × (holds Name c ≡ true)
-
-abbrev NameRun : ℕ → List ℕ → Type 0
-NameRun zero cs = Unit {0}
-NameRun (suc n) cs = IsNameRun (take (suc n) cs)
-
-or_dot : (c : ℕ) → holds Name c ≡ true → holds NameOrDot c ≡ true
-or_dot c h = rw h refl
-
-dot_too : (c : ℕ) → (c == 46) ≡ true → holds NameOrDot c ≡ true
-dot_too c h = elim (holds Name c) as (λ b. (b || c == 46) ≡ true) [ true ↦ refl | false ↦ h ]
-
-name_first : (c n : ℕ) (cs : List ℕ) → holds Name c ≡ true → NameRun n cs → NameRun (suc n) (c ∷ cs)
-name_first c zero cs h run = ([], c, refl, tt, h)
-name_first c (suc n) cs h (v, d, e, all, last) = (c ∷ v, d, ap (λ x. c ∷ x) e, (or_dot c h, all), last)
-
-dot_first : (c n : ℕ) (cs : List ℕ) → (c == 46) ≡ true → NameRun n cs → NameRun (with_dot n) (c ∷ cs)
-dot_first c zero cs h run = tt
-dot_first c (suc n) cs h (v, d, e, all, last) = (c ∷ v, d, ap (λ x. c ∷ x) e, (dot_too c h, all), last)
-
-name_run : (cs : List ℕ) → NameRun (name_length cs) cs
-name_run [] = tt
-name_run (c ∷ cs) = elim (holds Name c) as (λ b. holds Name c ≡ b → NameRun (cond b (suc (name_length cs)) (cond (c == 46) (with_dot (name_length cs)) 0)) (c ∷ cs)) [
-  | true ↦ λ h. name_first c (name_length cs) cs h (name_run cs)
-  | false ↦ λ h. elim (c == 46) as (λ b. (c == 46) ≡ b → NameRun (cond b (with_dot (name_length cs)) 0) (c ∷ cs)) [
-    | true ↦ λ e. dot_first c (name_length cs) cs e (name_run cs)
-    | false ↦ λ e. tt
-  ] refl
-] refl
-
--- what follows the first character
-tail_of : (c : ℕ) (t : List ℕ) → IsNameRun (c ∷ t) → IsNameTail t
-tail_of c t ([], d, e, all, last) = let rest : t ≡ [] = cc in inl rest
-tail_of c t (b ∷ v, d, e, all, last) = let rest : t ≡ v ++ d ∷ [] = cc in inr (v, d, rest, all.1, last)
-
-pub tail_shape : (c n : ℕ) (cs : List ℕ) → name_length (c ∷ cs) ≡ suc n → IsNameTail (take n cs)
-tail_shape c n cs e = tail_of c (take n cs) (subst (λ m. NameRun m (c ∷ cs)) e (name_run (c ∷ cs)))
-
-by_length : (c : ℕ) (cs : List ℕ) → holds NameStart c ≡ true → (n : ℕ) → name_length (c ∷ cs) ≡ n → (take n (c ∷ cs) ≡ []) ⊎ IsPrefix (take n (c ∷ cs))
+by_length : (c : ℕ) (cs : List ℕ) → holds NameStart c ≡ true → (n : ℕ) → name_length Name (c ∷ cs) ≡ n → (take n (c ∷ cs) ≡ []) ⊎ IsPrefix (take n (c ∷ cs))
 by_length c cs h zero e = inl refl
-by_length c cs h (suc n) e = inr (c, take n cs, refl, h, tail_shape c n cs e)
+by_length c cs h (suc n) e = inr (c, take n cs, refl, h, tail_shape Name c n cs e)
 
 pub prefix_shape : (cs : List ℕ) → (take (prefix_length cs) cs ≡ []) ⊎ IsPrefix (take (prefix_length cs) cs)
 prefix_shape [] = inl refl
-prefix_shape (c ∷ cs) = elim (holds NameStart c) as (λ b. holds NameStart c ≡ b → (take (cond b (name_length (c ∷ cs)) 0) (c ∷ cs) ≡ []) ⊎ IsPrefix (take (cond b (name_length (c ∷ cs)) 0) (c ∷ cs))) [
-  | true ↦ λ h. by_length c cs h (name_length (c ∷ cs)) refl
+prefix_shape (c ∷ cs) = elim (holds NameStart c) as (λ b. holds NameStart c ≡ b → (take (cond b (name_length Name (c ∷ cs)) 0) (c ∷ cs) ≡ []) ⊎ IsPrefix (take (cond b (name_length Name (c ∷ cs)) 0) (c ∷ cs))) [
+  | true ↦ λ h. by_length c cs h (name_length Name (c ∷ cs)) refl
   | false ↦ λ h. inl refl
 ] refl
 
@@ -80,16 +43,16 @@ escape_shape c n (a ∷ r) is f = elim (holds LocalEscape a) as (λ t. holds Loc
   | false ↦ λ h e. absurd (omega arith)
 ] refl f
 
-character_shape : (c n : ℕ) (cs : List ℕ) → cond (holds LocalCharacter c) 1 0 ≡ suc n → Piece c n cs
-character_shape c n cs f = elim (holds LocalCharacter c) as (λ t. holds LocalCharacter c ≡ t → cond t 1 0 ≡ suc n → Piece c n cs) [
+character_shape : (c n : ℕ) (cs : List ℕ) → cond (holds NameOrColon c) 1 0 ≡ suc n → Piece c n cs
+character_shape c n cs f = elim (holds NameOrColon c) as (λ t. holds NameOrColon c ≡ t → cond t 1 0 ≡ suc n → Piece c n cs) [
   | true ↦ λ h e. let none : n ≡ 0 = omega arith in subst (λ m. Piece c m cs) (sym none) (inl (c, refl, h), omega arith)
   | false ↦ λ h e. absurd (omega arith)
 ] refl f
 
 piece_shape : (c n : ℕ) (cs : List ℕ) → local_piece (c ∷ cs) ≡ suc n → Piece c n cs
-piece_shape c n cs f = elim (c == 37) as (λ b. (c == 37) ≡ b → cond b (cond (begins_with_pair cs) 3 0) (cond (c == 92) (cond (begins_with LocalEscape cs) 2 0) (cond (holds LocalCharacter c) 1 0)) ≡ suc n → Piece c n cs) [
+piece_shape c n cs f = elim (c == 37) as (λ b. (c == 37) ≡ b → cond b (cond (begins_with_pair cs) 3 0) (cond (c == 92) (cond (begins_with LocalEscape cs) 2 0) (cond (holds NameOrColon c) 1 0)) ≡ suc n → Piece c n cs) [
   | true ↦ λ h. percent_shape c n cs (eqb-true c 37 h)
-  | false ↦ λ h. elim (c == 92) as (λ b. (c == 92) ≡ b → cond b (cond (begins_with LocalEscape cs) 2 0) (cond (holds LocalCharacter c) 1 0) ≡ suc n → Piece c n cs) [
+  | false ↦ λ h. elim (c == 92) as (λ b. (c == 92) ≡ b → cond b (cond (begins_with LocalEscape cs) 2 0) (cond (holds NameOrColon c) 1 0) ≡ suc n → Piece c n cs) [
     | true ↦ λ g. escape_shape c n cs (eqb-true c 92 g)
     | false ↦ λ g. character_shape c n cs
   ] refl
@@ -100,10 +63,6 @@ IsLocalRun t = (ps : List (List ℕ)) × (p : List ℕ) × (t ≡ joined_texts p
 
 abbrev LocalRun : ℕ → ℕ → List ℕ → Type 0
 LocalRun k n cs = (x : List ℕ) × (take n cs ≡ take k cs ++ x) × ((x ≡ []) ⊎ IsLocalRun x)
-
-pub dotted_bound : (n m : ℕ) → n ≤ m → with_dot n ≤ suc m
-dotted_bound zero m h = omega arith
-dotted_bound (suc n) m h = omega arith
 
 piece_bound : (c : ℕ) (cs : List ℕ) (m : ℕ) → local_piece (c ∷ cs) ≡ m → ((k : ℕ) → k ≤ length cs → local_run k cs ≤ length cs) → with_piece m (λ n. local_run n cs) ≤ suc (length cs)
 piece_bound c cs zero e more = omega arith

@@ -1,13 +1,13 @@
 -- A number has one kind.
-use Rattle.std.proofs.Common.{◌≡◌, ◌∙◌, ℕ, Bool, true, false, cond, ◌==◌, ◌||◌, List, [], ◌∷◌, ◌++◌, refl, sym, ap, subst, append_assoc, append-nil, ◌⊎◌, inl, inr}
-use Rattle.std.proofs.lemmas.Bool.{eq-eqb, eqb-true}
+use Rattle.std.proofs.Common.{◌≡◌, ◌∙◌, ℕ, Bool, true, false, cond, ◌==◌, ◌||◌, List, [], ◌∷◌, ◌++◌, refl, sym, ap, subst, inl, inr}
 use Rattle.turtle_lex.specs.declared.token.TokenKind.{TokenKind}
 use Rattle.turtle_lex.specs.declared.token.TokenKind.TheVariants.{Integer, Decimal, Double}
-use Rattle.turtle_lex.specs.declared.class.Class.{Class}
-use Rattle.turtle_lex.specs.declared.class.Class.TheVariants.{Sign, Digit}
-use Rattle.turtle_lex.specs.Classes.{holds, begins_with}
-use Rattle.turtle_lex.specs.Productions.{AllOf, SomeOf, IsSign, IsInteger, IsDecimal, IsExponent, IsMantissa, IsDouble}
-use Rattle.turtle_lex.proofs.Runs.{apart}
+use Rattle.rdf_lexical.specs.declared.classes.Class.{Class}
+use Rattle.rdf_lexical.specs.declared.classes.Class.TheVariants.{Sign, Digit}
+use Rattle.rdf_lexical.specs.Classes.{holds, begins_with}
+use Rattle.rdf_lexical.specs.Productions.{AllOf}
+use Rattle.turtle_lex.specs.Productions.{IsSign, IsInteger, IsDecimal, IsDouble}
+use Rattle.rdf_lexical.proofs.Runs.{apart}
 use Rattle.turtle_lex.proofs.NumberTexts.{IsNumber}
 
 -- whether some character meets a test

@@ -6,11 +6,12 @@ use Rattle.std.proofs.lemmas.List.{drop-drop}
 use Rattle.std.proofs.Math.Seq.{take-add}
 use Rattle.turtle_lex.specs.declared.token.TokenKind.{TokenKind}
 use Rattle.turtle_lex.specs.declared.token.TokenKind.TheVariants.{Integer, Decimal, Double}
-use Rattle.turtle_lex.specs.declared.class.Class.TheVariants.{Sign, Digit}
-use Rattle.turtle_lex.specs.Classes.{holds, begins_with, run_length}
+use Rattle.rdf_lexical.specs.declared.classes.Class.TheVariants.{Sign, Digit}
+use Rattle.rdf_lexical.specs.Classes.{holds, begins_with, run_length}
 use Rattle.turtle_lex.specs.Numbers.{sign_length, point_length, signed_digits, exponent_length, number_kind, number_length, with_length, unsigned_number, after_sign, number}
-use Rattle.turtle_lex.specs.Productions.{AllOf, SomeOf, IsSign, IsInteger, IsDecimal, IsExponent, IsMantissa, IsDouble}
-use Rattle.turtle_lex.proofs.Runs.{run_taken, run_begins}
+use Rattle.rdf_lexical.specs.Productions.{AllOf, SomeOf}
+use Rattle.turtle_lex.specs.Productions.{IsSign, IsInteger, IsDecimal, IsExponent, IsMantissa, IsDouble}
+use Rattle.rdf_lexical.proofs.Runs.{run_taken, run_begins}
 
 -- what stands behind the sign
 abbrev IsUnsigned : TokenKind → List ℕ → Type 0

@@ -6,31 +6,36 @@ use Rattle.std.specs.Char.{to_ascii_lowercase}
 use Rattle.std.proofs.lemmas.Bool.{eqb-true, eq-eqb}
 use Rattle.std.proofs.lemmas.Bool.Decides.{nat_tests}
 use Rattle.rdf_lexical.specs.Characters.{is_within}
-use Rattle.turtle_lex.specs.Quoting.{quotes_length}
+use Rattle.rdf_lexical.specs.Quoting.{quotes_length}
 use Rattle.std.proofs.lemmas.List.{length-take-le, take-append-drop}
 use Rattle.std.proofs.Math.Seq.{drop-append_seam, take-append_seam, take-append-add}
-use Rattle.turtle_lex.specs.declared.token.Quotes.{Quotes}
-use Rattle.turtle_lex.specs.declared.token.Quotes.TheVariants as quotes
+use Rattle.rdf_lexical.specs.declared.quoting.Quotes.{Quotes}
+use Rattle.rdf_lexical.specs.declared.quoting.Quotes.TheVariants as quotes
 use Rattle.turtle_lex.specs.declared.token.TokenKind.{TokenKind}
 use Rattle.turtle_lex.specs.declared.token.TokenKind.TheVariants.{IriRef, PrefixName, PrefixedName, BlankNodeLabel, LanguageTag, Integer, Decimal, Double, StringLiteral, Dot, Semicolon, Comma, OpenBracket, CloseBracket, OpenParenthesis, CloseParenthesis, Carets, A, True, False, Prefix, Base, AtPrefix, AtBase}
-use Rattle.turtle_lex.specs.declared.token.FaultKind.TheVariants.{NoToken}
-use Rattle.turtle_lex.specs.declared.class.Class.TheVariants.{Sign, Digit, Letter, NameStart, Name, NameOrDot}
-use Rattle.turtle_lex.specs.declared.enclosed.Enclosed.TheVariants.{Iri, Text}
-use Rattle.turtle_lex.specs.Classes.{holds, begins_with, run_length}
-use Rattle.turtle_lex.specs.Names.{name_length, prefix_length, local_length}
+use Rattle.rdf_lexical.specs.declared.refusal.RefusalKind.TheVariants.{NoToken}
+use Rattle.rdf_lexical.specs.declared.classes.Class.TheVariants.{Sign, Digit, Letter, NameStart, Name, NameOrDot, NameUnderscoreOrDigit}
+use Rattle.rdf_lexical.specs.declared.enclosing.Enclosed.TheVariants.{Iri, Text}
+use Rattle.rdf_lexical.specs.Classes.{holds, begins_with, run_length}
+use Rattle.rdf_lexical.specs.Names.{name_length}
+use Rattle.turtle_lex.specs.Names.{prefix_length, local_length}
 use Rattle.turtle_lex.specs.Numbers.{number}
-use Rattle.turtle_lex.specs.Words.{Lexeme, word_kind, tag_length, language_tag, directive, directive_kind, lexeme_of, begins_directive, word}
-use Rattle.turtle_lex.specs.Enclosed.{iri_lexeme, enclosed_length, quotes_at, string_lexeme, string_literal, more_quotes, leading_marks, quote_of}
+use Rattle.turtle_lex.specs.Words.{Lexeme, word_kind, language_tag, directive, directive_kind, lexeme_of, begins_directive, word}
+use Rattle.rdf_lexical.specs.Tags.{tag_length}
+use Rattle.turtle_lex.specs.Enclosed.{iri_lexeme, quotes_at, string_lexeme, string_literal, more_quotes}
+use Rattle.rdf_lexical.specs.Enclosed.{enclosed_length, leading_marks, quote_of}
 use Rattle.turtle_lex.specs.Tokens.{may_begin_number, may_begin_name, prefixed, name_at, name_or_word, number_found, number_or_dot, token_at}
-use Rattle.turtle_lex.specs.Productions.{AllOf, SomeOf, IsSign, joined_texts, IsInteger, IsDecimal, IsMantissa, IsDouble, IsPrefix, IsPrefixName, IsPrefixedName, IsLabel, IsPiece, IsIriRef, IsString, IsLanguageTag, IsToken, IsWhole}
-use Rattle.turtle_lex.proofs.Runs.{run_exact}
+use Rattle.rdf_lexical.specs.Productions.{AllOf, SomeOf, joined_texts, IsLabel, IsPiece, IsIriRef, IsString, IsLanguageTag}
+use Rattle.turtle_lex.specs.Productions.{IsSign, IsInteger, IsDecimal, IsMantissa, IsDouble, IsPrefix, IsPrefixName, IsPrefixedName, IsToken, IsWhole}
+use Rattle.rdf_lexical.proofs.Runs.{run_exact}
 use Rattle.turtle_lex.proofs.Dispatch.{refuted, at_number, at_name}
 use Rattle.turtle_lex.proofs.NumberTokens.{NumberReaches, integer_reached, decimal_reached, double_reached}
 use Rattle.turtle_lex.proofs.NumberTexts.{IsNumber, GivesNumber, number_shape}
 use Rattle.turtle_lex.proofs.NumberKinds.{one_kind, no_dot}
 use Rattle.turtle_lex.proofs.NameTokens.{label_reached, prefix_reached, local_reached}
-use Rattle.turtle_lex.proofs.EnclosedTokens.{no_marks, enclosed_met, unit_first}
-use Rattle.turtle_lex.proofs.WordTokens.{prefix_kind, base_kind, letters_of, letters_begin, letters_name, name_over, tag_reached, tag_some, tag_shape, tag_bound}
+use Rattle.rdf_lexical.proofs.EnclosedTokens.{no_marks, enclosed_met, unit_first}
+use Rattle.turtle_lex.proofs.WordTokens.{prefix_kind, base_kind, letters_of, letters_begin, letters_name, name_over}
+use Rattle.rdf_lexical.proofs.TagTexts.{tag_reached, tag_some, tag_shape, tag_bound}
 
 -- a token of at least so many characters, and of this kind where it has just so many
 abbrev pub Reaches : TokenKind → Lexeme → ℕ → Type 0
@@ -141,10 +146,10 @@ prefixed_name_reached m t u (n, l, e, (p, f, met), local) =
     let more = local_reached l u local in
     subst (λ x. Reaches PrefixedName x (length t)) (sym (ap (token_at m) whole ∙ prefixed_at m p (l ++ u) met)) (omega (arith, more.0), λ f. some_local (local_length (l ++ u)) (omega (arith, more.0, more.1)))
 
-blank_label_reached : (m : Bool) (t u : List ℕ) → IsLabel t → Reaches BlankNodeLabel (token_at m (t ++ u)) (length t)
+blank_label_reached : (m : Bool) (t u : List ℕ) → IsLabel NameUnderscoreOrDigit Name t → Reaches BlankNodeLabel (token_at m (t ++ u)) (length t)
 blank_label_reached m t u (c, v, e, first, tail) =
     let more = label_reached c v u first tail in
-    let value : token_at m (95 ∷ 58 ∷ c ∷ (v ++ u)) ≡ Ok (BlankNodeLabel, 2 + name_length (c ∷ (v ++ u))) = ap (λ b. cond b (Ok (BlankNodeLabel, 2 + name_length (c ∷ (v ++ u)))) (Err NoToken)) first in
+    let value : token_at m (95 ∷ 58 ∷ c ∷ (v ++ u)) ≡ Ok (BlankNodeLabel, 2 + name_length Name (c ∷ (v ++ u))) = ap (λ b. cond b (Ok (BlankNodeLabel, 2 + name_length Name (c ∷ (v ++ u)))) (Err NoToken)) first in
     subst (λ (x : List ℕ). Reaches BlankNodeLabel (token_at m (x ++ u)) (length x)) (sym e) (subst (λ x. Reaches BlankNodeLabel x (suc (suc (suc (length v))))) (sym value) (omega arith, λ f. refl))
 
 -- IRIs and strings
@@ -234,7 +239,7 @@ word_reached m t u k first all ends kind =
     ∙ ap (λ x. lexeme_of (word_kind x) (length t) (run_length NameOrDot cs == length cs)) (take-append_seam t u)
     ∙ ap (λ o. lexeme_of o (length t) (run_length NameOrDot cs == length cs)) kind in
     let over = name_over t u all in
-    let front : prefix_length cs ≡ name_length cs = ap (λ b. cond b (name_length cs) 0) (start_more t u first) in
+    let front : prefix_length cs ≡ name_length Name cs = ap (λ b. cond b (name_length Name cs) 0) (start_more t u first) in
     subst (λ x. Reaches k x (length t)) (sym (name_token m cs (start_name t u first)))
     (name_or k cs (prefix_length cs) (length t) (drop (prefix_length cs) cs) (omega arith) (subst (λ x. Reaches k x (length t)) (sym value) (omega arith, λ e. refl)))
 

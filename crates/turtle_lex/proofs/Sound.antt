@@ -5,27 +5,33 @@ use Rattle.std.proofs.lemmas.Bool.{eqb-true}
 use Rattle.std.proofs.lemmas.Bool.Decides.{nat_tests}
 use Rattle.std.proofs.lemmas.List.{length-take-le, take-append-drop}
 use Rattle.std.proofs.Math.Seq.{take-add}
-use Rattle.turtle_lex.specs.declared.token.Quotes.{Quotes}
-use Rattle.turtle_lex.specs.declared.token.Quotes.TheVariants as quotes
-use Rattle.turtle_lex.specs.declared.token.FaultKind.TheVariants.{NoToken, UnexpectedEnd}
+use Rattle.rdf_lexical.specs.declared.quoting.Quotes.{Quotes}
+use Rattle.rdf_lexical.specs.declared.quoting.Quotes.TheVariants as quotes
+use Rattle.rdf_lexical.specs.declared.refusal.RefusalKind.TheVariants.{NoToken, UnexpectedEnd}
 use Rattle.turtle_lex.specs.declared.token.TokenKind.{TokenKind}
 use Rattle.turtle_lex.specs.declared.token.TokenKind.TheVariants.{PrefixName, PrefixedName, BlankNodeLabel, LanguageTag, Integer, Decimal, Double, StringLiteral, Dot, Semicolon, Comma, OpenBracket, CloseBracket, OpenParenthesis, CloseParenthesis, Carets, AtPrefix, AtBase}
-use Rattle.turtle_lex.specs.declared.class.Class.TheVariants.{NameUnderscoreOrDigit, Name, NameOrDot}
-use Rattle.turtle_lex.specs.declared.enclosed.Enclosed.TheVariants.{Iri, Text}
-use Rattle.turtle_lex.specs.Classes.{holds, begins_with, run_length}
-use Rattle.turtle_lex.specs.Names.{name_length, prefix_length, local_length}
+use Rattle.rdf_lexical.specs.declared.classes.Class.TheVariants.{NameUnderscoreOrDigit, Name, NameOrDot}
+use Rattle.rdf_lexical.specs.declared.enclosing.Enclosed.TheVariants.{Iri, Text}
+use Rattle.rdf_lexical.specs.Classes.{holds, begins_with, run_length}
+use Rattle.rdf_lexical.specs.Names.{name_length}
+use Rattle.turtle_lex.specs.Names.{prefix_length, local_length}
 use Rattle.turtle_lex.specs.Numbers.{number}
-use Rattle.turtle_lex.specs.Words.{Lexeme, word_kind, tag_length, language_tag, directive, lexeme_of, begins_directive, at_word, word}
-use Rattle.turtle_lex.specs.Enclosed.{iri_lexeme, iri_ref, enclosed_length, string_lexeme, string_literal, more_quotes, leading_marks}
+use Rattle.turtle_lex.specs.Words.{Lexeme, word_kind, language_tag, directive, lexeme_of, begins_directive, at_word, word}
+use Rattle.rdf_lexical.specs.Tags.{tag_length}
+use Rattle.turtle_lex.specs.Enclosed.{iri_lexeme, iri_ref, string_lexeme, string_literal, more_quotes}
+use Rattle.rdf_lexical.specs.Enclosed.{enclosed_length, leading_marks}
 use Rattle.turtle_lex.specs.Tokens.{may_begin_number, may_begin_name, label, carets, prefixed, name_at, name_or_word, number_found, no_number, is_cut_number, number_or_dot, punctuation, plain_found, plain_token, token_at}
-use Rattle.turtle_lex.specs.Productions.{IsPrefix, IsLocal, IsString, IsLanguageTag, IsToken, IsWhole}
+use Rattle.turtle_lex.specs.Productions.{IsPrefix, IsLocal, IsToken, IsWhole}
+use Rattle.rdf_lexical.specs.Productions.{IsString, IsLanguageTag}
 use Rattle.turtle_lex.proofs.NumberTexts.{IsNumber, GivesNumber, number_shape}
-use Rattle.turtle_lex.proofs.NameTexts.{tail_shape, prefix_shape, local_shape}
-use Rattle.turtle_lex.proofs.EnclosedTexts.{marks_shape, enclosed_shape, enclosed_bound}
-use Rattle.turtle_lex.proofs.Bounds.{Within, name_bound, local_bound, number_bound}
-use Rattle.turtle_lex.proofs.Runs.{run_bound}
-use Rattle.turtle_lex.proofs.WordTokens.{word_same, WordIs, word_is, tag_reached, tag_shape, tag_bound, run_ends, name_over}
-use Rattle.turtle_lex.proofs.NameTokens.{label_is_name}
+use Rattle.rdf_lexical.proofs.NameTails.{label_is_name, tail_shape}
+use Rattle.turtle_lex.proofs.NameTexts.{prefix_shape, local_shape}
+use Rattle.rdf_lexical.proofs.EnclosedTexts.{marks_shape, enclosed_shape, enclosed_bound}
+use Rattle.turtle_lex.proofs.Bounds.{Within, local_bound, number_bound}
+use Rattle.rdf_lexical.proofs.NameTails.{name_bound}
+use Rattle.rdf_lexical.proofs.Runs.{run_bound}
+use Rattle.turtle_lex.proofs.WordTokens.{word_same, WordIs, word_is, run_ends, name_over}
+use Rattle.rdf_lexical.proofs.TagTexts.{tag_reached, tag_shape, tag_bound}
 use Rattle.turtle_lex.proofs.Reached.{two_more}
 
 abbrev pub IsFound : Bool → Lexeme → List ℕ → Type 0
@@ -158,20 +164,20 @@ at_is_found true c cs is = tag_is_found c cs is
 at_is_found false c cs is = directive_is_found c cs is
 
 -- labels and `^^`
-label_by_length : (m : Bool) (c d e n : ℕ) (cs : List ℕ) → c ≡ 95 → d ≡ 58 → holds NameUnderscoreOrDigit e ≡ true → name_length (e ∷ cs) ≡ n → 0 < n → IsFound m (Ok (BlankNodeLabel, 2 + n)) (c ∷ d ∷ e ∷ cs)
+label_by_length : (m : Bool) (c d e n : ℕ) (cs : List ℕ) → c ≡ 95 → d ≡ 58 → holds NameUnderscoreOrDigit e ≡ true → name_length Name (e ∷ cs) ≡ n → 0 < n → IsFound m (Ok (BlankNodeLabel, 2 + n)) (c ∷ d ∷ e ∷ cs)
 label_by_length m c d e zero cs is colon first size some = absurd (omega arith)
 label_by_length m c d e (suc n) cs is colon first size some =
     let count : 2 + suc n ≡ suc (suc (suc n)) = omega arith in
-    let most = name_bound (e ∷ cs) in
+    let most = name_bound Name (e ∷ cs) in
     let begin : c ∷ d ∷ e ∷ take n cs ≡ 95 ∷ 58 ∷ e ∷ take n cs = ap (λ x. x ∷ d ∷ e ∷ take n cs) is ∙ ap (λ x. 95 ∷ x ∷ e ∷ take n cs) colon in
-    subst (λ k. IsFound m (Ok (BlankNodeLabel, k)) (c ∷ d ∷ e ∷ cs)) (sym count) ((e, take n cs, begin, first, tail_shape e n cs size), tt, omega arith)
+    subst (λ k. IsFound m (Ok (BlankNodeLabel, k)) (c ∷ d ∷ e ∷ cs)) (sym count) ((e, take n cs, begin, first, tail_shape Name e n cs size), tt, omega arith)
 
 label_found : (m : Bool) (c : ℕ) (cs : List ℕ) → c ≡ 95 → IsFound m (label cs) (c ∷ cs)
 label_found m c [] is = tt
 label_found m c (d ∷ []) is = elim (d == 58) as (λ b. IsFound m (cond b (Err UnexpectedEnd) (Err NoToken)) (c ∷ d ∷ [])) [ true ↦ tt | false ↦ tt ]
-label_found m c (d ∷ e ∷ cs) is = elim (d == 58) as (λ b. (d == 58) ≡ b → IsFound m (cond b (cond (holds NameUnderscoreOrDigit e) (Ok (BlankNodeLabel, 2 + name_length (e ∷ cs))) (Err NoToken)) (Err NoToken)) (c ∷ d ∷ e ∷ cs)) [
-  | true ↦ λ colon. elim (holds NameUnderscoreOrDigit e) as (λ b. holds NameUnderscoreOrDigit e ≡ b → IsFound m (cond b (Ok (BlankNodeLabel, 2 + name_length (e ∷ cs))) (Err NoToken)) (c ∷ d ∷ e ∷ cs)) [
-    | true ↦ λ first. let one = name_over (e ∷ []) cs (label_is_name e first, tt) in label_by_length m c d e (name_length (e ∷ cs)) cs is (eqb-true d 58 colon) first refl (omega arith)
+label_found m c (d ∷ e ∷ cs) is = elim (d == 58) as (λ b. (d == 58) ≡ b → IsFound m (cond b (cond (holds NameUnderscoreOrDigit e) (Ok (BlankNodeLabel, 2 + name_length Name (e ∷ cs))) (Err NoToken)) (Err NoToken)) (c ∷ d ∷ e ∷ cs)) [
+  | true ↦ λ colon. elim (holds NameUnderscoreOrDigit e) as (λ b. holds NameUnderscoreOrDigit e ≡ b → IsFound m (cond b (Ok (BlankNodeLabel, 2 + name_length Name (e ∷ cs))) (Err NoToken)) (c ∷ d ∷ e ∷ cs)) [
+    | true ↦ λ first. let one = name_over (e ∷ []) cs (label_is_name e first, tt) in label_by_length m c d e (name_length Name (e ∷ cs)) cs is (eqb-true d 58 colon) first refl (omega arith)
     | false ↦ λ first. tt
   ] refl
   | false ↦ λ colon. tt

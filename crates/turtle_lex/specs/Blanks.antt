@@ -1,9 +1,6 @@
 -- White space and comments, which may stand before any token (Turtle 1.1 section 6.2).
 use Rattle.std.specs.Prelude.{ℕ, suc, Bool, true, false, not, ◌||◌, List, [], ◌∷◌, ◌==◌, if◌then◌else◌}
-
--- LF and CR, which end a comment
-abbrev pub is_line_end : ℕ → Bool
-is_line_end c = c == 10 || c == 13
+use Rattle.rdf_lexical.specs.Characters.{is_line_end}
 
 -- WS
 abbrev pub is_white_space : ℕ → Bool

@@ -1,7 +1,7 @@
 -- What stands at the beginning of a text, and what is found there.
 use Rattle.std.specs.Prelude.{◌≡◌, ℕ, Bool, List, Ok, Err}
 use Rattle.turtle_lex.specs.declared.token.TokenKind.{TokenKind}
-use Rattle.turtle_lex.specs.declared.token.FaultKind.{FaultKind}
+use Rattle.rdf_lexical.specs.declared.refusal.RefusalKind.{RefusalKind}
 use Rattle.turtle_lex.specs.Tokens.{token_at}
 use Rattle.turtle_lex.specs.Productions.{IsTokenAt, HasNoToken}
 
@@ -11,7 +11,7 @@ FindsLongest = (after_string : Bool) (text : List ℕ) (kind : TokenKind) (n : �
 
 -- where a fault is found no token stands
 abbrev pub MissesNone : Type 0
-MissesNone = (after_string : Bool) (text : List ℕ) (fault : FaultKind) → token_at after_string text ≡ Err fault → HasNoToken after_string text
+MissesNone = (after_string : Bool) (text : List ℕ) (fault : RefusalKind) → token_at after_string text ≡ Err fault → HasNoToken after_string text
 
 -- at most one token stands at the beginning of a text: it has one kind, and so many characters
 abbrev pub StandsAlone : Type 0

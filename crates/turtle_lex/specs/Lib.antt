@@ -1,11 +1,7 @@
-pub mod Faults
-pub mod Quoting
-pub mod Classes
 pub mod Names
 pub mod Numbers
 pub mod Blanks
 pub mod Words
-pub mod Escapes
 pub mod Enclosed
 pub mod Places
 pub mod Tokens

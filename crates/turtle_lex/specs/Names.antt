@@ -1,17 +1,8 @@
--- The longest names at the beginning of a text: BLANK_NODE_LABEL, PN_PREFIX and PN_LOCAL (Turtle 1.1 section 6.5).
+-- The longest names at the beginning of a text: PN_PREFIX and PN_LOCAL (Turtle 1.1 section 6.5).
 use Rattle.std.specs.Prelude.{ℕ, zero, suc, Bool, false, ◌&&◌, List, [], ◌∷◌, ◌==◌, if◌then◌else◌}
-use Rattle.turtle_lex.specs.declared.class.Class.TheVariants.{Hexadecimal, NameStart, Name, LocalStart, LocalCharacter, LocalEscape}
-use Rattle.turtle_lex.specs.Classes.{holds, begins_with}
-
--- a dot belongs to a name only where more of it follows
-abbrev pub with_dot : ℕ → ℕ
-with_dot zero = zero
-with_dot (suc n) = suc (suc n)
-
--- `(PN_CHARS | '.')*`, not ending in a dot
-abbrev pub name_length : List ℕ → ℕ
-name_length [] = 0
-name_length (c ∷ cs) = if holds Name c then suc (name_length cs) else (if c == 46 then with_dot (name_length cs) else 0)
+use Rattle.rdf_lexical.specs.declared.classes.Class.TheVariants.{Hexadecimal, NameStart, Name, LocalStart, NameOrColon, LocalEscape}
+use Rattle.rdf_lexical.specs.Classes.{holds, begins_with}
+use Rattle.rdf_lexical.specs.Names.{with_dot, name_length}
 
 -- two hexadecimal digits
 abbrev pub begins_with_pair : List ℕ → Bool
@@ -25,7 +16,7 @@ abbrev pub local_piece : List ℕ → ℕ
 local_piece [] = 0
 local_piece (c ∷ cs) = if c == 37 then (if begins_with_pair cs then 3 else 0) else
     (if c == 92 then (if begins_with LocalEscape cs then 2 else 0) else
-    (if holds LocalCharacter c then 1 else 0))
+    (if holds NameOrColon c then 1 else 0))
 
 -- the characters of a piece, the first of which has been met, and what follows
 abbrev pub with_piece : ℕ → (ℕ → ℕ) → ℕ
@@ -44,4 +35,4 @@ local_length cs = if begins_with LocalStart cs then local_run 0 cs else 0
 
 -- PN_PREFIX
 abbrev pub prefix_length : List ℕ → ℕ
-prefix_length cs = if begins_with NameStart cs then name_length cs else 0
+prefix_length cs = if begins_with NameStart cs then name_length Name cs else 0

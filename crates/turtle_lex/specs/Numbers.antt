@@ -2,8 +2,8 @@
 use Rattle.std.specs.Prelude.{ℕ, suc, ◌+◌, ◌&&◌, ◌||◌, List, [], ◌∷◌, drop, Option, Some, None, ◌==◌, nat_lt, if◌then◌else◌}
 use Rattle.turtle_lex.specs.declared.token.TokenKind.{TokenKind}
 use Rattle.turtle_lex.specs.declared.token.TokenKind.TheVariants.{Integer, Decimal, Double}
-use Rattle.turtle_lex.specs.declared.class.Class.TheVariants.{Sign, Digit}
-use Rattle.turtle_lex.specs.Classes.{begins_with, run_length}
+use Rattle.rdf_lexical.specs.declared.classes.Class.TheVariants.{Sign, Digit}
+use Rattle.rdf_lexical.specs.Classes.{begins_with, run_length}
 
 -- `[+-]?`
 abbrev pub sign_length : List ℕ → ℕ

@@ -1,35 +1,15 @@
--- The texts of each kind of token, by the productions of Turtle 1.1 section 6.5.
-use Rattle.std.specs.Prelude.{◌≡◌, ℕ, ◌-◌, ◌<◌, ◌≤◌, Bool, true, false, ◌||◌, List, [], ◌∷◌, ◌++◌, length, take, drop, map, ◌==◌, codes, Some, replicate, ◌⊎◌}
+-- The texts of each kind of token, by the productions of Turtle 1.1 section 6.5; those that N-Triples shares stand in
+-- rdf_lexical.
+use Rattle.std.specs.Prelude.{◌≡◌, ℕ, ◌-◌, ◌≤◌, Bool, true, false, ◌||◌, List, [], ◌∷◌, ◌++◌, length, take, drop, map, ◌==◌, codes, ◌⊎◌}
 use Rattle.std.specs.List.{AllByRecursion}
 use Rattle.std.specs.Char.{to_ascii_lowercase}
-use Rattle.turtle_lex.specs.declared.token.Quotes.{Quotes}
 use Rattle.turtle_lex.specs.declared.token.Token.{Token}
 use Rattle.turtle_lex.specs.declared.token.TokenKind.{TokenKind}
 use Rattle.turtle_lex.specs.declared.token.TokenKind.TheVariants.{IriRef, PrefixName, PrefixedName, BlankNodeLabel, LanguageTag, Integer, Decimal, Double, StringLiteral, Dot, Semicolon, Comma, OpenBracket, CloseBracket, OpenParenthesis, CloseParenthesis, Carets, A, True, False, Prefix, Base, AtPrefix, AtBase}
-use Rattle.turtle_lex.specs.declared.class.Class.{Class}
-use Rattle.turtle_lex.specs.declared.class.Class.TheVariants.{Sign, Digit, Hexadecimal, Letter, LetterOrDigit, NameStart, NameUnderscoreOrDigit, Name, NameOrDot, LocalStart, LocalCharacter, LocalEscape}
-use Rattle.turtle_lex.specs.declared.enclosed.Enclosed.{Enclosed}
-use Rattle.turtle_lex.specs.declared.enclosed.Enclosed.TheVariants.{Iri, Text}
-use Rattle.rdf_lexical.specs.Characters.{is_iri_char}
-use Rattle.rdf_lexical.specs.Escapes.{escaped_char, numbered_char}
-use Rattle.turtle_lex.specs.Classes.{holds, begins_with}
-use Rattle.turtle_lex.specs.Quoting.{quotes_length}
-use Rattle.turtle_lex.specs.Enclosed.{quote_of, mark, closing_length, may_hold}
-
--- `C*`, `C+` and `C` for a class of characters
-abbrev pub AllOf : Class → List ℕ → Type 0
-AllOf k t = AllByRecursion (λ c. holds k c ≡ true) t
-
-abbrev pub SomeOf : Class → List ℕ → Type 0
-SomeOf k t = (begins_with k t ≡ true) × AllOf k t
-
-abbrev pub OneOf : Class → List ℕ → Type 0
-OneOf k t = (c : ℕ) × (t ≡ c ∷ []) × (holds k c ≡ true)
-
--- texts one after another
-abbrev pub joined_texts : List (List ℕ) → List ℕ
-joined_texts [] = []
-joined_texts (t ∷ ts) = t ++ joined_texts ts
+use Rattle.rdf_lexical.specs.declared.classes.Class.TheVariants.{Sign, Digit, Hexadecimal, NameStart, NameUnderscoreOrDigit, Name, LocalStart, NameOrColon, LocalEscape}
+use Rattle.rdf_lexical.specs.Classes.{holds, begins_with}
+use Rattle.rdf_lexical.specs.Productions.{AllOf, SomeOf, OneOf, joined_texts, IsNameTail, IsLabel, IsIriRef, IsString, IsLanguageTag}
+use Rattle.rdf_lexical.specs.Enclosed.{quote_of}
 
 -- `[+-]?`
 abbrev pub IsSign : List ℕ → Type 0
@@ -55,21 +35,13 @@ IsMantissa t = SomeOf Digit t ⊎ ((d f : List ℕ) × (t ≡ d ++ 46 ∷ f) × 
 abbrev pub IsDouble : List ℕ → Type 0
 IsDouble t = (s m e : List ℕ) × (t ≡ s ++ (m ++ e)) × IsSign s × IsMantissa m × IsExponent e
 
--- `((PN_CHARS | '.')* PN_CHARS)?`, after the first character of a name
-abbrev pub IsNameTail : List ℕ → Type 0
-IsNameTail t = (t ≡ []) ⊎ ((v : List ℕ) × (c : ℕ) × (t ≡ v ++ c ∷ []) × AllOf NameOrDot v × (holds Name c ≡ true))
-
 -- PN_PREFIX: `PN_CHARS_BASE ((PN_CHARS | '.')* PN_CHARS)?`
 abbrev pub IsPrefix : List ℕ → Type 0
-IsPrefix t = (c : ℕ) × (v : List ℕ) × (t ≡ c ∷ v) × (holds NameStart c ≡ true) × IsNameTail v
+IsPrefix t = (c : ℕ) × (v : List ℕ) × (t ≡ c ∷ v) × (holds NameStart c ≡ true) × IsNameTail Name v
 
 -- PNAME_NS: `PN_PREFIX? ':'`
 abbrev pub IsPrefixName : List ℕ → Type 0
 IsPrefixName t = (p : List ℕ) × (t ≡ p ++ 58 ∷ []) × ((p ≡ []) ⊎ IsPrefix p)
-
--- BLANK_NODE_LABEL: `'_:' (PN_CHARS_U | [0-9]) ((PN_CHARS | '.')* PN_CHARS)?`
-abbrev pub IsLabel : List ℕ → Type 0
-IsLabel t = (c : ℕ) × (v : List ℕ) × (t ≡ 95 ∷ 58 ∷ c ∷ v) × (holds NameUnderscoreOrDigit c ≡ true) × IsNameTail v
 
 -- PLX: `'%' HEX HEX`, or a backslash and one of PN_LOCAL_ESC
 abbrev pub IsPlx : List ℕ → Type 0
@@ -77,7 +49,7 @@ IsPlx t = ((a b : ℕ) × (t ≡ 37 ∷ a ∷ b ∷ []) × (holds Hexadecimal a 
 
 -- `PN_CHARS | ':' | PLX`
 abbrev pub IsLocalPiece : List ℕ → Type 0
-IsLocalPiece t = OneOf LocalCharacter t ⊎ IsPlx t
+IsLocalPiece t = OneOf NameOrColon t ⊎ IsPlx t
 
 -- `PN_CHARS | '.' | ':' | PLX`
 abbrev pub IsLocalPieceOrDot : List ℕ → Type 0
@@ -92,54 +64,12 @@ IsLocal t = (ps : List (List ℕ)) × (p : List ℕ) × (t ≡ joined_texts ps +
 abbrev pub IsPrefixedName : List ℕ → Type 0
 IsPrefixedName t = (n l : List ℕ) × (t ≡ n ++ l) × IsPrefixName n × IsLocal l
 
--- UCHAR, and the character that it stands for: `'\u' HEX HEX HEX HEX` or `'\U'` and eight HEX
-abbrev pub IsUchar : List ℕ → ℕ → Type 0
-IsUchar t v = ((ds : List ℕ) × (t ≡ 92 ∷ 117 ∷ ds) × (length ds ≡ 4) × AllOf Hexadecimal ds × (numbered_char ds ≡ Some v))
-    ⊎ ((ds : List ℕ) × (t ≡ 92 ∷ 85 ∷ ds) × (length ds ≡ 8) × AllOf Hexadecimal ds × (numbered_char ds ≡ Some v))
-
--- ECHAR, and the character that it stands for
-abbrev pub IsEchar : List ℕ → ℕ → Type 0
-IsEchar t v = (c : ℕ) × (t ≡ 92 ∷ c ∷ []) × (escaped_char c ≡ Some v)
-
--- what an IRIREF or a string holds in one place: a character that may stand there, or an escape; an IRIREF has no ECHAR,
--- and UCHAR only of characters that it may hold
-abbrev pub IsEscape : Enclosed → List ℕ → Type 0
-IsEscape Iri t = (v : ℕ) × IsUchar t v × (is_iri_char v ≡ true)
-IsEscape (Text quotes) t = (v : ℕ) × (IsUchar t v ⊎ IsEchar t v)
-
-abbrev pub IsUnit : Enclosed → List ℕ → Type 0
-IsUnit e t = ((c : ℕ) × (t ≡ c ∷ []) × (may_hold e c ≡ true)) ⊎ IsEscape e t
-
--- in long strings one or two quotes may stand before it: fewer than close the token
-abbrev pub IsPiece : Enclosed → List ℕ → Type 0
-IsPiece e t = (n : ℕ) × (u : List ℕ) × (t ≡ replicate n (mark e) ++ u) × (n < closing_length e) × IsUnit e u
-
--- what follows the opening: pieces, and what closes the token
-abbrev pub IsEnclosed : Enclosed → List ℕ → Type 0
-IsEnclosed e t = (ps : List (List ℕ)) × (t ≡ joined_texts ps ++ replicate (closing_length e) (mark e)) × AllByRecursion (IsPiece e) ps
-
--- IRIREF: `'<' ([^#x00-#x20<>"{}|^`\] | UCHAR)* '>'`
-abbrev pub IsIriRef : List ℕ → Type 0
-IsIriRef t = (b : List ℕ) × (t ≡ 60 ∷ b) × IsEnclosed Iri b
-
--- STRING_LITERAL_QUOTE, STRING_LITERAL_SINGLE_QUOTE, STRING_LITERAL_LONG_QUOTE and STRING_LITERAL_LONG_SINGLE_QUOTE
-abbrev pub IsString : Quotes → List ℕ → Type 0
-IsString quotes t = (b : List ℕ) × (t ≡ replicate (quotes_length quotes) (quote_of quotes) ++ b) × IsEnclosed (Text quotes) b
-
--- `'-' [a-zA-Z0-9]+`
-abbrev pub IsSubtag : List ℕ → Type 0
-IsSubtag t = (s : List ℕ) × (t ≡ 45 ∷ s) × SomeOf LetterOrDigit s
-
--- LANGTAG: `'@' [a-zA-Z]+ ('-' [a-zA-Z0-9]+)*`
-abbrev pub IsLanguageTag : List ℕ → Type 0
-IsLanguageTag t = (l : List ℕ) × (ts : List (List ℕ)) × (t ≡ 64 ∷ (l ++ joined_texts ts)) × SomeOf Letter l × AllByRecursion IsSubtag ts
-
 -- The texts of each kind. A LANGTAG is a token after a string alone, and `@prefix` and `@base` elsewhere.
 abbrev pub IsToken : Bool → TokenKind → List ℕ → Type 0
 IsToken after_string IriRef t = IsIriRef t
 IsToken after_string PrefixName t = IsPrefixName t
 IsToken after_string PrefixedName t = IsPrefixedName t
-IsToken after_string BlankNodeLabel t = IsLabel t
+IsToken after_string BlankNodeLabel t = IsLabel NameUnderscoreOrDigit Name t
 IsToken after_string LanguageTag t = (after_string ≡ true) × IsLanguageTag t
 IsToken after_string Integer t = IsInteger t
 IsToken after_string Decimal t = IsDecimal t

@@ -2,16 +2,17 @@
 -- tokens say the productions; these definitions add the faults: no token, a bad escape, or an end of the text within a
 -- token, which is where all the rest of the text is the beginning of one and nothing of it is a token.
 use Rattle.std.specs.Prelude.{ℕ, ◌+◌, Bool, true, false, ◌||◌, List, [], ◌∷◌, length, drop, Option, Some, None, Result, Ok, Err, ◌==◌, if◌then◌else◌}
-use Rattle.turtle_lex.specs.declared.token.FaultKind.{FaultKind}
-use Rattle.turtle_lex.specs.declared.token.FaultKind.TheVariants.{NoToken, BadEscape, UnexpectedEnd}
+use Rattle.rdf_lexical.specs.declared.refusal.RefusalKind.{RefusalKind}
+use Rattle.rdf_lexical.specs.declared.refusal.RefusalKind.TheVariants.{NoToken, UnexpectedEnd}
 use Rattle.turtle_lex.specs.declared.token.LexFault.{LexFault}
 use Rattle.turtle_lex.specs.declared.token.Token.{Token}
 use Rattle.turtle_lex.specs.declared.token.TokenKind.{TokenKind}
 use Rattle.turtle_lex.specs.declared.token.TokenKind.TheVariants.{PrefixName, PrefixedName, BlankNodeLabel, Carets, Dot, Semicolon, Comma, OpenBracket, CloseBracket, OpenParenthesis, CloseParenthesis}
-use Rattle.turtle_lex.specs.declared.class.Class.TheVariants.{Sign, Digit, NameStart, NameUnderscoreOrDigit}
-use Rattle.turtle_lex.specs.Classes.{holds}
+use Rattle.rdf_lexical.specs.declared.classes.Class.TheVariants.{Sign, Digit, NameStart, NameUnderscoreOrDigit, Name}
+use Rattle.rdf_lexical.specs.Classes.{holds}
 use Rattle.turtle_lex.specs.Blanks.{blank_length}
-use Rattle.turtle_lex.specs.Names.{name_length, prefix_length, local_length}
+use Rattle.rdf_lexical.specs.Names.{name_length}
+use Rattle.turtle_lex.specs.Names.{prefix_length, local_length}
 use Rattle.turtle_lex.specs.Numbers.{number}
 use Rattle.turtle_lex.specs.Words.{Lexeme, at_word, word}
 use Rattle.turtle_lex.specs.Enclosed.{iri_ref, string_literal}
@@ -20,7 +21,7 @@ use Rattle.turtle_lex.specs.Places.{place_at}
 -- BLANK_NODE_LABEL, after `_:` and after `_`
 abbrev pub label_after_colon : List ℕ → Lexeme
 label_after_colon [] = Err UnexpectedEnd
-label_after_colon (c ∷ cs) = if holds NameUnderscoreOrDigit c then Ok (BlankNodeLabel, 2 + name_length (c ∷ cs)) else Err NoToken
+label_after_colon (c ∷ cs) = if holds NameUnderscoreOrDigit c then Ok (BlankNodeLabel, 2 + name_length Name (c ∷ cs)) else Err NoToken
 
 abbrev pub label : List ℕ → Lexeme
 label [] = Err UnexpectedEnd
@@ -93,10 +94,9 @@ token_at after_string (c ∷ cs) =
     (if c == 94 then carets cs else plain_token c (c ∷ cs)))))
 
 -- the line of a fault: that of the token's start, or of the text's end where that came too early
-abbrev pub fault_line : List ℕ → ℕ → FaultKind → ℕ
+abbrev pub fault_line : List ℕ → ℕ → RefusalKind → ℕ
 fault_line text start UnexpectedEnd = (place_at text (length text)).line
-fault_line text start NoToken = (place_at text start).line
-fault_line text start BadEscape = (place_at text start).line
+fault_line text start _ = (place_at text start).line
 
 abbrev pub placed : List ℕ → ℕ → Lexeme → Result Token LexFault
 placed text start (Ok token) = Ok (record { kind = token.0; start = place_at text start; end = place_at text (start + token.1) })

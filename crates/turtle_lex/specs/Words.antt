@@ -1,17 +1,18 @@
 -- The words of the grammar, and what `@` begins (Turtle 1.1 sections 6.2 and 6.5).
-use Rattle.std.specs.Prelude.{ℕ, suc, ◌+◌, Bool, true, false, ◌&&◌, ◌||◌, List, [], ◌∷◌, length, take, drop, codes, Option, Some, None, Result, Ok, Err, ◌==◌, nat_eq, if◌then◌else◌, bytes_eq}
+use Rattle.std.specs.Prelude.{ℕ, suc, Bool, true, false, ◌&&◌, ◌||◌, List, [], ◌∷◌, length, take, codes, Option, Some, None, Result, Ok, Err, ◌==◌, nat_eq, if◌then◌else◌, bytes_eq}
 use Rattle.std.specs.List.{starts_with}
 use Rattle.std.specs.Char.{to_ascii_lowercase}
 use Rattle.turtle_lex.specs.declared.token.TokenKind.{TokenKind}
 use Rattle.turtle_lex.specs.declared.token.TokenKind.TheVariants.{A, True, False, Prefix, Base, AtPrefix, AtBase, LanguageTag}
-use Rattle.turtle_lex.specs.declared.token.FaultKind.{FaultKind}
-use Rattle.turtle_lex.specs.declared.token.FaultKind.TheVariants.{NoToken, UnexpectedEnd}
-use Rattle.turtle_lex.specs.declared.class.Class.TheVariants.{Letter, LetterOrDigit, Name, NameOrDot}
-use Rattle.turtle_lex.specs.Classes.{holds, begins_with, run_length}
+use Rattle.rdf_lexical.specs.declared.refusal.RefusalKind.{RefusalKind}
+use Rattle.rdf_lexical.specs.declared.refusal.RefusalKind.TheVariants.{NoToken, UnexpectedEnd}
+use Rattle.rdf_lexical.specs.declared.classes.Class.TheVariants.{Name, NameOrDot}
+use Rattle.rdf_lexical.specs.Tags.{tag_length}
+use Rattle.rdf_lexical.specs.Classes.{run_length}
 
 -- the kind of a token and how many characters it has, or why there is none
 abbrev pub Lexeme : Type 0
-Lexeme = Result (TokenKind × ℕ) FaultKind
+Lexeme = Result (TokenKind × ℕ) RefusalKind
 
 -- the same letters, the word's in any case
 abbrev pub is_in_any_case : List ℕ → List ℕ → Bool
@@ -27,16 +28,6 @@ word_kind word = if bytes_eq word (codes "a") then Some A else
     (if bytes_eq word (codes "false") then Some False else
     (if is_in_any_case word (codes "prefix") then Some Prefix else
     (if is_in_any_case word (codes "base") then Some Base else None))))
-
--- `('-' [a-zA-Z0-9]+)*`; whether the characters of a subtag may go on
-abbrev pub subtags_length : Bool → List ℕ → ℕ
-subtags_length inside [] = 0
-subtags_length inside (c ∷ cs) = if (inside && holds LetterOrDigit c) || (c == 45 && begins_with LetterOrDigit cs) then suc (subtags_length true cs) else 0
-
--- the longest LANGTAG after its `@`: `[a-zA-Z]+ ('-' [a-zA-Z0-9]+)*`
-abbrev pub tag_length : List ℕ → ℕ
-tag_length cs = let letters = run_length Letter cs in
-    if letters == 0 then 0 else letters + subtags_length false (drop letters cs)
 
 -- after a string `@` begins a LANGTAG
 abbrev pub language_tag : List ℕ → Lexeme

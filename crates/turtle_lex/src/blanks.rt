@@ -1,6 +1,8 @@
 ghost use Rattle.std.specs.Prelude.{◌≡◌, ◌≤◌, false, length};
 ghost use Rattle.turtle_lex.specs.Blanks;
 
+use rdf_lexical::is_line_end;
+
 // How many characters white space and comments have before anything else.
 pub fn blank_length(characters: &[char]) -> usize
     ensures value { result ≡ Blanks.blank_length false characters.now }
@@ -11,7 +13,7 @@ pub fn blank_length(characters: &[char]) -> usize
     let mut rest = characters;
     while let [character, after @ ..] = rest {
         if in_comment {
-            in_comment = !matches!(character, '\n' | '\r');
+            in_comment = !is_line_end(*character);
         } else if *character == '#' {
             in_comment = true;
         } else if !matches!(character, ' ' | '\t' | '\n' | '\r') {

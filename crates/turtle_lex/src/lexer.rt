@@ -6,47 +6,50 @@ ghost use Rattle.turtle_lex.specs.Productions.{IsNextToken, HasNoToken};
 ghost use Rattle.turtle_lex.specs.Places.{IsPlace, HasSpan};
 
 use crate::blanks::blank_length;
-use crate::class::{Class, after, begins_with};
 use crate::enclosed::{iri_ref, string_literal};
-use crate::names::{local_length, name_length, prefix_length};
+use crate::names::{local_length, prefix_length};
 use crate::numbers::number;
 use crate::places::place_after;
-use crate::token::{FaultKind, LexFault, Place, Token, TokenKind};
+use crate::token::{LexFault, Place, Token, TokenKind};
 use crate::words::{at_word, word};
+use rdf_lexical::{Class, RefusalKind, after, begins_with, name_length};
 
 // The label by the characters after its `_`.
-fn label_after_colon(characters: &[char]) -> Result<(TokenKind, usize), FaultKind>
+fn label_after_colon(characters: &[char]) -> Result<(TokenKind, usize), RefusalKind>
     ensures value { result ≡ Tokens.label_after_colon characters.now }
     ensures bound { IfOk result (λ token. (0 < token.1) × (token.1 ≤ 2 + length characters.now)) }
 {
     if characters.is_empty() {
-        Err(FaultKind::UnexpectedEnd)
+        Err(RefusalKind::UnexpectedEnd)
     } else if begins_with(Class::NameUnderscoreOrDigit, characters) {
-        Ok((TokenKind::BlankNodeLabel, 2 + name_length(characters)))
+        Ok((
+            TokenKind::BlankNodeLabel,
+            2 + name_length(Class::Name, characters),
+        ))
     } else {
-        Err(FaultKind::NoToken)
+        Err(RefusalKind::NoToken)
     }
 }
 
-fn label(characters: &[char]) -> Result<(TokenKind, usize), FaultKind>
+fn label(characters: &[char]) -> Result<(TokenKind, usize), RefusalKind>
     ensures value { result ≡ Tokens.label characters.now }
     ensures bound { IfOk result (λ token. (0 < token.1) × (token.1 ≤ 1 + length characters.now)) }
 {
     match characters {
-        [] => Err(FaultKind::UnexpectedEnd),
+        [] => Err(RefusalKind::UnexpectedEnd),
         [':', rest @ ..] => label_after_colon(rest),
-        _ => Err(FaultKind::NoToken),
+        _ => Err(RefusalKind::NoToken),
     }
 }
 
-fn carets(characters: &[char]) -> Result<(TokenKind, usize), FaultKind>
+fn carets(characters: &[char]) -> Result<(TokenKind, usize), RefusalKind>
     ensures value { result ≡ Tokens.carets characters.now }
     ensures bound { IfOk result (λ token. (0 < token.1) × (token.1 ≤ 1 + length characters.now)) }
 {
     match characters {
-        [] => Err(FaultKind::UnexpectedEnd),
+        [] => Err(RefusalKind::UnexpectedEnd),
         ['^', ..] => Ok((TokenKind::Carets, 2)),
-        _ => Err(FaultKind::NoToken),
+        _ => Err(RefusalKind::NoToken),
     }
 }
 
@@ -66,7 +69,7 @@ fn prefixed(prefix: usize, characters: &[char]) -> (TokenKind, usize)
 }
 
 // A prefixed name, or a word without a colon.
-fn name_or_word(characters: &[char]) -> Result<(TokenKind, usize), FaultKind>
+fn name_or_word(characters: &[char]) -> Result<(TokenKind, usize), RefusalKind>
     ensures value { result ≡ Tokens.name_or_word characters.now }
     ensures bound { IfOk result (λ token. (0 < token.1) × (token.1 ≤ length characters.now)) }
 {
@@ -78,18 +81,18 @@ fn name_or_word(characters: &[char]) -> Result<(TokenKind, usize), FaultKind>
 }
 
 // What begins with a sign or a dot and is no number.
-fn no_number(characters: &[char]) -> Result<(TokenKind, usize), FaultKind>
+fn no_number(characters: &[char]) -> Result<(TokenKind, usize), RefusalKind>
     ensures value { result ≡ Tokens.no_number characters.now }
     ensures bound { IfOk result (λ token. (0 < token.1) × (token.1 ≤ length characters.now)) }
 {
     match characters {
         ['.', ..] => Ok((TokenKind::Dot, 1)),
-        [_] | [_, '.'] => Err(FaultKind::UnexpectedEnd),
-        _ => Err(FaultKind::NoToken),
+        [_] | [_, '.'] => Err(RefusalKind::UnexpectedEnd),
+        _ => Err(RefusalKind::NoToken),
     }
 }
 
-fn number_or_dot(characters: &[char]) -> Result<(TokenKind, usize), FaultKind>
+fn number_or_dot(characters: &[char]) -> Result<(TokenKind, usize), RefusalKind>
     ensures value { result ≡ Tokens.number_or_dot characters.now }
     ensures bound { IfOk result (λ token. (0 < token.1) × (token.1 ≤ length characters.now)) }
 {
@@ -126,7 +129,7 @@ fn may_begin_name(character: char) -> bool
 }
 
 // A token of one character, a number, a name or a word.
-fn plain_token(first: char, characters: &[char]) -> Result<(TokenKind, usize), FaultKind>
+fn plain_token(first: char, characters: &[char]) -> Result<(TokenKind, usize), RefusalKind>
     requires { 0 < length characters.now }
     ensures value { result ≡ Tokens.plain_token first characters.now }
     ensures bound { IfOk result (λ token. (0 < token.1) × (token.1 ≤ length characters.now)) }
@@ -140,11 +143,11 @@ fn plain_token(first: char, characters: &[char]) -> Result<(TokenKind, usize), F
     if may_begin_name(first) {
         return name_or_word(characters);
     }
-    Err(FaultKind::NoToken)
+    Err(RefusalKind::NoToken)
 }
 
 // The token that begins with the first character.
-fn token_at(after_string: bool, characters: &[char]) -> Result<(TokenKind, usize), FaultKind>
+fn token_at(after_string: bool, characters: &[char]) -> Result<(TokenKind, usize), RefusalKind>
     requires { 0 < length characters.now }
     ensures value { result ≡ Tokens.token_at after_string characters.now }
     ensures bound { IfOk result (λ token. (0 < token.1) × (token.1 ≤ length characters.now)) }
@@ -158,7 +161,7 @@ fn token_at(after_string: bool, characters: &[char]) -> Result<(TokenKind, usize
             '^' => carets(rest),
             _ => plain_token(*first, characters),
         },
-        [] => Err(FaultKind::UnexpectedEnd),
+        [] => Err(RefusalKind::UnexpectedEnd),
     }
 }
 
@@ -166,7 +169,7 @@ fn token_at(after_string: bool, characters: &[char]) -> Result<(TokenKind, usize
 fn placed(
     characters: &[char],
     start: Place,
-    found: Result<(TokenKind, usize), FaultKind>,
+    found: Result<(TokenKind, usize), RefusalKind>,
 ) -> Result<Token, LexFault>
     requires start { IsPlace characters.now start }
     requires bound { ForOk found (λ token. (0 < token.1) × (start.at + token.1 ≤ length characters.now)) }
@@ -179,11 +182,11 @@ fn placed(
             start,
             end: place_after(characters, start, length),
         }),
-        Err(FaultKind::UnexpectedEnd) => {
+        Err(RefusalKind::UnexpectedEnd) => {
             let end = place_after(characters, start, characters.len() - start.at);
             Err(LexFault {
                 line: end.line,
-                kind: FaultKind::UnexpectedEnd,
+                kind: RefusalKind::UnexpectedEnd,
             })
         }
         Err(kind) => Err(LexFault {

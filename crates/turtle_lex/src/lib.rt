@@ -8,9 +8,7 @@
 #![tactic(auto)]
 
 mod blanks;
-mod class;
 mod enclosed;
-mod escapes;
 pub mod laws;
 mod lexer;
 mod meanings;
@@ -21,5 +19,6 @@ mod token;
 mod words;
 
 pub use lexer::next_token;
-pub use meanings::{iri_text, local_name, plain_text, split_name, string_value, token_text};
-pub use token::{FaultKind, LexFault, Place, Quotes, Token, TokenKind};
+pub use meanings::{local_name, split_name, token_text};
+pub use rdf_lexical::{Quotes, RefusalKind, iri_text, plain_text, string_value};
+pub use token::{LexFault, Place, Token, TokenKind};

@@ -1,27 +1,7 @@
 ghost use Rattle.std.specs.Prelude.{◌≡◌, ◌≤◌, length};
 ghost use Rattle.turtle_lex.specs.Names;
 
-use crate::class::{Class, after, begins_with};
-
-// How many characters the longest run of PN_CHARS and dots has that doesn't end in a dot.
-pub fn name_length(characters: &[char]) -> usize
-    ensures value { result ≡ Names.name_length characters.now }
-    ensures bound { result ≤ length characters.now }
-{
-    let mut kept = 0;
-    let mut count = 0;
-    let mut rest = characters;
-    while let [character, after @ ..] = rest {
-        count += 1;
-        if Class::Name.holds(*character) {
-            kept = count;
-        } else if *character != '.' {
-            return kept;
-        }
-        rest = after;
-    }
-    kept
-}
+use rdf_lexical::{Class, after, begins_with, name_length};
 
 fn begins_with_pair(characters: &[char]) -> bool
     ensures { result ≡ Names.begins_with_pair characters.now }
@@ -47,7 +27,7 @@ fn local_piece(characters: &[char]) -> usize
             }
         }
         _ => {
-            if begins_with(Class::LocalCharacter, characters) {
+            if begins_with(Class::NameOrColon, characters) {
                 1
             } else {
                 0
@@ -99,7 +79,7 @@ pub fn prefix_length(characters: &[char]) -> usize
     ensures bound { result ≤ length characters.now }
 {
     if begins_with(Class::NameStart, characters) {
-        name_length(characters)
+        name_length(Class::Name, characters)
     } else {
         0
     }

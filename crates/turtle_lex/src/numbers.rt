@@ -1,8 +1,8 @@
 ghost use Rattle.std.specs.Prelude.{◌≡◌, ◌+◌, ◌^◌, ◌<◌, ◌≤◌, IfSome, length};
 ghost use Rattle.turtle_lex.specs.Numbers;
 
-use crate::class::{Class, after, begins_with, run_length};
 use crate::token::TokenKind;
+use rdf_lexical::{Class, after, begins_with, run_length};
 
 fn sign_length(characters: &[char]) -> usize
     ensures value { result ≡ Numbers.sign_length characters.now }

@@ -1,31 +1,4 @@
-ghost use Rattle.std.specs.Prelude.{◌≡◌};
-ghost use Rattle.turtle_lex.specs.Faults.{number_of};
-ghost use Rattle.turtle_lex.specs.Quoting.{quotes_length};
-
-/// The productions of strings (Turtle section 6.5), by what stands before and after the text.
-#[derive(Clone, Copy, Debug, PartialEq, Eq)]
-pub enum Quotes {
-    /// STRING_LITERAL_QUOTE.
-    Double,
-    /// STRING_LITERAL_SINGLE_QUOTE.
-    Single,
-    /// STRING_LITERAL_LONG_QUOTE.
-    LongDouble,
-    /// STRING_LITERAL_LONG_SINGLE_QUOTE.
-    LongSingle,
-}
-
-impl Quotes {
-    /// How many quotes stand before the text, and after it.
-    pub fn length(self) -> usize
-        ensures { result ≡ quotes_length self }
-    {
-        match self {
-            Quotes::Double | Quotes::Single => 1,
-            Quotes::LongDouble | Quotes::LongSingle => 3,
-        }
-    }
-}
+use rdf_lexical::{Quotes, RefusalKind};
 
 /// The kinds of tokens: the productions for terminals (Turtle section 6.5), the punctuation and
 /// the words of the grammar.
@@ -81,35 +54,10 @@ pub struct Token {
     pub end: Place,
 }
 
-/// Why no token is read.
-#[derive(Clone, Copy, Debug, PartialEq, Eq)]
-pub enum FaultKind {
-    /// No token starts there, or an IRIREF or a string meets a character that it may not hold.
-    NoToken,
-    /// In an IRIREF or a string a backslash begins no escape, or the escape stands for what is no
-    /// character or may not stand there.
-    BadEscape,
-    /// The text ends within a token.
-    UnexpectedEnd,
-}
-
-impl FaultKind {
-    /// The number by which a kind is known.
-    pub fn number(self) -> u8
-        ensures { result ≡ number_of self }
-    {
-        match self {
-            FaultKind::NoToken => 2,
-            FaultKind::BadEscape => 6,
-            FaultKind::UnexpectedEnd => 14,
-        }
-    }
-}
-
-/// A fault: its kind, and the line of the token's start, or of the text's end where that came too
-/// early.
+/// Why no token is read: NoToken, BadEscape or UnexpectedEnd, and the line of the token's start, or
+/// of the text's end where that came too early.
 #[derive(Clone, Copy, Debug, PartialEq, Eq)]
 pub struct LexFault {
     pub line: u64,
-    pub kind: FaultKind,
+    pub kind: RefusalKind,
 }

@@ -1,8 +1,8 @@
-ghost use Rattle.std.specs.Prelude.{◌≡◌, ◌<◌, ◌≤◌, suc, false, IfOk, length};
+ghost use Rattle.std.specs.Prelude.{◌≡◌, ◌<◌, ◌≤◌, suc, IfOk, length};
 ghost use Rattle.turtle_lex.specs.Words;
 
-use crate::class::{Class, after, begins_with, run_length};
-use crate::token::{FaultKind, TokenKind};
+use crate::token::TokenKind;
+use rdf_lexical::{Class, RefusalKind, run_length, tag_length};
 
 const A: [char; 1] = ['a'];
 
@@ -54,40 +54,6 @@ fn word_kind(word: &[char]) -> Option<TokenKind>
     }
 }
 
-// How many characters of a LANGTAG follow its letters; whether a subtag has begun.
-fn subtags_length(characters: &[char]) -> usize
-    ensures value { result ≡ Words.subtags_length false characters.now }
-    ensures bound { result ≤ length characters.now }
-{
-    let mut inside = false;
-    let mut count = 0;
-    let mut rest = characters;
-    while let [character, after @ ..] = rest {
-        let goes_on = inside && Class::LetterOrDigit.holds(*character);
-        let begins = *character == '-' && begins_with(Class::LetterOrDigit, after);
-        if !goes_on && !begins {
-            return count;
-        }
-        inside = true;
-        count += 1;
-        rest = after;
-    }
-    count
-}
-
-// How many characters the longest LANGTAG has after its `@`; 0 where none begins.
-fn tag_length(characters: &[char]) -> usize
-    ensures value { result ≡ Words.tag_length characters.now }
-    ensures bound { result ≤ length characters.now }
-{
-    let letters = run_length(Class::Letter, characters);
-    if letters == 0 {
-        0
-    } else {
-        letters + subtags_length(after(characters, letters))
-    }
-}
-
 // The kind of a word after `@` where no string stands before it.
 fn directive_kind(word: &[char]) -> Option<TokenKind>
     ensures { result ≡ Words.directive_kind word.now }
@@ -108,7 +74,7 @@ fn begins_directive(characters: &[char]) -> bool
     PREFIX.starts_with(characters) || BASE.starts_with(characters)
 }
 
-fn language_tag(characters: &[char]) -> Result<(TokenKind, usize), FaultKind>
+fn language_tag(characters: &[char]) -> Result<(TokenKind, usize), RefusalKind>
     ensures value { result ≡ Words.language_tag characters.now }
     ensures bound { IfOk result (λ token. (0 < token.1) × (token.1 ≤ suc (length characters.now))) }
 {
@@ -116,13 +82,13 @@ fn language_tag(characters: &[char]) -> Result<(TokenKind, usize), FaultKind>
     if length > 0 {
         Ok((TokenKind::LanguageTag, 1 + length))
     } else if characters.is_empty() {
-        Err(FaultKind::UnexpectedEnd)
+        Err(RefusalKind::UnexpectedEnd)
     } else {
-        Err(FaultKind::NoToken)
+        Err(RefusalKind::NoToken)
     }
 }
 
-fn directive(characters: &[char]) -> Result<(TokenKind, usize), FaultKind>
+fn directive(characters: &[char]) -> Result<(TokenKind, usize), RefusalKind>
     ensures value { result ≡ Words.directive characters.now }
     ensures bound { IfOk result (λ token. (0 < token.1) × (token.1 ≤ suc (length characters.now))) }
 {
@@ -132,16 +98,16 @@ fn directive(characters: &[char]) -> Result<(TokenKind, usize), FaultKind>
         Some(kind) => Ok((kind, 1 + length)),
         None => {
             if begins_directive(characters) {
-                Err(FaultKind::UnexpectedEnd)
+                Err(RefusalKind::UnexpectedEnd)
             } else {
-                Err(FaultKind::NoToken)
+                Err(RefusalKind::NoToken)
             }
         }
     }
 }
 
 /// The token that begins with `@`, by the characters after that.
-pub fn at_word(after_string: bool, characters: &[char]) -> Result<(TokenKind, usize), FaultKind>
+pub fn at_word(after_string: bool, characters: &[char]) -> Result<(TokenKind, usize), RefusalKind>
     ensures value { result ≡ Words.at_word after_string characters.now }
     ensures bound { IfOk result (λ token. (0 < token.1) × (token.1 ≤ suc (length characters.now))) }
 {
@@ -153,7 +119,7 @@ pub fn at_word(after_string: bool, characters: &[char]) -> Result<(TokenKind, us
 }
 
 /// The word without a colon that begins here.
-pub fn word(characters: &[char]) -> Result<(TokenKind, usize), FaultKind>
+pub fn word(characters: &[char]) -> Result<(TokenKind, usize), RefusalKind>
     ensures value { result ≡ Words.word characters.now }
     ensures bound { IfOk result (λ token. (0 < token.1) × (token.1 ≤ length characters.now)) }
 {
@@ -163,9 +129,9 @@ pub fn word(characters: &[char]) -> Result<(TokenKind, usize), FaultKind>
         Some(kind) => Ok((kind, length)),
         None => {
             if run_length(Class::NameOrDot, characters) == characters.len() {
-                Err(FaultKind::UnexpectedEnd)
+                Err(RefusalKind::UnexpectedEnd)
             } else {
-                Err(FaultKind::NoToken)
+                Err(RefusalKind::NoToken)
             }
         }
     }

@@ -11,10 +11,10 @@ use Rattle.rdf_model.specs.declared.triple.Triple.{Triple}
 use Rattle.rdf_model.specs.Graphs.{with_each}
 use Rattle.rdf_model.specs.Terms.{triple_cmp}
 use Rattle.collections.specs.Ordered.{with_item}
-use Rattle.ntriples_text.specs.declared.refusal.RefusalKind.{RefusalKind}
-use Rattle.ntriples_text.specs.declared.refusal.RefusalKind.TheVariants.{NotUtf8}
+use Rattle.rdf_lexical.specs.declared.refusal.RefusalKind.{RefusalKind}
+use Rattle.rdf_lexical.specs.declared.refusal.RefusalKind.TheVariants.{NotUtf8}
 use Rattle.ntriples_text.specs.declared.statement.Statement.{Statement}
-use Rattle.ntriples_text.specs.Tokens.{is_line_end}
+use Rattle.rdf_lexical.specs.Characters.{is_line_end}
 use Rattle.ntriples_text.specs.Grammar.{line}
 use Rattle.ntriples_text.specs.Blanks.{all_labels, once, triple_of}
 use Rattle.ntriples_text.specs.Document.{line_of, lines, lines_from, number_after, numbered, reads, with_line, with_statement}

@@ -1,7 +1,7 @@
 -- What the validation of a data graph by a shapes graph answers, where both are N-Triples texts.
 use Rattle.std.specs.Prelude.{◌≡◌, ℕ, List, Ok, Err}
 use Rattle.rdf_model.specs.declared.triple.Triple.{Triple}
-use Rattle.ntriples_text.specs.declared.refusal.RefusalKind.{RefusalKind}
+use Rattle.rdf_lexical.specs.declared.refusal.RefusalKind.{RefusalKind}
 use Rattle.ntriples_text.specs.Document.{reads}
 use Rattle.shape_model.specs.Validation.{Listing}
 use Rattle.shape_model.specs.WellFormed.{IsLeastBroken, IsWellFormed}

@@ -1,6 +1,6 @@
 ghost use Rattle.std.specs.Prelude.{◌≡◌, ◌+◌, ◌*◌, ◌≤◌, ◌<◌, ◌^◌, length, IfOk, MatchResult};
 ghost use Rattle.ntriples_text.specs.Document.{reads};
-ghost use Rattle.ntriples_text.specs.Faults.{Refuses};
+ghost use Rattle.rdf_lexical.specs.Refusals.{Refuses};
 ghost use Rattle.rdf_model.specs.Numbers.{IsNumbering};
 ghost use Rattle.shape_model.specs.Validation.{Listing};
 ghost use Rattle.shape_model.specs.WellFormed.{IsWellFormed};

@@ -1,5 +1,5 @@
 use Rattle.std.proofs.Common.{Err, ◌∙◌, sym, ap}
-use Rattle.ntriples_text.specs.declared.refusal.RefusalKind.TheVariants.{NotUtf8}
+use Rattle.rdf_lexical.specs.declared.refusal.RefusalKind.TheVariants.{NotUtf8}
 use Rattle.ntriples_text.specs.Document.{line_of}
 use Rattle.ntriples_text.proofs.Characters.{of_no_text, whole_text}
 use Rattle.ntriples_text.proofs.document.read.Goals as goal

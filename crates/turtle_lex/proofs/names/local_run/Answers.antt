@@ -1,6 +1,7 @@
 use Rattle.std.proofs.Common.{◌+◌, ◌<◌, ◌∙◌, sym, ap, arith}
 use Rattle.turtle_lex.specs.Names.{local_run}
-use Rattle.turtle_lex.proofs.Joined.{joined, piece_step}
+use Rattle.rdf_lexical.proofs.Joined.{joined}
+use Rattle.turtle_lex.proofs.LocalSteps.{piece_step}
 use Rattle.turtle_lex.proofs.names.local_run.Goals as goal
 
 pub loop-rest-preserved : goal.loop-rest-preserved

@@ -1,6 +1,6 @@
 use Rattle.std.proofs.Common.{◌≡◌, ◌+◌, ◌≤◌, length}
 use Rattle.turtle_lex.specs.Names
-use Rattle.turtle_lex.proofs.Joined.{joined}
+use Rattle.rdf_lexical.proofs.Joined.{joined}
 use Rattle.turtle_lex.proofs.names.local_run.Given as goal
 
 abbrev pub invariant-loop-rest : goal.invariant-loop-rest

@@ -1,0 +1,10 @@
+use Rattle.std.proofs.Common.{◌≡◌, ◌++◌, length}
+use Rattle.std.specs.Prelude.{encode_utf8_all}
+use Rattle.std.specs.String.{string_bytes}
+use Rattle.rdf_lexical.proofs.meanings.plain_text.Given as goal
+
+abbrev pub invariant-loop-rest : goal.invariant-loop-rest
+invariant-loop-rest l = string_bytes l.text ++ encode_utf8_all l.rest ≡ encode_utf8_all l.characters
+
+abbrev pub decreases-loop-rest : goal.decreases-loop-rest
+decreases-loop-rest l = length l.rest
