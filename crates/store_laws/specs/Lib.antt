@@ -1,5 +1,6 @@
 pub mod Graphs
 pub mod Names
 pub mod Runs
+pub mod Serial
 pub mod Verdicts
 pub mod Versions

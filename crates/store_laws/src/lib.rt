@@ -8,6 +8,7 @@ ghost use Rattle.store_model.specs.Store.{StepIsDeterministic};
 ghost use Rattle.store_laws.specs.Graphs.{LastChangeWins, GraphsStayAscending, ChangedIsInOneGraph, ChangedAscends};
 ghost use Rattle.store_laws.specs.Names.{NumbersStay};
 ghost use Rattle.store_laws.specs.Runs.{OrderGivesOneRun};
+ghost use Rattle.store_laws.specs.Serial.{FindsAreSerializable};
 ghost use Rattle.store_laws.specs.Verdicts.{VerdictAside};
 ghost use Rattle.store_laws.specs.Versions.{UnchangedTriplesStay, UnstagedShapesStay};
 
@@ -60,4 +61,10 @@ pub fn unchanged_triples_stay()
 /// Where no commit between two versions staged shapes, both have the same shapes graph.
 pub fn unstaged_shapes_stay()
     ensures { UnstagedShapesStay }
+{}
+
+/// The finds of a transaction whose commit was accepted give the same on the graph just before that
+/// commit as they gave on the graph at its begin.
+pub fn finds_are_serializable()
+    ensures { FindsAreSerializable }
 {}
