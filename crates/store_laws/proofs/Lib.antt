@@ -1,4 +1,5 @@
 pub mod Changes
+pub mod Commits
 pub mod Numbers
 pub mod Serial
 pub mod Verdicts

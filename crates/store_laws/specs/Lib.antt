@@ -1,3 +1,4 @@
+pub mod Commits
 pub mod Graphs
 pub mod Names
 pub mod Runs
