@@ -2,3 +2,6 @@ pub mod NamedTerms
 pub mod Consistency
 pub mod Verdicts
 pub mod Planning
+pub mod Conditions
+pub mod Replaying
+pub mod Taking

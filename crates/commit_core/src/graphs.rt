@@ -1,8 +1,9 @@
 ghost use Rattle.std.specs.Prelude.{◌≡◌, IfOk, OnOk};
 ghost use Rattle.rdf_model.specs.Graphs.{after, changed, lacking, differing};
+ghost use Rattle.store_model.specs.Finds.{found};
 
 use collections::{Sequence, contains_item, insert_item, remove_item};
-use rdf_model::{Change, Triple};
+use rdf_model::{Change, Pattern, Triple};
 use std::alloc::{AllocError, Global};
 
 fn apply_change(graph: &mut Vec<Triple>, change: &Change) -> Result<(), AllocError>
@@ -45,6 +46,23 @@ fn graph_lacking(
         }
     }
     Ok(missing)
+}
+
+/// The triples that the pattern asks for, in their order.
+pub fn graph_matching(
+    alloc: Global,
+    graph: &[Triple],
+    pattern: &Pattern,
+) -> Result<Vec<Triple>, AllocError>
+    ensures { IfOk result (λ v. v.items ≡ found graph.now pattern.now) }
+{
+    let mut matching = Vec::new(alloc);
+    for triple in graph {
+        if pattern.matches(triple) {
+            matching.push(triple.clone()?)?;
+        }
+    }
+    Ok(matching)
 }
 
 /// The triples that are in exactly one of two graphs, ascending.

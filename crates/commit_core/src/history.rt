@@ -1,11 +1,14 @@
-ghost use Rattle.std.specs.Prelude.{◌≡◌, [], ◌∷◌, ◌++◌, ◌<◌, length, map, reverse, IfOk, IfSome};
+ghost use Rattle.std.specs.Prelude.{◌≡◌, [], ◌∷◌, ◌++◌, ◌<◌, length, map, reverse, IfOk, IfSome, MatchOption};
+ghost use Rattle.std.specs.Vec.{vec_capacity};
+ghost use Rattle.commit_core.specs.Replaying.{newest_replied};
 
+use crate::replies::is_same_reply;
 use collections::let_go;
 use std::alloc::{AllocError, Global};
 use std::boxed::Box;
 use std::marker::Model;
 use std::mem;
-use store_model::Event;
+use store_model::{Event, Reply};
 
 /// A history of events. It takes one more without memory, once there is room for it.
 #[cycle(history)]
@@ -54,6 +57,27 @@ impl History {
         };
     }
 
+    /// Whether the newest event has this reply.
+    pub fn newest_has(&self, reply: &Reply) -> bool
+        ensures { result ≡ newest_replied self.now reply.now }
+    {
+        match &self.newest {
+            Link::End => false,
+            Link::After(event, _) => is_same_reply(&event.reply, reply),
+        }
+    }
+
+    // The newest event and those before it.
+    fn split_newest(self) -> Option<(Event, History)>
+        ensures { MatchOption result (self ≡ []) (λ pair. self ≡ pair.1 ++ pair.0 ∷ []) }
+    {
+        let History { newest } = self;
+        match newest {
+            Link::End => None,
+            Link::After(event, older) => Some((event, Box::into_inner(older))),
+        }
+    }
+
     // All but the newest event.
     fn before(self) -> Option<History>
         ensures { IfSome result (λ older. length older < length self) }
@@ -90,4 +114,27 @@ pub fn sessions_back(alloc: Global, history: &History) -> Result<Vec<u32>, Alloc
         at = older;
     }
     Ok(sessions)
+}
+
+/// Room for as many events as the history has.
+pub fn room_for(alloc: Global, history: &History) -> Result<Vec<Event>, AllocError>
+    ensures { IfOk result (λ room. (room.items ≡ []) × (vec_capacity room ≡ length history.now)) }
+{
+    let sessions = sessions_back(alloc, history)?;
+    Vec::with_capacity(alloc, sessions.len())
+}
+
+/// The events in the room that was made for them, the newest first. It takes no memory.
+pub fn events_back(history: History, room: Vec<Event>) -> Vec<Event>
+    requires empty { room.items ≡ [] }
+    requires room { vec_capacity room ≡ length history }
+    ensures { result.items ≡ reverse history }
+{
+    let mut events = room;
+    let mut rest = history.split_newest();
+    while let Some((event, older)) = rest {
+        events.push_reserved(event);
+        rest = older.split_newest();
+    }
+    events
 }

@@ -5,17 +5,21 @@
 //! reply, or it runs out of memory and changes nothing.
 #![tactic(auto)]
 
+mod asking;
 mod commit;
 mod graphs;
 mod history;
 mod names;
 mod overtaking;
 mod reasons;
+mod replay;
+mod replies;
 mod room;
 mod snapshot;
 mod store;
 
 pub use commit::{CheckedTransaction, Commit};
+pub use replay::ReplayFault;
 pub use room::Slip;
 pub use snapshot::Snap;
 pub use store::{Core, NameFault, SessionFault, slip};

@@ -1,8 +1,11 @@
 ghost use Rattle.std.specs.Prelude.{◌≡◌, IfOk};
+ghost use Rattle.rdf_model.specs.Graphs.{after};
+ghost use Rattle.store_model.specs.Finds.{found};
 ghost use Rattle.commit_core.specs.Consistent.{IsSound};
 
+use crate::graphs::{graph_after, graph_matching};
 use collections::{Sequence, both};
-use rdf_model::{Term, Triple};
+use rdf_model::{Change, Pattern, Term, Triple};
 use shapes_graph::ShapesGraph;
 use std::alloc::{AllocError, Global};
 use std::marker::Model;
@@ -69,6 +72,19 @@ impl Snap {
         ensures { result ≡ self.now.number }
     {
         self.number
+    }
+
+    /// The triples that the pattern asks for in the graph with these changes, in their order.
+    pub fn find(
+        &self,
+        alloc: Global,
+        net: &[Change],
+        pattern: &Pattern,
+    ) -> Result<Vec<Triple>, AllocError>
+        ensures { IfOk result (λ v. v.items ≡ found (after self.now.graph net.now) pattern.now) }
+    {
+        let graph = graph_after(alloc, self.graph.as_slice(), net)?;
+        graph_matching(alloc, &graph, pattern)
     }
 
     /// What every snapshot is, for a caller that rests on it. It does nothing.

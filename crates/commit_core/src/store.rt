@@ -13,7 +13,7 @@ use crate::commit::{
     Acceptance, CheckedTransaction, Commit, Plan, Reasons, Refusal, accepting, shapes_for,
 };
 use crate::graphs::graph_after;
-use crate::history::{History, sessions_back};
+use crate::history::{History, events_back, room_for, sessions_back};
 use crate::names::{first_names, naming, numbers_in};
 use crate::overtaking::find_overtaker;
 use crate::reasons::{find_reasons, has_held};
@@ -31,7 +31,7 @@ use std::sync::ledger::Ledger;
 use store_model::{Accepted, Action, Event, Limits, Overtaker, Reply, Transaction};
 use term_validation::listing;
 
-const MOST_SESSIONS: u32 = 64;
+pub(crate) const MOST_SESSIONS: u32 = 64;
 
 /// Why no session was given out.
 #[derive(Clone, Copy, Debug, PartialEq, Eq)]
@@ -78,7 +78,7 @@ pub fn slip(alloc: Global) -> Result<Slip, AllocError> {
     })
 }
 
-fn version_of(commits: &[Accepted]) -> u64
+pub(crate) fn version_of(commits: &[Accepted]) -> u64
     ensures { result ≡ length commits.now }
 {
     commits.len() as u64
@@ -100,14 +100,14 @@ fn add_commit(commits: &mut Vec<Accepted>, accepted: Accepted) -> Result<(), All
 
 /// The store with its history. Contracts see its limits, its state and its events.
 pub struct Core {
-    alloc: Global,
+    pub(crate) alloc: Global,
     limits: Limits,
     graph: Vec<Triple>,
     shapes: ShapesGraph,
-    commits: Vec<Accepted>,
-    named: Vec<Term>,
-    opened: u32,
-    history: History,
+    pub(crate) commits: Vec<Accepted>,
+    pub(crate) named: Vec<Term>,
+    pub(crate) opened: u32,
+    pub(crate) history: History,
 }
 
 impl Model for Core {
@@ -432,28 +432,23 @@ impl Core {
         Commit::Done { number, again }
     }
 
-    /// Commits a transaction that changes something or stages shapes, whose terms are named and whose
-    /// base is a version of this store. The graph that it would make is validated whole, under the
-    /// staged shapes or else the newest, unless a verdict held: then its rows are the results. How
-    /// many evaluations `steps` allows for it is not promised.
-    pub fn commit<L: Ledger>(
+    // Carries out the plan of a commit; its verdict may have held.
+    fn commit_by_plan<L: Ledger>(
         &mut self,
+        slip: Slip,
         session: u32,
         checked: CheckedTransaction,
+        reasons: Reasons,
+        held: bool,
         steps: &mut Steps<L>,
     ) -> Commit
         requires opened { IsOpened self.old.state session }
         requires committable { IsCommittable self.old.state checked.transaction }
-        requires verdict { AreOfVerdict self.old checked.transaction.net checked.transaction.verdict checked.rows }
+        requires reasons { AreReasons self.old.state.commits checked.transaction reasons }
+        requires found { MatchBool held (Listing (after self.old.state.graph checked.transaction.net) (shapes_under self.old.state.shapes checked.transaction.staged) checked.rows) (Unit {0}) }
         ensures { Answers result self.old self.new session checked }
     {
-        let Ok(slip) = slip(self.alloc) else {
-            return Commit::Memory(checked);
-        };
-        let Ok(reasons) = find_reasons(&self.commits, &checked.transaction) else {
-            return Commit::Memory(checked);
-        };
-        match self.plan(&checked, has_held(&reasons.answer), steps) {
+        match self.plan(&checked, held, steps) {
             Err(_) => Commit::Memory(checked),
             Ok(Plan::Overtaken(overtaker, triple)) => {
                 let Overtaker {
@@ -478,6 +473,51 @@ impl Core {
         }
     }
 
+    /// Commits a transaction that changes something or stages shapes, whose terms are named and whose
+    /// base is a version of this store. The graph that it would make is validated whole, under the
+    /// staged shapes or else the newest, unless a verdict held: then its rows are the results. How
+    /// many evaluations `steps` allows for it is not promised.
+    pub fn commit<L: Ledger>(
+        &mut self,
+        session: u32,
+        checked: CheckedTransaction,
+        steps: &mut Steps<L>,
+    ) -> Commit
+        requires opened { IsOpened self.old.state session }
+        requires committable { IsCommittable self.old.state checked.transaction }
+        requires verdict { AreOfVerdict self.old checked.transaction.net checked.transaction.verdict checked.rows }
+        ensures { Answers result self.old self.new session checked }
+    {
+        let Ok(slip) = slip(self.alloc) else {
+            return Commit::Memory(checked);
+        };
+        let Ok(reasons) = find_reasons(&self.commits, &checked.transaction) else {
+            return Commit::Memory(checked);
+        };
+        let held = has_held(&reasons.answer);
+        self.commit_by_plan(slip, session, checked, reasons, held, steps)
+    }
+
+    // Commits a transaction whose graph is evaluated, whatever its verdict says.
+    pub(crate) fn commit_anew<L: Ledger>(
+        &mut self,
+        session: u32,
+        checked: CheckedTransaction,
+        steps: &mut Steps<L>,
+    ) -> Commit
+        requires opened { IsOpened self.old.state session }
+        requires committable { IsCommittable self.old.state checked.transaction }
+        ensures { Answers result self.old self.new session checked }
+    {
+        let Ok(slip) = slip(self.alloc) else {
+            return Commit::Memory(checked);
+        };
+        let Ok(reasons) = find_reasons(&self.commits, &checked.transaction) else {
+            return Commit::Memory(checked);
+        };
+        self.commit_by_plan(slip, session, checked, reasons, false, steps)
+    }
+
     /// Records a step that ran out of memory. It takes none itself.
     pub fn void(&mut self, session: u32, slip: Slip)
         requires { session ≤ self.old.state.opened }
@@ -500,6 +540,36 @@ impl Core {
         let mut sessions = sessions_back(self.alloc, &self.history)?;
         sessions.reverse();
         Ok(sessions)
+    }
+
+    /// The events of the history, in order. Where there is no memory for them, the core is handed
+    /// back.
+    pub fn into_events(self) -> Result<Vec<Event>, (Core, AllocError)>
+        ensures { MatchResult result (λ events. events.items ≡ self.history) (λ fault. fault.0 ≡ self) }
+    {
+        let Ok(room) = room_for(self.alloc, &self.history) else {
+            return Err((self, AllocError));
+        };
+        let mut events = events_back(self.into_history(), room);
+        events.reverse();
+        Ok(events)
+    }
+
+    // The history alone.
+    fn into_history(self) -> History
+        ensures { result ≡ self.history }
+    {
+        let Core {
+            alloc: _,
+            limits: _,
+            graph: _,
+            shapes: _,
+            commits: _,
+            named: _,
+            opened: _,
+            history,
+        } = self;
+        history
     }
 
     /// How many triples the data graph has.

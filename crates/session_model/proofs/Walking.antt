@@ -10,14 +10,14 @@ use Rattle.store_model.specs.declared.commit.Overtaker.{Overtaker}
 use Rattle.shape_model.specs.declared.result_row.ResultRow.{ResultRow}
 use Rattle.store_model.specs.declared.commit.Transaction.{Transaction}
 use Rattle.session_model.specs.declared.command.Command.TheVariants as commands
-use Rattle.session_model.specs.declared.command.Command.TheVariants.{Add, BadAdd, Shapes, BadShapes, BrokenShapes}
+use Rattle.session_model.specs.declared.command.Command.TheVariants.{Add, BadAdd, Shapes, BadShapes, BrokenShapes, Find, Abort}
 use Rattle.rdf_model.specs.Graphs.{after}
 use Rattle.store_model.proofs.Steps.{StepIsDeterministic-holds}
 use Rattle.store_model.specs.declared.event.Reply.{Reply}
 use Rattle.store_model.specs.declared.event.Reply.TheVariants.{Named, Full, Conflict, FullTriples}
 use Rattle.session_model.specs.declared.command.Command.{Command}
 use Rattle.session_model.specs.declared.reply.SessionReply.{SessionReply}
-use Rattle.store_model.specs.Store.{State, StepOf, empty_store, IsOpened, Replies, CommitsByRows, CommitsByListing, CommitsWithinLimit, overtaker, named_with}
+use Rattle.store_model.specs.Store.{State, StepOf, IsOpened, Replies, CommitsByRows, CommitsByListing, CommitsWithinLimit, overtaker, named_with}
 use Rattle.session_model.specs.Sessions.{OpenTransaction, SessionState, World, LocalAnswer, answers, local_answer, up_to_event, up_to_event_by, action_of, commit_action, after_reply, no_session, session_at, world, RunsOpening, RunsEvent, RunsPlace, RunsInOrder, start, HasReplies}
 
 pub RunsInOrder-append : (l : Limits) (m k n : World) (a b : List ℕ) → RunsInOrder l m a k → RunsInOrder l k b n → RunsInOrder l m (a ++ b) n
@@ -108,6 +108,10 @@ never_open None (BrokenShapes rule node) = refl
 never_open (Some w) (BrokenShapes rule node) = refl
 never_open None commands.Commit = refl
 never_open (Some w) commands.Commit = not_open w.head_taken w.transaction
+never_open None (Find p) = refl
+never_open (Some w) (Find p) = refl
+never_open None Abort = refl
+never_open (Some w) Abort = refl
 
 -- an order tells one thing only
 turn_one : (l : Limits) (m n o : World) (i : ℕ) (w : Option OpenTransaction) (cs : List Command) (replies : List SessionReply) → RunsEvent l m i w cs replies n → RunsEvent l m i w cs replies o → o ≡ n

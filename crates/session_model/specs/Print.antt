@@ -7,10 +7,11 @@ use Rattle.shape_model.specs.Rows.{rule_number}
 use Rattle.store_model.specs.declared.event.Limits.{Limits}
 use Rattle.session_model.specs.declared.command.Command.{Command}
 use Rattle.session_model.specs.declared.reply.SessionReply.{SessionReply}
-use Rattle.session_model.specs.declared.reply.SessionReply.TheVariants.{AlreadyOpen, NoTransaction, Begun, Added, AddRefused, ShapesStaged, ShapesRefused, ShapesBroken, FullTerms, Committed, ReadOnly, Overtaken, FullGraph, Refused}
+use Rattle.session_model.specs.declared.reply.SessionReply.TheVariants.{AlreadyOpen, NoTransaction, Begun, Added, AddRefused, ShapesStaged, ShapesRefused, ShapesBroken, FullTerms, Committed, ReadOnly, Overtaken, FullGraph, Refused, Found, Aborted}
 use Rattle.session_model.specs.Sessions.{HasReplies}
 
--- the line of a reply, without its end; the report of a refusal has lines of its own, and `end` after them
+-- the line of a reply, without its end; the report of a refusal has lines of its own, and `end` after them; the triples
+-- of a find have a line each
 abbrev pub reply_text : SessionReply → List ℕ
 reply_text AlreadyOpen = codes "already open"
 reply_text NoTransaction = codes "no transaction"
@@ -26,6 +27,8 @@ reply_text (ReadOnly version) = codes "read only " ++ decimal version
 reply_text (Overtaken commit triple) = codes "conflict " ++ decimal commit ++ codes " " ++ triple_text triple
 reply_text FullGraph = codes "full triples"
 reply_text (Refused count report) = codes "refused " ++ decimal count ++ codes "\n" ++ report ++ codes "end"
+reply_text (Found count lines) = codes "find " ++ decimal count ++ lines
+reply_text Aborted = codes "abort"
 
 abbrev pub line : List ℕ → List ℕ
 line text = text ++ 10 ∷ []

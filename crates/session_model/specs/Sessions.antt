@@ -12,10 +12,14 @@ use Rattle.store_model.specs.declared.event.Action.TheVariants as actions
 use Rattle.store_model.specs.declared.event.Reply.{Reply}
 use Rattle.store_model.specs.declared.event.Reply.TheVariants.{Version, Named, Full, Conflict, FullTriples, Refused, Done}
 use Rattle.session_model.specs.declared.command.Command.{Command}
-use Rattle.session_model.specs.declared.command.Command.TheVariants.{Begin, Add, BadAdd, Shapes, BadShapes, BrokenShapes, Commit}
+use Rattle.session_model.specs.declared.command.Command.TheVariants.{Begin, Add, BadAdd, Shapes, BadShapes, BrokenShapes, Commit, Find, Abort}
 use Rattle.session_model.specs.declared.reply.SessionReply.{SessionReply}
-use Rattle.session_model.specs.declared.reply.SessionReply.TheVariants.{AlreadyOpen, NoTransaction, Begun, Added, AddRefused, ShapesStaged, ShapesRefused, ShapesBroken, FullTerms, Committed, ReadOnly, Overtaken, FullGraph, Refused as RefusedBy}
+use Rattle.session_model.specs.declared.reply.SessionReply.TheVariants.{AlreadyOpen, NoTransaction, Begun, Added, AddRefused, ShapesStaged, ShapesRefused, ShapesBroken, FullTerms, Committed, ReadOnly, Overtaken, FullGraph, Refused as RefusedBy, Found, Aborted}
+use Rattle.rdf_model.specs.declared.pattern.Pattern.{Pattern}
+use Rattle.rdf_model.specs.Graphs.{after}
+use Rattle.rdf_model.specs.NTriples.{triple_text}
 use Rattle.report_writer.specs.Report.{report_text}
+use Rattle.store_model.specs.Finds.{found}
 use Rattle.store_model.specs.Store.{State, StepOf, empty_store, shapes_under, terms_of}
 
 -- A session's open transaction: what its commit hands in, the data graph at its begin, and whether its commit has the
@@ -44,6 +48,18 @@ with_additions w ts = record w { transaction = record w.transaction { net = w.tr
 -- the shapes graph that was staged last counts
 abbrev pub with_shapes : OpenTransaction → List Triple → OpenTransaction
 with_shapes w ts = record w { transaction = record w.transaction { staged = Some ts } }
+
+-- a find's pattern is recorded
+abbrev pub with_find : OpenTransaction → Pattern → OpenTransaction
+with_find w p = record w { transaction = record w.transaction { finds = w.transaction.finds ++ p ∷ [] } }
+
+-- the triples that a find asks for, in the graph at the transaction's begin with its changes so far, in their order
+abbrev pub found_by : OpenTransaction → Pattern → List Triple
+found_by w p = found (after w.graph w.transaction.net) p
+
+-- how many triples were found, and the N-Triples line of each, an LF before it
+abbrev pub find_reply : List Triple → SessionReply
+find_reply ts = Found (length ts) (flat_map (λ t. 10 ∷ triple_text t) ts)
 
 -- what a session answers by itself, and its transaction afterwards
 pub record LocalAnswer : Type 0 where
@@ -75,6 +91,10 @@ local_answer None (BrokenShapes rule node) = answers NoTransaction None
 local_answer (Some w) (BrokenShapes rule node) = answers (ShapesBroken rule node) (Some w)
 local_answer None Commit = answers NoTransaction None
 local_answer (Some w) Commit = local_commit w w.transaction.net w.transaction.staged
+local_answer None (Find p) = answers NoTransaction None
+local_answer (Some w) (Find p) = answers (find_reply (found_by w p)) (Some (with_find w p))
+local_answer None Abort = answers NoTransaction None
+local_answer (Some w) Abort = answers Aborted None
 
 -- The session after the commands that are no events, up to its next event or its end.
 abbrev pub up_to_event_by : Option LocalAnswer → SessionState → (Option OpenTransaction → List SessionReply → SessionState) → SessionState
@@ -105,6 +125,10 @@ action_of (Some w) (BadShapes n kind) = actions.Void
 action_of None (BrokenShapes rule node) = actions.Void
 action_of (Some w) (BrokenShapes rule node) = actions.Void
 action_of None Commit = actions.Void
+action_of None (Find p) = actions.Void
+action_of (Some w) (Find p) = actions.Void
+action_of None Abort = actions.Void
+action_of (Some w) Abort = actions.Void
 
 abbrev pub begun : ℕ → List Triple → OpenTransaction
 begun version graph = record { transaction = record { base = version; net = []; staged = None; finds = []; verdict = None }; graph = graph; head_taken = false }

@@ -1,5 +1,5 @@
 use collections::Sequence;
-use rdf_model::{Term, Triple};
+use rdf_model::{Pattern, Term, Triple};
 use shape_model::Rule;
 use shapes_graph::ShapesGraph;
 
@@ -18,6 +18,10 @@ pub enum Command {
     /// Shapes whose graph isn't well-formed: of the rules that it breaks the one that is reported, and the node that breaks it.
     BrokenShapes { rule: Rule, node: Term },
     Commit,
+    /// Asks for the triples that the pattern has.
+    Find(Pattern),
+    /// Drops the transaction.
+    Abort,
 }
 
 // Written by hand, so that what owns one calls it in place of having it written out.
@@ -31,6 +35,8 @@ impl Drop for Command {
             Command::BadShapes { line: _, kind: _ } => {}
             Command::BrokenShapes { rule: _, node: _ } => {}
             Command::Commit => {}
+            Command::Find(_) => {}
+            Command::Abort => {}
         }
     }
 }

@@ -33,6 +33,10 @@ pub enum SessionReply {
     FullGraph,
     /// The graph would have so many results, and the report of them.
     Refused { count: usize, report: Text },
+    /// How many triples a find gave, and a line of each, an LF before it.
+    Found { count: usize, lines: Text },
+    /// The transaction was dropped.
+    Aborted,
 }
 
 // Written by hand, so that what owns one calls it in place of having it written out.
@@ -56,6 +60,8 @@ impl Drop for SessionReply {
                 count: _,
                 report: _,
             } => {}
+            SessionReply::Found { count: _, lines: _ } => {}
+            SessionReply::Aborted => {}
         }
     }
 }
@@ -66,7 +72,8 @@ impl fmt::Display for SessionReply {
 
     ghost output = { λ reply. Some (reply_text reply) };
 
-    /// The reply's line, without its end; a refusal's report has lines of its own.
+    /// The reply's line, without its end; a refusal's report has lines of its own, and so has a
+    /// find.
     fn fmt<W: fmt::Write>(&self, f: &mut fmt::Formatter<W>) -> fmt::Result {
         match self {
             SessionReply::AlreadyOpen => f.write_str("already open"),
@@ -87,6 +94,8 @@ impl fmt::Display for SessionReply {
             SessionReply::Overtaken(commit, triple) => write!(f, "conflict {commit} {triple}"),
             SessionReply::FullGraph => f.write_str("full triples"),
             SessionReply::Refused { count, report } => write!(f, "refused {count}\n{report}end"),
+            SessionReply::Found { count, lines } => write!(f, "find {count}{lines}"),
+            SessionReply::Aborted => f.write_str("abort"),
         }
     }
 }

@@ -6,6 +6,7 @@
 //! prints such a run.
 #![tactic(auto)]
 
+mod find;
 mod perform;
 mod print;
 mod run;

@@ -6,6 +6,7 @@ ghost use Rattle.shape_model.specs.Validation.{Listing};
 ghost use Rattle.store_model.specs.Store.{IsCommittable, IsOpened};
 ghost use Rattle.session_player.specs.Ready.{CommitsWith, IsReady, Performs, TakesHead};
 
+use crate::find::{abort, find};
 use crate::stage::{add, refuse_add, refuse_broken, refuse_shapes, stage};
 use crate::transaction::OpenTransaction;
 use collections::{Sequence, let_go};
@@ -151,6 +152,11 @@ pub fn perform<L: Ledger>(
         }
         Command::Commit => {
             commit(alloc, core, session, current, replies, steps)?;
+            Ok(None)
+        }
+        Command::Find(pattern) => find(alloc, core, session, current, pattern, replies),
+        Command::Abort => {
+            abort(core, session, current, replies)?;
             Ok(None)
         }
     }

@@ -5,7 +5,7 @@ ghost use Rattle.session_model.specs.Sessions.{additions, begun};
 
 use collections::Sequence;
 use commit_core::{Snap, Transaction};
-use rdf_model::{Change, Net, Triple};
+use rdf_model::{Change, Net, Pattern, Triple};
 use shapes_graph::ShapesGraph;
 use std::alloc::{AllocError, Global};
 use std::marker::Model;
@@ -95,6 +95,24 @@ impl OpenTransaction {
         let OpenTransaction { transaction, snap } = self;
         let mut transaction = transaction;
         transaction.staged = Some(shapes.share()?);
+        Ok(OpenTransaction { transaction, snap })
+    }
+
+    /// The triples that the pattern asks for in its graph with its changes, in their order.
+    pub fn find(&self, alloc: Global, pattern: &Pattern) -> Result<Vec<Triple>, AllocError>
+        ensures { IfOk result (λ v. v.items ≡ Sessions.found_by self.now pattern.now) }
+    {
+        self.snap
+            .find(alloc, self.transaction.net.as_slice(), pattern)
+    }
+
+    /// The same with the pattern of a find recorded.
+    pub fn with_find(self, pattern: Pattern) -> Result<OpenTransaction, AllocError>
+        ensures { IfOk result (λ next. next ≡ Sessions.with_find self pattern) }
+    {
+        let OpenTransaction { transaction, snap } = self;
+        let mut transaction = transaction;
+        transaction.finds.push(pattern)?;
         Ok(OpenTransaction { transaction, snap })
     }
 

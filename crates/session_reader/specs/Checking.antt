@@ -6,7 +6,7 @@ use Rattle.shape_model.specs.declared.broken_rule.BrokenRule.{BrokenRule}
 use Rattle.session_model.specs.declared.command.Command.{Command}
 use Rattle.session_model.specs.declared.command.Command.TheVariants as commands
 use Rattle.session_reader.specs.declared.read_command.ReadCommand.{ReadCommand}
-use Rattle.session_reader.specs.declared.read_command.ReadCommand.TheVariants.{Begin, Add, BadAdd, Shapes, BadShapes, Commit}
+use Rattle.session_reader.specs.declared.read_command.ReadCommand.TheVariants.{Begin, Add, BadAdd, Shapes, BadShapes, Commit, Abort}
 
 -- what becomes of a shapes graph that was read: it is staged where it is well-formed (SHACL 3.4.2), else refused by the
 -- broken rule that is reported
@@ -21,6 +21,7 @@ IsChecked (BadAdd n kind) c = c ≡ commands.BadAdd n kind
 IsChecked (Shapes ts) c = IsCheckedGraph ts c
 IsChecked (BadShapes n kind) c = c ≡ commands.BadShapes n kind
 IsChecked Commit c = c ≡ commands.Commit
+IsChecked Abort c = c ≡ commands.Abort
 
 -- one by one, equally many
 abbrev pub AreChecked : List ReadCommand → List Command → Type 0

@@ -8,9 +8,9 @@ use Rattle.session_model.specs.declared.command.Command.{Command}
 use Rattle.session_reader.specs.declared.line.BlockKind.{BlockKind}
 use Rattle.session_reader.specs.declared.line.BlockKind.TheVariants as blocks
 use Rattle.session_reader.specs.declared.line.LineKind.{LineKind}
-use Rattle.session_reader.specs.declared.line.LineKind.TheVariants.{Skipped, BeginCommand, CommitCommand, Block, Other}
+use Rattle.session_reader.specs.declared.line.LineKind.TheVariants.{Skipped, BeginCommand, CommitCommand, AbortCommand, Block, Other}
 use Rattle.session_reader.specs.declared.read_command.ReadCommand.{ReadCommand}
-use Rattle.session_reader.specs.declared.read_command.ReadCommand.TheVariants.{Begin, Add, BadAdd, Shapes, BadShapes, Commit}
+use Rattle.session_reader.specs.declared.read_command.ReadCommand.TheVariants.{Begin, Add, BadAdd, Shapes, BadShapes, Commit, Abort}
 use Rattle.rdf_lexical.specs.declared.refusal.RefusalKind.{RefusalKind}
 use Rattle.ntriples_text.specs.Document.{reads}
 use Rattle.rdf_lexical.specs.Refusals.{number_of}
@@ -34,8 +34,9 @@ abbrev pub kind_of : List ℕ → LineKind
 kind_of line = if is_skipped line then Skipped else
     (if bytes_eq line (codes "begin") then BeginCommand else
     (if bytes_eq line (codes "commit") then CommitCommand else
+    (if bytes_eq line (codes "abort") then AbortCommand else
     (if bytes_eq line (codes "add ntriples") then Block blocks.Add else
-    (if bytes_eq line (codes "shapes ntriples") then Block blocks.Shapes else Other))))
+    (if bytes_eq line (codes "shapes ntriples") then Block blocks.Shapes else Other)))))
 
 -- the end of a block is `%%`, or that and a CR
 abbrev pub is_block_end : List ℕ → Bool
@@ -107,6 +108,7 @@ abbrev pub with_item : ℕ → ℕ → ℕ → LineKind → Option (List (List �
 with_item s first n Skipped block more = more first
 with_item s first n BeginCommand block more = with_command Begin (more first)
 with_item s first n CommitCommand block more = with_command Commit (more first)
+with_item s first n AbortCommand block more = with_command Abort (more first)
 with_item s first n (Block k) (Some lines) more = let reading = reads (block_text lines) s first in with_command (block_command k reading) (more (next_after first reading))
 with_item s first n (Block k) None more = Err n
 with_item s first n Other block more = Err n

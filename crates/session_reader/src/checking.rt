@@ -45,6 +45,7 @@ fn check_command<M: Maker>(
         ReadCommand::Shapes(triples) => check_graph(alloc, maker, triples),
         ReadCommand::BadShapes { line, kind } => Ok(Command::BadShapes { line, kind }),
         ReadCommand::Commit => Ok(Command::Commit),
+        ReadCommand::Abort => Ok(Command::Abort),
     }
 }
 

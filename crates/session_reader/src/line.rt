@@ -18,6 +18,7 @@ pub enum LineKind {
     Skipped,
     BeginCommand,
     CommitCommand,
+    AbortCommand,
     /// A command that a block follows.
     Block(BlockKind),
     /// No command.
@@ -51,6 +52,8 @@ pub fn kind_of(line: &[u8]) -> LineKind
         LineKind::BeginCommand
     } else if line == b"commit".as_slice() {
         LineKind::CommitCommand
+    } else if line == b"abort".as_slice() {
+        LineKind::AbortCommand
     } else if line == b"add ntriples".as_slice() {
         LineKind::Block(BlockKind::Add)
     } else if line == b"shapes ntriples".as_slice() {

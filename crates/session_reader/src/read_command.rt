@@ -14,4 +14,5 @@ pub enum ReadCommand {
     /// Shapes whose block can't be read: the line of the block, from 1, and the number of the refusal's kind.
     BadShapes { line: u64, kind: u8 },
     Commit,
+    Abort,
 }

@@ -173,6 +173,10 @@ fn read_item(
             commands.push(ReadCommand::Commit)?;
             Ok(0)
         }
+        LineKind::AbortCommand => {
+            commands.push(ReadCommand::Abort)?;
+            Ok(0)
+        }
         LineKind::Block(kind) => {
             read_block_item(alloc, session, next, i as u64 + 1, kind, after, commands)
         }

@@ -5,9 +5,11 @@
 #![tactic(auto)]
 
 ghost use Rattle.store_model.specs.Store.{StepIsDeterministic};
+ghost use Rattle.store_laws.specs.Commits.{CleanCommitsAreAccepted};
 ghost use Rattle.store_laws.specs.Graphs.{LastChangeWins, GraphsStayAscending, ChangedIsInOneGraph, ChangedAscends};
 ghost use Rattle.store_laws.specs.Names.{NumbersStay};
 ghost use Rattle.store_laws.specs.Runs.{OrderGivesOneRun};
+ghost use Rattle.store_laws.specs.Serial.{FindsAreSerializable};
 ghost use Rattle.store_laws.specs.Verdicts.{VerdictAside};
 ghost use Rattle.store_laws.specs.Versions.{UnchangedTriplesStay, UnstagedShapesStay};
 
@@ -60,4 +62,16 @@ pub fn unchanged_triples_stay()
 /// Where no commit between two versions staged shapes, both have the same shapes graph.
 pub fn unstaged_shapes_stay()
     ensures { UnstagedShapesStay }
+{}
+
+/// A commit that nothing overtook, whose graph would be within the limit and without a result, is
+/// accepted.
+pub fn clean_commits_are_accepted()
+    ensures { CleanCommitsAreAccepted }
+{}
+
+/// The finds of a transaction whose commit was accepted give the same on the graph just before that
+/// commit as they gave on the graph at its begin.
+pub fn finds_are_serializable()
+    ensures { FindsAreSerializable }
 {}

@@ -1,2 +1,4 @@
 pub mod Store
+pub mod Actions
+pub mod Finds
 pub mod Snapshots

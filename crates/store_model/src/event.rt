@@ -1,3 +1,6 @@
+ghost use Rattle.std.specs.Prelude.{◌≡◌, MatchResult};
+ghost use Rattle.store_model.specs.Actions.{IsNoCommit};
+
 use crate::{Again, Transaction};
 use collections::Sequence;
 use rdf_model::{Term, Triple};
@@ -36,6 +39,18 @@ impl Drop for Action {
             Action::Head => {}
             Action::Commit(_) => {}
             Action::Void => {}
+        }
+    }
+}
+
+impl Action {
+    /// The transaction of a commit; any other action as it is.
+    pub fn into_transaction(self) -> Result<Transaction, Action>
+        ensures { MatchResult result (λ x. self ≡ Action.Commit x) (λ other. (other ≡ self) × IsNoCommit other) }
+    {
+        match self {
+            Action::Commit(transaction) => Ok(transaction),
+            other => Err(other),
         }
     }
 }
@@ -97,5 +112,19 @@ impl Drop for Event {
             action: _,
             reply: _,
         } = self;
+    }
+}
+
+impl Event {
+    /// The session, the action and the reply.
+    pub fn into_parts(self) -> (u32, Action, Reply)
+        ensures { result ≡ (self.session, self.action, self.reply) }
+    {
+        let Event {
+            session,
+            action,
+            reply,
+        } = self;
+        (session, action, reply)
     }
 }

@@ -1,13 +1,6 @@
-use Rattle.std.proofs.Common.{◌≡◌, ◌∙◌, ◌∷◌, ◌++◌, Option, None, List, [], length, sym, subst, ap, refl}
-use Rattle.rdf_model.specs.declared.triple.Triple.{Triple}
-use Rattle.report_writer.specs.Report.{report_text}
+use Rattle.std.proofs.Common.{Option, [], sym, subst, refl}
 use Rattle.store_model.specs.declared.commit.Verdict.{Verdict}
-use Rattle.store_model.specs.Store.{shapes_under}
 use Rattle.commit_core.specs.Verdicts.{AreOfVerdict}
-use Rattle.session_model.specs.declared.reply.SessionReply.{SessionReply}
-use Rattle.session_model.specs.declared.reply.SessionReply.TheVariants.{Refused}
-use Rattle.session_model.specs.Sessions.{up_to_event}
-use Rattle.session_player.specs.Ready.{CommitsWith}
 use Rattle.session_player.proofs.Playing.{refused_with}
 use Rattle.session_player.proofs.perform.commit_reply.Goals as goal
 

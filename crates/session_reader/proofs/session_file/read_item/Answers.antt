@@ -1,4 +1,4 @@
-use Rattle.std.proofs.Common.{◌≡◌, ◌∙◌, ◌+◌, sym, ap, map, length, drop, arith}
+use Rattle.std.proofs.Common.{◌∙◌, ◌+◌, sym, ap, map, length, drop, arith}
 use Rattle.std.proofs.lemmas.List.{drop-map, length-drop}
 use Rattle.session_reader.specs.SessionFile as file
 use Rattle.session_reader.proofs.Items.{block_item, block_next}

@@ -5,9 +5,9 @@ use Rattle.commit_core.specs.Consistent.{IsConsistent}
 use Rattle.commit_core.proofs.Verdicts.{held}
 use Rattle.commit_core.proofs.store.Core.commit.Goals as goal
 
-pub plan-requires-clause-found : goal.plan-requires-clause-found
-plan-requires-clause-found g c =
+pub commit_by_plan-requires-clause-found : goal.commit_by_plan-requires-clause-found
+commit_by_plan-requires-clause-found g c =
     let x = c.args.checked.transaction in
     let commits : c.deref.result.now ≡ c.args.self.now.state.commits = c.deref.ensures.value ∙ ap (λ (s : RecordedStore). s.state.commits) c.self.view_is in
     let why = c.in-Ok-find_reasons.ensures.0 ∙ ap (λ (cs : List Accepted). again cs x.staged x.verdict) commits in
-    held c.args.self.now _ _ _ _ _ _ (subst (λ (s : RecordedStore). IsConsistent s) c.self.view_is c.self.invariant) c.requires.verdict why c.has_held.ensures
+    held c.args.self.now _ _ _ _ _ _ (subst (λ (s : RecordedStore). IsConsistent s) c.self.view_is c.self.invariant) c.requires.verdict why c.has_held-held.ensures

@@ -1,0 +1,12 @@
+use Rattle.std.proofs.Common.{◌≡◌, ◌++◌, length, reverse}
+use Rattle.commit_core.proofs.store.Core.replay.Given as goal
+
+abbrev pub invariant-loop-event : goal.invariant-loop-event
+invariant-loop-event g l = record {
+  limits : l.core.limits ≡ l.fn.limits;
+  so_far : l.core.history ++ reverse l.rest.items ≡ l.fn.events.items;
+  place : l.place ≡ length l.core.history;
+}
+
+abbrev pub decreases-loop-event : goal.decreases-loop-event
+decreases-loop-event g l = length l.rest.items

@@ -1,0 +1,6 @@
+use Rattle.std.proofs.Common.{ap, ◌∙◌, length}
+use Rattle.commit_core.proofs.Consistency.{consistent_begin}
+use Rattle.commit_core.proofs.store.Core.replay_begin.Goals as goal
+
+pub invariant_of-self : goal.invariant_of-self
+invariant_of-self c = rw c.push.ensures (consistent_begin _ _ _ _ c.self.invariant c.self.view_is c.requires (c.version_of.ensures ∙ ap length c.deref.ensures.value))

@@ -1,0 +1,6 @@
+use Rattle.std.proofs.Common.{ap, ◌∙◌, length}
+use Rattle.commit_core.proofs.Consistency.{consistent_head}
+use Rattle.commit_core.proofs.store.Core.replay_head.Goals as goal
+
+pub invariant_of-self : goal.invariant_of-self
+invariant_of-self c = rw c.push.ensures (consistent_head _ _ _ _ c.self.invariant c.self.view_is c.requires (c.version_of.ensures ∙ ap length c.deref.ensures.value))

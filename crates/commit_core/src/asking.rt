@@ -1,0 +1,102 @@
+ghost use Rattle.std.specs.Prelude.{◌≡◌};
+ghost use Rattle.std.specs.List.{list_all};
+ghost use Rattle.store_model.specs.Store.{changed_triple};
+ghost use Rattle.commit_core.specs.Conditions;
+ghost use Rattle.commit_core.specs.Conditions.{change_named, has_change, look_named, staged_named, triple_named, triples_named, verdict_fits};
+
+use collections::contains_item;
+use rdf_model::{Change, Look, Term, Triple};
+use shapes_graph::ShapesGraph;
+use store_model::{Transaction, Verdict};
+
+fn is_triple_named(named: &[Term], triple: &Triple) -> bool
+    ensures { result ≡ triple_named named.now triple.now }
+{
+    contains_item(named, &triple.subject)
+        && contains_item(named, &triple.predicate)
+        && contains_item(named, &triple.object)
+}
+
+fn are_triples_named(named: &[Term], triples: &[Triple]) -> bool
+    ensures { result ≡ triples_named named.now triples.now }
+{
+    triples.iter().all(|triple| is_triple_named(named, triple))
+}
+
+fn is_change_named(named: &[Term], change: &Change) -> bool
+    ensures { result ≡ change_named named.now change.now }
+{
+    match change {
+        Change::Add(triple) => is_triple_named(named, triple),
+        Change::Remove(triple) => is_triple_named(named, triple),
+    }
+}
+
+fn are_shapes_named(named: &[Term], staged: &Option<ShapesGraph>) -> bool
+    ensures { result ≡ staged_named named.now staged.now }
+{
+    match staged {
+        Some(shapes) => are_triples_named(named, shapes.triples()),
+        None => true,
+    }
+}
+
+fn is_look_named(named: &[Term], look: &Look<Term>) -> bool
+    ensures { result ≡ look_named named.now look.now }
+{
+    match look {
+        Look::Out(subject, predicate) => {
+            contains_item(named, subject) && contains_item(named, predicate)
+        }
+        Look::In(predicate, object) => {
+            contains_item(named, predicate) && contains_item(named, object)
+        }
+        Look::OutAny(subject) => contains_item(named, subject),
+    }
+}
+
+fn are_looks_named(named: &[Term], looks: &[Look<Term>]) -> bool
+    ensures { result ≡ list_all (look_named named.now) looks.now }
+{
+    looks.iter().all(|look| is_look_named(named, look))
+}
+
+// Whether the verdict, if there is one, has a head up to this version and names in its looks.
+fn does_verdict_fit(version: u64, named: &[Term], verdict: &Option<Verdict>) -> bool
+    ensures { result ≡ verdict_fits version named.now verdict.now }
+{
+    match verdict {
+        Some(verdict) => {
+            verdict.head <= version && are_looks_named(named, verdict.looks.as_slice())
+        }
+        None => true,
+    }
+}
+
+// Whether there is a change or a staged shapes graph.
+fn changes_something(net: &[Change], staged: &Option<ShapesGraph>) -> bool
+    ensures { result ≡ has_change net.now staged.now }
+{
+    match staged {
+        Some(_) => true,
+        None => !net.is_empty(),
+    }
+}
+
+fn are_changes_named(named: &[Term], net: &[Change]) -> bool
+    ensures { result ≡ list_all (change_named named.now) net.now }
+{
+    net.iter().all(|change| is_change_named(named, change))
+}
+
+/// Whether the transaction may be committed at this version, where these terms are named.
+pub fn may_commit(version: u64, named: &[Term], transaction: &Transaction) -> bool
+    ensures { result ≡ Conditions.may_commit version named.now transaction.now }
+{
+    let net = transaction.net.as_slice();
+    transaction.base <= version
+        && changes_something(net, &transaction.staged)
+        && are_changes_named(named, net)
+        && are_shapes_named(named, &transaction.staged)
+        && does_verdict_fit(version, named, &transaction.verdict)
+}

@@ -1,0 +1,7 @@
+-- Which actions are commits.
+use Rattle.store_model.specs.declared.event.Action.{Action}
+use Rattle.store_model.specs.declared.event.Action.TheVariants.{Open, Begin, Name, Head, Commit, Void}
+
+abbrev pub IsNoCommit : Action → Type 0
+IsNoCommit (Commit x) = ⊥
+IsNoCommit a = Unit {0}

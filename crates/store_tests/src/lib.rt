@@ -1,0 +1,5 @@
+//! Tests of the store.
+#![tactic(auto)]
+
+#[cfg(test)]
+mod replay;
