@@ -6,30 +6,29 @@ use std::process::Abort;
 use std::test::Fail;
 use target_nodes::{Target, is_target, targets};
 
-const TYPE: u32 = 20;
+const TYPE: u32 = 0;
 
-const ABOVE: u32 = 21;
+const ABOVE: u32 = 10;
 
-const KNOWS: u32 = 22;
+const KNOWS: u32 = 6;
 
 const WORDS: ClassWords = ClassWords {
     rdf_type: TYPE,
     sub_class_of: ABOVE,
 };
 
-// Declarations, each a letter and a number, and the targets that they give of the shape whose node is 8.
-const ROWS: [(&[(u8, u32)], u64); 10] = [
-    (&[], 0),
-    (&[(b'n', 6)], 6),
-    (&[(b'c', 7)], 12),
-    (&[(b'c', 9)], 12),
-    (&[(b'c', 4)], 0),
-    (&[(b'i', 0)], 12),
-    (&[(b's', KNOWS)], 13),
-    (&[(b'o', KNOWS)], 45),
-    (&[(b'o', TYPE), (b'n', 7)], 78),
-    (&[(b's', KNOWS), (b'n', 6), (b'c', 8)], 1236),
-];
+// Declarations, each a letter and a digit, and the targets that they give of the shape whose node is 8. The
+// predicate of knowing is 6.
+const ROWS: &str = "\
+n6 6\n\
+c7 12\n\
+c9 12\n\
+c4 0\n\
+i0 12\n\
+s6 13\n\
+o6 45\n\
+o0n7 78\n\
+s6n6c8 1236";
 
 // Nodes 1 and 2 have types among the classes 7, 8 and 9, which lie above one another in a circle; 1 and 3
 // know others.
@@ -73,10 +72,10 @@ fn target(letter: u8, number: u32) -> Target<u32> {
     }
 }
 
-fn declarations(alloc: Global, row: &[(u8, u32)]) -> Result<Vec<Target<u32>>, AllocError> {
+fn declarations(alloc: Global, text: &[u8]) -> Result<Vec<Target<u32>>, AllocError> {
     let mut declared = Vec::new(alloc);
-    for (letter, number) in row {
-        declared.push(target(*letter, *number))?;
+    for pair in text.chunks_exact(2) {
+        declared.push(target(pair[0], pair[1].wrapping_sub(b'0') as u32))?;
     }
     Ok(declared)
 }
@@ -104,17 +103,31 @@ fn listed(alloc: Global, graph: &ListGraph, declared: &[Target<u32>]) -> Result<
     Ok(told(&nodes))
 }
 
-fn both(alloc: Global, graph: &ListGraph, row: &[(u8, u32)]) -> Result<(u64, u64), AllocError> {
-    let declared = declarations(alloc, row)?;
+fn both(alloc: Global, graph: &ListGraph, text: &str) -> Result<(u64, u64), AllocError> {
+    let declared = declarations(alloc, text.as_bytes())?;
     let nodes = listed(alloc, graph, &declared)?;
     let (all, _looks) = tested(alloc, graph, &declared)?;
     Ok((nodes, all))
 }
 
+// The number that the digits tell.
+fn number(word: Option<&str>) -> u64 {
+    let mut number: u64 = 0;
+    for digit in word.unwrap_or("").as_bytes() {
+        number = number
+            .wrapping_mul(10)
+            .wrapping_add(digit.wrapping_sub(b'0') as u64);
+    }
+    number
+}
+
 fn all_rows(rt: &impl Abort, alloc: Global) -> Result<(), AllocError> {
     let graph = graph(alloc)?;
-    for (row, want) in ROWS {
-        assert_eq!(rt; both(alloc, &graph, row)?, (want, want));
+    for row in ROWS.lines() {
+        let mut words = row.split(' ');
+        let found = both(alloc, &graph, words.next().unwrap_or(""))?;
+        let want = number(words.next());
+        assert_eq!(rt; found, (want, want), "{row}");
     }
     Ok(())
 }
@@ -128,7 +141,7 @@ fn each_kind_of_target(rt: HostRuntime) -> Result<(), Fail> {
 // At 9 the path of a class asks for types alone, and a predicate for values.
 fn looks_of_two(alloc: Global) -> Result<usize, AllocError> {
     let graph = graph(alloc)?;
-    let declared = declarations(alloc, &[(b'c', 8), (b's', KNOWS), (b'n', 1)])?;
+    let declared = declarations(alloc, b"c8s6n1")?;
     let (_all, looks) = tested(alloc, &graph, &declared)?;
     Ok(looks)
 }

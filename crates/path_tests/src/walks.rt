@@ -6,44 +6,43 @@ use std::process::Abort;
 use std::test::Fail;
 
 // A path with its parts before it, a node, the values at it, and the nodes that walk to it.
-const ROWS: [(&str, u32, u64, u64); 36] = [
-    ("p", 1, 2, 3),
-    ("p", 3, 14, 2),
-    ("p", 4, 4, 34),
-    ("p", 6, 0, 0),
-    ("n", 1, 0, 0),
-    ("p^", 1, 3, 2),
-    ("p^", 4, 34, 4),
-    ("q^", 7, 2, 0),
-    ("pq/", 3, 5, 0),
-    ("pq/", 1, 7, 0),
-    ("ppq,", 2, 5, 0),
-    ("ppq,^", 5, 234, 0),
-    ("pq/^", 5, 34, 0),
-    ("pq/^^", 3, 5, 0),
-    ("pq|", 4, 45, 34),
-    ("qp|^", 4, 34, 45),
-    ("p*", 1, 1234, 123),
-    ("p*", 6, 6, 6),
-    ("p*^", 4, 1234, 4),
-    ("p+", 1, 1234, 123),
-    ("p+", 4, 4, 1234),
-    ("p+", 6, 0, 0),
-    ("p?", 1, 12, 13),
-    ("p?", 4, 4, 34),
-    ("p?^", 4, 34, 4),
-    ("rr/", 1, 6, 0),
-    ("r*", 1, 1689, 1),
-    ("r+^", 6, 189, 0),
-    ("p*q/", 1, 57, 0),
-    ("p+*", 2, 1234, 123),
-    ("pq*/*", 1, 123457, 123),
-    ("pr|+", 1, 1234689, 123),
-    ("p^r/", 2, 89, 0),
-    ("pq|*^", 5, 12345, 5),
-    ("n*", 3, 3, 3),
-    ("nq|", 4, 5, 0),
-];
+const ROWS: &str = "\
+p 1 2 3\n\
+p 3 14 2\n\
+p 4 4 34\n\
+p 6 0 0\n\
+n 1 0 0\n\
+p^ 1 3 2\n\
+p^ 4 34 4\n\
+q^ 7 2 0\n\
+pq/ 3 5 0\n\
+pq/ 1 7 0\n\
+ppq, 2 5 0\n\
+ppq,^ 5 234 0\n\
+pq/^ 5 34 0\n\
+pq/^^ 3 5 0\n\
+pq| 4 45 34\n\
+qp|^ 4 34 45\n\
+p* 1 1234 123\n\
+p* 6 6 6\n\
+p*^ 4 1234 4\n\
+p+ 1 1234 123\n\
+p+ 4 4 1234\n\
+p+ 6 0 0\n\
+p? 1 12 13\n\
+p? 4 4 34\n\
+p?^ 4 34 4\n\
+rr/ 1 6 0\n\
+r* 1 1689 1\n\
+r+^ 6 189 0\n\
+p*q/ 1 57 0\n\
+p+* 2 1234 123\n\
+pq*/* 1 123457 123\n\
+pr|+ 1 1234689 123\n\
+p^r/ 2 89 0\n\
+pq|*^ 5 12345 5\n\
+n* 3 3 3\n\
+nq| 4 5 0";
 
 const WORDS: ClassWords = ClassWords {
     rdf_type: b'q' as u32,
@@ -167,11 +166,36 @@ fn found_by_text(
     found(alloc, graph, &path, node)
 }
 
+// The number that the digits tell.
+fn number(word: Option<&str>) -> u32 {
+    let mut number: u32 = 0;
+    for digit in word.unwrap_or("").as_bytes() {
+        number = number
+            .wrapping_mul(10)
+            .wrapping_add(digit.wrapping_sub(b'0') as u32);
+    }
+    number
+}
+
+// What a row wants, and what is found.
+fn wanted_and_found(
+    alloc: Global,
+    graph: &ListGraph,
+    row: &str,
+) -> Result<((u64, u64), (u64, u64)), AllocError> {
+    let mut words = row.split(' ');
+    let text = words.next().unwrap_or("");
+    let node = number(words.next());
+    let want = (number(words.next()) as u64, number(words.next()) as u64);
+    let (ends, starts, _looks) = found_by_text(alloc, graph, text, node)?;
+    Ok((want, (ends, starts)))
+}
+
 fn all_rows(rt: &impl Abort, alloc: Global) -> Result<(), AllocError> {
     let graph = graph(alloc)?;
-    for (text, node, ends, starts) in ROWS {
-        let (values, walkers, _looks) = found_by_text(alloc, &graph, text, node)?;
-        assert_eq!(rt; (values, walkers), (ends, starts), "{text} {node}");
+    for row in ROWS.lines() {
+        let (want, found) = wanted_and_found(alloc, &graph, row)?;
+        assert_eq!(rt; found, want, "{row}");
     }
     Ok(())
 }
