@@ -78,7 +78,7 @@ IsSubtag t = (s : List ℕ) × (t ≡ 45 ∷ s) × SomeOf LetterOrDigit s
 abbrev pub IsLanguageTag : List ℕ → Type 0
 IsLanguageTag t = (l : List ℕ) × (ts : List (List ℕ)) × (t ≡ 64 ∷ (l ++ joined_texts ts)) × SomeOf Letter l × AllByRecursion IsSubtag ts
 
--- the beginning of an escape, after its backslash, that more could complete
+-- the beginning of an escape, after its backslash: nothing, or `u` or `U` and fewer HEX than it has
 abbrev pub IsCutEscape : List ℕ → Type 0
 IsCutEscape d = (d ≡ []) ⊎ (((h : List ℕ) × (d ≡ 117 ∷ h) × AllOf Hexadecimal h × (length h < 4)) ⊎ ((h : List ℕ) × (d ≡ 85 ∷ h) × AllOf Hexadecimal h × (length h < 8)))
 
