@@ -9,3 +9,4 @@ pub mod ReadAgain
 pub mod RoundTrip
 pub mod Gives
 pub mod TokenLaws
+pub mod EarlyEnd

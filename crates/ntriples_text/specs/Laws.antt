@@ -1,5 +1,5 @@
 -- Which triples a text can give, and that their text gives them.
-use Rattle.std.specs.Prelude.{◌≡◌, ℕ, ◌<◌, ◌≤◌, true, List, [], ◌∷◌, map, take, drop, Some, None, Ok, Err, bytes_eq, ◌⊎◌}
+use Rattle.std.specs.Prelude.{◌≡◌, ℕ, ◌<◌, ◌≤◌, true, List, [], ◌∷◌, map, take, drop, Some, None, Ok, Err, bytes_eq, ◌⊎◌, ◌↔◌, ◌≢◌}
 use Rattle.std.specs.List.{AllByRecursion, list_all, list_any}
 use Rattle.std.specs.Str.{IsUtf8, chars}
 use Rattle.iri_ref.specs.Scheme.{has_scheme}
@@ -12,11 +12,12 @@ use Rattle.collections.specs.Ordered.{IsAscending}
 use Rattle.rdf_lexical.specs.Meanings.{lower_case}
 use Rattle.rdf_lexical.specs.Productions.{IsLanguageTag}
 use Rattle.rdf_lexical.specs.declared.refusal.RefusalKind.{RefusalKind}
+use Rattle.rdf_lexical.specs.declared.refusal.RefusalKind.TheVariants.{UnexpectedEnd}
 use Rattle.ntriples_text.specs.declared.lexeme.TokenKind.{TokenKind}
 use Rattle.ntriples_text.specs.declared.token.Token.{Token}
 use Rattle.ntriples_text.specs.declared.token.Token.TheVariants.{TextEnd}
 use Rattle.ntriples_text.specs.Tokens.{skipped, token_of, token}
-use Rattle.ntriples_text.specs.Productions.{IsTokenAt, HasNoToken}
+use Rattle.ntriples_text.specs.Productions.{IsTokenAt, HasNoToken, BeginsToken, EndsInEscape}
 use Rattle.ntriples_text.specs.declared.statement.Node.TheVariants.{Labelled}
 use Rattle.ntriples_text.specs.Grammar.{literal, rdf_lang_string}
 use Rattle.ntriples_text.specs.Blanks.{once, term_of}
@@ -94,3 +95,8 @@ MissesNone = (text : List ℕ) (fault : RefusalKind) → token text ≡ Err faul
 -- at most one token stands at the beginning of a text: it has one kind, and so many characters
 abbrev pub StandsAlone : Type 0
 StandsAlone = (text : List ℕ) (kind other : TokenKind) (n m : ℕ) → IsTokenAt text kind n → IsTokenAt text other m → (kind ≡ other) × (n ≡ m)
+
+-- The text ends too early exactly where something is left, no token stands there, and all of it is the beginning of one or
+-- ends within an escape.
+abbrev pub EndsEarly : Type 0
+EndsEarly = (text : List ℕ) → (token text ≡ Err UnexpectedEnd) ↔ ((skipped text ≢ []) × HasNoToken (skipped text) × (BeginsToken (skipped text) ⊎ EndsInEscape (skipped text)))

@@ -1,4 +1,4 @@
-ghost use Rattle.ntriples_text.specs.Laws.{ReadsAgain, GivesReadable, LabelsStayApart, FindsLongest, MissesNone, StandsAlone};
+ghost use Rattle.ntriples_text.specs.Laws.{ReadsAgain, GivesReadable, LabelsStayApart, FindsLongest, MissesNone, StandsAlone, EndsEarly};
 
 /// Reading what was written gives the same triples, whatever triples without blank nodes a text can
 /// give.
@@ -30,4 +30,10 @@ pub fn misses_none()
 /// At most one token stands at a place: a kind, and how many characters it has.
 pub fn stands_alone()
     ensures { StandsAlone }
+{}
+
+/// The text ends too early exactly where all that is left is the beginning of a token, or ends
+/// within an escape, and no token stands there.
+pub fn ends_early()
+    ensures { EndsEarly }
 {}

@@ -115,14 +115,14 @@ marks_shape m k (c ∷ cs) = elim (k == 0) as (λ b. (k == 0) ≡ b → (take (c
   ] refl
 ] refl
 
-marks_bound : (m k : ℕ) (cs : List ℕ) → leading_marks m k cs ≤ length cs
+pub marks_bound : (m k : ℕ) (cs : List ℕ) → leading_marks m k cs ≤ length cs
 marks_bound m k [] = omega arith
 marks_bound m k (c ∷ cs) = let more = marks_bound m (k - 1) cs in elim (k == 0) as (λ b. cond b 0 (cond (c == m) (suc (leading_marks m (k - 1) cs)) 0) ≤ suc (length cs)) [
   | true ↦ omega arith
   | false ↦ elim (c == m) as (λ b. cond b (suc (leading_marks m (k - 1) cs)) 0 ≤ suc (length cs)) [ true ↦ omega arith | false ↦ omega arith ]
 ]
 
-abbrev IsPieceOf : Enclosed → Piece → List ℕ → Type 0
+abbrev pub IsPieceOf : Enclosed → Piece → List ℕ → Type 0
 IsPieceOf e (Held n) r = IsPiece e (take n r) × (0 < n)
 IsPieceOf e (Closing n) r = (take n r ≡ replicate (closing_length e) (mark e)) × (n ≤ length r)
 IsPieceOf e (Faulty f) r = Unit {0}
@@ -147,7 +147,7 @@ unit_open e (c ∷ r) = elim (c == 92) as (λ b. NotClosing (cond b (escaped_uni
   | false ↦ elim (may_hold e c) as (λ b. NotClosing (cond b (Held 1) (Faulty NoToken))) [ true ↦ λ k h. cc | false ↦ λ k h. cc ]
 ]
 
-piece_shape : (e : Enclosed) (cs : List ℕ) → IsPieceOf e (next_piece e cs) cs
+pub piece_shape : (e : Enclosed) (cs : List ℕ) → IsPieceOf e (next_piece e cs) cs
 piece_shape e cs =
     let n = leading_marks (mark e) (closing_length e) cs in
     let marks = marks_shape (mark e) (closing_length e) cs in

@@ -85,7 +85,7 @@ mark_not_held (Text Single) = refl
 mark_not_held (Text LongDouble) = refl
 mark_not_held (Text LongSingle) = refl
 
-backslash_no_mark : (e : Enclosed) → (92 == mark e) ≡ false
+pub backslash_no_mark : (e : Enclosed) → (92 == mark e) ≡ false
 backslash_no_mark Iri = refl
 backslash_no_mark (Text Double) = refl
 backslash_no_mark (Text Single) = refl
@@ -106,7 +106,7 @@ unit_met e t r (inl (c, is, held)) =
 unit_met e t r (inr escape) = escape_met e t r escape
 
 -- it begins with no mark
-other_first : (e : Enclosed) (c k : ℕ) (r : List ℕ) → (c == mark e) ≡ false → leading_marks (mark e) k (c ∷ r) ≡ 0
+pub other_first : (e : Enclosed) (c k : ℕ) (r : List ℕ) → (c == mark e) ≡ false → leading_marks (mark e) k (c ∷ r) ≡ 0
 other_first e c k r other = elim (k == 0) as (λ b. cond b 0 (cond (c == mark e) (suc (leading_marks (mark e) (k - 1) r)) 0) ≡ 0) [
   | true ↦ refl
   | false ↦ ap (λ b. cond b (suc (leading_marks (mark e) (k - 1) r)) 0) other
@@ -123,7 +123,7 @@ pub unit_first : (e : Enclosed) (t r : List ℕ) (k : ℕ) → IsUnit e t → (l
 unit_first e t r k (inl (c, is, held)) = subst (λ (x : List ℕ). (leading_marks (mark e) k (x ++ r) ≡ 0) × (0 < length x)) (sym is) (other_first e c k r (apart (may_hold e) c (mark e) held (mark_not_held e)), omega arith)
 unit_first e t r k (inr escape) = let begun = escape_begins e t escape in subst (λ (x : List ℕ). (leading_marks (mark e) k (x ++ r) ≡ 0) × (0 < length x)) (sym begun.1) (other_first e 92 k (begun.0 ++ r) (backslash_no_mark e), omega arith)
 
-marks_met : (m n j : ℕ) (r : List ℕ) → leading_marks m j r ≡ 0 → leading_marks m (n + j) (replicate n m ++ r) ≡ n
+pub marks_met : (m n j : ℕ) (r : List ℕ) → leading_marks m j r ≡ 0 → leading_marks m (n + j) (replicate n m ++ r) ≡ n
 marks_met m zero j r none = let e : 0 + j ≡ j = omega arith in ap (λ k. leading_marks m k r) e ∙ none
 marks_met m (suc n) j r none =
     let some : (suc n + j == 0) ≡ false = grind (arith, nat_tests) in
@@ -133,7 +133,7 @@ marks_met m (suc n) j r none =
     ∙ ap (λ k. suc (leading_marks m k (replicate n m ++ r))) less
     ∙ ap suc (marks_met m n j r none)
 
-piece_met : (e : Enclosed) (p r : List ℕ) → IsPiece e p → (next_piece e (p ++ r) ≡ Held (length p)) × (0 < length p)
+pub piece_met : (e : Enclosed) (p r : List ℕ) → IsPiece e p → (next_piece e (p ++ r) ≡ Held (length p)) × (0 < length p)
 piece_met e p r (n, u, is, few, met) =
     let m = mark e in
     let k = closing_length e in

@@ -9,3 +9,4 @@ pub mod EnclosedTokens
 pub mod Unescaping
 pub mod Contents
 pub mod LowerTags
+pub mod Cut

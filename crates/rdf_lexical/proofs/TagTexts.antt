@@ -139,3 +139,17 @@ tag_bound cs =
     let more = subtags_bound false (drop letters cs) in
     let size : length (drop letters cs) ≡ length cs - letters = length-drop letters cs in
     elim (letters == 0) as (λ b. cond b 0 (letters + subtags_length false (drop letters cs)) ≤ length cs) [ true ↦ omega arith | false ↦ omega arith ]
+
+-- a tag begins where a letter does
+pub no_tag : (c : ℕ) (cs : List ℕ) → holds Letter c ≡ false → (tag_length (c ∷ cs) == 0) ≡ true
+no_tag c cs h = ap (λ b. let k = cond b (suc (run_length Letter cs)) 0 in cond (k == 0) 0 (k + subtags_length false (drop k (c ∷ cs))) == 0) h
+
+pub some_tag : (c : ℕ) (cs : List ℕ) → holds Letter c ≡ true → (tag_length (c ∷ cs) == 0) ≡ false
+some_tag c cs h =
+    let n = run_length Letter cs in
+    let m = subtags_length false (drop (suc n) (c ∷ cs)) in
+    let some : (suc n == 0) ≡ false = grind (arith, nat_tests) in
+    let more : (suc n + m == 0) ≡ false = grind (arith, nat_tests) in
+    ap (λ b. let k = cond b (suc n) 0 in cond (k == 0) 0 (k + subtags_length false (drop k (c ∷ cs))) == 0) h
+    ∙ ap (λ b. cond b 0 (suc n + m) == 0) some
+    ∙ more

@@ -77,3 +77,11 @@ IsSubtag t = (s : List ℕ) × (t ≡ 45 ∷ s) × SomeOf LetterOrDigit s
 -- LANGTAG: `'@' [a-zA-Z]+ ('-' [a-zA-Z0-9]+)*`
 abbrev pub IsLanguageTag : List ℕ → Type 0
 IsLanguageTag t = (l : List ℕ) × (ts : List (List ℕ)) × (t ≡ 64 ∷ (l ++ joined_texts ts)) × SomeOf Letter l × AllByRecursion IsSubtag ts
+
+-- the beginning of an escape, after its backslash: nothing, or `u` or `U` and fewer HEX than it has
+abbrev pub IsCutEscape : List ℕ → Type 0
+IsCutEscape d = (d ≡ []) ⊎ (((h : List ℕ) × (d ≡ 117 ∷ h) × AllOf Hexadecimal h × (length h < 4)) ⊎ ((h : List ℕ) × (d ≡ 85 ∷ h) × AllOf Hexadecimal h × (length h < 8)))
+
+-- what follows the opening of an IRIREF or a string where it ends within an escape
+abbrev pub IsCutEnclosed : Enclosed → List ℕ → Type 0
+IsCutEnclosed e t = (ps : List (List ℕ)) × (n : ℕ) × (d : List ℕ) × (t ≡ joined_texts ps ++ (replicate n (mark e) ++ 92 ∷ d)) × AllByRecursion (IsPiece e) ps × (n < closing_length e) × IsCutEscape d

@@ -3,9 +3,9 @@
 //!
 //! `Class` has the classes of characters; `name_length`, `tag_length` and `enclosed_length` say how
 //! far a name, a language tag, an IRIREF or a string goes, and `iri_text`, `string_value` and
-//! `lower_text` what they stand for.
-//! Each function ensures exactly its definition; `specs/Productions.antt` has the productions, on
-//! code points. `RefusalKind` is the one enum of refusals.
+//! `lower_text` what they stand for. Each function ensures exactly its definition;
+//! `specs/Productions.antt` has the productions, on code points. `RefusalKind` is the one enum of
+//! refusals.
 #![tactic(auto)]
 
 mod characters;

@@ -1,8 +1,9 @@
-//! Characters and escapes (Turtle 1.1 section 6.5).
+//! Characters and escapes (Turtle 1.1 section 6.5), and the numbers of refusals.
 
 use crate::rows::same;
 use rdf_lexical::{
-    escaped_char, is_iri_char, is_pn_chars, is_pn_chars_base, is_pn_chars_u, numbered_char,
+    RefusalKind, escaped_char, is_iri_char, is_pn_chars, is_pn_chars_base, is_pn_chars_u,
+    numbered_char,
 };
 use std::test::Fail;
 
@@ -117,6 +118,31 @@ fn escapes(rt: HostRuntime) -> Result<(), Fail> {
     for (text, meaning) in NUMBERS {
         let digits: Vec<char> = text.chars().collect(rt.alloc())?;
         same(&rt, text, numbered_char(&digits), meaning);
+    }
+    Ok(())
+}
+
+const KINDS: [(RefusalKind, u8); 14] = [
+    (RefusalKind::NotUtf8, 1),
+    (RefusalKind::NoToken, 2),
+    (RefusalKind::UnexpectedToken, 3),
+    (RefusalKind::UndeclaredPrefix, 4),
+    (RefusalKind::RelativeIri, 5),
+    (RefusalKind::BadEscape, 6),
+    (RefusalKind::FloatingPoint, 7),
+    (RefusalKind::TooManyDigits, 8),
+    (RefusalKind::YearOutOfRange, 9),
+    (RefusalKind::LanguageString, 10),
+    (RefusalKind::TooDeep, 11),
+    (RefusalKind::NoStoreLabel, 12),
+    (RefusalKind::BlankPredicate, 13),
+    (RefusalKind::UnexpectedEnd, 14),
+];
+
+#[test]
+fn kinds_of_refusals(rt: HostRuntime) -> Result<(), Fail> {
+    for (kind, number) in KINDS {
+        assert!(rt; kind.number() == number);
     }
     Ok(())
 }

@@ -71,7 +71,7 @@ fn numbers(rt: HostRuntime) -> Result<(), Fail> {
     Ok(())
 }
 
-const NAMES_AND_WHITE_SPACE: [(&str, &str); 17] = [
+const NAMES_AND_WHITE_SPACE: [(&str, &str); 19] = [
     ("e:%41", "PrefixedName 5, "),
     ("e:\\~x", "PrefixedName 5, "),
     ("e:a%4", "PrefixedName 3, NoToken in 1, "),
@@ -81,7 +81,9 @@ const NAMES_AND_WHITE_SPACE: [(&str, &str); 17] = [
     ("true:x", "PrefixedName 6, "),
     ("_:b.", "BlankNodeLabel 3, Dot 4, "),
     ("_:b..c", "BlankNodeLabel 6, "),
+    ("_", "UnexpectedEnd in 1, "),
     ("_:", "UnexpectedEnd in 1, "),
+    ("_::", "NoToken in 1, "),
     ("_x", "NoToken in 1, "),
     ("_:-", "NoToken in 1, "),
     ("", ""),
@@ -162,7 +164,7 @@ fn words(rt: HostRuntime) -> Result<(), Fail> {
     Ok(())
 }
 
-const STRINGS: [(&str, &str); 23] = [
+const STRINGS: [(&str, &str); 25] = [
     ("\"\"", "StringLiteral(Double) 2, "),
     ("''", "StringLiteral(Single) 2, "),
     ("'\"'", "StringLiteral(Single) 3, "),
@@ -189,6 +191,8 @@ const STRINGS: [(&str, &str); 23] = [
     ("\"\\u00", "UnexpectedEnd in 1, "),
     ("\"\\U0001F60", "UnexpectedEnd in 1, "),
     ("\"\\uD800", "BadEscape in 1, "),
+    ("\"\\uD8", "UnexpectedEnd in 1, "),
+    ("'''a''\\u00", "UnexpectedEnd in 1, "),
     ("\"a\nb\"", "NoToken in 1, "),
     ("'a\rb'", "NoToken in 1, "),
     ("\"a", "UnexpectedEnd in 1, "),
@@ -202,7 +206,7 @@ fn strings(rt: HostRuntime) -> Result<(), Fail> {
     Ok(())
 }
 
-const IRIS: [(&str, &str); 11] = [
+const IRIS: [(&str, &str); 12] = [
     ("<>", "IriRef 2, "),
     ("<\\u0065:a>", "IriRef 10, "),
     ("<e:a b>", "NoToken in 1, "),
@@ -211,6 +215,7 @@ const IRIS: [(&str, &str); 11] = [
     ("<\\u0020>", "BadEscape in 1, "),
     ("<\\t>", "BadEscape in 1, "),
     ("<e:\\u00", "UnexpectedEnd in 1, "),
+    ("<\\u000", "UnexpectedEnd in 1, "),
     ("<e:a b\\t>", "NoToken in 1, "),
     ("<e:\\t b>", "BadEscape in 1, "),
     ("<e:", "UnexpectedEnd in 1, "),

@@ -11,3 +11,5 @@ pub mod Dispatch
 pub mod Reached
 pub mod Sound
 pub mod TokenLaws
+pub mod Stays
+pub mod EarlyEnd

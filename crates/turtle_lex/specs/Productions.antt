@@ -1,6 +1,6 @@
 -- The texts of each kind of token, by the productions of Turtle 1.1 section 6.5; those that N-Triples shares stand in
 -- rdf_lexical.
-use Rattle.std.specs.Prelude.{◌≡◌, ℕ, ◌-◌, ◌≤◌, Bool, true, false, ◌||◌, List, [], ◌∷◌, ◌++◌, length, take, drop, map, ◌==◌, codes, ◌⊎◌}
+use Rattle.std.specs.Prelude.{◌≡◌, ℕ, ◌-◌, ◌≤◌, Bool, true, false, ◌||◌, List, [], ◌∷◌, ◌++◌, length, take, drop, map, ◌==◌, codes, replicate, ◌⊎◌}
 use Rattle.std.specs.List.{AllByRecursion}
 use Rattle.std.specs.Char.{to_ascii_lowercase}
 use Rattle.turtle_lex.specs.declared.token.Token.{Token}
@@ -8,7 +8,10 @@ use Rattle.turtle_lex.specs.declared.token.TokenKind.{TokenKind}
 use Rattle.turtle_lex.specs.declared.token.TokenKind.TheVariants.{IriRef, PrefixName, PrefixedName, BlankNodeLabel, LanguageTag, Integer, Decimal, Double, StringLiteral, Dot, Semicolon, Comma, OpenBracket, CloseBracket, OpenParenthesis, CloseParenthesis, Carets, A, True, False, Prefix, Base, AtPrefix, AtBase}
 use Rattle.rdf_lexical.specs.declared.classes.Class.TheVariants.{Sign, Digit, Hexadecimal, NameStart, NameUnderscoreOrDigit, Name, LocalStart, NameOrColon, LocalEscape}
 use Rattle.rdf_lexical.specs.Classes.{holds, begins_with}
-use Rattle.rdf_lexical.specs.Productions.{AllOf, SomeOf, OneOf, joined_texts, IsNameTail, IsLabel, IsIriRef, IsString, IsLanguageTag}
+use Rattle.rdf_lexical.specs.declared.enclosing.Enclosed.TheVariants.{Iri, Text}
+use Rattle.rdf_lexical.specs.declared.quoting.Quotes.{Quotes}
+use Rattle.rdf_lexical.specs.Quoting.{quotes_length}
+use Rattle.rdf_lexical.specs.Productions.{AllOf, SomeOf, OneOf, joined_texts, IsNameTail, IsLabel, IsIriRef, IsString, IsLanguageTag, IsCutEnclosed}
 use Rattle.rdf_lexical.specs.Enclosed.{quote_of}
 
 -- `[+-]?`
@@ -118,3 +121,12 @@ IsNextToken after_string text token = IsTokenAt after_string (drop token.start.a
 -- no token stands at the beginning of a text
 abbrev pub HasNoToken : Bool → List ℕ → Type 0
 HasNoToken after_string text = (kind : TokenKind) (t u : List ℕ) → text ≡ t ++ u → IsToken after_string kind t → IsWhole kind t u → ⊥
+
+-- all of a text is the beginning of a token: with more at its end it is one
+abbrev pub BeginsToken : Bool → List ℕ → Type 0
+BeginsToken after_string text = (kind : TokenKind) × (more : List ℕ) × IsToken after_string kind (text ++ more)
+
+-- a text is the beginning of an IRIREF or a string, and ends within an escape there
+abbrev pub EndsInEscape : List ℕ → Type 0
+EndsInEscape text = ((b : List ℕ) × (text ≡ 60 ∷ b) × IsCutEnclosed Iri b)
+    ⊎ ((quotes : Quotes) × (b : List ℕ) × (text ≡ replicate (quotes_length quotes) (quote_of quotes) ++ b) × IsCutEnclosed (Text quotes) b)
