@@ -1,5 +1,7 @@
-//! Tests of the store.
+//! Tests of the store and of what its sessions find.
 #![tactic(auto)]
 
+#[cfg(test)]
+mod finds;
 #[cfg(test)]
 mod replay;
