@@ -26,7 +26,7 @@ fn look_for(turned: bool, predicate: u32, node: u32) -> Look<u32>
 }
 
 // One step along a predicate from each start.
-fn edges<R: Triples>(
+pub(crate) fn edges<R: Triples>(
     alloc: Global,
     graph: &R,
     predicate: u32,

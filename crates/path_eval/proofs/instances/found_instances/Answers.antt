@@ -13,6 +13,6 @@ returns g c =
     let S = Reaches ids true (Predicate c.args.words.rdf_type) in
     let L = Reads ids true (Predicate c.args.words.sub_class_of) in
     let M = Reads ids true (Predicate c.args.words.rdf_type) in
-    let ends = c.in_ok-step.field-0.items in
-    followed_then (c.args.class ∷ []) (Repeated R) S (AtRepeated R L) M c.args.footprint.now c.repeated.new.footprint c.step.new.footprint c.in_ok-classes.classes.items ends c.in_ok-classes.ensures
-    (subst (λ (l : List ℕ). IsFollowed l S M c.repeated.new.footprint c.step.new.footprint ends) c.deref.ensures.value c.in_ok-step.ensures)
+    let ends = c.in_ok-edges.field-0.items in
+    followed_then (c.args.class ∷ []) (Repeated R) S (AtRepeated R L) M c.args.footprint.now c.repeated.new.footprint c.edges.new.footprint c.in_ok-classes.classes.items ends c.in_ok-classes.ensures
+    (subst (λ (l : List ℕ). IsFollowed l S M c.repeated.new.footprint c.edges.new.footprint ends) c.deref.ensures.value c.in_ok-edges.ensures)
