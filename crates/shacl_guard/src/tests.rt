@@ -34,7 +34,7 @@ pub fn run_file(
 
 #[test]
 fn prints_what_each_session_file_gives(rt: HostRuntime) -> Result<(), Fail> {
-    let rows: [(&[u8], &[u8]); 15] = [
+    let rows: [(&[u8], &[u8]); 18] = [
         // One triple in one commit.
         (
             FIRST_RUN,
@@ -85,6 +85,16 @@ fn prints_what_each_session_file_gives(rt: HostRuntime) -> Result<(), Fail> {
             b"begin\nadd ntriples\n<e:b> <e:p> <e:b> .\n<e:a> <e:p> <e:b> .\n<e:b> <e:p> <e:b> .\n%%\n",
             b"session 1\nbegin 0\nadd 2\nhistory 1 1 1\n",
         ),
+        // An abort drops the transaction and its changes.
+        (
+            b"begin\nbegin\nabort\n",
+            b"session 1\nbegin 0\nalready open\nabort\nhistory 1 1\n",
+        ),
+        (
+            b"begin\nadd ntriples\n<e:a> <e:p> <e:b> .\n%%\nabort\nbegin\ncommit\n",
+            b"session 1\nbegin 0\nadd 1\nabort\nbegin 0\nread only 0\nhistory 1 1 1 1\n",
+        ),
+        (b"abort\n", b"session 1\nno transaction\nhistory 1\n"),
         // Two blocks in one transaction.
         (
             b"begin\nadd ntriples\n<e:a> <e:p> <e:b> .\n%%\nadd ntriples\n<e:a> <e:p> <e:c> .\n%%\ncommit\n",
