@@ -7,12 +7,22 @@ use session_player::{run_all, text_of};
 use std::alloc::{AllocError, Global};
 use std::test::Fail;
 
+// A command; a find asks for all triples of a predicate.
+#[derive(Clone, Copy)]
+enum Row {
+    Begin,
+    // Adds the triple of this subject, predicate and object.
+    Add(&'static str, &'static str, &'static str),
+    Find(&'static str),
+    Commit,
+    Abort,
+}
+
 fn iri(alloc: Global, text: &str) -> Result<Term, AllocError> {
     Ok(Term::Iri(Text::new(alloc, text)?))
 }
 
-// An addition of one triple.
-fn add(alloc: Global, iris: [&str; 3]) -> Result<Command, AllocError> {
+fn additions(alloc: Global, iris: [&str; 3]) -> Result<Sequence<Triple>, AllocError> {
     let [subject, predicate, object] = iris;
     let mut triples = Sequence::new(alloc);
     triples.push(Triple {
@@ -20,48 +30,65 @@ fn add(alloc: Global, iris: [&str; 3]) -> Result<Command, AllocError> {
         predicate: iri(alloc, predicate)?,
         object: iri(alloc, object)?,
     })?;
-    Ok(Command::Add(triples))
+    Ok(triples)
 }
 
-// A find of all triples with this predicate.
-fn find(alloc: Global, predicate: &str) -> Result<Command, AllocError> {
-    Ok(Command::Find(Pattern {
-        subject: None,
-        predicate: Some(iri(alloc, predicate)?),
-        object: None,
-    }))
+fn command_of(alloc: Global, row: Row) -> Result<Command, AllocError> {
+    match row {
+        Row::Begin => Ok(Command::Begin),
+        Row::Add(subject, predicate, object) => {
+            Ok(Command::Add(additions(alloc, [subject, predicate, object])?))
+        }
+        Row::Find(predicate) => Ok(Command::Find(Pattern {
+            subject: None,
+            predicate: Some(iri(alloc, predicate)?),
+            object: None,
+        })),
+        Row::Commit => Ok(Command::Commit),
+        Row::Abort => Ok(Command::Abort),
+    }
 }
 
-// An abort drops what was added; a find gives own additions, and what was committed.
-fn aborted(alloc: Global) -> Result<Sequence<Command>, AllocError> {
+fn commands_of(alloc: Global, rows: &[Row]) -> Result<Sequence<Command>, AllocError> {
     let mut commands = Sequence::new(alloc);
-    commands.push(Command::Begin)?;
-    commands.push(add(alloc, ["e:b", "e:p", "e:c"])?)?;
-    commands.push(add(alloc, ["e:a", "e:p", "e:b"])?)?;
-    commands.push(add(alloc, ["e:a", "e:q", "e:b"])?)?;
-    commands.push(find(alloc, "e:p")?)?;
-    commands.push(Command::Abort)?;
-    commands.push(find(alloc, "e:p")?)?;
-    commands.push(Command::Abort)?;
-    commands.push(Command::Begin)?;
-    commands.push(find(alloc, "e:p")?)?;
-    commands.push(add(alloc, ["e:a", "e:p", "e:c"])?)?;
-    commands.push(Command::Commit)?;
-    commands.push(Command::Begin)?;
-    commands.push(find(alloc, "e:p")?)?;
+    for row in rows {
+        commands.push(command_of(alloc, *row)?)?;
+    }
     Ok(commands)
 }
 
-#[test]
-fn an_abort_forgets(rt: HostRuntime) -> Result<(), Fail> {
-    let alloc = rt.alloc();
+// What the session of these commands prints.
+fn printed(alloc: Global, rows: &[Row]) -> Result<String, AllocError> {
     let limits = Limits {
         terms: 100,
         triples: 100,
     };
-    let files = [aborted(alloc)?];
+    let files = [commands_of(alloc, rows)?];
     let run = run_all(alloc, limits, &files)?;
-    let text = text_of(alloc, &run)?;
+    text_of(alloc, &run)
+}
+
+#[test]
+fn an_abort_forgets(rt: HostRuntime) -> Result<(), Fail> {
+    let text = printed(
+        rt.alloc(),
+        &[
+            Row::Begin,
+            Row::Add("e:b", "e:p", "e:c"),
+            Row::Add("e:a", "e:p", "e:b"),
+            Row::Add("e:a", "e:q", "e:b"),
+            Row::Find("e:p"),
+            Row::Abort,
+            Row::Find("e:p"),
+            Row::Abort,
+            Row::Begin,
+            Row::Find("e:p"),
+            Row::Add("e:a", "e:p", "e:c"),
+            Row::Commit,
+            Row::Begin,
+            Row::Find("e:p"),
+        ],
+    )?;
     let want = "session 1\nbegin 0\nadd 1\nadd 1\nadd 1\n\
         find 2\n<e:a> <e:p> <e:b> .\n<e:b> <e:p> <e:c> .\n\
         abort\nno transaction\nno transaction\nbegin 0\nfind 0\nadd 1\ncommit 1\n\

@@ -1,5 +1,5 @@
 // Histories, replayed. `0` stands for one whose events all are steps, else the first that is none.
-ghost use Rattle.std.specs.Prelude.{◌≡◌, ◌+◌, ◌<◌, ◌^◌};
+ghost use Rattle.std.specs.Prelude.{◌≡◌, ◌<◌};
 
 use collections::Sequence;
 use commit_core::{Again, Core, Event, Limits, ReplayFault, Transaction};
@@ -16,105 +16,141 @@ const LIMITS: Limits = Limits {
     triples: 2,
 };
 
+// The IRIs of a triple.
+#[derive(Clone, Copy)]
+struct Iris {
+    subject: &'static str,
+    predicate: &'static str,
+    object: &'static str,
+}
+
+// The IRIs of a triple with this subject, predicate and object.
+fn three(subject: &'static str, predicate: &'static str, object: &'static str) -> Iris {
+    Iris {
+        subject,
+        predicate,
+        object,
+    }
+}
+
+// What a session does.
+#[derive(Clone, Copy)]
+enum Ask {
+    Open,
+    Begin,
+    Name(Iris),
+    Head,
+    // Adds one triple, from a version on, after a find of this predicate.
+    Commit(u64, Option<&'static str>, Iris),
+    Void,
+}
+
+// What it is answered.
+#[derive(Clone, Copy)]
+enum Answer {
+    Session(u32),
+    SessionsFull,
+    Version(u64),
+    Named,
+    Full(usize),
+    Done(u64),
+    Conflict(u64, Iris),
+    FullTriples(usize),
+    Nothing,
+}
+
 fn iri(alloc: Global, text: &str) -> Result<Term, AllocError> {
     Ok(Term::Iri(Text::new(alloc, text)?))
 }
 
-// The triple of these three IRIs.
-fn triple(alloc: Global, iris: [&str; 3]) -> Result<Triple, AllocError> {
-    let [subject, predicate, object] = iris;
+fn triple(alloc: Global, iris: Iris) -> Result<Triple, AllocError> {
     Ok(Triple {
-        subject: iri(alloc, subject)?,
-        predicate: iri(alloc, predicate)?,
-        object: iri(alloc, object)?,
+        subject: iri(alloc, iris.subject)?,
+        predicate: iri(alloc, iris.predicate)?,
+        object: iri(alloc, iris.object)?,
     })
 }
 
-fn event(session: u32, action: Action, reply: Reply) -> Event {
-    Event {
-        session,
-        action,
-        reply,
-    }
-}
-
-fn opening(session: u32) -> Event {
-    event(session, Action::Open, Reply::Session(session))
-}
-
-fn begin(session: u32, version: u64) -> Event {
-    event(session, Action::Begin, Reply::Version(version))
-}
-
-fn head(session: u32, version: u64) -> Event {
-    event(session, Action::Head, Reply::Version(version))
-}
-
-fn naming(alloc: Global, session: u32, iris: [&str; 3], reply: Reply) -> Result<Event, AllocError> {
+fn terms(alloc: Global, iris: Iris) -> Result<Sequence<Term>, AllocError> {
     let mut terms = Sequence::new(alloc);
-    for text in iris {
+    for text in [iris.subject, iris.predicate, iris.object] {
         terms.push(iri(alloc, text)?)?;
     }
-    Ok(event(session, Action::Name(terms), reply))
+    Ok(terms)
 }
 
-// The commit of a transaction that began at a version, found this predicate, and adds one triple.
-fn commit(
-    alloc: Global,
-    session: u32,
-    base: u64,
-    found: Option<&str>,
-    added: [&str; 3],
-    reply: Reply,
-) -> Result<Event, AllocError> {
-    let mut net = Net::new(alloc);
-    net.push(Change::Add(triple(alloc, added)?))?;
+fn finds(alloc: Global, predicate: Option<&str>) -> Result<Sequence<Pattern>, AllocError> {
     let mut finds = Sequence::new(alloc);
-    if let Some(predicate) = found {
+    if let Some(predicate) = predicate {
         finds.push(Pattern {
             subject: None,
             predicate: Some(iri(alloc, predicate)?),
             object: None,
         })?;
     }
-    let transaction = Transaction {
-        base,
-        net,
-        staged: None,
-        finds,
-        verdict: None,
-    };
-    Ok(event(session, Action::Commit(transaction), reply))
+    Ok(finds)
 }
 
-// Session 1 begins and finds e:p; session 2 commits twice, the second time a triple of e:p; session 1
-// commits. With the reply to the second commit and to the last.
-fn overtaken(
+fn additions(alloc: Global, iris: Iris) -> Result<Net, AllocError> {
+    let mut net = Net::new(alloc);
+    net.push(Change::Add(triple(alloc, iris)?))?;
+    Ok(net)
+}
+
+fn action_of(alloc: Global, ask: Ask) -> Result<Action, AllocError> {
+    match ask {
+        Ask::Open => Ok(Action::Open),
+        Ask::Begin => Ok(Action::Begin),
+        Ask::Name(iris) => Ok(Action::Name(terms(alloc, iris)?)),
+        Ask::Head => Ok(Action::Head),
+        Ask::Commit(base, predicate, iris) => Ok(Action::Commit(Transaction {
+            base,
+            net: additions(alloc, iris)?,
+            staged: None,
+            finds: finds(alloc, predicate)?,
+            verdict: None,
+        })),
+        Ask::Void => Ok(Action::Void),
+    }
+}
+
+fn reply_of(alloc: Global, answer: Answer) -> Result<Reply, AllocError> {
+    match answer {
+        Answer::Session(session) => Ok(Reply::Session(session)),
+        Answer::SessionsFull => Ok(Reply::SessionsFull),
+        Answer::Version(version) => Ok(Reply::Version(version)),
+        Answer::Named => Ok(Reply::Named),
+        Answer::Full(count) => Ok(Reply::Full(count)),
+        Answer::Done(number) => Ok(Reply::Done(number, Again::NoVerdict)),
+        Answer::Conflict(commit, iris) => Ok(Reply::Conflict(commit, triple(alloc, iris)?)),
+        Answer::FullTriples(count) => Ok(Reply::FullTriples(count)),
+        Answer::Nothing => Ok(Reply::Nothing),
+    }
+}
+
+fn event_of(alloc: Global, row: (u32, Ask, Answer)) -> Result<Event, AllocError> {
+    let (session, ask, answer) = row;
+    let action = action_of(alloc, ask)?;
+    Ok(Event {
+        session,
+        action,
+        reply: reply_of(alloc, answer)?,
+    })
+}
+
+// So many openings in a row, and these events.
+fn events_of(
     alloc: Global,
-    found: Option<&str>,
-    second: Reply,
-    last: Reply,
+    opened: u32,
+    rows: &[(u32, Ask, Answer)],
 ) -> Result<Vec<Event>, AllocError> {
-    let first = ["e:x", "e:r", "e:y"];
-    let other = ["e:x", "e:p", "e:y"];
-    let own = ["e:x", "e:r", "e:x"];
-    let done = Reply::Done(1, Again::NoVerdict);
     let mut events = Vec::new(alloc);
-    events.push(opening(1))?;
-    events.push(opening(2))?;
-    events.push(begin(1, 0))?;
-    events.push(begin(2, 0))?;
-    events.push(naming(alloc, 2, first, Reply::Named)?)?;
-    events.push(head(2, 0))?;
-    events.push(commit(alloc, 2, 0, None, first, done)?)?;
-    events.push(begin(2, 1))?;
-    events.push(naming(alloc, 2, other, Reply::Named)?)?;
-    events.push(head(2, 1))?;
-    events.push(commit(alloc, 2, 1, None, other, second)?)?;
-    events.push(naming(alloc, 1, own, Reply::Named)?)?;
-    events.push(head(1, 2))?;
-    events.push(commit(alloc, 1, 0, found, own, last)?)?;
-    events.push(begin(1, 2))?;
+    for session in 1..=opened {
+        events.push(event_of(alloc, (session, Ask::Open, Answer::Session(session)))?)?;
+    }
+    for row in rows {
+        events.push(event_of(alloc, *row)?)?;
+    }
     Ok(events)
 }
 
@@ -134,87 +170,116 @@ fn replayed<L: Ledger>(alloc: Global, events: Vec<Event>, blank: Blank) -> Resul
     }
 }
 
-fn first_wrong(alloc: Global, events: Vec<Event>) -> Result<usize, AllocError> {
+fn first_wrong(
+    alloc: Global,
+    opened: u32,
+    rows: &[(u32, Ask, Answer)],
+) -> Result<usize, AllocError> {
+    let events = events_of(alloc, opened, rows)?;
     replayed::<Brand>(alloc, events, Blank::new(1))
 }
 
-fn done(number: u64) -> Reply {
-    Reply::Done(number, Again::NoVerdict)
+const FIRST: Iris = Iris {
+    subject: "e:x",
+    predicate: "e:r",
+    object: "e:y",
+};
+
+const SECOND: Iris = Iris {
+    subject: "e:x",
+    predicate: "e:p",
+    object: "e:y",
+};
+
+const OWN: Iris = Iris {
+    subject: "e:x",
+    predicate: "e:r",
+    object: "e:x",
+};
+
+// Session 1 begins and finds a predicate; session 2 commits twice, the second time a triple of e:p;
+// session 1 commits. With the reply to the second commit and to the last.
+fn overtaken(
+    found: Option<&'static str>,
+    second: Answer,
+    last: Answer,
+) -> [(u32, Ask, Answer); 13] {
+    [
+        (1, Ask::Begin, Answer::Version(0)),
+        (2, Ask::Begin, Answer::Version(0)),
+        (2, Ask::Name(FIRST), Answer::Named),
+        (2, Ask::Head, Answer::Version(0)),
+        (2, Ask::Commit(0, None, FIRST), Answer::Done(1)),
+        (2, Ask::Begin, Answer::Version(1)),
+        (2, Ask::Name(SECOND), Answer::Named),
+        (2, Ask::Head, Answer::Version(1)),
+        (2, Ask::Commit(1, None, SECOND), second),
+        (1, Ask::Name(OWN), Answer::Named),
+        (1, Ask::Head, Answer::Version(2)),
+        (1, Ask::Commit(0, found, OWN), last),
+        (1, Ask::Begin, Answer::Version(2)),
+    ]
 }
 
 #[test]
 fn commits_are_overtaken_by_what_was_found(rt: HostRuntime) -> Result<(), Fail> {
-    let alloc = rt.alloc();
-    let conflict = Reply::Conflict(2, triple(alloc, ["e:x", "e:p", "e:y"])?);
-    let events = overtaken(alloc, Some("e:p"), done(2), conflict)?;
-    assert_eq!(rt; first_wrong(alloc, events)?, 0);
-    let conflict = Reply::Conflict(2, triple(alloc, ["e:x", "e:p", "e:y"])?);
-    let events = overtaken(alloc, Some("e:p"), done(3), conflict)?;
-    assert_eq!(rt; first_wrong(alloc, events)?, 11);
-    let conflict = Reply::Conflict(1, triple(alloc, ["e:x", "e:r", "e:y"])?);
-    let events = overtaken(alloc, Some("e:p"), done(2), conflict)?;
-    assert_eq!(rt; first_wrong(alloc, events)?, 14);
-    let conflict = Reply::Conflict(1, triple(alloc, ["e:x", "e:r", "e:y"])?);
-    let events = overtaken(alloc, Some("e:r"), done(2), conflict)?;
-    assert_eq!(rt; first_wrong(alloc, events)?, 0);
-    // The graph has two triples at most.
-    let events = overtaken(alloc, None, done(2), Reply::FullTriples(3))?;
-    assert_eq!(rt; first_wrong(alloc, events)?, 0);
+    for (found, second, last, want) in [
+        (Some("e:p"), Answer::Done(2), Answer::Conflict(2, SECOND), 0),
+        (
+            Some("e:p"),
+            Answer::Done(3),
+            Answer::Conflict(2, SECOND),
+            11,
+        ),
+        (Some("e:p"), Answer::Done(2), Answer::Conflict(1, FIRST), 14),
+        (Some("e:r"), Answer::Done(2), Answer::Conflict(1, FIRST), 0),
+        // The graph has two triples at most.
+        (None, Answer::Done(2), Answer::FullTriples(3), 0),
+        (None, Answer::Done(2), Answer::FullTriples(2), 14),
+    ] {
+        let rows = overtaken(found, second, last);
+        assert_eq!(rt; first_wrong(rt.alloc(), 2, &rows)?, want);
+    }
     Ok(())
-}
-
-// Session 1 names three terms, three more and again three, with the reply to the last naming.
-fn named_thrice(alloc: Global, last: Reply) -> Result<Vec<Event>, AllocError> {
-    let mut events = Vec::new(alloc);
-    events.push(opening(1))?;
-    events.push(naming(alloc, 1, ["e:a", "e:b", "e:c"], Reply::Named)?)?;
-    events.push(naming(alloc, 1, ["e:d", "e:e", "e:f"], Reply::Named)?)?;
-    events.push(naming(alloc, 1, ["e:g", "e:h", "e:i"], last)?)?;
-    Ok(events)
 }
 
 #[test]
 fn terms_are_named_up_to_the_limit(rt: HostRuntime) -> Result<(), Fail> {
-    let alloc = rt.alloc();
-    for (last, want) in [(Reply::Full(9), 0), (Reply::Full(8), 4), (Reply::Named, 4)] {
-        let events = named_thrice(alloc, last)?;
-        assert_eq!(rt; first_wrong(alloc, events)?, want);
+    for (last, want) in [
+        (Answer::Full(9), 0),
+        (Answer::Full(8), 4),
+        (Answer::Named, 4),
+    ] {
+        let rows = [
+            (1, Ask::Name(three("e:a", "e:b", "e:c")), Answer::Named),
+            (1, Ask::Name(three("e:d", "e:e", "e:f")), Answer::Named),
+            (1, Ask::Name(three("e:g", "e:h", "e:i")), last),
+        ];
+        assert_eq!(rt; first_wrong(rt.alloc(), 1, &rows)?, want);
     }
     Ok(())
 }
 
-// So many openings in a row, and one more event.
-fn opened_and(alloc: Global, count: u32, last: Event) -> Result<Vec<Event>, AllocError> {
-    let mut events = Vec::new(alloc);
-    for session in 0..count {
-        events.push(opening(session + 1))?;
-    }
-    events.push(last)?;
-    Ok(events)
-}
-
 #[test]
 fn sessions_take_their_turns(rt: HostRuntime) -> Result<(), Fail> {
-    let alloc = rt.alloc();
-    let own = ["e:a", "e:p", "e:b"];
-    for (count, last, want) in [
-        (0, opening(2), 1),
-        (0, begin(1, 0), 1),
-        (1, opening(1), 2),
-        (1, begin(1, 0), 0),
-        (1, begin(1, 1), 2),
-        (1, begin(2, 0), 2),
-        (63, opening(64), 0),
-        (64, opening(65), 65),
-        (64, event(0, Action::Open, Reply::SessionsFull), 0),
-        (0, event(0, Action::Void, Reply::Nothing), 0),
-        (0, event(1, Action::Void, Reply::Nothing), 1),
-        (1, event(1, Action::Head, Reply::Named), 2),
-        // A commit whose terms aren't named.
-        (1, commit(alloc, 1, 0, None, own, done(1))?, 2),
+    for (opened, session, ask, answer, want) in [
+        (0, 2, Ask::Open, Answer::Session(2), 1),
+        (0, 1, Ask::Begin, Answer::Version(0), 1),
+        (1, 1, Ask::Open, Answer::Session(1), 2),
+        (1, 1, Ask::Begin, Answer::Version(0), 0),
+        (1, 1, Ask::Begin, Answer::Version(1), 2),
+        (1, 2, Ask::Begin, Answer::Version(0), 2),
+        (63, 64, Ask::Open, Answer::Session(64), 0),
+        (64, 65, Ask::Open, Answer::Session(65), 65),
+        (64, 0, Ask::Open, Answer::SessionsFull, 0),
+        (0, 0, Ask::Void, Answer::Nothing, 0),
+        (0, 1, Ask::Void, Answer::Nothing, 1),
+        (1, 1, Ask::Head, Answer::Named, 2),
+        // Its terms aren't named.
+        (1, 1, Ask::Commit(0, None, OWN), Answer::Done(1), 2),
     ] {
-        let events = opened_and(alloc, count, last)?;
-        assert_eq!(rt; first_wrong(alloc, events)?, want);
+        let rows = [(session, ask, answer)];
+        assert_eq!(rt; first_wrong(rt.alloc(), opened, &rows)?, want);
     }
     Ok(())
 }
