@@ -3,6 +3,7 @@ use outside::{
     MemFiles, MemSink, OpenGate, Place, RegexMaker, write_all,
 };
 use std::alloc::{AllocError, Global};
+use std::process::Abort;
 use std::test::Fail;
 
 // Files `a`, which holds `hello`, and `b`, which holds nothing.
@@ -44,27 +45,49 @@ fn files_in_memory(rt: HostRuntime) -> Result<(), Fail> {
     Ok(())
 }
 
+const TEXT: &[u8] = b"0123456789012345678901234567890123456789";
+
+// Forty bytes into a sink that takes at most so many a call and has so much room, of which these writes fail: how much is
+// taken, the faults, and the writes. Each offers all that is left, so no more are made than the sink asks for.
+fn assert_sink(rt: &impl Abort, sink: &mut MemSink, taken: usize, faults: u64, calls: u64) {
+    let answer = write_all(sink, TEXT);
+    assert_eq!(rt; answer.is_ok(), faults == 0);
+    assert_eq!(rt; sink.taken(), &TEXT[..taken.min(40)]);
+    assert_eq!(rt; sink.faults(), faults);
+    assert_eq!(rt; sink.calls(), calls);
+}
+
 #[test]
 fn a_sink_that_fails(rt: HostRuntime) -> Result<(), Fail> {
     let alloc = rt.alloc();
-    let text = b"0123456789012345678901234567890123456789";
-    // What a call takes at most, the room, the writes that fail, how much is taken, the faults, and the writes: each
-    // offers all that is left, so no more are made than the sink asks for.
-    let table: [(usize, usize, &[u64], usize, u64, u64); 4] = [
-        (8, 40, &[], 40, 0, 5),
-        (8, 40, &[3], 16, 1, 3),
-        (8, 20, &[], 20, 1, 4),
-        (100, 40, &[2], 40, 0, 1),
-    ];
-    for (most, room, fail, taken, faults, calls) in table {
-        assert!(rt; most > 0);
-        let mut sink = MemSink::new(alloc, most, room, fail.to_vec(alloc)?)?;
-        let answer = write_all(&mut sink, text);
-        assert_eq!(rt; answer.is_ok(), faults == 0);
-        assert_eq!(rt; sink.taken(), &text[..taken.min(40)]);
-        assert_eq!(rt; sink.faults(), faults);
-        assert_eq!(rt; sink.calls(), calls);
-    }
+    assert_sink(
+        &rt,
+        &mut MemSink::new(alloc, 8, 40, Vec::new(alloc))?,
+        40,
+        0,
+        5,
+    );
+    assert_sink(
+        &rt,
+        &mut MemSink::new(alloc, 8, 40, vec![in alloc; 3]?)?,
+        16,
+        1,
+        3,
+    );
+    assert_sink(
+        &rt,
+        &mut MemSink::new(alloc, 8, 20, Vec::new(alloc))?,
+        20,
+        1,
+        4,
+    );
+    assert_sink(
+        &rt,
+        &mut MemSink::new(alloc, 100, 40, vec![in alloc; 2]?)?,
+        40,
+        0,
+        1,
+    );
     Ok(())
 }
 
@@ -80,35 +103,55 @@ fn is_found(
     Ok(regex.matcher(alloc)?.is_match(text))
 }
 
-#[test]
-fn patterns(rt: HostRuntime) -> Result<(), Fail> {
-    let alloc = rt.alloc();
-    let refused = Err(MakeFault::Refused);
-    let table = [
-        ("^a+$", "i", "AA", Ok(true)),
-        ("^a+$", "", "AA", Ok(false)),
-        ("^a.b$", "s", "a\nb", Ok(true)),
-        ("^a.b$", "", "a\nb", Ok(false)),
-        ("^b$", "m", "a\nb", Ok(true)),
-        ("^b$", "", "a\nb", Ok(false)),
-        ("^a b$", "x", "ab", Ok(true)),
-        ("^a b$", "", "ab", Ok(false)),
-        ("(", "", "", refused),
-    ];
-    let mut fake = FakeMaker::new(alloc, RegexMaker::new(alloc), vec![in alloc; 2]?);
-    for (i, (pattern, flags, text, want)) in table.into_iter().enumerate() {
-        let want_of_fake = if i == 1 { refused } else { want };
-        assert_eq!(rt;
-            is_found(alloc, &mut RegexMaker::new(alloc), pattern, flags, text),
-            want,
-            "{pattern}"
-        );
-        assert_eq!(rt;
-            is_found(alloc, &mut fake, pattern, flags, text),
-            want_of_fake,
-            "{pattern}"
-        );
+// The answer in one word.
+fn said(answer: Result<bool, MakeFault>) -> &'static str {
+    match answer {
+        Ok(true) => "found",
+        Ok(false) => "none",
+        Err(MakeFault::Refused) => "refused",
+        Err(MakeFault::Memory) => "memory",
     }
+}
+
+fn assert_pattern(
+    rt: &impl Abort,
+    alloc: Global,
+    pattern: &str,
+    flags: &str,
+    text: &str,
+    want: &str,
+) {
+    let mut maker = RegexMaker::new(alloc);
+    let answer = said(is_found(alloc, &mut maker, pattern, flags, text));
+    assert_eq!(rt; answer, want, "{pattern} {flags}");
+}
+
+#[test]
+fn patterns(rt: HostRuntime) {
+    let alloc = rt.alloc();
+    assert_pattern(&rt, alloc, "^a+$", "i", "AA", "found");
+    assert_pattern(&rt, alloc, "^a+$", "", "AA", "none");
+    assert_pattern(&rt, alloc, "^a.b$", "s", "a\nb", "found");
+    assert_pattern(&rt, alloc, "^a.b$", "", "a\nb", "none");
+    assert_pattern(&rt, alloc, "^b$", "m", "a\nb", "found");
+    assert_pattern(&rt, alloc, "^b$", "", "a\nb", "none");
+    assert_pattern(&rt, alloc, "^a b$", "x", "ab", "found");
+    assert_pattern(&rt, alloc, "^a b$", "", "ab", "none");
+    assert_pattern(&rt, alloc, "(", "", "", "refused");
+}
+
+// The second pattern is refused, whatever it is.
+#[test]
+fn a_maker_that_refuses(rt: HostRuntime) -> Result<(), Fail> {
+    let alloc = rt.alloc();
+    let mut fake = FakeMaker::new(alloc, RegexMaker::new(alloc), vec![in alloc; 2]?);
+    assert_eq!(rt; said(is_found(alloc, &mut fake, "^a+$", "", "aa")), "found");
+    assert_eq!(rt;
+        said(is_found(alloc, &mut fake, "^a+$", "", "aa")),
+        "refused"
+    );
+    assert_eq!(rt; said(is_found(alloc, &mut fake, "^a+$", "", "b")), "none");
+    assert_eq!(rt; said(is_found(alloc, &mut fake, "(", "", "b")), "refused");
     Ok(())
 }
 

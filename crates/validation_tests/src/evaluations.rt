@@ -294,66 +294,107 @@ fn sharing(alloc: Global) -> Result<Sequence<Shape<u32>>, AllocError> {
     Ok(shapes)
 }
 
+// The look of a property shape of e:p at e:a.
 const LOOK: &str = "out 0 4\n";
 
-const TOO_FEW: &str =
-    "out 0 4\n<e:P> <e:a> MinCount \"1\"^^<http://www.w3.org/2001/XMLSchema#integer> - - -\n";
+// Values of e:p at e:a (x and b, the same value twice), the least or the greatest count, and whether it is met.
+const COUNTS: &str = "- least 0 met
+- least 1 broken
+- most 0 met
+x least 1 met
+x most 0 broken
+x most 1 met
+xb least 3 broken
+xb most 1 broken
+xx least 2 broken
+xx most 1 met";
 
-const TOO_MANY: &str =
-    "out 0 4\n<e:P> <e:a> MaxCount \"1\"^^<http://www.w3.org/2001/XMLSchema#integer> - - -\n";
+fn objects_of(alloc: Global, letters: &str) -> Result<Vec<u32>, AllocError> {
+    let mut objects = Vec::new(alloc);
+    for letter in letters.chars() {
+        match letter {
+            'x' => objects.push(X)?,
+            'b' => objects.push(B)?,
+            _ => {}
+        }
+    }
+    Ok(objects)
+}
+
+// The look, and the one result where the count isn't met.
+fn expected_of(alloc: Global, bound: &str, answer: &str) -> Result<String, AllocError> {
+    let component = if bound == "least" { "MinCount" } else { "MaxCount" };
+    let mut text = String::from_str(alloc, LOOK)?;
+    if answer == "broken" {
+        write!(text, "<e:P> <e:a> {component} \"1\"^^<http://www.w3.org/2001/XMLSchema#integer> - - -\n")?;
+    }
+    Ok(text)
+}
+
+fn count_of(digit: &str) -> i128 {
+    match digit {
+        "0" => 0,
+        "1" => 1,
+        "2" => 2,
+        _ => 3,
+    }
+}
+
+fn assert_count(rt: &impl Abort, alloc: Global, line: &str) -> Result<(), Fail> {
+    let mut parts = line.split(' ');
+    let objects = objects_of(alloc, parts.next().unwrap_or(""))?;
+    let bound = parts.next().unwrap_or("");
+    let count = count_of(parts.next().unwrap_or(""));
+    let shapes = of_property(alloc, bound_of(bound == "least", count))?;
+    let text = printed(rt, alloc, &objects, shapes, 0, A)?;
+    let expected = expected_of(alloc, bound, parts.next().unwrap_or(""))?;
+    assert_eq!(rt; text.as_str(), expected.as_str(), "{line}");
+    Ok(())
+}
 
 // How many value nodes there are, each once, against the count (SHACL sections 4.2.1 and 4.2.2).
 #[test]
 fn counts(rt: HostRuntime) -> Result<(), Fail> {
-    let alloc = rt.alloc();
-    for (objects, is_least, count, expected) in [
-        ([].as_slice(), true, 0, LOOK),
-        ([].as_slice(), true, 1, TOO_FEW),
-        ([].as_slice(), false, 0, LOOK),
-        ([X].as_slice(), true, 1, LOOK),
-        ([X].as_slice(), false, 0, TOO_MANY),
-        ([X].as_slice(), false, 1, LOOK),
-        ([X, B].as_slice(), true, 3, TOO_FEW),
-        ([X, B].as_slice(), false, 1, TOO_MANY),
-        ([X, X].as_slice(), true, 2, TOO_FEW),
-        ([X, X].as_slice(), false, 1, LOOK),
-    ] {
-        let shapes = of_property(alloc, bound_of(is_least, count))?;
-        let text = printed(&rt, alloc, objects, shapes, 0, A)?;
-        assert_eq!(rt; text.as_str(), expected, "{is_least} {count}");
+    for line in COUNTS.lines() {
+        assert_count(&rt, rt.alloc(), line)?;
     }
     Ok(())
 }
+
+fn assert_sharing(
+    rt: &impl Abort,
+    alloc: Global,
+    place: usize,
+    focus: u32,
+    expected: &str,
+) -> Result<(), Fail> {
+    let text = printed(rt, alloc, &[X, B, BLANK], sharing(alloc)?, place, focus)?;
+    assert_eq!(rt; text.as_str(), expected, "shape {place} at {focus}");
+    Ok(())
+}
+
+const OF_BOTH: &str = "out 0 4
+out 0 4
+<e:P> <e:a> NodeKind <http://www.w3.org/ns/shacl#IRI> _:s1x1 _:s1x1 -
+<e:P> <e:a> NodeKind <http://www.w3.org/ns/shacl#IRI> \"x\" \"x\" -
+<e:S> <e:a> NodeKind <http://www.w3.org/ns/shacl#IRI> <e:a> <e:a> -
+";
+
+const OF_PROPERTY: &str = "out 0 4
+<e:P> <e:a> NodeKind <http://www.w3.org/ns/shacl#IRI> _:s1x1 _:s1x1 -
+<e:P> <e:a> NodeKind <http://www.w3.org/ns/shacl#IRI> \"x\" \"x\" -
+";
+
+const AT_LITERAL: &str = "out 3 4
+<e:T> \"x\" NodeKind <http://www.w3.org/ns/shacl#IRI> \"x\" \"x\" -
+";
 
 // Results of a shape and of its property shape, each once and in order (SHACL section 4.7.2); a
 // literal is a focus node like any other.
 #[test]
 fn property_shapes(rt: HostRuntime) -> Result<(), Fail> {
     let alloc = rt.alloc();
-    for (place, focus, expected) in [
-        (
-            0,
-            A,
-            "out 0 4\nout 0 4\n\
-             <e:P> <e:a> NodeKind <http://www.w3.org/ns/shacl#IRI> _:s1x1 _:s1x1 -\n\
-             <e:P> <e:a> NodeKind <http://www.w3.org/ns/shacl#IRI> \"x\" \"x\" -\n\
-             <e:S> <e:a> NodeKind <http://www.w3.org/ns/shacl#IRI> <e:a> <e:a> -\n",
-        ),
-        (
-            1,
-            A,
-            "out 0 4\n\
-             <e:P> <e:a> NodeKind <http://www.w3.org/ns/shacl#IRI> _:s1x1 _:s1x1 -\n\
-             <e:P> <e:a> NodeKind <http://www.w3.org/ns/shacl#IRI> \"x\" \"x\" -\n",
-        ),
-        (
-            1,
-            X,
-            "out 3 4\n<e:T> \"x\" NodeKind <http://www.w3.org/ns/shacl#IRI> \"x\" \"x\" -\n",
-        ),
-    ] {
-        let text = printed(&rt, alloc, &[X, B, BLANK], sharing(alloc)?, place, focus)?;
-        assert_eq!(rt; text.as_str(), expected, "shape {place} at {focus}");
-    }
-    Ok(())
+    assert_sharing(&rt, alloc, 0, A, OF_BOTH)?;
+    assert_sharing(&rt, alloc, 1, A, OF_PROPERTY)?;
+    assert_sharing(&rt, alloc, 1, X, AT_LITERAL)
 }

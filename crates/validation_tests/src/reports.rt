@@ -98,74 +98,76 @@ fn printed(rt: &impl Abort, alloc: Global, rows: &[ResultRow]) -> Result<String,
     Ok(report(alloc, rows, &shapes)?)
 }
 
-// Results of the shapes, each with the report.
-const REPORTS: [(&str, &[Parts], &str); 4] = [
-    (
-        "no result (SHACL section 3.6.1.1)",
-        &[],
-        "@prefix sh: <http://www.w3.org/ns/shacl#> .\n\
-         _:r a sh:ValidationReport .\n\
-         _:r sh:conforms true .\n",
-    ),
-    (
-        "one result",
-        &[TOO_FEW],
-        "@prefix sh: <http://www.w3.org/ns/shacl#> .\n\
-         _:r a sh:ValidationReport .\n\
-         _:r sh:conforms false .\n\
-         _:r sh:result _:r1 .\n\
-         _:r1 a sh:ValidationResult .\n\
-         _:r1 sh:focusNode <e:a> .\n\
-         _:r1 sh:resultPath <e:p> .\n\
-         _:r1 sh:resultSeverity <http://www.w3.org/ns/shacl#Violation> .\n\
-         _:r1 sh:sourceShape <e:P> .\n\
-         _:r1 sh:sourceConstraintComponent sh:MinCountConstraintComponent .\n",
-    ),
-    (
-        "the path of a property shape, and none of a node shape",
-        &[TOO_FEW, WRONG_KIND],
-        "@prefix sh: <http://www.w3.org/ns/shacl#> .\n\
-         _:r a sh:ValidationReport .\n\
-         _:r sh:conforms false .\n\
-         _:r sh:result _:r1 .\n\
-         _:r1 a sh:ValidationResult .\n\
-         _:r1 sh:focusNode <e:a> .\n\
-         _:r1 sh:resultPath <e:p> .\n\
-         _:r1 sh:resultSeverity <http://www.w3.org/ns/shacl#Violation> .\n\
-         _:r1 sh:sourceShape <e:P> .\n\
-         _:r1 sh:sourceConstraintComponent sh:MinCountConstraintComponent .\n\
-         _:r sh:result _:r2 .\n\
-         _:r2 a sh:ValidationResult .\n\
-         _:r2 sh:focusNode \"x\" .\n\
-         _:r2 sh:value \"x\" .\n\
-         _:r2 sh:resultSeverity <http://www.w3.org/ns/shacl#Violation> .\n\
-         _:r2 sh:sourceShape _:s1x2 .\n\
-         _:r2 sh:sourceConstraintComponent sh:NodeKindConstraintComponent .\n",
-    ),
-    (
-        "the predicate that a closed shape doesn't allow as the path",
-        &[NOT_ALLOWED],
-        "@prefix sh: <http://www.w3.org/ns/shacl#> .\n\
-         _:r a sh:ValidationReport .\n\
-         _:r sh:conforms false .\n\
-         _:r sh:result _:r1 .\n\
-         _:r1 a sh:ValidationResult .\n\
-         _:r1 sh:focusNode <e:a> .\n\
-         _:r1 sh:resultPath <e:q> .\n\
-         _:r1 sh:value \"x\" .\n\
-         _:r1 sh:resultSeverity <http://www.w3.org/ns/shacl#Violation> .\n\
-         _:r1 sh:sourceShape <e:P> .\n\
-         _:r1 sh:sourceConstraintComponent sh:ClosedConstraintComponent .\n",
-    ),
-];
+// No result (SHACL section 3.6.1.1).
+const NO_RESULT: &str = "@prefix sh: <http://www.w3.org/ns/shacl#> .
+_:r a sh:ValidationReport .
+_:r sh:conforms true .
+";
+
+// One result.
+const ONE_RESULT: &str = "@prefix sh: <http://www.w3.org/ns/shacl#> .
+_:r a sh:ValidationReport .
+_:r sh:conforms false .
+_:r sh:result _:r1 .
+_:r1 a sh:ValidationResult .
+_:r1 sh:focusNode <e:a> .
+_:r1 sh:resultPath <e:p> .
+_:r1 sh:resultSeverity <http://www.w3.org/ns/shacl#Violation> .
+_:r1 sh:sourceShape <e:P> .
+_:r1 sh:sourceConstraintComponent sh:MinCountConstraintComponent .
+";
+
+// The path of a property shape, and none of a node shape.
+const TWO_RESULTS: &str = "@prefix sh: <http://www.w3.org/ns/shacl#> .
+_:r a sh:ValidationReport .
+_:r sh:conforms false .
+_:r sh:result _:r1 .
+_:r1 a sh:ValidationResult .
+_:r1 sh:focusNode <e:a> .
+_:r1 sh:resultPath <e:p> .
+_:r1 sh:resultSeverity <http://www.w3.org/ns/shacl#Violation> .
+_:r1 sh:sourceShape <e:P> .
+_:r1 sh:sourceConstraintComponent sh:MinCountConstraintComponent .
+_:r sh:result _:r2 .
+_:r2 a sh:ValidationResult .
+_:r2 sh:focusNode \"x\" .
+_:r2 sh:value \"x\" .
+_:r2 sh:resultSeverity <http://www.w3.org/ns/shacl#Violation> .
+_:r2 sh:sourceShape _:s1x2 .
+_:r2 sh:sourceConstraintComponent sh:NodeKindConstraintComponent .
+";
+
+// The predicate that a closed shape doesn't allow as the path.
+const OTHER_PATH: &str = "@prefix sh: <http://www.w3.org/ns/shacl#> .
+_:r a sh:ValidationReport .
+_:r sh:conforms false .
+_:r sh:result _:r1 .
+_:r1 a sh:ValidationResult .
+_:r1 sh:focusNode <e:a> .
+_:r1 sh:resultPath <e:q> .
+_:r1 sh:value \"x\" .
+_:r1 sh:resultSeverity <http://www.w3.org/ns/shacl#Violation> .
+_:r1 sh:sourceShape <e:P> .
+_:r1 sh:sourceConstraintComponent sh:ClosedConstraintComponent .
+";
+
+fn assert_report(
+    rt: &impl Abort,
+    alloc: Global,
+    table: &[Parts],
+    expected: &str,
+) -> Result<(), Fail> {
+    let rows = rows(alloc, table)?;
+    let text = printed(rt, alloc, rows.as_slice())?;
+    assert_eq!(rt; text.as_str(), expected);
+    Ok(())
+}
 
 #[test]
 fn reports(rt: HostRuntime) -> Result<(), Fail> {
     let alloc = rt.alloc();
-    for (name, table, expected) in REPORTS {
-        let rows = rows(alloc, table)?;
-        let text = printed(&rt, alloc, rows.as_slice())?;
-        assert_eq!(rt; text.as_str(), expected, "{name}");
-    }
-    Ok(())
+    assert_report(&rt, alloc, &[], NO_RESULT)?;
+    assert_report(&rt, alloc, &[TOO_FEW], ONE_RESULT)?;
+    assert_report(&rt, alloc, &[TOO_FEW, WRONG_KIND], TWO_RESULTS)?;
+    assert_report(&rt, alloc, &[NOT_ALLOWED], OTHER_PATH)
 }

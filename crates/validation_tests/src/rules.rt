@@ -1,230 +1,61 @@
-use crate::short_forms::{Shorts, optional_term, push_optional, term, triples};
+use crate::short_forms::{graph_and_rule, term, text_of_rule};
 use collections::sorted_once;
 use rdf_model::{Term, Text, Triple};
 use shape_rules::{RuleRow, least_broken};
 use std::alloc::{AllocError, Global};
+use std::process::Abort;
 use std::test::Fail;
 
-// A shapes graph, and the node, the rule and the value of the broken rule that is reported; an empty text is
-// no value, and rule 0 none.
-type Case = (&'static [Shorts], &'static str, u8, &'static str);
-
-const CASES: [Case; 42] = [
-    (
-        &[("e:S", "sh:datatype", "e:a"), ("e:S", "sh:datatype", "e:b")],
-        "e:S",
-        1,
-        "sh:datatype",
-    ),
-    (
-        &[("e:S", "sh:class", "e:a"), ("e:S", "sh:class", "e:b")],
-        "",
-        0,
-        "",
-    ),
-    (&[("e:S", "sh:targetNode", "_1")], "e:S", 2, "_1"),
-    (&[("e:S", "sh:targetClass", "\"x")], "e:S", 3, "\"x"),
-    (
-        &[
-            ("_1", "sh:closed", "%true"),
-            ("_1", "rdf:type", "rdfs:Class"),
-        ],
-        "_1",
-        4,
-        "",
-    ),
-    (&[("e:S", "sh:targetSubjectsOf", "'1")], "e:S", 5, "'1"),
-    (&[("e:S", "sh:targetObjectsOf", "_1")], "e:S", 6, "_1"),
-    (
-        &[
-            ("e:S", "sh:targetNode", "e:a"),
-            ("e:S", "sh:severity", "\"x"),
-        ],
-        "e:S",
-        7,
-        "\"x",
-    ),
-    (&[("e:S", "sh:severity", "\"x")], "", 0, ""),
-    (
-        &[
-            ("e:S", "sh:targetNode", "e:a"),
-            ("e:S", "sh:message", "e:m"),
-        ],
-        "e:S",
-        8,
-        "e:m",
-    ),
-    (
-        &[
-            ("e:S", "sh:targetNode", "e:a"),
-            ("e:S", "sh:deactivated", "%1"),
-        ],
-        "e:S",
-        9,
-        "%1",
-    ),
-    (
-        &[
-            ("e:S", "sh:path", "e:p"),
-            ("e:S", "rdf:type", "sh:NodeShape"),
-        ],
-        "e:S",
-        10,
-        "",
-    ),
-    (
-        &[
-            ("e:S", "rdf:type", "e:c"),
-            ("e:c", "rdfs:subClassOf", "sh:PropertyShape"),
-        ],
-        "e:S",
-        11,
-        "",
-    ),
-    (
-        &[("e:S", "sh:path", "\"p"), ("e:S", "sh:targetNode", "e:a")],
-        "e:S",
-        12,
-        "\"p",
-    ),
-    (&[("e:S", "sh:class", "\"x")], "e:S", 13, "\"x"),
-    (&[("e:S", "sh:datatype", "_1")], "e:S", 14, "_1"),
-    (&[("e:S", "sh:nodeKind", "sh:Iri")], "e:S", 15, "sh:Iri"),
-    (
-        &[("e:S", "sh:path", "e:p"), ("e:S", "sh:maxCount", "\"1")],
-        "e:S",
-        16,
-        "\"1",
-    ),
-    (
-        &[("e:S", "sh:path", "e:p"), ("e:S", "sh:minCount", "'+01")],
-        "",
-        0,
-        "",
-    ),
-    (&[("e:S", "sh:minCount", "'1")], "e:S", 17, "sh:minCount"),
-    (&[("e:S", "sh:minInclusive", "e:x")], "e:S", 18, "e:x"),
-    (&[("e:S", "sh:minLength", "'x")], "e:S", 19, "'x"),
-    (&[("e:S", "sh:pattern", "e:x")], "e:S", 20, "e:x"),
-    (&[("e:S", "sh:flags", "\"ig")], "e:S", 21, "\"ig"),
-    (&[("e:S", "sh:in", "e:x")], "e:S", 23, "e:x"),
-    (
-        &[
-            ("e:S", "sh:languageIn", "_1"),
-            ("_1", "rdf:first", "e:x"),
-            ("_1", "rdf:rest", "rdf:nil"),
-        ],
-        "e:S",
-        24,
-        "e:x",
-    ),
-    (
-        &[
-            ("e:S", "sh:path", "e:p"),
-            ("e:S", "sh:uniqueLang", "\"true"),
-        ],
-        "e:S",
-        25,
-        "\"true",
-    ),
-    (
-        &[("e:S", "sh:path", "e:p"), ("e:S", "sh:uniqueLang", "%1")],
-        "",
-        0,
-        "",
-    ),
-    (&[("e:S", "sh:disjoint", "\"x")], "e:S", 26, "\"x"),
-    (
-        &[("e:S", "sh:path", "e:p"), ("e:S", "sh:lessThan", "\"x")],
-        "e:S",
-        27,
-        "\"x",
-    ),
-    (&[("e:S", "sh:not", "\"x")], "e:S", 28, "\"x"),
-    (
-        &[
-            ("e:S", "sh:and", "_1"),
-            ("_1", "rdf:first", "e:x"),
-            ("_1", "rdf:rest", "_1"),
-        ],
-        "e:S",
-        29,
-        "_1",
-    ),
-    (
-        &[
-            ("e:S", "sh:or", "_1"),
-            ("_1", "rdf:first", "\"x"),
-            ("_1", "rdf:rest", "rdf:nil"),
-        ],
-        "e:S",
-        30,
-        "\"x",
-    ),
-    (&[("e:S", "sh:node", "\"x")], "e:S", 31, "\"x"),
-    (&[("e:S", "sh:property", "e:Q")], "e:S", 32, "e:Q"),
-    (
-        &[
-            ("e:S", "sh:path", "e:p"),
-            ("e:S", "sh:qualifiedValueShape", "\"x"),
-        ],
-        "e:S",
-        33,
-        "\"x",
-    ),
-    (
-        &[
-            ("e:S", "sh:path", "e:p"),
-            ("e:S", "sh:qualifiedMinCount", "\"1"),
-        ],
-        "e:S",
-        34,
-        "\"1",
-    ),
-    (
-        &[("e:S", "sh:qualifiedValueShapesDisjoint", "\"x")],
-        "e:S",
-        35,
-        "\"x",
-    ),
-    (&[("e:S", "sh:closed", "%yes")], "e:S", 36, "%yes"),
-    (
-        &[
-            ("e:S", "sh:ignoredProperties", "_1"),
-            ("_1", "rdf:first", "\"x"),
-            ("_1", "rdf:rest", "rdf:nil"),
-        ],
-        "e:S",
-        37,
-        "_1",
-    ),
-    (&[("e:n", "sh:sparql", "e:q")], "e:n", 39, "sh:sparql"),
-    (
-        &[("e:n", "rdf:type", "sh:ConstraintComponent")],
-        "e:n",
-        39,
-        "sh:ConstraintComponent",
-    ),
-];
+// Shapes graphs, each with the node, the rule and the value of the broken rule that is reported, if one is.
+const CASES: &str = "e:S sh:datatype e:a; e:S sh:datatype e:b => e:S 1 sh:datatype
+e:S sh:class e:a; e:S sh:class e:b =>
+e:S sh:targetNode _1 => e:S 2 _1
+e:S sh:targetClass \"x => e:S 3 \"x
+_1 sh:closed %true; _1 rdf:type rdfs:Class => _1 4
+e:S sh:targetSubjectsOf '1 => e:S 5 '1
+e:S sh:targetObjectsOf _1 => e:S 6 _1
+e:S sh:targetNode e:a; e:S sh:severity \"x => e:S 7 \"x
+e:S sh:severity \"x =>
+e:S sh:targetNode e:a; e:S sh:message e:m => e:S 8 e:m
+e:S sh:targetNode e:a; e:S sh:deactivated %1 => e:S 9 %1
+e:S sh:path e:p; e:S rdf:type sh:NodeShape => e:S 10
+e:S rdf:type e:c; e:c rdfs:subClassOf sh:PropertyShape => e:S 11
+e:S sh:path \"p; e:S sh:targetNode e:a => e:S 12 \"p
+e:S sh:class \"x => e:S 13 \"x
+e:S sh:datatype _1 => e:S 14 _1
+e:S sh:nodeKind sh:Iri => e:S 15 sh:Iri
+e:S sh:path e:p; e:S sh:maxCount \"1 => e:S 16 \"1
+e:S sh:path e:p; e:S sh:minCount '+01 =>
+e:S sh:minCount '1 => e:S 17 sh:minCount
+e:S sh:minInclusive e:x => e:S 18 e:x
+e:S sh:minLength 'x => e:S 19 'x
+e:S sh:pattern e:x => e:S 20 e:x
+e:S sh:flags \"ig => e:S 21 \"ig
+e:S sh:in e:x => e:S 23 e:x
+e:S sh:languageIn _1; _1 rdf:first e:x; _1 rdf:rest rdf:nil => e:S 24 e:x
+e:S sh:path e:p; e:S sh:uniqueLang \"true => e:S 25 \"true
+e:S sh:path e:p; e:S sh:uniqueLang %1 =>
+e:S sh:disjoint \"x => e:S 26 \"x
+e:S sh:path e:p; e:S sh:lessThan \"x => e:S 27 \"x
+e:S sh:not \"x => e:S 28 \"x
+e:S sh:and _1; _1 rdf:first e:x; _1 rdf:rest _1 => e:S 29 _1
+e:S sh:or _1; _1 rdf:first \"x; _1 rdf:rest rdf:nil => e:S 30 \"x
+e:S sh:node \"x => e:S 31 \"x
+e:S sh:property e:Q => e:S 32 e:Q
+e:S sh:path e:p; e:S sh:qualifiedValueShape \"x => e:S 33 \"x
+e:S sh:path e:p; e:S sh:qualifiedMinCount \"1 => e:S 34 \"1
+e:S sh:qualifiedValueShapesDisjoint \"x => e:S 35 \"x
+e:S sh:closed %yes => e:S 36 %yes
+e:S sh:ignoredProperties _1; _1 rdf:first \"x; _1 rdf:rest rdf:nil => e:S 37 _1
+e:n sh:sparql e:q => e:n 39 sh:sparql
+e:n rdf:type sh:ConstraintComponent => e:n 39 sh:ConstraintComponent";
 
 // The row in one line.
 fn text_of(alloc: Global, row: &Option<RuleRow>) -> Result<String, AllocError> {
-    let mut text = String::new(alloc);
-    if let Some(RuleRow { node, rule, value }) = row {
-        write!(text, "{node} {rule}")?;
-        push_optional(&mut text, value)?;
+    match row {
+        Some(RuleRow { node, rule, value }) => text_of_rule(alloc, node, *rule, value),
+        None => Ok(String::new(alloc)),
     }
-    Ok(text)
-}
-
-fn expected(alloc: Global, case: &Case) -> Result<String, AllocError> {
-    let (_, node, rule, value) = *case;
-    if rule == 0 {
-        return Ok(String::new(alloc));
-    }
-    let node = term(alloc, node)?;
-    let value = optional_term(alloc, value)?;
-    text_of(alloc, &Some(RuleRow { node, rule, value }))
 }
 
 fn least(alloc: Global, graph: Vec<Triple>) -> Result<Option<RuleRow>, AllocError> {
@@ -232,13 +63,17 @@ fn least(alloc: Global, graph: Vec<Triple>) -> Result<Option<RuleRow>, AllocErro
     least_broken(alloc, sorted.as_slice())
 }
 
+fn assert_rule(rt: &impl Abort, alloc: Global, line: &str) -> Result<(), AllocError> {
+    let (graph, expected) = graph_and_rule(alloc, line)?;
+    let found = text_of(alloc, &least(alloc, graph)?)?;
+    assert_eq!(rt; found.as_str(), expected.as_str(), "{line}");
+    Ok(())
+}
+
 #[test]
 fn rules_by_number(rt: HostRuntime) -> Result<(), Fail> {
-    let alloc = rt.alloc();
-    for case in &CASES {
-        let found = text_of(alloc, &least(alloc, triples(alloc, case.0)?)?)?;
-        let row = expected(alloc, case)?;
-        assert_eq!(rt; found.as_str(), row.as_str(), "rule {} {}", case.2, case.3);
+    for line in CASES.lines() {
+        assert_rule(&rt, rt.alloc(), line)?;
     }
     Ok(())
 }

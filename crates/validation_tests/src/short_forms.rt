@@ -64,24 +64,70 @@ pub(crate) fn optional_term(alloc: Global, short: &str) -> Result<Option<Term>, 
     Ok(Some(term(alloc, short)?))
 }
 
-// Subject, predicate and object.
-pub(crate) type Shorts = (&'static str, &'static str, &'static str);
+fn part(alloc: Global, short: Option<&str>) -> Result<Term, AllocError> {
+    match short {
+        Some(short) => term(alloc, short),
+        None => iri(alloc, "e:missing"),
+    }
+}
 
-fn triple(alloc: Global, shorts: &Shorts) -> Result<Triple, AllocError> {
-    let (subject, predicate, object) = *shorts;
+// Subject, predicate and object, with blanks between them.
+fn triple(alloc: Global, line: &str) -> Result<Triple, AllocError> {
+    let mut parts = line.trim().split(' ');
     Ok(Triple {
-        subject: term(alloc, subject)?,
-        predicate: term(alloc, predicate)?,
-        object: term(alloc, object)?,
+        subject: part(alloc, parts.next())?,
+        predicate: part(alloc, parts.next())?,
+        object: part(alloc, parts.next())?,
     })
 }
 
-pub(crate) fn triples(alloc: Global, rows: &[Shorts]) -> Result<Vec<Triple>, AllocError> {
+// The triples of a line, with semicolons between them.
+pub(crate) fn graph_of_line(alloc: Global, line: &str) -> Result<Vec<Triple>, AllocError> {
     let mut triples = Vec::new(alloc);
-    for shorts in rows {
-        triples.push(triple(alloc, shorts)?)?;
+    if line.is_empty() {
+        return Ok(triples);
+    }
+    for short in line.split(';') {
+        triples.push(triple(alloc, short)?)?;
     }
     Ok(triples)
+}
+
+// Node, rule and value of a broken rule in one line.
+pub(crate) fn text_of_rule(
+    alloc: Global,
+    node: &Term,
+    rule: u8,
+    value: &Option<Term>,
+) -> Result<String, AllocError> {
+    let mut text = format!(in alloc; "{node} {rule}")?;
+    push_optional(&mut text, value)?;
+    Ok(text)
+}
+
+// The same by short forms; nothing, where there are none.
+fn rule_of(alloc: Global, shorts: &str) -> Result<String, AllocError> {
+    let mut text = String::new(alloc);
+    let mut parts = shorts.trim().split(' ');
+    let node = parts.next().unwrap_or("");
+    if node.is_empty() {
+        return Ok(text);
+    }
+    write!(text, "{}", term(alloc, node)?)?;
+    write!(text, " {}", parts.next().unwrap_or(""))?;
+    push_optional(&mut text, &optional_term(alloc, parts.next().unwrap_or(""))?)?;
+    Ok(text)
+}
+
+// A line of a table: a shapes graph, `=>`, and the broken rule that is reported, if one is.
+pub(crate) fn graph_and_rule(
+    alloc: Global,
+    line: &str,
+) -> Result<(Vec<Triple>, String), AllocError> {
+    match line.split_once(" =>") {
+        Some((graph, rule)) => Ok((graph_of_line(alloc, graph)?, rule_of(alloc, rule)?)),
+        None => Ok((graph_of_line(alloc, line)?, String::new(alloc))),
+    }
 }
 
 pub(crate) fn push_optional(text: &mut String, term: &Option<Term>) -> Result<(), AllocError> {
