@@ -7,6 +7,7 @@ use outside::{MemFile, MemFiles, MemSink, OpenGate, RegexMaker};
 use std::test::Fail;
 
 const FIRST_RUN: &[u8] = b"begin\nadd ntriples\n<e:a> <e:p> <e:b> .\n%%\ncommit\n";
+
 const PRINTED: &[u8] = b"session 1\nbegin 0\nadd 1\ncommit 1\nhistory 1 1 1 1 1\n";
 
 // Runs the first session by its name, where these loads fail, and these calls of a sink that takes so many bytes a call.
@@ -47,7 +48,11 @@ fn prints_what_the_devices_allow(rt: HostRuntime) -> Result<(), Fail> {
         let writes = vec![in rt.alloc(); write]?;
         let (ended, out) = run_first(&rt, loads, 8, writes)?;
         assert_eq!(rt; ended, status, "load {load}, write {write}");
-        assert_eq!(rt; out.taken(), &PRINTED[..taken], "load {load}, write {write}");
+        assert_eq!(rt;
+            out.taken(),
+            &PRINTED[..taken],
+            "load {load}, write {write}"
+        );
         assert_eq!(rt; out.calls(), calls, "load {load}, write {write}");
     }
     Ok(())

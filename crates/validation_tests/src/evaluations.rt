@@ -323,10 +323,17 @@ fn objects_of(alloc: Global, letters: &str) -> Result<Vec<u32>, AllocError> {
 
 // The look, and the one result where the count isn't met.
 fn expected_of(alloc: Global, bound: &str, answer: &str) -> Result<String, AllocError> {
-    let component = if bound == "least" { "MinCount" } else { "MaxCount" };
+    let component = if bound == "least" {
+        "MinCount"
+    } else {
+        "MaxCount"
+    };
     let mut text = String::from_str(alloc, LOOK)?;
     if answer == "broken" {
-        write!(text, "<e:P> <e:a> {component} \"1\"^^<http://www.w3.org/2001/XMLSchema#integer> - - -\n")?;
+        write!(
+            text,
+            "<e:P> <e:a> {component} \"1\"^^<http://www.w3.org/2001/XMLSchema#integer> - - -\n"
+        )?;
     }
     Ok(text)
 }

@@ -65,7 +65,11 @@ fn text_of(alloc: Global, row: &Option<BrokenRule>) -> Result<String, AllocError
 fn assert_broken(rt: &impl Abort, alloc: Global, line: &str) -> Result<(), AllocError> {
     let (graph, expected) = graph_and_rule(alloc, line)?;
     let found = least_broken(alloc, graph.as_slice())?;
-    assert_eq!(rt; text_of(alloc, &found)?.as_str(), expected.as_str(), "{line}");
+    assert_eq!(rt;
+        text_of(alloc, &found)?.as_str(),
+        expected.as_str(),
+        "{line}"
+    );
     let refused = refusal(alloc, graph.as_slice());
     assert_eq!(rt; refused, found, "{line}");
     Ok(())
@@ -167,7 +171,8 @@ const COMPILED: [Summary; 3] = [
     ("e:b", true, 0, 2, &[]),
 ];
 
-const COMPILED_GRAPH: &str = "e:a sh:targetNode e:x; e:b sh:maxCount '3; e:a sh:targetNode \"x; e:b sh:path e:p; \
+const COMPILED_GRAPH: &str =
+    "e:a sh:targetNode e:x; e:b sh:maxCount '3; e:a sh:targetNode \"x; e:b sh:path e:p; \
     e:a sh:targetSubjectsOf e:q; e:b sh:minCount '2; e:a sh:nodeKind sh:IRI; _1 sh:path e:q; e:a sh:property _1; \
     e:a sh:property e:b; _1 sh:nodeKind sh:Literal; e:x e:p e:y";
 
@@ -200,7 +205,8 @@ fn compiled_shapes(rt: HostRuntime) -> Result<(), Fail> {
 }
 
 // A list of two, and a node of a class below another.
-const LIST_AND_CLASS: &str = "_1 rdf:first e:a; _1 rdf:rest _2; _2 rdf:first e:a; _2 rdf:rest rdf:nil; \
+const LIST_AND_CLASS: &str =
+    "_1 rdf:first e:a; _1 rdf:rest _2; _2 rdf:first e:a; _2 rdf:rest rdf:nil; \
     e:x rdf:type e:c; e:c rdfs:subClassOf e:d";
 
 // How many members the list has that begins at the node, if one does.

@@ -115,7 +115,10 @@ fn rule_of(alloc: Global, shorts: &str) -> Result<String, AllocError> {
     }
     write!(text, "{}", term(alloc, node)?)?;
     write!(text, " {}", parts.next().unwrap_or(""))?;
-    push_optional(&mut text, &optional_term(alloc, parts.next().unwrap_or(""))?)?;
+    push_optional(
+        &mut text,
+        &optional_term(alloc, parts.next().unwrap_or(""))?,
+    )?;
     Ok(text)
 }
 
