@@ -1,6 +1,6 @@
 -- The results of a graph, shape by shape and target by target.
-use Rattle.std.proofs.Common.{◌≡◌, ◌∙◌, ℕ, ◌+◌, ◌<◌, ◌≤◌, List, [], ◌++◌, length, map, take, get_or, refl, sym, ap, subst, arith, inl, inr}
-use Rattle.std.specs.Prelude.{◌↔◌, Some, slice_get}
+use Rattle.std.proofs.Common.{◌≡◌, ◌∙◌, ℕ, ◌+◌, ◌<◌, ◌≤◌, List, [], ◌++◌, length, take, get_or, refl, sym, ap, subst, arith, inl, inr}
+use Rattle.std.specs.Prelude.{Some, slice_get}
 use Rattle.std.specs.List.{All, Contains}
 use Rattle.std.specs.Ordering.{nat_cmp}
 use Rattle.std.proofs.lemmas.Option.{slice_get-get_or, slice_get-map, slice_get_cases}
@@ -8,21 +8,16 @@ use Rattle.std.specs.Option.{option_map}
 use Rattle.std.proofs.lemmas.List.{length-map}
 use Rattle.collections.specs.Listings.{IsListing}
 use Rattle.rdf_model.specs.declared.term.Term.{Term}
-use Rattle.rdf_model.specs.declared.triple.Triple.{Triple}
 use Rattle.rdf_model.specs.declared.ids.Ids.{Ids}
 use Rattle.rdf_model.specs.Numbers.{AreNumbered, IsNumbering, graph_of, term_at}
 use Rattle.shape_model.specs.declared.result_row.ResultRow.{ResultRow}
-use Rattle.shape_model.specs.Readings.{reading}
 use Rattle.shape_model.specs.Rows.{result_row_cmp}
-use Rattle.shape_model.specs.Targets.{Target}
-use Rattle.shape_model.specs.Validation.{At, IsResult, Listing}
-use Rattle.shape_model.specs.WellFormed.{IsWellFormed}
+use Rattle.shape_model.specs.Validation.{At, IsResult}
 use Rattle.shape_model.proofs.Bridges.{makes_shape}
 use Rattle.shape_model.proofs.Covers.{has_target}
 use Rattle.shape_model.proofs.Listings.{listing_same}
 use Rattle.shape_ast.specs.declared.shape.Shape.{Shape}
 use Rattle.shape_ast.specs.Naming.{named_shape, named_shapes, target_number}
-use Rattle.shape_ast.specs.Standing.{StandFor}
 use Rattle.shape_eval.specs.CompiledRows.{Collects, FromSome}
 use Rattle.shape_eval.specs.Results.{ListsResults}
 use Rattle.shape_eval.proofs.Rows.{collects_same, from_none, loop_more, loop_end}

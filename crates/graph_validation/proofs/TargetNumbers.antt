@@ -1,7 +1,7 @@
 -- The targets of a compiled shape are those of the shape by the triples of its shapes graph.
 use Rattle.std.proofs.Common.{◌≡◌, ◌∙◌, ℕ, ◌+◌, ◌<◌, ◌≤◌, List, [], ◌∷◌, ◌++◌, length, map, take, get_or, refl, sym, ap, subst, arith, inl, inr}
-use Rattle.std.specs.Prelude.{◌↔◌, ◌⊎◌, Some}
-use Rattle.std.specs.List.{All, AllByRecursion, Contains}
+use Rattle.std.specs.Prelude.{◌↔◌, ◌⊎◌}
+use Rattle.std.specs.List.{All, Contains}
 use Rattle.std.proofs.lemmas.List.{get_or_default, take_all, take_more}
 use Rattle.std.proofs.lemmas.List.Elements.{All-contains, Contains-append_cases, Contains-append_left, Contains-append_right}
 use Rattle.std.specs.Ordering.{nat_cmp}
@@ -14,14 +14,13 @@ use Rattle.rdf_model.specs.declared.look.Look.TheVariants.{Out}
 use Rattle.rdf_model.specs.Numbers.{AreNumbered, IsFound, graph_of, term_at, triple_at, IsNumbering}
 use Rattle.shape_model.specs.Readings.{SameReading, reading}
 use Rattle.shape_model.specs.Targets.{Target, TargetOf}
-use Rattle.shape_model.specs.Triples.{Has}
 use Rattle.shape_model.proofs.Bridges.{target_bridge}
 use Rattle.shape_model.proofs.Surroundings.{reading_back}
 use Rattle.shape_ast.specs.declared.shape.Shape.{Shape}
 use Rattle.shape_ast.specs.declared.shape.Target.{Target as Declared}
 use Rattle.shape_ast.specs.declared.shape.Target.TheVariants.{Node, SubjectsOf}
-use Rattle.shape_ast.specs.Naming.{IsBoundShape, named_shape, named_shapes, named_target, target_number}
-use Rattle.shape_ast.specs.Standing.{StandFor, shape_reading}
+use Rattle.shape_ast.specs.Naming.{named_shape, named_shapes, named_target, target_number}
+use Rattle.shape_ast.specs.Standing.{shape_reading}
 use Rattle.shape_eval.proofs.Numbers.{mapped_from, mapped_to, of_all}
 use Rattle.graph_validation.specs.Targets.{AreMembers, IsSubject, IsSubjectBelow, IsTargetOf, IsTargetOfSome}
 

@@ -1,5 +1,5 @@
 -- When a list of results is that of a whole graph, for each well-formed shapes graph that compiled shapes stand for.
-use Rattle.std.specs.Prelude.{◌≡◌, ◌<◌, ℕ, List, Some, slice_get, take}
+use Rattle.std.specs.Prelude.{◌≡◌, ℕ, List, Some, slice_get, take}
 use Rattle.rdf_model.specs.declared.term.Term.{Term}
 use Rattle.rdf_model.specs.declared.triple.Triple.{Triple}
 use Rattle.rdf_model.specs.declared.ids.Ids.{Ids}

@@ -1,5 +1,5 @@
 -- What the program has to print, and with which status.
-use Rattle.std.specs.Prelude.{◌≡◌, ℕ, ◌<◌, Bool, not, ◌&&◌, List, [], ◌∷◌, ◌++◌, length, Option, Some, None, Ok, Err, nat_lt, ◌==◌, if◌then◌else◌, slice_index, bytes_eq, codes}
+use Rattle.std.specs.Prelude.{◌≡◌, ℕ, ◌<◌, Bool, not, ◌&&◌, List, [], ◌∷◌, ◌++◌, length, Option, Some, None, Err, nat_lt, ◌==◌, if◌then◌else◌, slice_index, bytes_eq, codes}
 use Rattle.std.specs.Fmt.{decimal}
 use Rattle.store_model.specs.declared.event.Limits.{Limits}
 use Rattle.session_model.specs.declared.command.Command.{Command}

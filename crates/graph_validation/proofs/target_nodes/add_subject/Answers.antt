@@ -1,4 +1,4 @@
-use Rattle.std.proofs.Common.{◌≡◌, ◌∙◌, List, ℕ, [], sym, subst}
+use Rattle.std.proofs.Common.{◌≡◌, ◌∙◌, [], sym, subst}
 use Rattle.std.specs.Prelude.{MatchBool}
 use Rattle.graph_validation.proofs.TargetNumbers.{more_subject, no_subject}
 use Rattle.graph_validation.proofs.target_nodes.add_subject.Goals as goal
