@@ -1,5 +1,5 @@
 -- Lists that collect results, item by item.
-use Rattle.std.proofs.Common.{◌≡◌, ℕ, ◌+◌, ◌<◌, ◌≤◌, List, [], ◌∷◌, ◌++◌, length, map, take, get_or, refl, sym, ap, arith, subst, inl, inr}
+use Rattle.std.proofs.Common.{◌≡◌, ◌∙◌, ℕ, ◌+◌, ◌<◌, ◌≤◌, false, List, [], ◌∷◌, ◌++◌, length, map, take, get_or, refl, sym, ap, append_assoc, arith, subst, inl, inr}
 use Rattle.std.specs.Prelude.{◌↔◌}
 use Rattle.std.specs.List.{Contains}
 use Rattle.std.proofs.lemmas.List.{take_more, take_all}
@@ -88,3 +88,24 @@ about_each terms P row ns i rows le all =
     collects_same (FromSome (map (term_at terms) ns) (λ v r. P v × (r ≡ row (found_at v)))) (ForEach (at_nodes (HasNode terms ns)) row P) rows
     (λ r. (λ h. (h.0, h.1, h.2.0, h.2.1), λ h. (h.0, h.1, (h.2, h.3))))
     (loop_end (term_at terms) (λ v r. P v × (r ≡ row (found_at v))) ns i rows le all)
+
+-- results that were added before, and those of one item more
+pub grown : {X : Type 0} → (Gives : X → ResultRow → Type 0) (xs : List X) (i : ℕ) (d : X) (old rows new : List ResultRow) → i < length xs
+    → ((more : List ResultRow) × (rows ≡ old ++ more) × Collects (FromSome (take i xs) Gives) more)
+    → ((more : List ResultRow) × (new ≡ rows ++ more) × Collects (Gives (get_or xs i d)) more)
+    → (more : List ResultRow) × (new ≡ old ++ more) × Collects (FromSome (take (i + 1) xs) Gives) more
+grown {X} Gives xs i d old rows new lt h k =
+    (h.0 ++ k.0, k.1 ∙ ap (λ (rs : List ResultRow). rs ++ k.0) h.1 ∙ append_assoc old h.0 k.0, loop_more Gives xs i d h.0 (h.0 ++ k.0) lt h.2 (k.0, refl, k.2))
+
+pub all_grown : {X : Type 0} → (Gives : X → ResultRow → Type 0) (xs : List X) (i : ℕ) (old rows : List ResultRow) → length xs ≤ i
+    → ((more : List ResultRow) × (rows ≡ old ++ more) × Collects (FromSome (take i xs) Gives) more)
+    → (more : List ResultRow) × (rows ≡ old ++ more) × Collects (FromSome xs Gives) more
+all_grown {X} Gives xs i old rows le h = (h.0, h.1, subst (λ (ys : List X). Collects (FromSome ys Gives) h.0) (take_all i xs le) h.2)
+
+pub loop_all : {X : Type 0} → (Gives : X → ResultRow → Type 0) (xs : List X) (i : ℕ) (rows : List ResultRow) → length xs ≤ i → Collects (FromSome (take i xs) Gives) rows → Collects (FromSome xs Gives) rows
+loop_all {X} Gives xs i rows le h = subst (λ (ys : List X). Collects (FromSome ys Gives) rows) (take_all i xs le) h
+
+-- the one result that is added where the answer is no
+pub without_test : (row : ResultRow) (rows new : List ResultRow) → ((more : List ResultRow) × (new ≡ rows ++ more) × Collects (λ r. (false ≡ false) × (r ≡ row)) more)
+    → (more : List ResultRow) × (new ≡ rows ++ more) × Collects (λ r. r ≡ row) more
+without_test row rows new h = (h.0, h.1, collects_same (λ r. (false ≡ false) × (r ≡ row)) (λ r. r ≡ row) h.0 (λ r. (λ p. p.1, λ e. (refl, e))) h.2)

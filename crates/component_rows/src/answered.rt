@@ -85,3 +85,28 @@ pub fn refused<N: Names>(
     }
     Ok(rows)
 }
+
+/// One result about each of the nodes.
+pub fn about_each<N: Names>(
+    alloc: Global,
+    names: &N,
+    source: &Term,
+    component: Component,
+    parameter: u32,
+    focus: u32,
+    nodes: &[u32],
+) -> Result<Vec<ResultRow>, AllocError>
+    requires nodes { (n : _) → Contains nodes.now n → n < length (N.terms names.now) }
+    requires parameter { parameter < length (N.terms names.now) }
+    requires focus { focus < length (N.terms names.now) }
+    ensures { IfOk result (λ rows. Collects (λ r. (n : _) × Contains nodes.now n
+        × (r ≡ row_of component source.now (term_at (N.terms names.now) focus) (term_at (N.terms names.now) parameter) (found_at (term_at (N.terms names.now) n)))) rows.items) }
+{
+    let mut rows = Vec::new(alloc);
+    for node in nodes {
+        add_refused(
+            &mut rows, names, source, component, parameter, focus, *node, false,
+        )?;
+    }
+    Ok(rows)
+}

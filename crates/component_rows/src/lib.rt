@@ -8,6 +8,6 @@ mod answered;
 mod result;
 mod value_test;
 
-pub use answered::{is_among, refused};
+pub use answered::{about_each, is_among, refused};
 pub use result::{named, row_about, row_alone, row_beside};
 pub use value_test::{ValueTest, failing};

@@ -1,5 +1,5 @@
 -- Results of triples that a closed shape doesn't allow, edge by edge and value node by value node.
-use Rattle.std.proofs.Common.{◌≡◌, ◌∙◌, ℕ, ◌+◌, ◌<◌, ◌≤◌, List, [], ◌∷◌, ◌++◌, length, take, get_or, refl, sym, ap, arith, subst, append_assoc, inl, inr}
+use Rattle.std.proofs.Common.{◌≡◌, ◌∙◌, ℕ, ◌<◌, ◌≤◌, List, [], ◌∷◌, ◌++◌, length, take, sym, ap, arith, subst, inl, inr}
 use Rattle.std.specs.List.{Contains}
 use Rattle.std.proofs.lemmas.List.{take_all}
 use Rattle.collections.specs.Listings.{IsListing}
@@ -15,25 +15,12 @@ use Rattle.shape_model.specs.declared.result_row.ResultRow.{ResultRow}
 use Rattle.shape_model.specs.Components.{Finding, RowsOf}
 use Rattle.component_rows.specs.Listed.{Collects, found_with, with_allowed}
 use Rattle.component_rows.specs.Nodes.{AreNodes, HasNode}
-use Rattle.component_rows.proofs.Collecting.{FromSome, collects_same, loop_more, mapped_from, mapped_to}
+use Rattle.component_rows.proofs.Collecting.{FromSome, collects_same, mapped_from, mapped_to}
 use Rattle.value_constraints.specs.Closing.{in_graph, ForbiddenEdge, ForbiddenAt}
 
 -- the results of all edges of a value node
 abbrev pub ForbiddenOf : List Term → List Ids → (Finding → ResultRow) → List ℕ → ℕ → ResultRow → Type 0
 ForbiddenOf terms ids row allowed value r = (e : ℕ × ℕ) × IsEdge ids value e × ForbiddenEdge terms row allowed value e r
-
--- results that were added before, and those of one item more
-pub grown : {X : Type 0} → (Gives : X → ResultRow → Type 0) (xs : List X) (i : ℕ) (d : X) (old rows new : List ResultRow) → i < length xs
-    → ((more : List ResultRow) × (rows ≡ old ++ more) × Collects (FromSome (take i xs) Gives) more)
-    → ((more : List ResultRow) × (new ≡ rows ++ more) × Collects (Gives (get_or xs i d)) more)
-    → (more : List ResultRow) × (new ≡ old ++ more) × Collects (FromSome (take (i + 1) xs) Gives) more
-grown {X} Gives xs i d old rows new lt h k =
-    (h.0 ++ k.0, k.1 ∙ ap (λ (rs : List ResultRow). rs ++ k.0) h.1 ∙ append_assoc old h.0 k.0, loop_more Gives xs i d h.0 (h.0 ++ k.0) lt h.2 (k.0, refl, k.2))
-
-pub all_grown : {X : Type 0} → (Gives : X → ResultRow → Type 0) (xs : List X) (i : ℕ) (old rows : List ResultRow) → length xs ≤ i
-    → ((more : List ResultRow) × (rows ≡ old ++ more) × Collects (FromSome (take i xs) Gives) more)
-    → (more : List ResultRow) × (rows ≡ old ++ more) × Collects (FromSome xs Gives) more
-all_grown {X} Gives xs i old rows le h = (h.0, h.1, subst (λ (ys : List X). Collects (FromSome ys Gives) h.0) (take_all i xs le) h.2)
 
 module _ (terms : List Term) (numbering : IsNumbering terms) (ids : List Ids) (numbered : AreNumbered terms ids) where
   all_in : (is : List Ids) → AreNumbered terms is → (i : Ids) → Contains is i → (i.subject < length terms) × (i.predicate < length terms) × (i.object < length terms)

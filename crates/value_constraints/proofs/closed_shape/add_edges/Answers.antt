@@ -4,7 +4,7 @@ use Rattle.rdf_model.specs.Numbers.{term_at}
 use Rattle.shape_model.specs.declared.component.Component.TheVariants as components
 use Rattle.shape_model.specs.Components.{row_of}
 use Rattle.value_constraints.specs.Closing.{ForbiddenEdge}
-use Rattle.value_constraints.proofs.Closings.{grown, all_grown}
+use Rattle.component_rows.proofs.Collecting.{grown, all_grown}
 use Rattle.value_constraints.proofs.closed_shape.add_edges.Goals as goal
 
 pub add_edge-requires-clause-edge : goal.add_edge-requires-clause-edge
