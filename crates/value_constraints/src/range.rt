@@ -1,7 +1,9 @@
 ghost use Rattle.std.specs.Prelude.{◌<◌, IfOk, length};
 ghost use Rattle.rdf_model.specs.Numbers.{term_at};
 ghost use Rattle.shape_model.specs.declared.component.Component.TheVariants as components;
-ghost use Rattle.component_rows.specs.Listed.{ListsRows, at_nodes, untold};
+ghost use Rattle.component_rows.specs.Listed.{Collects, ListsRows, at_nodes, untold};
+ghost use Rattle.shape_model.specs.Components.{ForEach, row_of};
+ghost use Rattle.value_constraints.specs.Ranges.{IsWithin};
 ghost use Rattle.component_rows.specs.Nodes.{AreNodes, HasNode};
 
 use component_rows::{ValueTest, failing, named};
@@ -27,8 +29,6 @@ struct InRange<'a> {
 }
 
 impl ValueTest for InRange<'_> {
-    ghost use Rattle.value_constraints.specs.Ranges.{IsWithin};
-
     ghost accepts = { λ t v. IsWithin t.side t.bound.now v };
 
     fn passes(&self, value: &Term) -> bool {
@@ -40,6 +40,31 @@ impl ValueTest for InRange<'_> {
         };
         matches!(answer, Some(true))
     }
+}
+
+// One result about each value node that doesn't lie on that side of the bound.
+fn outside<N: Names>(
+    alloc: Global,
+    names: &N,
+    source: &Term,
+    component: Component,
+    side: Side,
+    parameter: u32,
+    focus: u32,
+    values: &[u32],
+) -> Result<Vec<ResultRow>, AllocError>
+    requires nodes { AreNodes (N.terms names.now) values.now }
+    requires parameter { parameter < length (N.terms names.now) }
+    requires focus { focus < length (N.terms names.now) }
+    ensures { IfOk result (λ rows. Collects (ForEach (at_nodes (HasNode (N.terms names.now) values.now))
+        (row_of component source.now (term_at (N.terms names.now) focus) (term_at (N.terms names.now) parameter))
+        (λ v. IsWithin side (term_at (N.terms names.now) parameter) v → ⊥)) rows.items) }
+{
+    let bound = named(names, parameter);
+    let test = InRange { side, bound };
+    failing(
+        alloc, names, source, component, parameter, focus, values, &test,
+    )
 }
 
 /// The results of sh:minExclusive (SHACL section 4.3.1): one about each value node, unless the bound is less than it.
@@ -57,13 +82,9 @@ pub fn min_exclusive<N: Names>(
     ensures { IfOk result (λ rows. ListsRows components.MinExclusive (at_nodes (HasNode (N.terms names.now) values.now)) untold
         source.now (term_at (N.terms names.now) focus) (term_at (N.terms names.now) parameter) rows.items) }
 {
-    let test = InRange {
-        side: Side::Above,
-        bound: named(names, parameter),
-    };
-    let component = Component::MinExclusive;
-    failing(
-        alloc, names, source, component, parameter, focus, values, &test,
+    let (component, side) = (Component::MinExclusive, Side::Above);
+    outside(
+        alloc, names, source, component, side, parameter, focus, values,
     )
 }
 
@@ -82,13 +103,9 @@ pub fn min_inclusive<N: Names>(
     ensures { IfOk result (λ rows. ListsRows components.MinInclusive (at_nodes (HasNode (N.terms names.now) values.now)) untold
         source.now (term_at (N.terms names.now) focus) (term_at (N.terms names.now) parameter) rows.items) }
 {
-    let test = InRange {
-        side: Side::AtLeast,
-        bound: named(names, parameter),
-    };
-    let component = Component::MinInclusive;
-    failing(
-        alloc, names, source, component, parameter, focus, values, &test,
+    let (component, side) = (Component::MinInclusive, Side::AtLeast);
+    outside(
+        alloc, names, source, component, side, parameter, focus, values,
     )
 }
 
@@ -107,13 +124,9 @@ pub fn max_exclusive<N: Names>(
     ensures { IfOk result (λ rows. ListsRows components.MaxExclusive (at_nodes (HasNode (N.terms names.now) values.now)) untold
         source.now (term_at (N.terms names.now) focus) (term_at (N.terms names.now) parameter) rows.items) }
 {
-    let test = InRange {
-        side: Side::Below,
-        bound: named(names, parameter),
-    };
-    let component = Component::MaxExclusive;
-    failing(
-        alloc, names, source, component, parameter, focus, values, &test,
+    let (component, side) = (Component::MaxExclusive, Side::Below);
+    outside(
+        alloc, names, source, component, side, parameter, focus, values,
     )
 }
 
@@ -132,12 +145,8 @@ pub fn max_inclusive<N: Names>(
     ensures { IfOk result (λ rows. ListsRows components.MaxInclusive (at_nodes (HasNode (N.terms names.now) values.now)) untold
         source.now (term_at (N.terms names.now) focus) (term_at (N.terms names.now) parameter) rows.items) }
 {
-    let test = InRange {
-        side: Side::AtMost,
-        bound: named(names, parameter),
-    };
-    let component = Component::MaxInclusive;
-    failing(
-        alloc, names, source, component, parameter, focus, values, &test,
+    let (component, side) = (Component::MaxInclusive, Side::AtMost);
+    outside(
+        alloc, names, source, component, side, parameter, focus, values,
     )
 }
