@@ -1,2 +1,3 @@
 pub mod Nodes
 pub mod Listed
+pub mod Answers
