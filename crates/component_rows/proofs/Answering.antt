@@ -38,7 +38,7 @@ rising (x ∷ xs) s zero (suc j) h k = less_from x (get_or xs j 0) (below nat_cm
 rising (x ∷ xs) s (suc i) (suc j) h k = rising xs s.1 i j (omega arith) (omega arith)
 
 -- each stands at one place
-at_one_place : (xs : List ℕ) → IsAscending nat_cmp xs → (i j : ℕ) → i < length xs → j < length xs → get_or xs i 0 ≡ get_or xs j 0 → i ≡ j
+pub at_one_place : (xs : List ℕ) → IsAscending nat_cmp xs → (i j : ℕ) → i < length xs → j < length xs → get_or xs i 0 ≡ get_or xs j 0 → i ≡ j
 at_one_place xs s i j h k e = by_tests (nat_lt i j) (nat_lt j i) refl refl
   where
     by_tests : (t u : Bool) → nat_lt i j ≡ t → nat_lt j i ≡ u → i ≡ j

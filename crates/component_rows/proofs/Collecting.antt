@@ -33,7 +33,7 @@ pub from_none : {X : Type 0} → (Gives : X → ResultRow → Type 0) → Collec
 from_none Gives r = (λ c. absurd (omega arith), λ h. let c = h.1 in absurd (omega arith))
 
 -- one item more gives its own results
-from_more : {X : Type 0} → (Gives : X → ResultRow → Type 0) (xs : List X) (x : X) (rows more : List ResultRow) → Collects (FromSome xs Gives) rows → Collects (Gives x) more → Collects (FromSome (xs ++ x ∷ []) Gives) (rows ++ more)
+pub from_more : {X : Type 0} → (Gives : X → ResultRow → Type 0) (xs : List X) (x : X) (rows more : List ResultRow) → Collects (FromSome xs Gives) rows → Collects (Gives x) more → Collects (FromSome (xs ++ x ∷ []) Gives) (rows ++ more)
 from_more {X} Gives xs x rows more h k r = (
   λ c. elim (Contains-append_cases rows more r c) [
     | inl d ↦ let i = (h r).0 d in (i.0, Contains-append_left xs (x ∷ []) i.0 i.1, i.2)

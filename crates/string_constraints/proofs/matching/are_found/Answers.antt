@@ -1,0 +1,30 @@
+use Rattle.std.proofs.Common.{◌∙◌, ℕ, ◌+◌, Bool, List, length, ap, get_or, sym, subst}
+use Rattle.std.specs.Prelude.{◌↔◌, IsTrue}
+use Rattle.std.proofs.lemmas.List.{length_push}
+use Rattle.std.proofs.lemmas.List.Elements.{Contains-get_or}
+use Rattle.regex.specs.Patterns.{Re, SameCaptures}
+use Rattle.rdf_model.specs.declared.term.Term.{Term}
+use Rattle.component_rows.proofs.Told.{one_answer_more, all_answers}
+use Rattle.string_constraints.specs.Matches.{IsFoundIn}
+use Rattle.string_constraints.proofs.matching.are_found.Goals as goal
+
+pub named-requires : goal.named-requires
+named-requires g c =
+    c.requires.nodes.named (get_or c.args.values.now c.loop-value.value-index 0) (Contains-get_or c.args.values.now c.loop-value.value-index 0 c.loop-value-test.true)
+
+pub loop-value-preserved : goal.loop-value-preserved
+loop-value-preserved g c =
+    let terms = g.N.Names.terms c.args.names.now in
+    let before = c.loop-value.invariant in (
+      c.is_found_in.ensures.same ∙ before.0,
+      ap (λ (answers : List Bool). length answers) c.in_ok-push.ensures.items ∙ length_push c.loop-value.answers.items c.is_found_in.result ∙ ap (λ (n : ℕ). n + 1) before.1,
+      λ re same. one_answer_more (IsFoundIn re) terms c.args.values.now c.loop-value.answers.items c.push.new.self.items c.loop-value.value-index c.is_found_in.result
+          c.in_ok-push.ensures.items (before.2 re same)
+          (subst (λ (t : Term). IsTrue c.is_found_in.result ↔ IsFoundIn re t) c.named.ensures
+          (c.is_found_in.ensures.found re (subst (λ (p : Re). SameCaptures p re) (sym before.0) same))),
+    )
+
+pub returns-clause-told : goal.returns-clause-told
+returns-clause-told g c = λ re same.
+    all_answers (IsFoundIn re) (g.N.Names.terms c.args.names.now) c.args.values.now c.loop-value.answers.items c.loop-value.value-index
+    c.loop-value-test.false c.loop-value.auto.value-index-end (c.loop-value.invariant.2 re same)

@@ -1,0 +1,3 @@
+pub mod Lengths
+pub mod Matches
+pub mod Languages
