@@ -1,5 +1,5 @@
 -- Answers to nodes, one after another, and what they tell of terms.
-use Rattle.std.proofs.Common.{◌≡◌, ◌∙◌, ℕ, ◌+◌, ◌<◌, ◌≤◌, Bool, true, false, List, [], ◌∷◌, ◌++◌, length, get_or, refl, sym, ap, arith, subst}
+use Rattle.std.proofs.Common.{◌≡◌, ◌∙◌, ℕ, ◌+◌, ◌<◌, ◌≤◌, Bool, true, false, List, [], ◌∷◌, ◌++◌, get_or, refl, sym, ap, arith, subst}
 use Rattle.std.specs.Prelude.{◌↔◌, IsTrue, nat_lt}
 use Rattle.std.proofs.lemmas.Bool.Decides.{nat_tests}
 use Rattle.std.proofs.lemmas.List.{length_push, get_or_append_left, get_or_push}
@@ -7,45 +7,38 @@ use Rattle.rdf_model.specs.declared.term.Term.{Term}
 use Rattle.rdf_model.specs.Numbers.{term_at}
 use Rattle.shape_model.specs.declared.result_row.ResultRow.{ResultRow}
 use Rattle.shape_model.specs.Components.{Finding, ForEach}
-use Rattle.component_rows.specs.Answers.{AreAnswersTo}
+use Rattle.component_rows.specs.Answers.{AreAnswersTo, Tells}
 use Rattle.component_rows.specs.Listed.{Collects, at_nodes}
 use Rattle.component_rows.specs.Nodes.{HasNode, IsAnswered}
 use Rattle.component_rows.proofs.Answering.{place_in}
 use Rattle.component_rows.proofs.Collecting.{collects_same, mapped_from}
 
--- the first n answers
-pub record FirstAnswers (P : Term → Type 0) (terms : List Term) (numbers : List ℕ) (answers : List Bool) (n : ℕ) : Type 0 where
-  pub as_many : length answers ≡ n
-  pub each : (i : ℕ) → i < n → (get_or answers i false ≡ true) ↔ P (term_at terms (get_or numbers i 0))
+-- one answer more
+pub tells_more : (P : ℕ → Type 0) (answers new : List Bool) (n : ℕ) (b : Bool) → new ≡ answers ++ b ∷ [] → Tells P n answers → IsTrue b ↔ P n → Tells P (n + 1) new
+tells_more P answers new n b is h k = subst (λ (all : List Bool). Tells P (n + 1) all) (sym is) (record {
+  as_many = length_push answers b ∙ (let many = h.as_many in omega (arith, many));
+  each = λ i lt. by_test i lt (nat_lt i n) refl;
+})
+  where
+    by_test : (i : ℕ) → i < n + 1 → (t : Bool) → nat_lt i n ≡ t → (get_or (answers ++ b ∷ []) i false ≡ true) ↔ P i
+    by_test i lt true e =
+        let many = h.as_many in
+        let before : i < n = grind (arith, nat_tests) in
+        let same = get_or_append_left answers (b ∷ []) false i (omega (arith, many, before)) in
+        (λ yes. (h.each i before).0 (sym same ∙ yes), λ c. same ∙ (h.each i before).1 c)
+    by_test i lt false e =
+        let many = h.as_many in
+        let last : i ≡ n = grind (arith, nat_tests) in
+        let same = get_or_push answers b false i (omega (arith, many, last)) in
+        (λ yes. subst P (sym last) (k.0 (sym same ∙ yes)), λ c. same ∙ k.1 (subst P last c))
+
+pub tells_all : (P : ℕ → Type 0) (answers : List Bool) (n all : ℕ) → all ≤ n → n ≤ all → Tells P n answers → Tells P all answers
+tells_all P answers n all le ge h = record {
+  as_many = (let many = h.as_many in omega (arith, many, le, ge));
+  each = λ i lt. h.each i (omega (arith, lt, le));
+}
 
 module _ (P : Term → Type 0) (terms : List Term) (numbers : List ℕ) where
-  pub one_answer_more : (answers new : List Bool) (n : ℕ) (b : Bool) → new ≡ answers ++ b ∷ [] → FirstAnswers P terms numbers answers n → IsTrue b ↔ P (term_at terms (get_or numbers n 0))
-      → FirstAnswers P terms numbers new (n + 1)
-  one_answer_more answers new n b is h k = subst (λ (all : List Bool). FirstAnswers P terms numbers all (n + 1)) (sym is) (record {
-    as_many = length_push answers b ∙ (let many = h.as_many in omega (arith, many));
-    each = λ i lt. by_test i lt (nat_lt i n) refl;
-  })
-    where
-      by_test : (i : ℕ) → i < n + 1 → (t : Bool) → nat_lt i n ≡ t → (get_or (answers ++ b ∷ []) i false ≡ true) ↔ P (term_at terms (get_or numbers i 0))
-      by_test i lt true e =
-          let many = h.as_many in
-          let before : i < n = grind (arith, nat_tests) in
-          let same = get_or_append_left answers (b ∷ []) false i (omega (arith, many, before)) in
-          (λ yes. (h.each i before).0 (sym same ∙ yes), λ c. same ∙ (h.each i before).1 c)
-      by_test i lt false e =
-          let many = h.as_many in
-          let last : i ≡ n = grind (arith, nat_tests) in
-          let same = get_or_push answers b false i (omega (arith, many, last)) in (
-            λ yes. subst (λ (j : ℕ). P (term_at terms (get_or numbers j 0))) (sym last) (k.0 (sym same ∙ yes)),
-            λ c. same ∙ k.1 (subst (λ (j : ℕ). P (term_at terms (get_or numbers j 0))) last c),
-          )
-
-  pub all_answers : (answers : List Bool) (n : ℕ) → length numbers ≤ n → n ≤ length numbers → FirstAnswers P terms numbers answers n → AreAnswersTo P terms numbers answers
-  all_answers answers n le ge h = record {
-    as_many = (let many = h.as_many in omega (arith, many, le, ge));
-    each = λ i lt. h.each i (omega (arith, lt, le));
-  }
-
   module _ (answers : List Bool) (are : AreAnswersTo P terms numbers answers) where
     -- the answer to a node is yes where P holds of its term
     pub told_from : (v : Term) → IsAnswered terms numbers answers v → P v

@@ -4,7 +4,7 @@ use Rattle.std.proofs.lemmas.List.{length_push}
 use Rattle.std.proofs.lemmas.List.Elements.{Contains-get_or}
 use Rattle.regex.specs.Patterns.{Re, SameCaptures}
 use Rattle.rdf_model.specs.declared.term.Term.{Term}
-use Rattle.component_rows.proofs.Told.{one_answer_more, all_answers}
+use Rattle.component_rows.proofs.Told.{tells_more, tells_all}
 use Rattle.string_constraints.specs.Matches.{IsFoundIn}
 use Rattle.string_constraints.proofs.matching.are_found.Goals as goal
 
@@ -18,7 +18,7 @@ loop-value-preserved g c =
     let before = c.loop-value.invariant in (
       c.is_found_in.ensures.same ∙ before.0,
       ap (λ (answers : List Bool). length answers) c.in_ok-push.ensures.items ∙ length_push c.loop-value.answers.items c.is_found_in.result ∙ ap (λ (n : ℕ). n + 1) before.1,
-      λ re same. one_answer_more (IsFoundIn re) terms c.args.values.now c.loop-value.answers.items c.push.new.self.items c.loop-value.value-index c.is_found_in.result
+      λ re same. tells_more (λ i. IsFoundIn re (term_at terms (get_or c.args.values.now i 0))) c.loop-value.answers.items c.push.new.self.items c.loop-value.value-index c.is_found_in.result
           c.in_ok-push.ensures.items (before.2 re same)
           (subst (λ (t : Term). IsTrue c.is_found_in.result ↔ IsFoundIn re t) c.named.ensures
           (c.is_found_in.ensures.found re (subst (λ (p : Re). SameCaptures p re) (sym before.0) same))),
@@ -26,5 +26,5 @@ loop-value-preserved g c =
 
 pub returns-clause-told : goal.returns-clause-told
 returns-clause-told g c = λ re same.
-    all_answers (IsFoundIn re) (g.N.Names.terms c.args.names.now) c.args.values.now c.loop-value.answers.items c.loop-value.value-index
+    tells_all (λ i. IsFoundIn re (term_at (g.N.Names.terms c.args.names.now) (get_or c.args.values.now i 0))) c.loop-value.answers.items c.loop-value.value-index (length c.args.values.now)
     c.loop-value-test.false c.loop-value.auto.value-index-end (c.loop-value.invariant.2 re same)

@@ -1,0 +1,2 @@
+pub mod Conformance
+pub mod Demands
