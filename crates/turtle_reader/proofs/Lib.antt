@@ -8,3 +8,6 @@ pub mod Sets
 pub mod Sorting
 pub mod Characters
 pub mod Examples
+pub mod Repeats
+pub mod Nodes
+pub mod NodesWithin

@@ -5,3 +5,4 @@ pub mod Grammar
 pub mod Stack
 pub mod Progress
 pub mod Document
+pub mod Laws

@@ -8,6 +8,7 @@
 mod document;
 mod frame;
 mod grammar;
+pub mod laws;
 mod literals;
 mod names;
 mod objects;
