@@ -34,7 +34,7 @@ fn next_triple(
     ensures moved { IfOk result (λ verb. Moved text.now 1 1 0 state.old state.new) }
 {
     let object = read_object(alloc, text, state, levels)?;
-    found(text, state, node.clone()?, predicate.clone()?, object)?;
+    found(state, node.clone()?, predicate.clone()?, object)?;
     next_predicate(alloc, text, state, predicate)
 }
 
@@ -159,7 +159,7 @@ fn read_bracket_triples(
     ensures reads { Gives result state.new (Grammar.bracket_triples text.now levels state.old) }
     ensures moved { OnOk result (Moved text.now 0 0 1 state.old state.new) }
 {
-    let node = fresh(text, state);
+    let node = fresh(state);
     if is_close_bracket_next(state) {
         next(text, state)?;
         return read_predicates(alloc, text, state, &node, levels + 1);

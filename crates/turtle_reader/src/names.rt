@@ -14,6 +14,7 @@ use rdf_text::Text;
 use std::alloc::{AllocError, Global};
 use turtle_lex::{Token, TokenKind, iri_text, local_name, plain_text, split_name, token_text};
 
+/// The refusal of a token, of this kind.
 pub fn refused(token: Token, kind: RefusalKind) -> ReadFault
     ensures { result ≡ ReadFault.Refusal token.start.line kind }
 {
@@ -88,6 +89,7 @@ pub fn prefix_of(alloc: Global, text: &[char], token: Token) -> Result<Name, All
     })
 }
 
+// The local name of a PNAME_LN; of a PNAME_NS an empty one.
 fn local_of(alloc: Global, text: &[char], token: Token) -> Result<Text, AllocError>
     ensures { IfOk result (λ local. local ≡ Terms.local_of text.now token) }
 {
@@ -119,7 +121,7 @@ fn prefixed_iri(
     }
 }
 
-/// The IRI of a token.
+/// The IRI of an IRIREF, PNAME_NS or PNAME_LN (Turtle section 2.4); another token is refused.
 #[tactic(auto, unfolding(crate::specs::Terms::iri))]
 pub fn read_iri(
     alloc: Global,
@@ -137,6 +139,7 @@ pub fn read_iri(
     }
 }
 
+// The label of a BLANK_NODE_LABEL.
 fn label_of(alloc: Global, text: &[char], token: Token) -> Result<Name, AllocError>
     ensures { IfOk result (λ label. label ≡ Terms.label_of text.now token) }
 {
@@ -146,7 +149,7 @@ fn label_of(alloc: Global, text: &[char], token: Token) -> Result<Name, AllocErr
     })
 }
 
-/// The blank node of a label: a new one at its first use.
+/// The blank node of a label (Turtle section 2.6): a new one at its first use.
 #[tactic(auto, unfolding(crate::specs::Terms::labelled))]
 pub fn labelled(
     alloc: Global,

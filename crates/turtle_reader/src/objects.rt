@@ -20,6 +20,7 @@ use rdf_model::Term;
 use std::alloc::{AllocError, Global};
 use turtle_lex::{Token, TokenKind};
 
+// The refusal of a bracket that is one too many.
 fn too_deep(token: Token) -> ReadFault
     ensures { result ≡ ReadFault.Refusal token.start.line RefusalKind.TooDeep }
 {
@@ -46,7 +47,7 @@ fn next_verb(alloc: Global, text: &[char], state: &mut State) -> Result<Option<T
     Ok(None)
 }
 
-// The predicate of the next object of a list, or None where the list ends.
+/// The predicate of the next object of a list, or None where the list ends.
 pub fn next_predicate(
     alloc: Global,
     text: &[char],
@@ -85,7 +86,7 @@ fn after_value(
     ensures moved { IfOk result (λ read. Moved text.now (spare read) (spare read) 0 state.old state.new) }
     ensures brackets { OnOk result (brackets.new.levels + length brackets.new.frames ≡ brackets.old.levels + length brackets.old.frames) }
 {
-    found(text, state, node.clone()?, predicate.clone()?, term)?;
+    found(state, node.clone()?, predicate.clone()?, term)?;
     match next_predicate(alloc, text, state, predicate)? {
         Some(predicate) => {
             brackets.push(Frame::Properties { node, predicate })?;
@@ -106,7 +107,7 @@ fn close_list(alloc: Global, text: &[char], state: &mut State, last: Term) -> Re
     ensures moved { OnOk result (Moved text.now 1 1 0 state.old state.new) }
 {
     expect_close_parenthesis(text, state)?;
-    found(text, state, last, rdf_rest(alloc)?, rdf_nil(alloc)?)?;
+    found(state, last, rdf_rest(alloc)?, rdf_nil(alloc)?)?;
     Ok(())
 }
 
@@ -122,8 +123,8 @@ fn next_node(
     ensures reads { IfOk result (λ node. stack.node_after last state.old ≡ Ok (node, state.new)) }
     ensures moved { OnOk result (Moved text.now 0 0 1 state.old state.new) }
 {
-    let node = fresh(text, state);
-    found(text, state, last, rdf_rest(alloc)?, node.clone()?)?;
+    let node = fresh(state);
+    found(state, last, rdf_rest(alloc)?, node.clone()?)?;
     Ok(node)
 }
 
@@ -147,7 +148,7 @@ fn after_member(
     ensures moved { IfOk result (λ read. Moved text.now (spare read) (spare read) 1 state.old state.new) }
     ensures brackets { OnOk result (brackets.new.levels + length brackets.new.frames ≡ brackets.old.levels + length brackets.old.frames) }
 {
-    found(text, state, last.clone()?, rdf_first(alloc)?, term)?;
+    found(state, last.clone()?, rdf_first(alloc)?, term)?;
     if is_close_parenthesis_next(state) {
         close_list(alloc, text, state, last)?;
         return Ok(Some(first));
@@ -205,7 +206,7 @@ fn open_square(
     ensures moved { IfOk result (λ read. Moved text.now 0 1 1 state.old state.new) }
     ensures brackets { OnOk result (brackets.new.levels + length brackets.new.frames ≡ brackets.old.levels + length brackets.old.frames) }
 {
-    let node = fresh(text, state);
+    let node = fresh(state);
     if is_close_bracket_next(state) {
         next(text, state)?;
         return Ok(Some(node));
@@ -236,7 +237,7 @@ fn open_round(
         next(text, state)?;
         return Ok(Some(rdf_nil(alloc)?));
     }
-    let node = fresh(text, state);
+    let node = fresh(state);
     let last = node.clone()?;
     brackets.push(Frame::Members { first: node, last })?;
     Ok(None)

@@ -1,4 +1,4 @@
-ghost use Rattle.std.specs.Prelude.{◌≡◌, ◌+◌, ◌<◌, ◌≤◌, ◌^◌, true, length, Ok, Some, IfOk, OnOk};
+ghost use Rattle.std.specs.Prelude.{◌≡◌, ℕ, ◌+◌, ◌<◌, ◌≤◌, ◌^◌, true, List, length, Ok, Some, IfOk, OnOk};
 ghost use Rattle.iri_ref.specs.Scheme;
 ghost use Rattle.turtle_reader.specs.Grammar;
 ghost use Rattle.turtle_reader.specs.Progress.{Gives, IsReady, Moved, need, weight};
@@ -24,11 +24,10 @@ const XSD_BOOLEAN: &str = "http://www.w3.org/2001/XMLSchema#boolean";
 
 /// A new blank node.
 #[tactic(auto, unfolding(crate::specs::Terms::fresh))]
-pub fn fresh(text: &[char], state: &mut State) -> Term
-    requires ready { IsReady text.now state.old }
+pub fn fresh(state: &mut State) -> Term
     requires room { state.old.next + 1 < 2 ^ 32 }
     ensures reads { Terms.fresh state.old ≡ Ok (result, state.new) }
-    ensures moved { Moved text.now 0 0 1 state.old state.new }
+    ensures moved { (text : List ℕ) → IsReady text state.old → Moved text 0 0 1 state.old state.new }
 {
     let number = state.next;
     state.next += 1;
@@ -41,15 +40,13 @@ pub fn fresh(text: &[char], state: &mut State) -> Term
 /// Adds a triple.
 #[tactic(auto, unfolding(crate::specs::Grammar::found))]
 pub fn found(
-    text: &[char],
     state: &mut State,
     subject: Term,
     predicate: Term,
     object: Term,
 ) -> Result<(), AllocError>
-    requires ready { IsReady text.now state.old }
     ensures reads { OnOk result (Grammar.found subject predicate object state.old ≡ Ok (tt, state.new)) }
-    ensures moved { OnOk result (Moved text.now 0 0 0 state.old state.new) }
+    ensures moved { OnOk result ((text : List ℕ) → IsReady text state.old → Moved text 0 0 0 state.old state.new) }
 {
     state.triples.push(Triple {
         subject,
@@ -59,6 +56,7 @@ pub fn found(
     Ok(())
 }
 
+// The IRI of a token as a term.
 fn iri_term(alloc: Global, text: &[char], state: &State, token: Token) -> Result<Term, ReadFault>
     requires ready { IsReady text.now state.now }
     ensures { Gives result state.now (Grammar.iri_term text.now token state.now) }
@@ -66,7 +64,7 @@ fn iri_term(alloc: Global, text: &[char], state: &State, token: Token) -> Result
     Ok(Term::Iri(read_iri(alloc, text, state, token)?))
 }
 
-/// The term of a token, or of the tokens of a literal.
+/// An IRI, the blank node of a label, or a literal, by its first token; another token is refused.
 #[tactic(auto, unfolding(crate::specs::Terms::xsd))]
 pub fn read_term(
     alloc: Global,
@@ -119,7 +117,7 @@ fn verb_of(alloc: Global, text: &[char], state: &State, token: Token) -> Result<
     }
 }
 
-/// A verb.
+/// A verb, which must come next: an IRI, or `a` for rdf:type (Turtle section 2.1).
 #[tactic(auto, unfolding(crate::specs::Grammar::verb))]
 pub fn read_verb(alloc: Global, text: &[char], state: &mut State) -> Result<Term, ReadFault>
     requires ready { IsReady text.now state.old }
@@ -131,6 +129,7 @@ pub fn read_verb(alloc: Global, text: &[char], state: &mut State) -> Result<Term
     verb_of(alloc, text, state, token)
 }
 
+/// The IRI rdf:first.
 #[tactic(auto, unfolding(crate::specs::Grammar::rdf_first, crate::specs::Terms::rdf))]
 pub fn rdf_first(alloc: Global) -> Result<Term, AllocError>
     ensures { IfOk result (λ term. term ≡ Grammar.rdf_first) }
@@ -139,6 +138,7 @@ pub fn rdf_first(alloc: Global) -> Result<Term, AllocError>
     Ok(Term::Iri(iri))
 }
 
+/// The IRI rdf:rest.
 #[tactic(auto, unfolding(crate::specs::Grammar::rdf_rest, crate::specs::Terms::rdf))]
 pub fn rdf_rest(alloc: Global) -> Result<Term, AllocError>
     ensures { IfOk result (λ term. term ≡ Grammar.rdf_rest) }
@@ -147,6 +147,7 @@ pub fn rdf_rest(alloc: Global) -> Result<Term, AllocError>
     Ok(Term::Iri(iri))
 }
 
+/// The IRI rdf:nil.
 #[tactic(auto, unfolding(crate::specs::Grammar::rdf_nil, crate::specs::Terms::rdf))]
 pub fn rdf_nil(alloc: Global) -> Result<Term, AllocError>
     ensures { IfOk result (λ term. term ≡ Grammar.rdf_nil) }

@@ -49,7 +49,7 @@ fn pass(text: &[char], state: &mut State, token: Token)
     state.ahead = next_token(text, token.end, is_string(token.kind));
 }
 
-/// The token ahead, where there must be one; the reading goes past it.
+/// The token that comes next, where there must be one; the reading goes past it.
 #[tactic(auto, unfolding(crate::specs::Tokens::next))]
 pub fn next(text: &[char], state: &mut State) -> Result<Token, ReadFault>
     requires ready { IsReady text.now state.old }
@@ -75,7 +75,7 @@ pub fn next(text: &[char], state: &mut State) -> Result<Token, ReadFault>
     }
 }
 
-/// Whether such a token is ahead.
+/// Whether a comma comes next.
 #[tactic(auto, unfolding(crate::specs::Tokens::is_next))]
 pub fn is_comma_next(state: &State) -> bool
     ensures { result ≡ Tokens.is_next Tokens.is_comma state.now }
@@ -86,7 +86,7 @@ pub fn is_comma_next(state: &State) -> bool
     }
 }
 
-/// Whether such a token is ahead.
+/// Whether a semicolon comes next.
 #[tactic(auto, unfolding(crate::specs::Tokens::is_next))]
 pub fn is_semicolon_next(state: &State) -> bool
     ensures { result ≡ Tokens.is_next Tokens.is_semicolon state.now }
@@ -97,7 +97,7 @@ pub fn is_semicolon_next(state: &State) -> bool
     }
 }
 
-/// Whether such a token is ahead.
+/// Whether the dot comes next.
 #[tactic(auto, unfolding(crate::specs::Tokens::is_next))]
 pub fn is_dot_next(state: &State) -> bool
     ensures { result ≡ Tokens.is_next Tokens.is_dot state.now }
@@ -108,7 +108,7 @@ pub fn is_dot_next(state: &State) -> bool
     }
 }
 
-/// Whether such a token is ahead.
+/// Whether `]` comes next.
 #[tactic(auto, unfolding(crate::specs::Tokens::is_next))]
 pub fn is_close_bracket_next(state: &State) -> bool
     ensures { result ≡ Tokens.is_next Tokens.is_close_bracket state.now }
@@ -119,7 +119,7 @@ pub fn is_close_bracket_next(state: &State) -> bool
     }
 }
 
-/// Whether such a token is ahead.
+/// Whether `)` comes next.
 #[tactic(auto, unfolding(crate::specs::Tokens::is_next))]
 pub fn is_close_parenthesis_next(state: &State) -> bool
     ensures { result ≡ Tokens.is_next Tokens.is_close_parenthesis state.now }
@@ -130,7 +130,7 @@ pub fn is_close_parenthesis_next(state: &State) -> bool
     }
 }
 
-/// Whether such a token is ahead.
+/// Whether a LANGTAG comes next.
 #[tactic(auto, unfolding(crate::specs::Tokens::is_next))]
 pub fn is_language_tag_next(state: &State) -> bool
     ensures { result ≡ Tokens.is_next Tokens.is_language_tag state.now }
@@ -141,7 +141,7 @@ pub fn is_language_tag_next(state: &State) -> bool
     }
 }
 
-/// Whether such a token is ahead.
+/// Whether `^^` comes next.
 #[tactic(auto, unfolding(crate::specs::Tokens::is_next))]
 pub fn is_carets_next(state: &State) -> bool
     ensures { result ≡ Tokens.is_next Tokens.is_carets state.now }
@@ -152,7 +152,7 @@ pub fn is_carets_next(state: &State) -> bool
     }
 }
 
-/// Whether a verb may begin here, or a blank node, which is refused as one.
+/// Whether a verb may begin here, or a blank node, which is then refused as a predicate.
 #[tactic(auto, unfolding(crate::specs::Tokens::is_next))]
 pub fn may_verb_begin(state: &State) -> bool
     ensures { result ≡ Tokens.is_next Tokens.may_begin_verb state.now }
@@ -171,7 +171,7 @@ pub fn may_verb_begin(state: &State) -> bool
     }
 }
 
-/// Whether there is more than the text's end.
+/// Whether anything but white space and comments is left of the text.
 #[tactic(auto, unfolding(crate::specs::Tokens::is_unfinished))]
 pub fn is_unfinished(state: &State) -> bool
     ensures { result ≡ Tokens.is_unfinished state.now }
@@ -179,7 +179,7 @@ pub fn is_unfinished(state: &State) -> bool
     !matches!(state.ahead, Ok(None))
 }
 
-/// Such a token.
+/// The dot, which must come next; the reading goes past it.
 #[tactic(auto, unfolding(crate::specs::Tokens::expected))]
 pub fn expect_dot(text: &[char], state: &mut State) -> Result<Token, ReadFault>
     requires ready { IsReady text.now state.old }
@@ -195,7 +195,7 @@ pub fn expect_dot(text: &[char], state: &mut State) -> Result<Token, ReadFault>
     }
 }
 
-/// Such a token.
+/// `]`, which must come next; the reading goes past it.
 #[tactic(auto, unfolding(crate::specs::Tokens::expected))]
 pub fn expect_close_bracket(text: &[char], state: &mut State) -> Result<Token, ReadFault>
     requires ready { IsReady text.now state.old }
@@ -211,7 +211,7 @@ pub fn expect_close_bracket(text: &[char], state: &mut State) -> Result<Token, R
     }
 }
 
-/// Such a token.
+/// `)`, which must come next; the reading goes past it.
 #[tactic(auto, unfolding(crate::specs::Tokens::expected))]
 pub fn expect_close_parenthesis(text: &[char], state: &mut State) -> Result<Token, ReadFault>
     requires ready { IsReady text.now state.old }
@@ -227,7 +227,7 @@ pub fn expect_close_parenthesis(text: &[char], state: &mut State) -> Result<Toke
     }
 }
 
-/// Such a token.
+/// PNAME_NS, which must come next; the reading goes past it.
 #[tactic(auto, unfolding(crate::specs::Tokens::expected))]
 pub fn expect_prefix_name(text: &[char], state: &mut State) -> Result<Token, ReadFault>
     requires ready { IsReady text.now state.old }
