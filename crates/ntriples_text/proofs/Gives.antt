@@ -35,6 +35,7 @@ use Rattle.ntriples_text.specs.declared.token.Token.{Token}
 use Rattle.ntriples_text.specs.declared.token.Token.TheVariants.{IriRef, Quoted, Label, LanguageTag, Carets, Dot, LineEnd, TextEnd}
 use Rattle.ntriples_text.specs.declared.statement.Node.{Node}
 use Rattle.ntriples_text.specs.declared.statement.Node.TheVariants.{Labelled, Plain}
+use Rattle.ntriples_text.specs.declared.statement.LabelKind.TheVariants.{OfText}
 use Rattle.ntriples_text.specs.declared.statement.Statement.{Statement}
 use Rattle.rdf_lexical.specs.Refusals.{◌>>=◌}
 use Rattle.ntriples_text.specs.Tokens.{Lexeme, is_blank, from_line_end, skipped, lexeme, token_of, token_at, token}
@@ -235,14 +236,14 @@ record IsGiven (s : Statement) : Type 0 where
   predicate : IsIriText s.predicate
   object : IsObjectNode s.object
 
-iri_node : (x rest : List ℕ) (n : Node) → IsTokenOf (IriRef x) rest → node_of (IriRef x) ≡ Ok n → (a : List ℕ) × IsIriText a × (n ≡ Plain (Iri a))
+iri_node : (x rest : List ℕ) (n : Node) → IsTokenOf (IriRef x) rest → node_of OfText (IriRef x) ≡ Ok n → (a : List ℕ) × IsIriText a × (n ≡ Plain (Iri a))
 iri_node x rest n h e =
     let b = bind_ok (iri_of (IriRef x)) (λ a. Ok (Plain (Iri a))) n e in
     let k = b.2 in
     let is : n ≡ Plain (Iri b.0) = cc in
     (b.0, iri_of_gives (IriRef x) rest b.0 h b.1, is)
 
-node_gives : (t : Token) (rest : List ℕ) (n : Node) → IsTokenOf t rest → node_of t ≡ Ok n → IsSubjectNode n
+node_gives : (t : Token) (rest : List ℕ) (n : Node) → IsTokenOf t rest → node_of OfText t ≡ Ok n → IsSubjectNode n
 node_gives (IriRef x) rest n h e = let g = iri_node x rest n h e in let read : IsSubjectNode (Plain (Iri g.0)) = g.1 in subst (λ (y : Node). IsSubjectNode y) (sym g.2) read
 node_gives (Label l) rest n h e = let is : n ≡ Labelled l = cc in let read : IsSubjectNode (Labelled l) = tt in subst (λ (y : Node). IsSubjectNode y) (sym is) read
 node_gives (Quoted l) rest n h e = cc
@@ -303,7 +304,7 @@ string_gives l cs r u s h = let b = bind_ok (token cs) (literal_at l cs) r h in 
 abbrev IsNodeRead : Node × List ℕ → Type 0
 IsNodeRead r = IsRead IsObjectNode r
 
-object_from : (t : Token) (rest : List ℕ) (r : Node × List ℕ) → IsTokenOf t rest → object_at (t, rest) ≡ Ok r → IsNodeRead r
+object_from : (t : Token) (rest : List ℕ) (r : Node × List ℕ) → IsTokenOf t rest → object_at OfText (t, rest) ≡ Ok r → IsNodeRead r
 object_from (Quoted l) rest r h e =
     let b = bind_ok (literal_from l rest) (λ x. Ok (Plain x.0, x.1)) r e in
     let g = string_gives l rest b.0 h.0 h.1 b.1 in
@@ -312,7 +313,7 @@ object_from (Quoted l) rest r h e =
     let both : IsNodeRead (Plain b.0.0, b.0.1) = (g.0, g.1) in
     subst (λ (x : Node × List ℕ). IsNodeRead x) (sym is) both
 object_from (IriRef x) rest r h e =
-    let b = bind_ok (node_of (IriRef x)) (λ n. Ok (n, rest)) r e in
+    let b = bind_ok (node_of OfText (IriRef x)) (λ n. Ok (n, rest)) r e in
     let g = iri_node x rest b.0 h b.1 in
     let k = b.2 in
     let is : r ≡ (b.0, rest) = cc in
@@ -329,16 +330,16 @@ object_from Dot rest r h e = cc
 object_from LineEnd rest r h e = cc
 object_from TextEnd rest r h e = cc
 
-object_gives : (cs : List ℕ) (r : Node × List ℕ) → scalars cs ≡ true → object cs ≡ Ok r → IsNodeRead r
+object_gives : (cs : List ℕ) (r : Node × List ℕ) → scalars cs ≡ true → object OfText cs ≡ Ok r → IsNodeRead r
 unfolding object
-object_gives cs r s h = let b = bind_ok (token cs) object_at r h in object_from b.0.0 b.0.1 r (token_gives cs b.0 s b.1) b.2
+object_gives cs r s h = let b = bind_ok (token cs) (object_at OfText) r h in object_from b.0.0 b.0.1 r (token_gives cs b.0 s b.1) b.2
 
-statement_gives : (t : Token) (rest : List ℕ) (x : Statement) → IsTokenOf t rest → statement_from (t, rest) ≡ Ok x → IsGiven x
+statement_gives : (t : Token) (rest : List ℕ) (x : Statement) → IsTokenOf t rest → statement_from OfText (t, rest) ≡ Ok x → IsGiven x
 unfolding statement_from
 statement_gives t rest x h e =
-    let s = bind_ok (node_of t) _ x e in
+    let s = bind_ok (node_of OfText t) _ x e in
     let p = bind_ok (predicate rest) _ x s.2 in
-    let o = bind_ok (object p.0.1) _ x p.2 in
+    let o = bind_ok (object OfText p.0.1) _ x p.2 in
     let d = bind_ok (dot o.0.1) _ x o.2 in
     let n = bind_ok (end d.0) _ x d.2 in
     let predicate = predicate_gives rest p.0 (token_scalars t rest h) p.1 in
@@ -349,14 +350,14 @@ statement_gives t rest x h e =
     let read : IsGiven made = record { subject = node_gives t rest s.0 h s.1; predicate = predicate.0; object = object.0 } in
     subst (λ (y : Statement). IsGiven y) (sym is) read
 
-line_gives : (cs : List ℕ) (x : Statement) → scalars cs ≡ true → line cs ≡ Ok (Some x) → IsGiven x
+line_gives : (cs : List ℕ) (x : Statement) → scalars cs ≡ true → line OfText cs ≡ Ok (Some x) → IsGiven x
 unfolding line
 line_gives cs x s h =
-    let b = bind_ok (token cs) (λ t. cond (is_end t.0) (Ok None) (statement_from t >>= λ y. Ok (Some y))) (Some x) h in
+    let b = bind_ok (token cs) (λ t. cond (is_end t.0) (Ok None) (statement_from OfText t >>= λ y. Ok (Some y))) (Some x) h in
     let t = token_gives cs b.0 s b.1 in
-    elim (is_end b.0.0) as (λ q. cond q (Ok None) (statement_from b.0 >>= λ y. Ok (Some y)) ≡ Ok (Some x) → IsGiven x) [
+    elim (is_end b.0.0) as (λ q. cond q (Ok None) (statement_from OfText b.0 >>= λ y. Ok (Some y)) ≡ Ok (Some x) → IsGiven x) [
       | true ↦ λ k. cc
-      | false ↦ λ k. let d = bind_ok (statement_from b.0) (λ y. Ok (Some y)) (Some x) k in
+      | false ↦ λ k. let d = bind_ok (statement_from OfText b.0) (λ y. Ok (Some y)) (Some x) k in
           let j = d.2 in
           let is : d.0 ≡ x = cc in
           subst (λ (y : Statement). IsGiven y) is (statement_gives b.0.0 b.0.1 d.0 t d.1)
@@ -390,9 +391,9 @@ with_line_gives n (Ok (Some x)) (Ok us) ss one all h =
     subst (λ (y : List Statement). AllByRecursion IsGiven y) (sym is) both
 with_line_gives n (Ok (Some x)) (Err f) ss one all h = cc
 
-lines_give : (n : ℕ) (ls : List (List ℕ)) (ss : List Statement) → AreScalars ls → lines_from n ls ≡ Ok ss → AllByRecursion IsGiven ss
+lines_give : (n : ℕ) (ls : List (List ℕ)) (ss : List Statement) → AreScalars ls → lines_from OfText n ls ≡ Ok ss → AllByRecursion IsGiven ss
 lines_give n [] ss a h = let is : ss ≡ [] = cc in subst (λ (y : List Statement). AllByRecursion IsGiven y) (sym is) tt
-lines_give n (l ∷ ls) ss a h = with_line_gives n (line l) (lines_from (number_after n l) ls) ss (λ x e. line_gives l x a.0 e) (λ us e. lines_give (number_after n l) ls us a.1 e) h
+lines_give n (l ∷ ls) ss a h = with_line_gives n (line OfText l) (lines_from OfText (number_after n l) ls) ss (λ x e. line_gives l x a.0 e) (λ us e. lines_give (number_after n l) ls us a.1 e) h
 
 -- their labels have places
 abbrev AreNumbered : Texts → Statement → Type 0
@@ -477,7 +478,7 @@ reading_gives session first next ts (Err f) g h = cc
 
 pub gives_readable : GivesReadable
 gives_readable bytes session first next ts h =
-    let reading = lines_from 1 (lines (chars bytes)) in
+    let reading = lines_from OfText 1 (lines (chars bytes)) in
     elim (is_utf8 bytes) as (λ b. is_utf8 bytes ≡ b → cond b (numbered session first reading) (Err (line_of bytes (utf8_valid_len bytes), NotUtf8)) ≡ Ok (ts, next) → IsResult session first (ts, next)) [
       | true ↦ λ u k. reading_gives session first next ts reading (λ ss e. lines_give 1 (lines (chars bytes)) ss (lines_scalars (chars bytes) (scalars-chars bytes (IsUtf8-from_is_utf8 bytes u))) e) k
       | false ↦ λ u k. cc

@@ -8,5 +8,6 @@ pub mod Written
 pub mod ReadAgain
 pub mod RoundTrip
 pub mod Gives
+pub mod StoreLabels
 pub mod TokenLaws
 pub mod EarlyEnd

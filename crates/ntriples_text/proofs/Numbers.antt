@@ -15,6 +15,7 @@ use Rattle.rdf_lexical.specs.declared.refusal.ReadFault.{ReadFault}
 use Rattle.rdf_lexical.specs.declared.refusal.ReadFault.TheVariants.{Refusal, Memory}
 use Rattle.ntriples_text.specs.declared.statement.Node.{Node}
 use Rattle.ntriples_text.specs.declared.statement.Node.TheVariants.{Labelled, Plain}
+use Rattle.ntriples_text.specs.declared.statement.LabelKind.{LabelKind}
 use Rattle.ntriples_text.specs.declared.statement.Statement.{Statement}
 use Rattle.rdf_lexical.specs.Refusals.{Refuses}
 use Rattle.ntriples_text.specs.Blanks.{node_labels, statement_labels, all_labels, once, term_of, triple_of}
@@ -206,16 +207,16 @@ numbered_fault s f r Memory h = tt
 numbered_fault s f (Ok ss) (Refusal n k) h = cc
 numbered_fault s f (Err e) (Refusal n k) h = ap (numbered s f) (let h' : Err e ≡ Err (n, k) = cc in h')
 
-pub read_all : (s f n : ℕ) (text cs : List ℕ) (ts out : List Triple) (known : Texts) → cs ≡ chars text → going_on s f [] [] (lines_from 1 (lines cs)) ≡ Ok (ts, known) → out ≡ with_each [] ts → n ≡ length known
-    → numbered s f (lines_from 1 (lines (chars text))) ≡ Ok (out, f + n)
-read_all s f n text cs ts out known hc hr ho hn =
-    ap (λ xs. numbered s f (lines_from 1 (lines xs))) (sym hc)
-    ∙ (numbered_found s f (lines_from 1 (lines cs)) ts known hr
+pub read_all : (labels : LabelKind) (s f n : ℕ) (text cs : List ℕ) (ts out : List Triple) (known : Texts) → cs ≡ chars text → going_on s f [] [] (lines_from labels 1 (lines cs)) ≡ Ok (ts, known) → out ≡ with_each [] ts → n ≡ length known
+    → numbered s f (lines_from labels 1 (lines (chars text))) ≡ Ok (out, f + n)
+read_all labels s f n text cs ts out known hc hr ho hn =
+    ap (λ xs. numbered s f (lines_from labels 1 (lines xs))) (sym hc)
+    ∙ (numbered_found s f (lines_from labels 1 (lines cs)) ts known hr
     ∙ (ap (λ us. Ok (us, f + length known)) (sym ho)
     ∙ ap (λ m. Ok (out, f + m)) (sym hn)))
 
-pub fault_all : (s f : ℕ) (text cs : List ℕ) (e : ReadFault) → cs ≡ chars text → Refuses e (going_on s f [] [] (lines_from 1 (lines cs))) → Refuses e (numbered s f (lines_from 1 (lines (chars text))))
-fault_all s f text cs e hc h = subst (λ (xs : List ℕ). Refuses e (numbered s f (lines_from 1 (lines xs)))) hc (numbered_fault s f (lines_from 1 (lines cs)) e h)
+pub fault_all : (labels : LabelKind) (s f : ℕ) (text cs : List ℕ) (e : ReadFault) → cs ≡ chars text → Refuses e (going_on s f [] [] (lines_from labels 1 (lines cs))) → Refuses e (numbered s f (lines_from labels 1 (lines (chars text))))
+fault_all labels s f text cs e hc h = subst (λ (xs : List ℕ). Refuses e (numbered s f (lines_from labels 1 (lines xs)))) hc (numbered_fault s f (lines_from labels 1 (lines cs)) e h)
 
 -- labels of a text have places, each its own
 known_of : (ls known : Texts) (l : List ℕ) → is_known ls l ≡ true → is_known (with_more known ls) l ≡ true

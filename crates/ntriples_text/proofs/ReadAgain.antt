@@ -31,6 +31,7 @@ use Rattle.rdf_lexical.specs.declared.refusal.RefusalKind.TheVariants.{RelativeI
 use Rattle.ntriples_text.specs.declared.lexeme.TokenKind.TheVariants as kinds
 use Rattle.ntriples_text.specs.declared.token.Token.TheVariants.{IriRef, Quoted, LanguageTag}
 use Rattle.ntriples_text.specs.declared.statement.Node.TheVariants.{Plain}
+use Rattle.ntriples_text.specs.declared.statement.LabelKind.{LabelKind}
 use Rattle.ntriples_text.specs.declared.statement.Statement.{Statement}
 use Rattle.rdf_lexical.specs.Refusals.{◌>>=◌}
 use Rattle.ntriples_text.specs.Tokens.{token_at, token}
@@ -191,21 +192,21 @@ read_tag l tag rest u h = ap (λ q. q >>= literal_at l (64 ∷ (chars tag ++ tai
 bound : {A B : Type 0} (r : Result A RefusalKind) (x : A) (f : A → Result B RefusalKind) → r ≡ Ok x → (r >>= f) ≡ f x
 bound r x f e = ap (λ q. q >>= f) e
 
-read_literal : (l ends : List ℕ) (o : Term) (rest : List ℕ) → IsUtf8 l → literal_from l ends ≡ Ok (o, tail_chars rest) → object (32 ∷ in_quotes l ends) ≡ Ok (Plain o, tail_chars rest)
+read_literal : (labels : LabelKind) (l ends : List ℕ) (o : Term) (rest : List ℕ) → IsUtf8 l → literal_from l ends ≡ Ok (o, tail_chars rest) → object labels (32 ∷ in_quotes l ends) ≡ Ok (Plain o, tail_chars rest)
 unfolding object
-read_literal l ends o rest u e =
-    bound (token (32 ∷ in_quotes l ends)) (Quoted l, ends) object_at (after_blank (in_quotes l ends) ∙ token_in_quotes l ends u)
+read_literal labels l ends o rest u e =
+    bound (token (32 ∷ in_quotes l ends)) (Quoted l, ends) (object_at labels) (after_blank (in_quotes l ends) ∙ token_in_quotes l ends u)
     ∙ bound (literal_from l ends) (o, tail_chars rest) (λ r. Ok (Plain r.0, r.1)) e
 
-read_object : (o : Term) (rest : List ℕ) → IsReadableObject IsNone o → object (32 ∷ object_chars o (tail_chars rest)) ≡ Ok (Plain o, tail_chars rest)
+read_object : (labels : LabelKind) (o : Term) (rest : List ℕ) → IsReadableObject IsNone o → object labels (32 ∷ object_chars o (tail_chars rest)) ≡ Ok (Plain o, tail_chars rest)
 unfolding object
-read_object (Iri a) rest r =
-    bound (token (32 ∷ in_angles a (tail_chars rest))) (IriRef a, tail_chars rest) object_at (after_blank (in_angles a (tail_chars rest)) ∙ token_in_angles a (tail_chars rest) r.0 r.1)
+read_object labels (Iri a) rest r =
+    bound (token (32 ∷ in_angles a (tail_chars rest))) (IriRef a, tail_chars rest) (object_at labels) (after_blank (in_angles a (tail_chars rest)) ∙ token_in_angles a (tail_chars rest) r.0 r.1)
     ∙ ap (λ q. (q >>= λ x. Ok (Plain (Iri x))) >>= λ n. Ok (n, tail_chars rest)) (scheme_iri a r.2)
-read_object (Blank s n) rest r = absurd r
-read_object (Literal l d None) rest r = read_literal l (end_chars d None (tail_chars rest)) (Literal l d None) rest r.0 (read_suffix l d rest r.1 r.2)
-read_object (Literal l d (Some tag)) rest r =
-    read_literal l (end_chars d (Some tag) (tail_chars rest)) (Literal l d (Some tag)) rest r.0
+read_object labels (Blank s n) rest r = absurd r
+read_object labels (Literal l d None) rest r = read_literal labels l (end_chars d None (tail_chars rest)) (Literal l d None) rest r.0 (read_suffix l d rest r.1 r.2)
+read_object labels (Literal l d (Some tag)) rest r =
+    read_literal labels l (end_chars d (Some tag) (tail_chars rest)) (Literal l d (Some tag)) rest r.0
     (read_tag l tag rest r.2 r.3 ∙ ap (λ x. Ok (Literal l x (Some tag), tail_chars rest)) (sym r.1))
 
 read_dot : (rest : List ℕ) → dot (tail_chars rest) ≡ Ok rest
@@ -219,17 +220,17 @@ read_end = refl
 abbrev pub plain_statement : List ℕ → List ℕ → Term → Statement
 plain_statement a b o = record { subject = Plain (Iri a); predicate = b; object = Plain o }
 
-read_from : (a b : List ℕ) (o : Term) → IsIriText a → IsIriText b → IsReadableObject IsNone o
-    → statement_from (IriRef a, 32 ∷ in_angles b (32 ∷ object_chars o (tail_chars (10 ∷ [])))) ≡ Ok (plain_statement a b o)
+read_from : (labels : LabelKind) (a b : List ℕ) (o : Term) → IsIriText a → IsIriText b → IsReadableObject IsNone o
+    → statement_from labels (IriRef a, 32 ∷ in_angles b (32 ∷ object_chars o (tail_chars (10 ∷ [])))) ≡ Ok (plain_statement a b o)
 unfolding statement_from
-read_from a b o ha hb ho =
-    rw (ha.2, predicate_blank b (32 ∷ object_chars o (tail_chars (10 ∷ []))) hb, read_object o (10 ∷ []) ho, read_dot (10 ∷ []), read_end) refl
+read_from labels a b o ha hb ho =
+    rw (ha.2, predicate_blank b (32 ∷ object_chars o (tail_chars (10 ∷ []))) hb, read_object labels o (10 ∷ []) ho, read_dot (10 ∷ []), read_end) refl
 
-pub read_parts : (a b : List ℕ) (o : Term) → IsIriText a → IsIriText b → IsReadableObject IsNone o → line (parts_chars (Iri a) (Iri b) o []) ≡ Ok (Some (plain_statement a b o))
+pub read_parts : (labels : LabelKind) (a b : List ℕ) (o : Term) → IsIriText a → IsIriText b → IsReadableObject IsNone o → line labels (parts_chars (Iri a) (Iri b) o []) ≡ Ok (Some (plain_statement a b o))
 unfolding line
-read_parts a b o ha hb ho =
+read_parts labels a b o ha hb ho =
     let rest = 32 ∷ in_angles b (32 ∷ object_chars o (tail_chars (10 ∷ []))) in
-    rw (token_in_angles a rest ha.0 ha.1) (ap (λ q. q >>= λ x. Ok (Some x)) (read_from a b o ha hb ho))
+    rw (token_in_angles a rest ha.0 ha.1) (ap (λ q. q >>= λ x. Ok (Some x)) (read_from labels a b o ha hb ho))
 
 -- the lines
 not_end_iri : (c : ℕ) → is_iri_char c ≡ true → is_line_end c ≡ false

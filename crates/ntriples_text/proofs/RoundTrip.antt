@@ -9,6 +9,8 @@ use Rattle.rdf_model.specs.declared.triple.Triple.{Triple}
 use Rattle.rdf_model.specs.Terms.{triple_cmp}
 use Rattle.rdf_model.specs.Graphs.{with_each}
 use Rattle.collections.specs.Ordered.{IsAscending}
+use Rattle.ntriples_text.specs.declared.statement.LabelKind.{LabelKind}
+use Rattle.ntriples_text.specs.declared.statement.LabelKind.TheVariants.{OfText}
 use Rattle.ntriples_text.specs.declared.statement.Statement.{Statement}
 use Rattle.ntriples_text.specs.Blanks.{all_labels, once, triple_of}
 use Rattle.ntriples_text.specs.Document.{lines, lines_from, number_after, with_line, with_statement, with_labels, numbered}
@@ -33,22 +35,22 @@ is_iri (Iri a) r = refl
 is_iri (Blank s n) r = absurd r
 is_iri (Literal l d t) r = absurd r
 
-line_first : (s p o : Term) (rest : List ℕ) (n : ℕ) → IsReadableIri s → IsReadableIri p → IsReadableObject IsNone o
-    → lines_from n (lines (parts_chars s p o rest)) ≡ with_statement (plain_statement (iri_text s) (iri_text p) o) (lines_from (number_after n (parts_chars s p o [])) (lines rest))
-line_first (Iri a) (Iri b) o rest n hs hp ho =
+line_first : (labels : LabelKind) (s p o : Term) (rest : List ℕ) (n : ℕ) → IsReadableIri s → IsReadableIri p → IsReadableObject IsNone o
+    → lines_from labels n (lines (parts_chars s p o rest)) ≡ with_statement (plain_statement (iri_text s) (iri_text p) o) (lines_from labels (number_after n (parts_chars s p o [])) (lines rest))
+line_first labels (Iri a) (Iri b) o rest n hs hp ho =
     let first = parts_chars (Iri a) (Iri b) o [] in
-    ap (lines_from n) (parts_on a b o rest hs hp ho)
-    ∙ ap (λ l. with_line n l (lines_from (number_after n first) (lines rest))) (read_parts a b o hs hp ho)
-line_first (Iri a) (Blank s n) o rest k hs hp ho = absurd hp
-line_first (Iri a) (Literal l d t) o rest k hs hp ho = absurd hp
-line_first (Blank s n) p o rest k hs hp ho = absurd hs
-line_first (Literal l d t) p o rest k hs hp ho = absurd hs
+    ap (lines_from labels n) (parts_on a b o rest hs hp ho)
+    ∙ ap (λ l. with_line n l (lines_from labels (number_after n first) (lines rest))) (read_parts labels a b o hs hp ho)
+line_first labels (Iri a) (Blank s n) o rest k hs hp ho = absurd hp
+line_first labels (Iri a) (Literal l d t) o rest k hs hp ho = absurd hp
+line_first labels (Blank s n) p o rest k hs hp ho = absurd hs
+line_first labels (Literal l d t) p o rest k hs hp ho = absurd hs
 
-all_read : (ts : List Triple) (n : ℕ) → AllByRecursion (IsReadable IsNone) ts → lines_from n (lines (all_chars ts)) ≡ Ok (map as_statement ts)
-all_read [] n r = refl
-all_read (t ∷ ts) n r =
-    line_first t.subject t.predicate t.object (all_chars ts) n (as_iri t.subject r.0.subject) r.0.predicate r.0.object
-    ∙ ap (with_statement (as_statement t)) (all_read ts (number_after n (parts_chars t.subject t.predicate t.object [])) r.1)
+all_read : (labels : LabelKind) (ts : List Triple) (n : ℕ) → AllByRecursion (IsReadable IsNone) ts → lines_from labels n (lines (all_chars ts)) ≡ Ok (map as_statement ts)
+all_read labels [] n r = refl
+all_read labels (t ∷ ts) n r =
+    line_first labels t.subject t.predicate t.object (all_chars ts) n (as_iri t.subject r.0.subject) r.0.predicate r.0.object
+    ∙ ap (with_statement (as_statement t)) (all_read labels ts (number_after n (parts_chars t.subject t.predicate t.object [])) r.1)
 
 no_labels : (ts : List Triple) → all_labels (map as_statement ts) ≡ []
 no_labels [] = refl
@@ -73,8 +75,8 @@ reads_again ts session first r a =
     let utf8 : IsUtf8 (written ts) = (all_chars ts, (scalars-all ts r, bytes)) in
     let same : chars (written ts) ≡ all_chars ts = ap chars (sym bytes) ∙ chars-encodes (all_chars ts) (scalars-all ts r) in
     let statements = map as_statement ts in
-    of_text (written ts) session first utf8
-    ∙ (ap (λ cs. numbered session first (lines_from 1 (lines cs))) same
-    ∙ (ap (numbered session first) (all_read ts 1 r)
+    of_text OfText (written ts) session first utf8
+    ∙ (ap (λ cs. numbered session first (lines_from OfText 1 (lines cs))) same
+    ∙ (ap (numbered session first) (all_read OfText ts 1 r)
     ∙ (ap (λ (ls : List (List ℕ)). Ok (with_labels session first (once ls) statements)) (no_labels ts)
     ∙ ap Ok (paired session first ts r a))))

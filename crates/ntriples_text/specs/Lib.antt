@@ -1,4 +1,5 @@
 pub mod Faults
+pub mod StoreLabels
 pub mod Tokens
 pub mod Productions
 pub mod Grammar

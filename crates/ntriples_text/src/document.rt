@@ -1,23 +1,23 @@
-ghost use Rattle.std.specs.Prelude.{◌≡◌, ℕ, ◌+◌, ◌<◌, ◌≤◌, ◌^◌, Ok, [], List, Result, length, MatchResult, OnOk, OnErr};
+ghost use Rattle.std.specs.Prelude.{◌≡◌, ℕ, ◌+◌, ◌<◌, ◌≤◌, ◌^◌, Ok, [], List, Result, length, IfOk, MatchResult, OnOk, OnErr};
 ghost use Rattle.std.specs.Str.{chars};
 ghost use Rattle.rdf_lexical.specs.declared.refusal.RefusalKind.{RefusalKind as KindData};
 ghost use Rattle.ntriples_text.specs.declared.statement.Statement.{Statement as StatementData};
 ghost use Rattle.ntriples_text.specs.Document;
-ghost use Rattle.ntriples_text.specs.Document.{lines, lines_from, with_line, with_statement, numbered, reads};
+ghost use Rattle.ntriples_text.specs.Document.{lines, lines_from, with_line, with_statement, numbered, reads, reads_by, reads_named};
 ghost use Rattle.ntriples_text.specs.Grammar;
 ghost use Rattle.ntriples_text.specs.Progress.{going_on};
 ghost use Rattle.rdf_lexical.specs.Refusals.{Refuses};
 
-use crate::grammar::read_line;
+use crate::grammar::{read_alone, read_line};
 use crate::labels::Labels;
 use crate::line_fault::LineFault;
 use crate::numbering::Numbering;
-use crate::statement::Statement;
+use crate::statement::{LabelKind, Statement};
 use crate::text_line::{number_after, split_line};
 use collections::{Sequence, sorted_once};
 use rdf_lexical::{ReadFault, RefusalKind};
-use rdf_model::Triple;
-use std::alloc::Global;
+use rdf_model::{Term, Triple};
+use std::alloc::{AllocError, Global};
 
 // Adds the triple of a statement.
 fn add_statement(
@@ -39,18 +39,19 @@ fn add_statement(
 // Adds the triple of a line, if it has one.
 fn add_line(
     alloc: Global,
+    labels: LabelKind,
     number: u64,
     line: &[char],
     numbering: &mut Numbering,
     triples: &mut Sequence<Triple>,
 ) -> Result<(), ReadFault>
     requires { numbering.old.first + length numbering.old.labels + length line.now < 2 ^ 32 }
-    ensures added { (more : Result (List StatementData) (ℕ × KindData)) → let rest = going_on numbering.old.session numbering.old.first triples.old numbering.old.labels (with_line number (Grammar.line line.now) more) in
+    ensures added { (more : Result (List StatementData) (ℕ × KindData)) → let rest = going_on numbering.old.session numbering.old.first triples.old numbering.old.labels (with_line number (Grammar.line labels line.now) more) in
         MatchResult result (λ _. rest ≡ going_on numbering.old.session numbering.old.first triples.new numbering.new.labels more) (λ fault. Refuses fault rest) }
     ensures same { OnOk result ((numbering.new.session ≡ numbering.old.session) × (numbering.new.first ≡ numbering.old.first)) }
     ensures room { OnOk result (length numbering.new.labels ≤ length numbering.old.labels + length line.now) }
 {
-    match read_line(alloc, line) {
+    match read_line(alloc, labels, line) {
         Ok(Some(statement)) => add_statement(numbering, triples, statement),
         Ok(None) => Ok(()),
         Err(LineFault::Refused(kind)) => Err(ReadFault::Refusal { line: number, kind }),
@@ -61,12 +62,13 @@ fn add_line(
 // The triples of the lines of a text, in their order there. Its labels are added to the numbering.
 fn read_lines(
     alloc: Global,
+    labels: LabelKind,
     text: &[char],
     numbering: &mut Numbering,
 ) -> Result<Sequence<Triple>, ReadFault>
     requires labels { numbering.old.labels ≡ [] }
     requires room { numbering.old.first + length text.now < 2 ^ 32 }
-    ensures read { let reading = going_on numbering.old.session numbering.old.first [] [] (lines_from 1 (lines text.now)) in
+    ensures read { let reading = going_on numbering.old.session numbering.old.first [] [] (lines_from labels 1 (lines text.now)) in
         MatchResult result (λ triples. reading ≡ Ok (triples, numbering.new.labels)) (λ fault. Refuses fault reading) }
     ensures room { OnOk result (length numbering.new.labels ≤ length text.now) }
     ensures same { OnOk result (numbering.new.first ≡ numbering.old.first) }
@@ -76,7 +78,7 @@ fn read_lines(
     let mut number = 1;
     while !rest.is_empty() {
         let (line, after) = split_line(rest);
-        add_line(alloc, number, line, numbering, &mut triples)?;
+        add_line(alloc, labels, number, line, numbering, &mut triples)?;
         number = number_after(number, line);
         rest = after;
     }
@@ -84,8 +86,8 @@ fn read_lines(
 }
 
 // The characters of a text.
-fn characters_of(alloc: Global, text: &str) -> Result<Vec<char>, ReadFault>
-    ensures { MatchResult result (λ v. (v.items ≡ chars text.now) × (length v.items ≤ length text.now)) (λ fault. fault ≡ ReadFault.Memory) }
+fn characters_of(alloc: Global, text: &str) -> Result<Vec<char>, AllocError>
+    ensures { IfOk result (λ v. (v.items ≡ chars text.now) × (length v.items ≤ length text.now)) }
 {
     Ok(text.chars().collect(alloc)?)
 }
@@ -93,29 +95,31 @@ fn characters_of(alloc: Global, text: &str) -> Result<Vec<char>, ReadFault>
 // The triples of a text, in their order there. Its labels are added to the numbering.
 fn read_all_lines(
     alloc: Global,
+    labels: LabelKind,
     text: &str,
     numbering: &mut Numbering,
 ) -> Result<Sequence<Triple>, ReadFault>
     requires labels { numbering.old.labels ≡ [] }
     requires room { numbering.old.first + length text.now < 2 ^ 32 }
-    ensures read { let reading = going_on numbering.old.session numbering.old.first [] [] (lines_from 1 (lines (chars text.now))) in
+    ensures read { let reading = going_on numbering.old.session numbering.old.first [] [] (lines_from labels 1 (lines (chars text.now))) in
         MatchResult result (λ triples. reading ≡ Ok (triples, numbering.new.labels)) (λ fault. Refuses fault reading) }
     ensures room { OnOk result (length numbering.new.labels ≤ length text.now) }
     ensures same { OnOk result (numbering.new.first ≡ numbering.old.first) }
 {
     let characters = characters_of(alloc, text)?;
-    read_lines(alloc, &characters, numbering)
+    read_lines(alloc, labels, &characters, numbering)
 }
 
 // The triples of a text, each once, in their order. Blank nodes are numbered from `next` on.
 fn read_text(
     alloc: Global,
+    labels: LabelKind,
     session: u32,
     next: &mut u32,
     text: &str,
 ) -> Result<Sequence<Triple>, ReadFault>
     requires { next.old + length text.now < 2 ^ 32 }
-    ensures reads { let reading = numbered session next.old (lines_from 1 (lines (chars text.now))) in
+    ensures reads { let reading = numbered session next.old (lines_from labels 1 (lines (chars text.now))) in
         MatchResult result (λ triples. reading ≡ Ok (triples, next.new)) (λ fault. Refuses fault reading) }
     ensures unchanged { OnErr result (next.new ≡ next.old) }
     ensures room { (next.old ≤ next.new) × (next.new ≤ next.old + length text.now) }
@@ -125,7 +129,7 @@ fn read_text(
         first: *next,
         labels: Labels::new(alloc),
     };
-    let triples = read_all_lines(alloc, text, &mut numbering)?;
+    let triples = read_all_lines(alloc, labels, text, &mut numbering)?;
     let sorted = sorted_once(triples.into_vec())?;
     *next += numbering.labels.len() as u32;
     Ok(Sequence::from_vec(sorted))
@@ -144,6 +148,29 @@ fn line_of(bytes: &[u8], at: usize) -> u64
         }
     }
     line
+}
+
+// The triples of a text with labels of this kind, or its refusal.
+fn read_by(
+    alloc: Global,
+    labels: LabelKind,
+    session: u32,
+    next: &mut u32,
+    bytes: &[u8],
+) -> Result<Sequence<Triple>, ReadFault>
+    requires { next.old + length bytes.now < 2 ^ 32 }
+    ensures reads { let reading = reads_by labels bytes.now session next.old in
+        MatchResult result (λ triples. reading ≡ Ok (triples, next.new)) (λ fault. Refuses fault reading) }
+    ensures unchanged { OnErr result (next.new ≡ next.old) }
+    ensures room { (next.old ≤ next.new) × (next.new ≤ next.old + length bytes.now) }
+{
+    match std::str::from_utf8(bytes) {
+        Ok(text) => read_text(alloc, labels, session, next, text),
+        Err(error) => Err(ReadFault::Refusal {
+            line: line_of(bytes, error.valid_up_to()),
+            kind: RefusalKind::NotUtf8,
+        }),
+    }
 }
 
 /// The triples of a text of N-Triples 1.1, each once, in their order. Blank nodes belong to the
@@ -165,11 +192,39 @@ pub fn read(
     ensures unchanged { OnErr result (next.new ≡ next.old) }
     ensures room { (next.old ≤ next.new) × (next.new ≤ next.old + length bytes.now) }
 {
+    read_by(alloc, LabelKind::OfText, session, next, bytes)
+}
+
+/// The triples of a text of N-Triples 1.1, each once, in their order. Its labels are those of the
+/// store's blank nodes: `_:sIxN` is number N of session I, where I is from 1 to 64 and N from 1 to
+/// 4294967295, both decimal without a leading zero.
+///
+/// The error is the refusal that counts, with its line, or memory; any other label is refused.
+pub fn read_named(alloc: Global, bytes: &[u8]) -> Result<Sequence<Triple>, ReadFault>
+    requires { 1 + length bytes.now < 2 ^ 32 }
+    ensures { let reading = reads_named bytes.now in
+        MatchResult result (λ triples. reading ≡ Ok triples) (λ fault. Refuses fault reading) }
+{
+    let mut next = 1;
+    read_by(alloc, LabelKind::OfStore, 1, &mut next, bytes)
+}
+
+// The term that the text is alone.
+fn read_term(alloc: Global, text: &str) -> Result<Option<Term>, AllocError>
+    ensures { IfOk result (λ term. term ≡ Grammar.alone (chars text.now)) }
+{
+    let characters = characters_of(alloc, text)?;
+    read_alone(alloc, &characters)
+}
+
+/// The term that the bytes are, as N-Triples 1.1 writes an object, with nothing before or behind
+/// it but blanks before it; blank nodes have the labels of the store. `None` where they are no such
+/// term.
+pub fn named_term(alloc: Global, bytes: &[u8]) -> Result<Option<Term>, AllocError>
+    ensures { IfOk result (λ term. term ≡ Document.named_term bytes.now) }
+{
     match std::str::from_utf8(bytes) {
-        Ok(text) => read_text(alloc, session, next, text),
-        Err(error) => Err(ReadFault::Refusal {
-            line: line_of(bytes, error.valid_up_to()),
-            kind: RefusalKind::NotUtf8,
-        }),
+        Ok(text) => read_term(alloc, text),
+        Err(_) => Ok(None),
     }
 }

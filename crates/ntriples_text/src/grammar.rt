@@ -5,14 +5,15 @@ ghost use Rattle.ntriples_text.specs.Faults.{Gives};
 ghost use Rattle.ntriples_text.specs.Grammar;
 
 use crate::line_fault::LineFault;
-use crate::statement::{Node, Statement};
+use crate::statement::{LabelKind, Node, Statement};
+use crate::store_labels::stored_node;
 use crate::token::{Token, next_token};
 use iri_ref::has_scheme;
 use literal_order::profile;
 use rdf_lexical::RefusalKind;
 use rdf_model::Term;
 use rdf_text::Text;
-use std::alloc::Global;
+use std::alloc::{AllocError, Global};
 
 const XSD_STRING: &str = "http://www.w3.org/2001/XMLSchema#string";
 
@@ -43,6 +44,19 @@ fn read_predicate(alloc: Global, characters: &[char]) -> Result<(Text, &[char]),
 {
     let (token, rest) = next_token(alloc, characters)?;
     Ok((token.into_predicate()?, rest))
+}
+
+// What the label of a blank node gives.
+fn labelled(labels: LabelKind, label: Text) -> Result<Node, LineFault>
+    ensures { Gives (λ node. node) result (Grammar.labelled labels label) }
+{
+    match labels {
+        LabelKind::OfText => Ok(Node::Labelled(label)),
+        LabelKind::OfStore => match stored_node(label.as_str()) {
+            Some(node) => Ok(Node::Plain(node)),
+            None => Err(LineFault::Refused(RefusalKind::NoStoreLabel)),
+        },
+    }
 }
 
 fn make_literal(lexical: Text, datatype: Text) -> Result<Term, LineFault>
@@ -110,11 +124,11 @@ impl Token {
         }
     }
 
-    fn into_node(self) -> Result<Node, LineFault>
-        ensures { Gives (λ node. node) result (Grammar.node_of self) }
+    fn into_node(self, labels: LabelKind) -> Result<Node, LineFault>
+        ensures { Gives (λ node. node) result (Grammar.node_of labels self) }
     {
         match self {
-            Token::Label(label) => Ok(Node::Labelled(label)),
+            Token::Label(label) => labelled(labels, label),
             other => Ok(Node::Plain(Term::Iri(other.into_iri()?))),
         }
     }
@@ -149,8 +163,13 @@ impl Token {
     }
 
     // The object that begins with this token, and the characters after it.
-    fn begin_object(self, alloc: Global, after: &[char]) -> Result<(Node, &[char]), LineFault>
-        ensures object { Gives (λ r. (r.0, r.1.now)) result (Grammar.object_at (self, after.now)) }
+    fn begin_object(
+        self,
+        alloc: Global,
+        labels: LabelKind,
+        after: &[char],
+    ) -> Result<(Node, &[char]), LineFault>
+        ensures object { Gives (λ r. (r.0, r.1.now)) result (Grammar.object_at labels (self, after.now)) }
         ensures shorter { IfOk result (λ r. length r.1.now ≤ length after.now) }
     {
         match self {
@@ -158,7 +177,7 @@ impl Token {
                 let (literal, rest) = read_literal(alloc, lexical, after)?;
                 Ok((Node::Plain(literal), rest))
             }
-            other => Ok((other.into_node()?, after)),
+            other => Ok((other.into_node(labels)?, after)),
         }
     }
 }
@@ -178,12 +197,16 @@ fn read_literal(
 }
 
 #[tactic(auto, unfolding(crate::specs::Grammar::object))]
-fn read_object(alloc: Global, characters: &[char]) -> Result<(Node, &[char]), LineFault>
-    ensures object { Gives (λ r. (r.0, r.1.now)) result (Grammar.object characters.now) }
+fn read_object(
+    alloc: Global,
+    labels: LabelKind,
+    characters: &[char],
+) -> Result<(Node, &[char]), LineFault>
+    ensures object { Gives (λ r. (r.0, r.1.now)) result (Grammar.object labels characters.now) }
     ensures shorter { IfOk result (λ r. length r.1.now ≤ length characters.now) }
 {
     let (token, rest) = next_token(alloc, characters)?;
-    token.begin_object(alloc, rest)
+    token.begin_object(alloc, labels, rest)
 }
 
 // The dot, and the characters after it.
@@ -220,13 +243,18 @@ fn expect_end(alloc: Global, characters: &[char]) -> Result<(), LineFault>
 
 // The triple whose first token has been read.
 #[tactic(auto, unfolding(crate::specs::Grammar::statement_from))]
-fn read_statement(alloc: Global, first: Token, characters: &[char]) -> Result<Statement, LineFault>
-    ensures statement { Gives (λ s. s) result (Grammar.statement_from (first, characters.now)) }
+fn read_statement(
+    alloc: Global,
+    labels: LabelKind,
+    first: Token,
+    characters: &[char],
+) -> Result<Statement, LineFault>
+    ensures statement { Gives (λ s. s) result (Grammar.statement_from labels (first, characters.now)) }
     ensures longer { IfOk result (λ _. 1 ≤ length characters.now) }
 {
-    let subject = first.into_node()?;
+    let subject = first.into_node(labels)?;
     let (predicate, rest) = read_predicate(alloc, characters)?;
-    let (object, rest) = read_object(alloc, rest)?;
+    let (object, rest) = read_object(alloc, labels, rest)?;
     let rest = skip_dot(alloc, rest)?;
     expect_end(alloc, rest)?;
     Ok(Statement {
@@ -238,13 +266,30 @@ fn read_statement(alloc: Global, first: Token, characters: &[char]) -> Result<St
 
 /// The triple of a line, if it has one. The characters are those of the line and of its end.
 #[tactic(auto, unfolding(crate::specs::Grammar::line))]
-pub fn read_line(alloc: Global, characters: &[char]) -> Result<Option<Statement>, LineFault>
-    ensures statement { Gives (λ s. s) result (Grammar.line characters.now) }
+pub fn read_line(
+    alloc: Global,
+    labels: LabelKind,
+    characters: &[char],
+) -> Result<Option<Statement>, LineFault>
+    ensures statement { Gives (λ s. s) result (Grammar.line labels characters.now) }
     ensures longer { IfOk result (λ s. IsSome s → 2 ≤ length characters.now) }
 {
     let (first, rest) = next_token(alloc, characters)?;
     if is_end(&first) {
         return Ok(None);
     }
-    Ok(Some(read_statement(alloc, first, rest)?))
+    Ok(Some(read_statement(alloc, labels, first, rest)?))
+}
+
+/// The term that the characters give alone, with nothing behind it; its labels are those of the
+/// store.
+pub fn read_alone(alloc: Global, characters: &[char]) -> Result<Option<Term>, AllocError>
+    ensures { IfOk result (λ term. term ≡ Grammar.alone characters.now) }
+{
+    match read_object(alloc, LabelKind::OfStore, characters) {
+        Ok((node, [])) => Ok(node.into_term()),
+        Ok((_, [_, ..])) => Ok(None),
+        Err(LineFault::Refused(_)) => Ok(None),
+        Err(LineFault::Memory) => Err(AllocError),
+    }
 }

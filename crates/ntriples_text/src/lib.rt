@@ -1,7 +1,8 @@
 //! N-Triples 1.1 texts, read and written.
 //!
 //! `read` ensures exactly the triples of a text, or exactly the refusal that counts, as
-//! `specs/Document.antt` says. `write` ensures the text of a list of triples, one line each, and
+//! `specs/Document.antt` says; `read_named` is the same with the labels of the store, and
+//! `named_term` reads one term. `write` ensures the text of a list of triples, one line each, and
 //! `laws` that it is read again.
 #![tactic(auto)]
 
@@ -13,10 +14,11 @@ mod lexeme;
 mod line_fault;
 mod numbering;
 mod statement;
+mod store_labels;
 mod text_line;
 mod token;
 mod writing;
 
-pub use document::read;
+pub use document::{named_term, read, read_named};
 pub use rdf_lexical::{ReadFault, RefusalKind};
 pub use writing::write;

@@ -1,11 +1,21 @@
 ghost use Rattle.std.specs.Prelude.{◌≡◌, ◌+◌, ◌<◌, ◌≤◌, ◌^◌, length, IfOk, OnOk};
 ghost use Rattle.ntriples_text.specs.Blanks.{node_labels, term_of};
+ghost use Rattle.ntriples_text.specs.Grammar.{plain_term};
 ghost use Rattle.ntriples_text.specs.Progress.{with_more};
 
 use crate::numbering::Numbering;
 use rdf_model::Term;
 use rdf_text::Text;
 use std::alloc::AllocError;
+
+/// What the labels of a text stand for.
+#[derive(Clone, Copy, Debug, PartialEq, Eq)]
+pub enum LabelKind {
+    /// Blank nodes of the text, which are numbered.
+    OfText,
+    /// Blank nodes of the store, as their labels say; no other label may stand.
+    OfStore,
+}
 
 /// What stands for a term in a text: the label of a blank node, or the term itself.
 #[derive(Debug)]
@@ -25,6 +35,16 @@ impl Drop for Node {
 }
 
 impl Node {
+    /// The term that this is, if it is no label.
+    pub fn into_term(self) -> Option<Term>
+        ensures { result ≡ plain_term self }
+    {
+        match self {
+            Node::Labelled(_) => None,
+            Node::Plain(term) => Some(term),
+        }
+    }
+
     /// The term that this stands for. A new label takes the next number.
     pub fn numbered(self, numbering: &mut Numbering) -> Result<Term, AllocError>
         requires { numbering.old.first + length numbering.old.labels < 2 ^ 32 }

@@ -10,7 +10,7 @@ use Rattle.store_model.specs.declared.commit.Overtaker.{Overtaker}
 use Rattle.shape_model.specs.declared.result_row.ResultRow.{ResultRow}
 use Rattle.store_model.specs.declared.commit.Transaction.{Transaction}
 use Rattle.session_model.specs.declared.command.Command.TheVariants as commands
-use Rattle.session_model.specs.declared.command.Command.TheVariants.{Add, BadAdd, Shapes, BadShapes, BrokenShapes, Find, Abort}
+use Rattle.session_model.specs.declared.command.Command.TheVariants.{Add, BadAdd, Remove, BadRemove, Shapes, BadShapes, BrokenShapes, Find, Abort}
 use Rattle.rdf_model.specs.Graphs.{after}
 use Rattle.store_model.proofs.Steps.{StepIsDeterministic-holds}
 use Rattle.store_model.specs.declared.event.Reply.{Reply}
@@ -100,6 +100,10 @@ never_open None (BadAdd n kind) = refl
 never_open (Some w) (BadAdd n kind) = refl
 never_open None (Add ts) = refl
 never_open (Some w) (Add ts) = refl
+never_open None (Remove ts) = refl
+never_open (Some w) (Remove ts) = refl
+never_open None (BadRemove n kind) = refl
+never_open (Some w) (BadRemove n kind) = refl
 never_open None (Shapes ts) = refl
 never_open (Some w) (Shapes ts) = refl
 never_open None (BadShapes n kind) = refl

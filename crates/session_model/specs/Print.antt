@@ -7,7 +7,7 @@ use Rattle.shape_model.specs.Rows.{rule_number}
 use Rattle.store_model.specs.declared.event.Limits.{Limits}
 use Rattle.session_model.specs.declared.command.Command.{Command}
 use Rattle.session_model.specs.declared.reply.SessionReply.{SessionReply}
-use Rattle.session_model.specs.declared.reply.SessionReply.TheVariants.{AlreadyOpen, NoTransaction, Begun, Added, AddRefused, ShapesStaged, ShapesRefused, ShapesBroken, FullTerms, Committed, ReadOnly, Overtaken, FullGraph, Refused, Found, Aborted}
+use Rattle.session_model.specs.declared.reply.SessionReply.TheVariants.{AlreadyOpen, NoTransaction, Begun, Added, AddRefused, Removed, RemoveRefused, ShapesStaged, ShapesRefused, ShapesBroken, FullTerms, Committed, ReadOnly, Overtaken, FullGraph, Refused, Found, Aborted}
 use Rattle.session_model.specs.Sessions.{HasReplies}
 
 -- the line of a reply, without its end; the report of a refusal has lines of its own, and `end` after them; the triples
@@ -18,6 +18,8 @@ reply_text NoTransaction = codes "no transaction"
 reply_text (Begun version) = codes "begin " ++ decimal version
 reply_text (Added count) = codes "add " ++ decimal count
 reply_text (AddRefused n kind) = codes "bad add " ++ decimal n ++ codes " " ++ decimal kind
+reply_text (Removed count) = codes "remove " ++ decimal count
+reply_text (RemoveRefused n kind) = codes "bad remove " ++ decimal n ++ codes " " ++ decimal kind
 reply_text (ShapesStaged count) = codes "shapes " ++ decimal count
 reply_text (ShapesRefused n kind) = codes "bad shapes line " ++ decimal n ++ codes " " ++ decimal kind
 reply_text (ShapesBroken rule node) = codes "bad shapes " ++ decimal (rule_number rule) ++ codes " " ++ term_text node

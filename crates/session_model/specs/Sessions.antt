@@ -12,9 +12,9 @@ use Rattle.store_model.specs.declared.event.Action.TheVariants as actions
 use Rattle.store_model.specs.declared.event.Reply.{Reply}
 use Rattle.store_model.specs.declared.event.Reply.TheVariants.{Version, Named, Full, Conflict, FullTriples, Refused, Done}
 use Rattle.session_model.specs.declared.command.Command.{Command}
-use Rattle.session_model.specs.declared.command.Command.TheVariants.{Begin, Add, BadAdd, Shapes, BadShapes, BrokenShapes, Commit, Find, Abort}
+use Rattle.session_model.specs.declared.command.Command.TheVariants.{Begin, Add, BadAdd, Remove, BadRemove, Shapes, BadShapes, BrokenShapes, Commit, Find, Abort}
 use Rattle.session_model.specs.declared.reply.SessionReply.{SessionReply}
-use Rattle.session_model.specs.declared.reply.SessionReply.TheVariants.{AlreadyOpen, NoTransaction, Begun, Added, AddRefused, ShapesStaged, ShapesRefused, ShapesBroken, FullTerms, Committed, ReadOnly, Overtaken, FullGraph, Refused as RefusedBy, Found, Aborted}
+use Rattle.session_model.specs.declared.reply.SessionReply.TheVariants.{AlreadyOpen, NoTransaction, Begun, Added, AddRefused, Removed, RemoveRefused, ShapesStaged, ShapesRefused, ShapesBroken, FullTerms, Committed, ReadOnly, Overtaken, FullGraph, Refused as RefusedBy, Found, Aborted}
 use Rattle.rdf_model.specs.declared.pattern.Pattern.{Pattern}
 use Rattle.rdf_model.specs.Graphs.{after}
 use Rattle.rdf_model.specs.NTriples.{triple_text}
@@ -38,12 +38,15 @@ pub record SessionState : Type 0 where
 abbrev pub additions : List Triple → List Change
 additions ts = map changes.Add ts
 
+abbrev pub removals : List Triple → List Change
+removals ts = map changes.Remove ts
+
 -- subject, predicate and object of each
 abbrev pub parts_of : List Triple → List Term
 parts_of ts = flat_map terms_of ts
 
-abbrev pub with_additions : OpenTransaction → List Triple → OpenTransaction
-with_additions w ts = record w { transaction = record w.transaction { net = w.transaction.net ++ additions ts } }
+abbrev pub with_changes : OpenTransaction → List Change → OpenTransaction
+with_changes w net = record w { transaction = record w.transaction { net = w.transaction.net ++ net } }
 
 -- the shapes graph that was staged last counts
 abbrev pub with_shapes : OpenTransaction → List Triple → OpenTransaction
@@ -83,6 +86,10 @@ local_answer None (Add ts) = answers NoTransaction None
 local_answer (Some w) (Add ts) = None
 local_answer None (BadAdd n kind) = answers NoTransaction None
 local_answer (Some w) (BadAdd n kind) = answers (AddRefused n kind) (Some w)
+local_answer None (Remove ts) = answers NoTransaction None
+local_answer (Some w) (Remove ts) = None
+local_answer None (BadRemove n kind) = answers NoTransaction None
+local_answer (Some w) (BadRemove n kind) = answers (RemoveRefused n kind) (Some w)
 local_answer None (Shapes ts) = answers NoTransaction None
 local_answer (Some w) (Shapes ts) = None
 local_answer None (BadShapes n kind) = answers NoTransaction None
@@ -114,11 +121,15 @@ abbrev pub action_of : Option OpenTransaction → Command → Action
 action_of None Begin = actions.Begin
 action_of (Some w) Begin = actions.Begin
 action_of (Some w) (Add ts) = actions.Name (parts_of ts)
+action_of (Some w) (Remove ts) = actions.Name (parts_of ts)
 action_of (Some w) (Shapes ts) = actions.Name (parts_of ts)
 action_of (Some w) Commit = commit_action w.head_taken w.transaction
 action_of None (Add ts) = actions.Void
 action_of None (BadAdd n kind) = actions.Void
 action_of (Some w) (BadAdd n kind) = actions.Void
+action_of None (Remove ts) = actions.Void
+action_of None (BadRemove n kind) = actions.Void
+action_of (Some w) (BadRemove n kind) = actions.Void
 action_of None (Shapes ts) = actions.Void
 action_of None (BadShapes n kind) = actions.Void
 action_of (Some w) (BadShapes n kind) = actions.Void
@@ -138,8 +149,10 @@ begun version graph = record { transaction = record { base = version; net = []; 
 -- don't come.
 abbrev pub after_reply : State → Option OpenTransaction → Command → List Command → List SessionReply → Reply → SessionState
 after_reply s w Begin cs replies r = up_to_event (Some (begun (length s.commits) s.graph)) cs (replies ++ Begun (length s.commits) ∷ [])
-after_reply s (Some w) (Add ts) cs replies Named = up_to_event (Some (with_additions w ts)) cs (replies ++ Added (length ts) ∷ [])
+after_reply s (Some w) (Add ts) cs replies Named = up_to_event (Some (with_changes w (additions ts))) cs (replies ++ Added (length ts) ∷ [])
 after_reply s (Some w) (Add ts) cs replies (Full n) = up_to_event (Some w) cs (replies ++ FullTerms ∷ [])
+after_reply s (Some w) (Remove ts) cs replies Named = up_to_event (Some (with_changes w (removals ts))) cs (replies ++ Removed (length ts) ∷ [])
+after_reply s (Some w) (Remove ts) cs replies (Full n) = up_to_event (Some w) cs (replies ++ FullTerms ∷ [])
 after_reply s (Some w) (Shapes ts) cs replies Named = up_to_event (Some (with_shapes w ts)) cs (replies ++ ShapesStaged (length ts) ∷ [])
 after_reply s (Some w) (Shapes ts) cs replies (Full n) = up_to_event (Some w) cs (replies ++ FullTerms ∷ [])
 after_reply s (Some w) Commit cs replies (Version n) = record { current = Some (record w { head_taken = true }); commands = Commit ∷ cs; replies = replies }

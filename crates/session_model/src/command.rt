@@ -11,6 +11,10 @@ pub enum Command {
     Add(Sequence<Triple>),
     /// An addition whose block can't be read: the line of the block, from 1, and the number of the refusal's kind.
     BadAdd { line: u64, kind: u8 },
+    /// Removes the triples of its block, each once, ascending.
+    Remove(Sequence<Triple>),
+    /// A removal whose block can't be read: the line of the block, from 1, and the number of the refusal's kind.
+    BadRemove { line: u64, kind: u8 },
     /// Stages the shapes graph of its block.
     Shapes(ShapesGraph),
     /// Shapes whose block can't be read: the line of the block, from 1, and the number of the refusal's kind.
@@ -31,6 +35,8 @@ impl Drop for Command {
             Command::Begin => {}
             Command::Add(_) => {}
             Command::BadAdd { line: _, kind: _ } => {}
+            Command::Remove(_) => {}
+            Command::BadRemove { line: _, kind: _ } => {}
             Command::Shapes(_) => {}
             Command::BadShapes { line: _, kind: _ } => {}
             Command::BrokenShapes { rule: _, node: _ } => {}

@@ -11,10 +11,14 @@ pub enum SessionReply {
     NoTransaction,
     /// The version at which the transaction begins.
     Begun(u64),
-    /// How many triples the block had.
+    /// How many triples the block of an addition had.
     Added(usize),
-    /// The block can't be read: its line, from 1, and the number of the refusal's kind.
+    /// The block of an addition can't be read: its line, from 1, and the number of the refusal's kind.
     AddRefused { line: u64, kind: u8 },
+    /// How many triples the block of a removal had.
+    Removed(usize),
+    /// The block of a removal can't be read: its line, from 1, and the number of the refusal's kind.
+    RemoveRefused { line: u64, kind: u8 },
     /// How many triples the shapes graph has that is staged.
     ShapesStaged(usize),
     /// The block of shapes can't be read: its line, from 1, and the number of the refusal's kind.
@@ -48,6 +52,8 @@ impl Drop for SessionReply {
             SessionReply::Begun(_) => {}
             SessionReply::Added(_) => {}
             SessionReply::AddRefused { line: _, kind: _ } => {}
+            SessionReply::Removed(_) => {}
+            SessionReply::RemoveRefused { line: _, kind: _ } => {}
             SessionReply::ShapesStaged(_) => {}
             SessionReply::ShapesRefused { line: _, kind: _ } => {}
             SessionReply::ShapesBroken { rule: _, node: _ } => {}
@@ -81,6 +87,8 @@ impl fmt::Display for SessionReply {
             SessionReply::Begun(version) => write!(f, "begin {version}"),
             SessionReply::Added(count) => write!(f, "add {count}"),
             SessionReply::AddRefused { line, kind } => write!(f, "bad add {line} {kind}"),
+            SessionReply::Removed(count) => write!(f, "remove {count}"),
+            SessionReply::RemoveRefused { line, kind } => write!(f, "bad remove {line} {kind}"),
             SessionReply::ShapesStaged(count) => write!(f, "shapes {count}"),
             SessionReply::ShapesRefused { line, kind } => {
                 write!(f, "bad shapes line {line} {kind}")

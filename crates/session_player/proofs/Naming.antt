@@ -10,7 +10,10 @@ use Rattle.rdf_model.specs.Terms.{term_cmp}
 use Rattle.rdf_model.specs.Orders.{term_total}
 use Rattle.collections.specs.Ordered.{has_item}
 use Rattle.store_model.specs.Store.{NetNamed, StagedNamed, changed_triple, terms_of, named_with}
-use Rattle.session_model.specs.Sessions.{additions, parts_of}
+use Rattle.session_model.specs.Sessions.{parts_of}
+use Rattle.session_player.specs.declared.transaction.ChangeKind.{ChangeKind}
+use Rattle.session_player.specs.declared.transaction.ChangeKind.TheVariants.{Addition, Removal}
+use Rattle.session_player.specs.Changes.{changes_of}
 
 -- whether a term has a name
 abbrev has : List Term → Term → Bool
@@ -54,18 +57,20 @@ NetNamed-more : (named more : List Term) (net : List Change) → IsMore named mo
 NetNamed-more named more [] m a = tt
 NetNamed-more named more (c ∷ cs) m a = (All-more_names named more (terms_of (changed_triple c)) m a.0, NetNamed-more named more cs m a.1)
 
-NetNamed-add : (named : List Term) (ts : List Triple) → AllByRecursion (λ t. has named t ≡ true) (parts_of ts) → NetNamed named (additions ts)
-NetNamed-add named [] a = tt
-NetNamed-add named (t ∷ ts) a = ((a.0, (a.1.0, (a.1.1.0, tt))), NetNamed-add named ts a.1.1.1)
+NetNamed-each : (named : List Term) (k : ChangeKind) (ts : List Triple) → AllByRecursion (λ t. has named t ≡ true) (parts_of ts) → NetNamed named (changes_of k ts)
+NetNamed-each named Addition [] a = tt
+NetNamed-each named Removal [] a = tt
+NetNamed-each named Addition (t ∷ ts) a = ((a.0, (a.1.0, (a.1.1.0, tt))), NetNamed-each named Addition ts a.1.1.1)
+NetNamed-each named Removal (t ∷ ts) a = ((a.0, (a.1.0, (a.1.1.0, tt))), NetNamed-each named Removal ts a.1.1.1)
 
 NetNamed-append : (named : List Term) (a b : List Change) → NetNamed named a → NetNamed named b → NetNamed named (a ++ b)
 NetNamed-append named [] b x y = y
 NetNamed-append named (c ∷ cs) b x y = (x.0, NetNamed-append named cs b x.1 y)
 
-pub NetNamed-additions : (named : List Term) (net : List Change) (ts : List Triple) → NetNamed named net → NetNamed (named_with named (parts_of ts)) (net ++ additions ts)
-NetNamed-additions named net ts n =
+pub NetNamed-changes : (named : List Term) (net : List Change) (k : ChangeKind) (ts : List Triple) → NetNamed named net → NetNamed (named_with named (parts_of ts)) (net ++ changes_of k ts)
+NetNamed-changes named net k ts n =
     let new = named_with named (parts_of ts) in
-    NetNamed-append new net (additions ts) (NetNamed-more named new net (IsMore-named_with named (parts_of ts)) n) (NetNamed-add new ts (All-named_with named (parts_of ts)))
+    NetNamed-append new net (changes_of k ts) (NetNamed-more named new net (IsMore-named_with named (parts_of ts)) n) (NetNamed-each new k ts (All-named_with named (parts_of ts)))
 
 pub NetNamed-naming : (named : List Term) (net : List Change) (ts : List Term) → NetNamed named net → NetNamed (named_with named ts) net
 NetNamed-naming named net ts n = NetNamed-more named (named_with named ts) net (IsMore-named_with named ts) n

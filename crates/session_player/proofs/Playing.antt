@@ -19,16 +19,19 @@ use Rattle.store_model.specs.declared.commit.Again.{Again}
 use Rattle.report_writer.specs.Report.{report_text}
 use Rattle.store_model.specs.declared.commit.Transaction.{Transaction}
 use Rattle.session_model.specs.declared.command.Command.{Command}
-use Rattle.session_model.specs.declared.command.Command.TheVariants.{Begin, Add, BadAdd, Shapes, BadShapes, BrokenShapes, Commit}
+use Rattle.session_model.specs.declared.command.Command.TheVariants.{Begin, Shapes, BadShapes, BrokenShapes, Commit}
 use Rattle.session_model.specs.declared.reply.SessionReply.{SessionReply}
-use Rattle.session_model.specs.declared.reply.SessionReply.TheVariants.{Begun, Added, AddRefused, ShapesStaged, ShapesRefused, ShapesBroken, FullTerms, ReadOnly, Refused as RefusedBy}
+use Rattle.session_model.specs.declared.reply.SessionReply.TheVariants.{Begun, ShapesStaged, ShapesRefused, ShapesBroken, FullTerms, ReadOnly, Refused as RefusedBy}
 use Rattle.store_model.specs.Store.{State, RecordedStore, OpensNext, OpensNothing, Replies, CommitsByListing, CommitsWithinLimit, CommitsByRows, overtaker, TakesStep, IsOpened, HasChange, NetNamed, StagedNamed, named_with, shapes_under, version}
-use Rattle.session_model.specs.Sessions.{OpenTransaction, answers, local_answer, local_commit, up_to_event, begun, with_additions, with_shapes, additions, parts_of, action_of, commit_action, after_reply, SessionState}
+use Rattle.session_model.specs.Sessions.{OpenTransaction, answers, local_answer, local_commit, up_to_event, begun, with_changes, with_shapes, parts_of, action_of, commit_action, after_reply, SessionState}
+use Rattle.session_player.specs.declared.transaction.ChangeKind.{ChangeKind}
+use Rattle.session_player.specs.declared.transaction.ChangeKind.TheVariants.{Addition, Removal}
+use Rattle.session_player.specs.Changes.{changes_of, command_of, reply_of, bad_command_of, refusal_of}
 use Rattle.session_player.specs.Progress.{Advances}
 use Rattle.session_player.proofs.Advancing.{Advances-then, Advances-local, Advances-event}
 use Rattle.session_model.proofs.Walking.{up_to_event-event}
 use Rattle.session_player.specs.Ready.{CommitsWith, IsReady, Performs, answer_in}
-use Rattle.session_player.proofs.Naming.{NetNamed-additions, NetNamed-naming, StagedNamed-naming, StagedNamed-shapes}
+use Rattle.session_player.proofs.Naming.{NetNamed-changes, NetNamed-naming, StagedNamed-naming, StagedNamed-shapes}
 
 pub obeys_local : (i : ℕ) (s : RecordedStore) (w v : Option OpenTransaction) (c : Command) (replies more : List SessionReply) (t : SessionReply) → local_answer w c ≡ answers t v → more ≡ replies ++ t ∷ [] → IsReady s i v → Performs i s s w v c replies more
 obeys_local i s w v c replies more t l e r = record {
@@ -57,21 +60,51 @@ names_named : (s t : State) (p q : Reply) (m : State) (b : Bool) → p ≢ q →
 names_named s t p q m true ne h = absurd (ne (sym h.0))
 names_named s t p q m false ne h = h.1
 
-pub performs_add : (i : ℕ) (s n : RecordedStore) (w : OpenTransaction) (ts : List Triple) (replies more : List SessionReply) → IsReady s i (Some w) → TakesStep s n (record { session = i; action = actions.Name (parts_of ts); reply = Named }) → more ≡ replies ++ Added (length ts) ∷ [] → Performs i s n (Some w) (Some (with_additions w ts)) (Add ts) replies more
-performs_add i s n w ts replies more r a em =
+-- the event of a block of changes, and the session afterwards
+event_of_change : (k : ChangeKind) (w : OpenTransaction) (ts : List Triple) → action_of (Some w) (command_of k ts) ≡ actions.Name (parts_of ts)
+event_of_change Addition w ts = refl
+event_of_change Removal w ts = refl
+
+local-change_event : (k : ChangeKind) (w : OpenTransaction) (ts : List Triple) → local_answer (Some w) (command_of k ts) ≡ None
+local-change_event Addition w ts = refl
+local-change_event Removal w ts = refl
+
+after_change : (k : ChangeKind) (s : State) (w : OpenTransaction) (ts : List Triple) (cs : List Command) (replies : List SessionReply)
+    → after_reply s (Some w) (command_of k ts) cs replies Named ≡ up_to_event (Some (with_changes w (changes_of k ts))) cs (replies ++ reply_of k (length ts) ∷ [])
+after_change Addition s w ts cs replies = refl
+after_change Removal s w ts cs replies = refl
+
+after_full : (k : ChangeKind) (s : State) (w : OpenTransaction) (ts : List Triple) (n : ℕ) (cs : List Command) (replies : List SessionReply)
+    → after_reply s (Some w) (command_of k ts) cs replies (Full n) ≡ up_to_event (Some w) cs (replies ++ FullTerms ∷ [])
+after_full Addition s w ts n cs replies = refl
+after_full Removal s w ts n cs replies = refl
+
+change_advances : (i : ℕ) (s n : RecordedStore) (k : ChangeKind) (w : OpenTransaction) (ts : List Triple) (r : Reply) (cs : List Command) (replies : List SessionReply) (q : SessionState) → IsOpened s.state i
+    → TakesStep s n (record { session = i; action = actions.Name (parts_of ts); reply = r }) → after_reply s.state (Some w) (command_of k ts) cs replies r ≡ q → Advances i s n (up_to_event (Some w) (command_of k ts ∷ cs) replies) q
+change_advances i s n k w ts r cs replies q g a after =
+    let c = command_of k ts in
+    let here : SessionState = record { current = Some w; commands = c ∷ cs; replies = replies } in
+    let step : TakesStep s n (record { session = i; action = action_of (Some w) c; reply = r }) = subst (λ (x : Action). TakesStep s n (record { session = i; action = x; reply = r })) (sym (event_of_change k w ts)) a in
+    subst (λ (p : SessionState). Advances i s n p q) (sym (up_to_event-event (Some w) c cs replies (local-change_event k w ts)))
+    (subst (λ (p : SessionState). Advances i s n here p) after (Advances-event i s n (Some w) c cs replies r g step))
+
+pub performs_change : (i : ℕ) (s n : RecordedStore) (k : ChangeKind) (w : OpenTransaction) (ts : List Triple) (replies more : List SessionReply) → IsReady s i (Some w) → TakesStep s n (record { session = i; action = actions.Name (parts_of ts); reply = Named }) → more ≡ replies ++ reply_of k (length ts) ∷ []
+    → Performs i s n (Some w) (Some (with_changes w (changes_of k ts))) (command_of k ts) replies more
+performs_change i s n k w ts replies more r a em =
     let state : n.state ≡ record s.state { named = named_with s.state.named (parts_of ts) } = names_named s.state n.state (Full _) Named _ _ (λ e. cc) a.step.1 in
     record {
       ready = record {
         opened = subst (λ (x : State). IsOpened x i) (sym state) r.opened;
         current = record {
           base = subst (λ (x : State). w.transaction.base ≤ version x) (sym state) r.current.base;
-          net = subst (λ (x : State). NetNamed x.named (w.transaction.net ++ additions ts)) (sym state) (NetNamed-additions s.state.named w.transaction.net ts r.current.net);
+          net = subst (λ (x : State). NetNamed x.named (w.transaction.net ++ changes_of k ts)) (sym state) (NetNamed-changes s.state.named w.transaction.net k ts r.current.net);
           staged = subst (λ (x : State). StagedNamed x.named w.transaction.staged) (sym state) (StagedNamed-naming s.state.named w.transaction.staged (parts_of ts) r.current.staged);
           verdict = r.current.verdict;
           head_taken = r.current.head_taken;
         };
       };
-      advances = λ cs. subst (λ (x : List SessionReply). Advances i s n (up_to_event (Some w) (Add ts ∷ cs) replies) (up_to_event (Some (with_additions w ts)) cs x)) (sym em) (Advances-event i s n (Some w) (Add ts) cs replies Named r.opened a);
+      advances = λ cs. subst (λ (x : List SessionReply). Advances i s n (up_to_event (Some w) (command_of k ts ∷ cs) replies) (up_to_event (Some (with_changes w (changes_of k ts))) cs x)) (sym em)
+          (change_advances i s n k w ts Named cs replies _ r.opened a (after_change k s.state w ts cs replies));
     }
 
 pub performs_stage : (i : ℕ) (s n : RecordedStore) (w : OpenTransaction) (ts : List Triple) (replies more : List SessionReply) → IsReady s i (Some w) → TakesStep s n (record { session = i; action = actions.Name (parts_of ts); reply = Named }) → more ≡ replies ++ ShapesStaged (length ts) ∷ [] → Performs i s n (Some w) (Some (with_shapes w ts)) (Shapes ts) replies more
@@ -110,10 +143,12 @@ still_ready i s n w ts k r a =
       };
     }
 
-pub performs_full : (i : ℕ) (s n : RecordedStore) (w : OpenTransaction) (ts : List Triple) (k : ℕ) (replies more : List SessionReply) → IsReady s i (Some w) → TakesStep s n (record { session = i; action = actions.Name (parts_of ts); reply = Full k }) → more ≡ replies ++ FullTerms ∷ [] → Performs i s n (Some w) (Some w) (Add ts) replies more
-performs_full i s n w ts k replies more r a em = record {
-  ready = still_ready i s n w ts k r a;
-  advances = λ cs. subst (λ (x : List SessionReply). Advances i s n (up_to_event (Some w) (Add ts ∷ cs) replies) (up_to_event (Some w) cs x)) (sym em) (Advances-event i s n (Some w) (Add ts) cs replies (Full k) r.opened a);
+pub performs_full : (i : ℕ) (s n : RecordedStore) (k : ChangeKind) (w : OpenTransaction) (ts : List Triple) (count : ℕ) (replies more : List SessionReply) → IsReady s i (Some w) → TakesStep s n (record { session = i; action = actions.Name (parts_of ts); reply = Full count }) → more ≡ replies ++ FullTerms ∷ []
+    → Performs i s n (Some w) (Some w) (command_of k ts) replies more
+performs_full i s n k w ts count replies more r a em = record {
+  ready = still_ready i s n w ts count r a;
+  advances = λ cs. subst (λ (x : List SessionReply). Advances i s n (up_to_event (Some w) (command_of k ts ∷ cs) replies) (up_to_event (Some w) cs x)) (sym em)
+      (change_advances i s n k w ts (Full count) cs replies _ r.opened a (after_full k s.state w ts count cs replies));
 }
 
 pub performs_full_shapes : (i : ℕ) (s n : RecordedStore) (w : OpenTransaction) (ts : List Triple) (k : ℕ) (replies more : List SessionReply) → IsReady s i (Some w) → TakesStep s n (record { session = i; action = actions.Name (parts_of ts); reply = Full k }) → more ≡ replies ++ FullTerms ∷ [] → Performs i s n (Some w) (Some w) (Shapes ts) replies more
@@ -129,9 +164,11 @@ performs_answer i s w c reply replies more (Ok v) l ready h =
     subst (λ (u : Option OpenTransaction). Performs i s s w u c replies more) (sym h.0) (obeys_local i s w w c replies more (answer_in w reply) (l w) h.1 ready)
 performs_answer i s w c reply replies more (Err e) l ready h = tt
 
-pub local-refuse_add : (n k : ℕ) (u : Option OpenTransaction) → local_answer u (BadAdd n k) ≡ answers (answer_in u (AddRefused n k)) u
-local-refuse_add n k None = refl
-local-refuse_add n k (Some w) = refl
+pub local-refuse_change : (c : ChangeKind) (n k : ℕ) (u : Option OpenTransaction) → local_answer u (bad_command_of c n k) ≡ answers (answer_in u (refusal_of c n k)) u
+local-refuse_change Addition n k None = refl
+local-refuse_change Addition n k (Some w) = refl
+local-refuse_change Removal n k None = refl
+local-refuse_change Removal n k (Some w) = refl
 
 pub local-refuse_shapes : (n k : ℕ) (u : Option OpenTransaction) → local_answer u (BadShapes n k) ≡ answers (answer_in u (ShapesRefused n k)) u
 local-refuse_shapes n k None = refl

@@ -7,8 +7,8 @@ ghost use Rattle.store_model.specs.Store.{IsCommittable, IsOpened};
 ghost use Rattle.session_player.specs.Ready.{CommitsWith, IsReady, Performs, TakesHead};
 
 use crate::find::{abort, find};
-use crate::stage::{add, refuse_add, refuse_broken, refuse_shapes, stage};
-use crate::transaction::OpenTransaction;
+use crate::stage::{change, refuse_broken, refuse_change, refuse_shapes, stage};
+use crate::transaction::{ChangeKind, OpenTransaction};
 use collections::{Sequence, let_go};
 use commit_core::{CheckedTransaction, Commit, Core, Transaction};
 use rdf_model::Text;
@@ -139,9 +139,21 @@ pub fn perform<L: Ledger>(
 {
     match command {
         Command::Begin => begin(alloc, core, session, current, replies),
-        Command::Add(triples) => add(alloc, core, session, current, triples, replies),
+        Command::Add(triples) => {
+            let kind = ChangeKind::Addition;
+            change(alloc, core, session, current, kind, triples, replies)
+        }
         Command::BadAdd { line, kind } => {
-            refuse_add(core, session, current, *line, *kind, replies)
+            let change = ChangeKind::Addition;
+            refuse_change(core, session, current, change, *line, *kind, replies)
+        }
+        Command::Remove(triples) => {
+            let kind = ChangeKind::Removal;
+            change(alloc, core, session, current, kind, triples, replies)
+        }
+        Command::BadRemove { line, kind } => {
+            let change = ChangeKind::Removal;
+            refuse_change(core, session, current, change, *line, *kind, replies)
         }
         Command::Shapes(shapes) => stage(alloc, core, session, current, shapes, replies),
         Command::BadShapes { line, kind } => {

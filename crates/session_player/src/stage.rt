@@ -3,9 +3,10 @@ ghost use Rattle.std.specs.Prelude.{◌≡◌, [], ◌∷◌, ◌++◌, IfOk, On
 ghost use Rattle.store_model.specs.Store;
 ghost use Rattle.store_model.specs.Store.{IsOpened};
 ghost use Rattle.session_model.specs.Sessions.{parts_of};
+ghost use Rattle.session_player.specs.Changes.{bad_command_of, command_of};
 ghost use Rattle.session_player.specs.Ready.{IsReady, NamesAll, Performs, answer_in};
 
-use crate::transaction::OpenTransaction;
+use crate::transaction::{ChangeKind, OpenTransaction};
 use collections::Sequence;
 use commit_core::{Core, NameFault};
 use rdf_model::{Term, Triple};
@@ -53,17 +54,18 @@ fn name_terms(
     }
 }
 
-/// Adds the triples to the open transaction.
-pub fn add(
+/// Adds the triples in the open transaction, or removes them.
+pub fn change(
     alloc: Global,
     core: &mut Core,
     session: u32,
     current: Option<OpenTransaction>,
+    kind: ChangeKind,
     triples: &Sequence<Triple>,
     replies: &mut Sequence<SessionReply>,
 ) -> Result<Option<OpenTransaction>, AllocError>
     requires { IsReady core.old session current }
-    ensures { IfOk result (λ next. Performs session core.old core.new current next (Command.Add triples.now) replies.old replies.new) }
+    ensures { IfOk result (λ next. Performs session core.old core.new current next (command_of kind triples.now) replies.old replies.new) }
 {
     let Some(open) = current else {
         replies.push(SessionReply::NoTransaction)?;
@@ -73,8 +75,8 @@ pub fn add(
         replies.push(SessionReply::FullTerms)?;
         return Ok(Some(open));
     }
-    let open = open.with_additions(triples.as_slice())?;
-    replies.push(SessionReply::Added(triples.len()))?;
+    let open = open.with_changes(kind, triples.as_slice())?;
+    replies.push(kind.reply(triples.len()))?;
     Ok(Some(open))
 }
 
@@ -123,19 +125,20 @@ fn answer_only(
     }
 }
 
-/// An addition whose block can't be read changes nothing.
-pub fn refuse_add(
+/// An addition or a removal whose block can't be read changes nothing.
+pub fn refuse_change(
     core: &Core,
     session: u32,
     current: Option<OpenTransaction>,
+    change: ChangeKind,
     line: u64,
     kind: u8,
     replies: &mut Sequence<SessionReply>,
 ) -> Result<Option<OpenTransaction>, AllocError>
     requires { IsReady core.now session current }
-    ensures { IfOk result (λ next. Performs session core.now core.now current next (Command.BadAdd line kind) replies.old replies.new) }
+    ensures { IfOk result (λ next. Performs session core.now core.now current next (bad_command_of change line kind) replies.old replies.new) }
 {
-    answer_only(current, SessionReply::AddRefused { line, kind }, replies)
+    answer_only(current, change.refusal(line, kind), replies)
 }
 
 /// Shapes whose block can't be read change nothing.

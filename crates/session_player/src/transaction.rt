@@ -1,11 +1,14 @@
 ghost use Rattle.std.specs.Prelude.{◌≡◌, ◌++◌, [], MatchBool, None, IfOk, OnOk};
 ghost use Rattle.store_model.specs.Store.{HasChange};
 ghost use Rattle.session_model.specs.Sessions;
-ghost use Rattle.session_model.specs.Sessions.{additions, begun};
+ghost use Rattle.session_model.specs.Sessions.{begun};
+ghost use Rattle.session_player.specs.Changes;
+ghost use Rattle.session_player.specs.Changes.{change_of, changes_of};
 
 use collections::Sequence;
 use commit_core::{Snap, Transaction};
 use rdf_model::{Change, Net, Pattern, Triple};
+use session_model::SessionReply;
 use shapes_graph::ShapesGraph;
 use std::alloc::{AllocError, Global};
 use std::marker::Model;
@@ -36,12 +39,51 @@ impl Drop for OpenTransaction {
     }
 }
 
-// Adds an addition of each triple to the changes.
-fn add_all(net: &mut Net, triples: &[Triple]) -> Result<(), AllocError>
-    ensures { OnOk result (net.new ≡ net.old ++ additions triples.now) }
+/// What a block does to its triples.
+#[derive(Clone, Copy, Debug, PartialEq, Eq)]
+pub enum ChangeKind {
+    Addition,
+    Removal,
+}
+
+impl ChangeKind {
+    // The change of this kind of a triple.
+    fn of(self, triple: Triple) -> Change
+        ensures { result ≡ change_of self triple }
+    {
+        match self {
+            ChangeKind::Addition => Change::Add(triple),
+            ChangeKind::Removal => Change::Remove(triple),
+        }
+    }
+
+    /// The reply to a block with so many triples.
+    pub fn reply(self, count: usize) -> SessionReply
+        ensures { result ≡ Changes.reply_of self count }
+    {
+        match self {
+            ChangeKind::Addition => SessionReply::Added(count),
+            ChangeKind::Removal => SessionReply::Removed(count),
+        }
+    }
+
+    /// The reply to a block that can't be read.
+    pub fn refusal(self, line: u64, kind: u8) -> SessionReply
+        ensures { result ≡ Changes.refusal_of self line kind }
+    {
+        match self {
+            ChangeKind::Addition => SessionReply::AddRefused { line, kind },
+            ChangeKind::Removal => SessionReply::RemoveRefused { line, kind },
+        }
+    }
+}
+
+// Adds a change of each triple.
+fn push_changes(net: &mut Net, kind: ChangeKind, triples: &[Triple]) -> Result<(), AllocError>
+    ensures { OnOk result (net.new ≡ net.old ++ changes_of kind triples.now) }
 {
     for triple in triples {
-        net.push(Change::Add(triple.clone()?))?;
+        net.push(kind.of(triple.clone()?))?;
     }
     Ok(())
 }
@@ -78,13 +120,17 @@ impl OpenTransaction {
         }
     }
 
-    /// The same with an addition of each triple.
-    pub fn with_additions(self, triples: &[Triple]) -> Result<OpenTransaction, AllocError>
-        ensures { IfOk result (λ next. next ≡ Sessions.with_additions self triples.now) }
+    /// The same with a change of each triple.
+    pub fn with_changes(
+        self,
+        kind: ChangeKind,
+        triples: &[Triple],
+    ) -> Result<OpenTransaction, AllocError>
+        ensures { IfOk result (λ next. next ≡ Sessions.with_changes self (changes_of kind triples.now)) }
     {
         let OpenTransaction { transaction, snap } = self;
         let mut transaction = transaction;
-        add_all(&mut transaction.net, triples)?;
+        push_changes(&mut transaction.net, kind, triples)?;
         Ok(OpenTransaction { transaction, snap })
     }
 

@@ -88,16 +88,24 @@ block_ends k texts n is = ap (option_map (λ m. take m texts)) is
 pub block_open : (k : BlockKind) (texts : List (List ℕ)) → block_length texts ≡ None → block_after (Block k) texts ≡ None
 block_open k texts is = ap (option_map (λ m. take m texts)) is
 
--- the item of a block, by what its first line is
+-- an item, by what its first line is
 abbrev pub Means : ℕ → ℕ → ℕ → ℕ → List ReadCommand → List ReadCommand → (ℕ → Result (List ReadCommand) ℕ) → Result ℕ PrepareFault → LineKind → List (List ℕ) → Type 0
 Means s old n new cs ds more r kind texts =
     MatchResult r (λ taken. (taken ≡ lines_of_block (block_after kind texts)) × (with_commands cs (with_item s old n kind (block_after kind texts) more) ≡ with_commands ds (more new))) (λ fault. Fails fault (with_commands cs (with_item s old n kind (block_after kind texts) more)))
 
-pub block_item : (r : Result ℕ PrepareFault) (s old n new : ℕ) (k : BlockKind) (line there : List ℕ) (xs texts : List (List ℕ)) (cs ds : List ReadCommand) (more : ℕ → Result (List ReadCommand) ℕ)
-    → Block k ≡ kind_of (command_text line xs) → line ≡ there → xs ≡ texts → Means s old n new cs ds more r (Block k) xs → Means s old n new cs ds more r (kind_of (command_text there texts)) texts
-block_item r s old n new k line there xs texts cs ds more is here same h =
-    let kind : Block k ≡ kind_of (command_text there texts) = is ∙ ap (λ x. kind_of (command_text x xs)) here ∙ ap (λ ls. kind_of (command_text there ls)) same in
-    subst (λ (x : LineKind). Means s old n new cs ds more r x texts) kind (subst (λ (x : List (List ℕ)). Means s old n new cs ds more r (Block k) x) same h)
+pub item_of_kind : (r : Result ℕ PrepareFault) (s old n new : ℕ) (k : LineKind) (line there : List ℕ) (xs texts : List (List ℕ)) (cs ds : List ReadCommand) (more : ℕ → Result (List ReadCommand) ℕ)
+    → k ≡ kind_of (command_text line xs) → line ≡ there → xs ≡ texts → Means s old n new cs ds more r k xs → Means s old n new cs ds more r (kind_of (command_text there texts)) texts
+item_of_kind r s old n new k line there xs texts cs ds more is here same h =
+    let kind : k ≡ kind_of (command_text there texts) = is ∙ ap (λ x. kind_of (command_text x xs)) here ∙ ap (λ ls. kind_of (command_text there ls)) same in
+    subst (λ (x : LineKind). Means s old n new cs ds more r x texts) kind (subst (λ (x : List (List ℕ)). Means s old n new cs ds more r k x) same h)
+
+-- an item of one line
+pub single_next : (r : Result ℕ PrepareFault) (next n : ℕ) (texts : List (List ℕ)) (P : Type 0) (Q : PrepareFault → Type 0) → MatchResult r (λ taken. (taken ≡ 0) × P) Q
+    → IfOk r (λ taken. (next ≤ next) × (taken ≤ n) × (next + length (block_text (drop taken texts)) ≤ next + length (block_text texts)))
+single_next (Ok taken) next n texts P Q (is, p) =
+    let same : length (block_text (drop taken texts)) ≡ length (block_text texts) = ap (λ k. length (block_text (drop k texts))) is in
+    (omega arith, omega (arith, is), omega (arith, same))
+single_next (Err e) next n texts P Q h = tt
 
 pub block_next : (r : Result ℕ PrepareFault) (old new i : ℕ) (xs texts : List (List ℕ)) (after all : ℕ) → xs ≡ drop (i + 1) texts → i + 1 + after ≡ all
     → IfOk r (λ taken. (old ≤ new) × (taken ≤ after) × (new + length (block_text (drop taken xs)) ≤ old + length (block_text xs)))

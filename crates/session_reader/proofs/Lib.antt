@@ -2,3 +2,4 @@ pub mod Checks
 pub mod Items
 pub mod Lengths
 pub mod OneSession
+pub mod Pieces

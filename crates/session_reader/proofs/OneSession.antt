@@ -11,7 +11,7 @@ use Rattle.shape_model.specs.WellFormed.{IsLeastBroken}
 use Rattle.session_model.specs.declared.command.Command.{Command}
 use Rattle.session_model.specs.declared.command.Command.TheVariants as commands
 use Rattle.session_reader.specs.declared.read_command.ReadCommand.{ReadCommand}
-use Rattle.session_reader.specs.declared.read_command.ReadCommand.TheVariants.{Begin, Add, BadAdd, Shapes, BadShapes, Commit, Abort}
+use Rattle.session_reader.specs.declared.read_command.ReadCommand.TheVariants.{Begin, Add, BadAdd, Remove, BadRemove, Shapes, BadShapes, Commit, Find, Abort}
 use Rattle.session_reader.specs.Checking.{AreChecked, IsChecked, IsCheckedGraph}
 use Rattle.session_reader.specs.Laws.{FileHasOneSession}
 
@@ -35,9 +35,12 @@ command_one : (r : ReadCommand) (c d : Command) → IsChecked r c → IsChecked 
 command_one Begin c d h k = k ∙ sym h
 command_one (Add ts) c d h k = k ∙ sym h
 command_one (BadAdd n kind) c d h k = k ∙ sym h
+command_one (Remove ts) c d h k = k ∙ sym h
+command_one (BadRemove n kind) c d h k = k ∙ sym h
 command_one (Shapes ts) c d h k = graph_one ts c d h k
 command_one (BadShapes n kind) c d h k = k ∙ sym h
 command_one Commit c d h k = k ∙ sym h
+command_one (Find pattern) c d h k = k ∙ sym h
 command_one Abort c d h k = k ∙ sym h
 
 commands_one : (rs : List ReadCommand) (cs ds : List Command) → AreChecked rs cs → AreChecked rs ds → ds ≡ cs

@@ -6,7 +6,7 @@ use Rattle.shape_model.specs.declared.broken_rule.BrokenRule.{BrokenRule}
 use Rattle.session_model.specs.declared.command.Command.{Command}
 use Rattle.session_model.specs.declared.command.Command.TheVariants as commands
 use Rattle.session_reader.specs.declared.read_command.ReadCommand.{ReadCommand}
-use Rattle.session_reader.specs.declared.read_command.ReadCommand.TheVariants.{Begin, Add, BadAdd, Shapes, BadShapes, Commit, Abort}
+use Rattle.session_reader.specs.declared.read_command.ReadCommand.TheVariants.{Begin, Add, BadAdd, Remove, BadRemove, Shapes, BadShapes, Commit, Find, Abort}
 
 -- what becomes of a shapes graph that was read: it is staged where it is well-formed (SHACL 3.4.2), else refused by the
 -- broken rule that is reported
@@ -18,9 +18,12 @@ abbrev pub IsChecked : ReadCommand → Command → Type 0
 IsChecked Begin c = c ≡ commands.Begin
 IsChecked (Add ts) c = c ≡ commands.Add ts
 IsChecked (BadAdd n kind) c = c ≡ commands.BadAdd n kind
+IsChecked (Remove ts) c = c ≡ commands.Remove ts
+IsChecked (BadRemove n kind) c = c ≡ commands.BadRemove n kind
 IsChecked (Shapes ts) c = IsCheckedGraph ts c
 IsChecked (BadShapes n kind) c = c ≡ commands.BadShapes n kind
 IsChecked Commit c = c ≡ commands.Commit
+IsChecked (Find pattern) c = c ≡ commands.Find pattern
 IsChecked Abort c = c ≡ commands.Abort
 
 -- one by one, equally many

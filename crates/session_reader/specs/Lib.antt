@@ -1,4 +1,5 @@
 pub mod Checking
+pub mod FindLine
 pub mod SessionFile
 pub mod Faults
 pub mod Progress

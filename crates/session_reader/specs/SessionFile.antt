@@ -4,16 +4,18 @@ use Rattle.std.specs.Prelude.{◌≡◌, Bool, ℕ, zero, suc, ◌+◌, ◌-◌,
 use Rattle.std.specs.Option.{option_map}
 use Rattle.std.specs.List.{slice_split, flat_map}
 use Rattle.rdf_model.specs.declared.triple.Triple.{Triple}
+use Rattle.rdf_model.specs.declared.pattern.Pattern.{Pattern}
 use Rattle.session_model.specs.declared.command.Command.{Command}
 use Rattle.session_reader.specs.declared.line.BlockKind.{BlockKind}
 use Rattle.session_reader.specs.declared.line.BlockKind.TheVariants as blocks
 use Rattle.session_reader.specs.declared.line.LineKind.{LineKind}
-use Rattle.session_reader.specs.declared.line.LineKind.TheVariants.{Skipped, BeginCommand, CommitCommand, AbortCommand, Block, Other}
+use Rattle.session_reader.specs.declared.line.LineKind.TheVariants.{Skipped, BeginCommand, CommitCommand, AbortCommand, FindCommand, Block, Other}
 use Rattle.session_reader.specs.declared.read_command.ReadCommand.{ReadCommand}
-use Rattle.session_reader.specs.declared.read_command.ReadCommand.TheVariants.{Begin, Add, BadAdd, Shapes, BadShapes, Commit, Abort}
+use Rattle.session_reader.specs.declared.read_command.ReadCommand.TheVariants.{Begin, Add, BadAdd, Remove, BadRemove, Shapes, BadShapes, Commit, Find, Abort}
 use Rattle.rdf_lexical.specs.declared.refusal.RefusalKind.{RefusalKind}
-use Rattle.ntriples_text.specs.Document.{reads}
+use Rattle.ntriples_text.specs.Document.{reads, reads_named}
 use Rattle.rdf_lexical.specs.Refusals.{number_of}
+use Rattle.session_reader.specs.FindLine.{find_of}
 use Rattle.session_reader.specs.Checking.{AreChecked}
 
 -- a line without a CR at its end
@@ -29,14 +31,27 @@ command_text line (next ∷ lines) = without_cr line
 abbrev pub is_skipped : List ℕ → Bool
 is_skipped line = length line == 0 || slice_index line 0 == 35
 
+-- the kind of block that follows a line, if one does
+abbrev pub block_kind : List ℕ → Option BlockKind
+block_kind line = if bytes_eq line (codes "add ntriples") then Some blocks.Add else
+    (if bytes_eq line (codes "remove ntriples") then Some blocks.Remove else
+    (if bytes_eq line (codes "shapes ntriples") then Some blocks.Shapes else None))
+
+-- a line that isn't a single word: the command of a block, a find, or no command
+abbrev pub find_or_other : Option Pattern → LineKind
+find_or_other (Some pattern) = FindCommand pattern
+find_or_other None = Other
+
+abbrev pub kind_of_words : Option BlockKind → Option Pattern → LineKind
+kind_of_words (Some kind) pattern = Block kind
+kind_of_words None pattern = find_or_other pattern
+
 -- what a line between commands is
 abbrev pub kind_of : List ℕ → LineKind
 kind_of line = if is_skipped line then Skipped else
     (if bytes_eq line (codes "begin") then BeginCommand else
     (if bytes_eq line (codes "commit") then CommitCommand else
-    (if bytes_eq line (codes "abort") then AbortCommand else
-    (if bytes_eq line (codes "add ntriples") then Block blocks.Add else
-    (if bytes_eq line (codes "shapes ntriples") then Block blocks.Shapes else Other)))))
+    (if bytes_eq line (codes "abort") then AbortCommand else kind_of_words (block_kind line) (find_of line))))
 
 -- the end of a block is `%%`, or that and a CR
 abbrev pub is_block_end : List ℕ → Bool
@@ -56,6 +71,11 @@ abbrev pub add_of : Result (List Triple × ℕ) (ℕ × RefusalKind) → ReadCom
 add_of (Ok r) = Add r.0
 add_of (Err e) = BadAdd e.0 (number_of e.1)
 
+-- what a reading of a removal's block makes of it: its triples, or its refusal
+abbrev pub remove_of : Result (List Triple × ℕ) (ℕ × RefusalKind) → ReadCommand
+remove_of (Ok r) = Remove r.0
+remove_of (Err e) = BadRemove e.0 (number_of e.1)
+
 -- what a reading of the block of shapes makes of it: its shapes graph, or its refusal
 abbrev pub shapes_of : Result (List Triple × ℕ) (ℕ × RefusalKind) → ReadCommand
 shapes_of (Ok r) = Shapes r.0
@@ -64,7 +84,20 @@ shapes_of (Err e) = BadShapes e.0 (number_of e.1)
 -- the command of a block of this kind, after its reading
 abbrev pub block_command : BlockKind → Result (List Triple × ℕ) (ℕ × RefusalKind) → ReadCommand
 block_command blocks.Add reading = add_of reading
+block_command blocks.Remove reading = remove_of reading
 block_command blocks.Shapes reading = shapes_of reading
+
+-- a reading that numbers no blank node
+abbrev pub numbering_none : ℕ → Result (List Triple) (ℕ × RefusalKind) → Result (List Triple × ℕ) (ℕ × RefusalKind)
+numbering_none first (Ok ts) = Ok (ts, first)
+numbering_none first (Err e) = Err e
+
+-- The reading of a block of this kind, for session s, whose next blank node has the number first. The labels of a removal
+-- are those of the store; in the other blocks each label is a new blank node.
+abbrev pub block_reading : BlockKind → List ℕ → ℕ → ℕ → Result (List Triple × ℕ) (ℕ × RefusalKind)
+block_reading blocks.Add text s first = reads text s first
+block_reading blocks.Remove text s first = numbering_none first (reads_named text)
+block_reading blocks.Shapes text s first = reads text s first
 
 -- the next number of a blank node after a reading; a refused text uses none
 abbrev pub next_after : ℕ → Result (List Triple × ℕ) (ℕ × RefusalKind) → ℕ
@@ -109,7 +142,8 @@ with_item s first n Skipped block more = more first
 with_item s first n BeginCommand block more = with_command Begin (more first)
 with_item s first n CommitCommand block more = with_command Commit (more first)
 with_item s first n AbortCommand block more = with_command Abort (more first)
-with_item s first n (Block k) (Some lines) more = let reading = reads (block_text lines) s first in with_command (block_command k reading) (more (next_after first reading))
+with_item s first n (FindCommand pattern) block more = with_command (Find pattern) (more first)
+with_item s first n (Block k) (Some lines) more = let reading = block_reading k (block_text lines) s first in with_command (block_command k reading) (more (next_after first reading))
 with_item s first n (Block k) None more = Err n
 with_item s first n Other block more = Err n
 

@@ -42,9 +42,12 @@ fn check_command<M: Maker>(
         ReadCommand::Begin => Ok(Command::Begin),
         ReadCommand::Add(triples) => Ok(Command::Add(triples)),
         ReadCommand::BadAdd { line, kind } => Ok(Command::BadAdd { line, kind }),
+        ReadCommand::Remove(triples) => Ok(Command::Remove(triples)),
+        ReadCommand::BadRemove { line, kind } => Ok(Command::BadRemove { line, kind }),
         ReadCommand::Shapes(triples) => check_graph(alloc, maker, triples),
         ReadCommand::BadShapes { line, kind } => Ok(Command::BadShapes { line, kind }),
         ReadCommand::Commit => Ok(Command::Commit),
+        ReadCommand::Find(pattern) => Ok(Command::Find(pattern)),
         ReadCommand::Abort => Ok(Command::Abort),
     }
 }

@@ -1,12 +1,13 @@
 //! Reads session files.
 //!
 //! `prepare` gives exactly the commands of a file, or exactly the number of its first line that is no
-//! command; `specs/SessionFile.antt` says which those are. Blocks are read as N-Triples, and those of
+//! command; `specs/SessionFile.antt` and `specs/FindLine.antt` say which those are. Blocks are read as N-Triples, and those of
 //! shapes as shapes graphs; one that can't be read, or breaks a rule, is a command of its own, which
 //! tells its refusal.
 #![tactic(auto)]
 
 mod checking;
+mod find_line;
 pub mod laws;
 mod line;
 mod prepare_fault;

@@ -1,24 +1,33 @@
-ghost use Rattle.std.specs.Prelude.{◌≡◌};
+ghost use Rattle.std.specs.Prelude.{◌≡◌, IfOk};
+ghost use Rattle.session_reader.specs.FindLine.{find_of};
 ghost use Rattle.session_reader.specs.SessionFile;
 ghost use Rattle.session_reader.specs.SessionFile.{is_skipped, without_cr};
+
+use crate::find_line::find_pattern;
+use rdf_model::Pattern;
+use std::alloc::{AllocError, Global};
 
 /// What the block of a command is.
 #[derive(Clone, Copy, Debug, PartialEq, Eq)]
 pub enum BlockKind {
     /// The triples of `add ntriples`.
     Add,
+    /// The triples of `remove ntriples`.
+    Remove,
     /// The shapes graph of `shapes ntriples`.
     Shapes,
 }
 
 /// What a line between commands is.
-#[derive(Clone, Copy, Debug, PartialEq, Eq)]
+#[derive(Debug, Drop)]
 pub enum LineKind {
     /// Nothing, or a comment.
     Skipped,
     BeginCommand,
     CommitCommand,
     AbortCommand,
+    /// A find of these triples.
+    FindCommand(Pattern),
     /// A command that a block follows.
     Block(BlockKind),
     /// No command.
@@ -42,24 +51,55 @@ fn is_empty_or_comment(line: &[u8]) -> bool
     line.is_empty() || line[0] == b'#'
 }
 
+// The kind of block that follows a line, if one does.
+fn block_kind(line: &[u8]) -> Option<BlockKind>
+    ensures { result ≡ SessionFile.block_kind line.now }
+{
+    if line == b"add ntriples".as_slice() {
+        Some(BlockKind::Add)
+    } else if line == b"remove ntriples".as_slice() {
+        Some(BlockKind::Remove)
+    } else if line == b"shapes ntriples".as_slice() {
+        Some(BlockKind::Shapes)
+    } else {
+        None
+    }
+}
+
+// A line that no block follows, and that is no single word: a find, or no command.
+fn find_or_other(alloc: Global, line: &[u8]) -> Result<LineKind, AllocError>
+    ensures { IfOk result (λ kind. kind ≡ SessionFile.find_or_other (find_of line.now)) }
+{
+    match find_pattern(alloc, line)? {
+        Some(pattern) => Ok(LineKind::FindCommand(pattern)),
+        None => Ok(LineKind::Other),
+    }
+}
+
+// A line with more than one word.
+fn kind_of_words(alloc: Global, line: &[u8]) -> Result<LineKind, AllocError>
+    ensures { IfOk result (λ kind. kind ≡ SessionFile.kind_of_words (SessionFile.block_kind line.now) (find_of line.now)) }
+{
+    match block_kind(line) {
+        Some(kind) => Ok(LineKind::Block(kind)),
+        None => find_or_other(alloc, line),
+    }
+}
+
 /// What a line between commands is, without its end.
-pub fn kind_of(line: &[u8]) -> LineKind
-    ensures { result ≡ SessionFile.kind_of line.now }
+pub fn kind_of(alloc: Global, line: &[u8]) -> Result<LineKind, AllocError>
+    ensures { IfOk result (λ kind. kind ≡ SessionFile.kind_of line.now) }
 {
     if is_empty_or_comment(line) {
-        LineKind::Skipped
+        Ok(LineKind::Skipped)
     } else if line == b"begin".as_slice() {
-        LineKind::BeginCommand
+        Ok(LineKind::BeginCommand)
     } else if line == b"commit".as_slice() {
-        LineKind::CommitCommand
+        Ok(LineKind::CommitCommand)
     } else if line == b"abort".as_slice() {
-        LineKind::AbortCommand
-    } else if line == b"add ntriples".as_slice() {
-        LineKind::Block(BlockKind::Add)
-    } else if line == b"shapes ntriples".as_slice() {
-        LineKind::Block(BlockKind::Shapes)
+        Ok(LineKind::AbortCommand)
     } else {
-        LineKind::Other
+        kind_of_words(alloc, line)
     }
 }
 

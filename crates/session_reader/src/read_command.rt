@@ -1,5 +1,5 @@
 use collections::Sequence;
-use rdf_model::Triple;
+use rdf_model::{Pattern, Triple};
 
 /// A command as its lines are read, before its shapes graph is judged.
 #[derive(Debug, Drop)]
@@ -9,10 +9,15 @@ pub enum ReadCommand {
     Add(Sequence<Triple>),
     /// An addition whose block can't be read: the line of the block, from 1, and the number of the refusal's kind.
     BadAdd { line: u64, kind: u8 },
+    /// A removal of these triples.
+    Remove(Sequence<Triple>),
+    /// A removal whose block can't be read: the line of the block, from 1, and the number of the refusal's kind.
+    BadRemove { line: u64, kind: u8 },
     /// A shapes graph, well-formed or not.
     Shapes(Sequence<Triple>),
     /// Shapes whose block can't be read: the line of the block, from 1, and the number of the refusal's kind.
     BadShapes { line: u64, kind: u8 },
     Commit,
+    Find(Pattern),
     Abort,
 }

@@ -1,10 +1,10 @@
-ghost use Rattle.std.specs.Prelude.{◌≡◌, ℕ, ◌+◌, ◌<◌, ◌≤◌, ◌^◌, [], List, Result, Ok, drop, slice_index_or, IfOk, IfSome, MatchResult, map, length, ◌==◌};
+ghost use Rattle.std.specs.Prelude.{◌≡◌, ℕ, ◌+◌, ◌<◌, ◌≤◌, ◌^◌, [], List, Result, Ok, drop, slice_index_or, IfOk, IfSome, MatchResult, OnErr, map, length, ◌==◌};
 ghost use Rattle.std.specs.List.{slice_split};
-ghost use Rattle.ntriples_text.specs.Document.{reads};
+ghost use Rattle.rdf_lexical.specs.Refusals.{Refuses};
 ghost use Rattle.session_reader.specs.declared.line.LineKind.TheVariants as kinds;
 ghost use Rattle.session_reader.specs.declared.read_command.ReadCommand.{ReadCommand as CommandData};
 ghost use Rattle.session_reader.specs.SessionFile;
-ghost use Rattle.session_reader.specs.SessionFile.{IsSession, session_of, block_command, block_text, next_after, block_after, item_at, lines_of_block, with_item, commands_of, items_after};
+ghost use Rattle.session_reader.specs.SessionFile.{IsSession, session_of, block_command, block_reading, block_text, next_after, block_after, item_at, lines_of_block, with_command, with_item, commands_of, items_after};
 ghost use Rattle.session_reader.specs.Progress.{with_commands};
 ghost use Rattle.session_reader.specs.Faults.{Fails};
 
@@ -44,6 +44,7 @@ fn accepted_block(kind: BlockKind, triples: Sequence<Triple>) -> ReadCommand
 {
     match kind {
         BlockKind::Add => ReadCommand::Add(triples),
+        BlockKind::Remove => ReadCommand::Remove(triples),
         BlockKind::Shapes => ReadCommand::Shapes(triples),
     }
 }
@@ -55,7 +56,30 @@ fn refused_block(kind: BlockKind, line: u64, refusal: RefusalKind) -> ReadComman
     let number = refusal.number();
     match kind {
         BlockKind::Add => ReadCommand::BadAdd { line, kind: number },
+        BlockKind::Remove => ReadCommand::BadRemove { line, kind: number },
         BlockKind::Shapes => ReadCommand::BadShapes { line, kind: number },
+    }
+}
+
+// The triples of a block of this kind. A removal's blank nodes are those of the store; those of the others are new.
+fn read_triples(
+    alloc: Global,
+    session: u32,
+    next: &mut u32,
+    block: BlockKind,
+    text: &[u8],
+) -> Result<Sequence<Triple>, ReadFault>
+    requires session { (1 ≤ session) × (session ≤ 64) }
+    requires next { 1 ≤ next.old }
+    requires room { next.old + length text.now < 2 ^ 32 }
+    ensures reads { let reading = block_reading block text.now session next.old in
+        MatchResult result (λ triples. reading ≡ Ok (triples, next.new)) (λ fault. Refuses fault reading) }
+    ensures unchanged { OnErr result (next.new ≡ next.old) }
+    ensures room { (next.old ≤ next.new) × (next.new ≤ next.old + length text.now) }
+{
+    match block {
+        BlockKind::Remove => ntriples_text::read_named(alloc, text),
+        BlockKind::Add | BlockKind::Shapes => ntriples_text::read(alloc, session, next, text),
     }
 }
 
@@ -70,12 +94,12 @@ fn read_block(
     requires session { (1 ≤ session) × (session ≤ 64) }
     requires next { 1 ≤ next.old }
     requires room { next.old + length (block_text (map (λ l. l.now) lines.now)) < 2 ^ 32 }
-    ensures command { let reading = reads (block_text (map (λ l. l.now) lines.now)) session next.old in
+    ensures command { let reading = block_reading block (block_text (map (λ l. l.now) lines.now)) session next.old in
         IfOk result (λ command. (command ≡ block_command block reading) × (next.new ≡ next_after next.old reading)) }
     ensures within { (next.old ≤ next.new) × (next.new ≤ next.old + length (block_text (map (λ l. l.now) lines.now))) }
 {
     let text = text_of_block(alloc, lines)?;
-    match ntriples_text::read(alloc, session, next, &text) {
+    match read_triples(alloc, session, next, block, &text) {
         Ok(triples) => Ok(accepted_block(block, triples)),
         Err(ReadFault::Refusal { line, kind }) => Ok(refused_block(block, line, kind)),
         Err(ReadFault::Memory) => Err(AllocError),
@@ -136,6 +160,49 @@ fn read_block_item(
     Ok(count + 1)
 }
 
+// Adds the command of a line that no block follows.
+fn push_command(
+    commands: &mut Sequence<ReadCommand>,
+    command: ReadCommand,
+) -> Result<usize, PrepareFault>
+    ensures { (more : Result (List CommandData) ℕ) → let before = with_commands commands.old (with_command command more) in
+        MatchResult result (λ taken. (taken ≡ 0) × (before ≡ with_commands commands.new more)) (λ fault. Fails fault before) }
+{
+    commands.push(command)?;
+    Ok(0)
+}
+
+// Reads the item whose first line, `number`, is of this kind, and gives how many of the lines after it belong to it.
+fn read_item_of(
+    alloc: Global,
+    session: u32,
+    next: &mut u32,
+    number: u64,
+    kind: LineKind,
+    after: &[&[u8]],
+    commands: &mut Sequence<ReadCommand>,
+) -> Result<usize, PrepareFault>
+    requires session { (1 ≤ session) × (session ≤ 64) }
+    requires next { 1 ≤ next.old }
+    requires room { next.old + length (block_text (map (λ l. l.now) after.now)) < 2 ^ 32 }
+    ensures item { (more : ℕ → Result (List CommandData) ℕ) → let lines = block_after kind (map (λ l. l.now) after.now) in
+        let before = with_commands commands.old (with_item session next.old number kind lines more) in
+        MatchResult result (λ taken. (taken ≡ lines_of_block lines) × (before ≡ with_commands commands.new (more next.new))) (λ fault. Fails fault before) }
+    ensures next { IfOk result (λ taken. (next.old ≤ next.new) × (taken ≤ length after.now) × (next.new + length (block_text (drop taken (map (λ l. l.now) after.now))) ≤ next.old + length (block_text (map (λ l. l.now) after.now)))) }
+{
+    match kind {
+        LineKind::Skipped => Ok(0),
+        LineKind::BeginCommand => push_command(commands, ReadCommand::Begin),
+        LineKind::CommitCommand => push_command(commands, ReadCommand::Commit),
+        LineKind::AbortCommand => push_command(commands, ReadCommand::Abort),
+        LineKind::FindCommand(pattern) => push_command(commands, ReadCommand::Find(pattern)),
+        LineKind::Block(block) => {
+            read_block_item(alloc, session, next, number, block, after, commands)
+        }
+        LineKind::Other => Err(PrepareFault::Line(number)),
+    }
+}
+
 // The line at an index.
 fn line_at<'a>(lines: &[&'a [u8]], i: usize) -> &'a [u8]
     requires { i < length lines.now }
@@ -163,25 +230,8 @@ fn read_item(
     ensures next { IfOk result (λ taken. (next.old ≤ next.new) × (i + 1 + taken ≤ length lines.now) × (next.new + length (block_text (drop (i + 1 + taken) (map (λ l. l.now) lines.now))) ≤ next.old + length (block_text (drop (i + 1) (map (λ l. l.now) lines.now))))) }
 {
     let (_, after) = lines.split_at(i + 1);
-    match kind_of(command_text(line_at(lines, i), after)) {
-        LineKind::Skipped => Ok(0),
-        LineKind::BeginCommand => {
-            commands.push(ReadCommand::Begin)?;
-            Ok(0)
-        }
-        LineKind::CommitCommand => {
-            commands.push(ReadCommand::Commit)?;
-            Ok(0)
-        }
-        LineKind::AbortCommand => {
-            commands.push(ReadCommand::Abort)?;
-            Ok(0)
-        }
-        LineKind::Block(kind) => {
-            read_block_item(alloc, session, next, i as u64 + 1, kind, after, commands)
-        }
-        LineKind::Other => Err(PrepareFault::Line(i as u64 + 1)),
-    }
+    let kind = kind_of(alloc, command_text(line_at(lines, i), after))?;
+    read_item_of(alloc, session, next, i as u64 + 1, kind, after, commands)
 }
 
 // The commands of the items of these lines, in their order.

@@ -13,4 +13,6 @@ mod ntriples;
 #[cfg(test)]
 mod rows;
 #[cfg(test)]
+mod turtle;
+#[cfg(test)]
 mod turtle_tokens;

@@ -1,7 +1,7 @@
 //! Texts of N-Triples, read and written (N-Triples 1.1 sections 2 to 4 and 7).
 
 use crate::rows::same;
-use ntriples_text::{read, write};
+use ntriples_text::{ReadFault, named_term, read, read_named, write};
 use std::alloc::Global;
 use std::process::Abort;
 use std::test::Fail;
@@ -280,5 +280,118 @@ fn triples(rt: HostRuntime) -> Result<(), Fail> {
         let found = outcome(&rt, rt.alloc(), text.as_bytes())?;
         same(&rt, text, found.as_str(), wanted);
     }
+    Ok(())
+}
+
+// Each row: a text with labels of the store, and what it is when it is written again, or the number of its refusal.
+const NAMED: &str = r#"
+_:s1x1 <e:p> _:s64x4294967295 . => _:s1x1 <e:p> _:s64x4294967295 .
+_:s10x20 <e:p> _:s10x20 . => _:s10x20 <e:p> _:s10x20 .
+<e:a> <e:p> "_:b" . # _:b => <e:a> <e:p> "_:b" .
+_:s65x1 <e:p> <e:o> . => 12
+_:s0x1 <e:p> <e:o> . => 12
+_:s1x0 <e:p> <e:o> . => 12
+_:s01x1 <e:p> <e:o> . => 12
+_:s1x01 <e:p> <e:o> . => 12
+_:s1x4294967296 <e:p> <e:o> . => 12
+_:s1x18446744073709551617 <e:p> <e:o> . => 12
+_:s1 <e:p> <e:o> . => 12
+_:s1x <e:p> <e:o> . => 12
+_:sx1 <e:p> <e:o> . => 12
+_:x1s1 <e:p> <e:o> . => 12
+_:S1x1 <e:p> <e:o> . => 12
+_:s1X1 <e:p> <e:o> . => 12
+_:s1x1x1 <e:p> <e:o> . => 12
+_:s1x1.5 <e:p> <e:o> . => 12
+_:s1x1: <e:p> <e:o> . => 12
+_:s1x1a <e:p> <e:o> . => 12
+_:s <e:p> <e:o> . => 12
+_:1x1 <e:p> <e:o> . => 12
+<e:a> <e:p> _:b . => 12
+<e:a> <e:p> _:s1x1. => <e:a> <e:p> _:s1x1 .
+_:x <e:p> " => 12
+_:s1x1 _:b <e:o> . => 13
+_:s1x1 _:s1x2 <e:o> . => 13
+<e:a> <e:p> <e:o> _:b . => 3
+<e:a> <e:p> "1"^^_:b . => 3
+_:b. <e:p> <e:o> . => 12
+<a> <e:p> _:b . => 5
+"#;
+
+// The text of the triples that a text gives with labels of the store, or the number of its refusal.
+fn named_outcome(rt: &impl Abort, alloc: Global, text: &str) -> Result<String, Fail> {
+    assert!(rt; text.len() < 1000);
+    let mut found = String::new(alloc);
+    match read_named(alloc, text.as_bytes()) {
+        Ok(triples) => found = write(alloc, triples.as_slice())?,
+        Err(ReadFault::Refusal { line: _, kind }) => write!(found, "{}", kind.number())?,
+        Err(ReadFault::Memory) => write!(found, "memory")?,
+    }
+    Ok(found)
+}
+
+#[test]
+fn named_texts(rt: HostRuntime) -> Result<(), Fail> {
+    for row in NAMED.lines() {
+        if let Some((text, wanted)) = row.split_once(" => ") {
+            let found = named_outcome(&rt, rt.alloc(), text)?;
+            same(&rt, row, found.trim_end(), wanted);
+        }
+    }
+    Ok(())
+}
+
+// Each row: a text, and the term that it is alone; `none` where it is none.
+const TERMS: &str = r#"
+<e:a> => <e:a>
+_:s2x5 => _:s2x5
+"x" => "x"
+"x y  z" => "x y  z"
+"a\"b\\" => "a\"b\\"
+"x"@EN => "x"@en
+"1"^^<http://www.w3.org/2001/XMLSchema#integer> => "1"^^<http://www.w3.org/2001/XMLSchema#integer>
+"x"^^<http://www.w3.org/2001/XMLSchema#string> => "x"
+ => none
+? => none
+_:b => none
+_:s65x1 => none
+<a> => none
+<e:a => none
+<e:a b> => none
+<e:a>. => none
+<e:a>#c => none
+"x => none
+"x"y => none
+"x"@ => none
+"x"^^ => none
+"x"^^<t> => none
+"1"^^<http://www.w3.org/2001/XMLSchema#double> => none
+"100000000000000000000"^^<http://www.w3.org/2001/XMLSchema#integer> => none
+"0000-01-01"^^<http://www.w3.org/2001/XMLSchema#date> => none
+"x"^^<http://www.w3.org/1999/02/22-rdf-syntax-ns#langString> => none
+1 => none
+true => none
+a => none
+"#;
+
+fn term_outcome(alloc: Global, text: &str) -> Result<String, Fail> {
+    let mut found = String::new(alloc);
+    match named_term(alloc, text.as_bytes())? {
+        Some(term) => write!(found, "{term}")?,
+        None => write!(found, "none")?,
+    }
+    Ok(found)
+}
+
+#[test]
+fn terms_alone(rt: HostRuntime) -> Result<(), Fail> {
+    for row in TERMS.lines() {
+        if let Some((text, wanted)) = row.split_once(" => ") {
+            let found = term_outcome(rt.alloc(), text)?;
+            same(&rt, row, found.as_str(), wanted);
+        }
+    }
+    let wrong = named_term(rt.alloc(), b"<e:\xFF>")?;
+    assert!(rt; wrong.is_none());
     Ok(())
 }

@@ -8,7 +8,7 @@ invariant-loop-rest l = record {
   bound : l.number + length l.rest ≤ 1 + length l.text;
   room : length l.numbering.labels + length l.rest ≤ length l.text;
   first : l.numbering.first ≡ l.fn.numbering.first;
-  reading : going_on l.numbering.session l.numbering.first l.triples l.numbering.labels (lines_from l.number (lines l.rest)) ≡ going_on l.fn.numbering.session l.fn.numbering.first [] [] (lines_from 1 (lines l.text));
+  reading : going_on l.numbering.session l.numbering.first l.triples l.numbering.labels (lines_from l.labels l.number (lines l.rest)) ≡ going_on l.fn.numbering.session l.fn.numbering.first [] [] (lines_from l.labels 1 (lines l.text));
 }
 
 abbrev pub decreases-loop-rest : goal.decreases-loop-rest

@@ -1,0 +1,13 @@
+pub mod Progress
+pub mod Steps
+pub mod Places
+pub mod Productions
+pub mod Machine
+pub mod Statements
+pub mod Sets
+pub mod Sorting
+pub mod Characters
+pub mod Examples
+pub mod Repeats
+pub mod Nodes
+pub mod NodesWithin

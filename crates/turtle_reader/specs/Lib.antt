@@ -1,0 +1,8 @@
+pub mod Readings
+pub mod Tokens
+pub mod Terms
+pub mod Grammar
+pub mod Stack
+pub mod Progress
+pub mod Document
+pub mod Laws

@@ -1,0 +1,28 @@
+ghost use Rattle.turtle_reader.specs.Laws.{RepeatsStatements, RepeatsObjects, RepeatsVerbs, RepeatsMembers, GivesTriples};
+
+/// turtleDoc has statements as long as anything is left of the text.
+pub fn statements_repeat()
+    ensures { RepeatsStatements }
+{}
+
+/// objectList has objects as long as a comma comes next.
+pub fn objects_repeat()
+    ensures { RepeatsObjects }
+{}
+
+/// predicateObjectList goes on as long as a semicolon comes next.
+pub fn verbs_repeat()
+    ensures { RepeatsVerbs }
+{}
+
+/// A collection has members as long as no closing parenthesis comes next.
+pub fn members_repeat()
+    ensures { RepeatsMembers }
+{}
+
+/// What a text gives ascends and is RDF triples: no subject is a literal, and each predicate is an
+/// IRI. Their blank nodes are those of the session whose numbers are from the first free one up to
+/// below the next.
+pub fn read_gives_triples()
+    ensures { GivesTriples }
+{}

@@ -1,0 +1,23 @@
+//! Turtle 1.1 texts, read.
+//!
+//! `read` ensures exactly the triples of a text, or exactly the refusal that counts, as
+//! `specs/Document.antt` says by the productions of the grammar. It goes by tokens and a stack of
+//! open brackets, without recursion.
+#![tactic(auto)]
+
+mod document;
+mod frame;
+mod grammar;
+pub mod laws;
+mod literals;
+mod names;
+mod objects;
+mod open;
+mod stack;
+mod state;
+mod table;
+mod terms;
+mod tokens;
+
+pub use document::read;
+pub use rdf_lexical::{ReadFault, RefusalKind};

@@ -1,0 +1,181 @@
+ghost use Rattle.std.specs.Prelude.{◌≡◌, ◌+◌, ◌<◌, ◌≤◌, ◌^◌, true, ◌++◌, length, Ok, Some, None, IfOk, IfSome, OnOk};
+ghost use Rattle.iri_ref.specs.Resolution;
+ghost use Rattle.iri_ref.specs.Scheme;
+ghost use Rattle.turtle_reader.specs.Progress.{Gives, IsReady, Moved, need};
+ghost use Rattle.turtle_reader.specs.Terms;
+
+use crate::state::State;
+use crate::table::Name;
+use crate::tokens::unexpected;
+use iri_ref::{has_scheme, resolve};
+use rdf_lexical::{ReadFault, RefusalKind, behind};
+use rdf_model::Term;
+use rdf_text::Text;
+use std::alloc::{AllocError, Global};
+use turtle_lex::{Token, TokenKind, iri_text, local_name, plain_text, split_name, token_text};
+
+/// The refusal of a token, of this kind.
+pub fn refused(token: Token, kind: RefusalKind) -> ReadFault
+    ensures { result ≡ ReadFault.Refusal token.start.line kind }
+{
+    ReadFault::Refusal {
+        line: token.start.line,
+        kind,
+    }
+}
+
+// A reference resolved against a base.
+fn resolved(alloc: Global, base: &Text, reference: &Text) -> Result<Text, AllocError>
+    requires { Scheme.has_scheme base.now ≡ true }
+    ensures iri { IfOk result (λ iri. iri ≡ Resolution.resolved base.now reference.now) }
+    ensures scheme { IfOk result (λ iri. Scheme.has_scheme iri ≡ true) }
+{
+    resolve(alloc, base.as_str(), reference.as_str())
+}
+
+// The IRI of a reference, or None where it has no scheme and there is no base.
+fn in_base(alloc: Global, base: &Option<Text>, reference: Text) -> Result<Option<Text>, AllocError>
+    requires { IfSome base.now (λ b. Scheme.has_scheme b ≡ true) }
+    ensures iri { IfOk result (λ iri. iri ≡ Terms.in_base base.now reference) }
+    ensures scheme { IfOk result (λ iri. IfSome iri (λ a. Scheme.has_scheme a ≡ true)) }
+{
+    match base {
+        Some(base) => Ok(Some(resolved(alloc, base, &reference)?)),
+        None => {
+            if has_scheme(reference.as_str()) {
+                Ok(Some(reference))
+            } else {
+                Ok(None)
+            }
+        }
+    }
+}
+
+/// The IRI of an IRIREF, which has a scheme.
+pub fn resolved_iri(
+    alloc: Global,
+    text: &[char],
+    state: &State,
+    token: Token,
+) -> Result<Text, ReadFault>
+    requires ready { IsReady text.now state.now }
+    ensures reads { Gives result state.now (Terms.resolved_iri text.now token state.now) }
+    ensures scheme { IfOk result (λ iri. Scheme.has_scheme iri ≡ true) }
+{
+    let reference = iri_text(alloc, token_text(text, token))?;
+    match in_base(alloc, &state.base, reference)? {
+        Some(iri) => Ok(iri),
+        None => Err(refused(token, RefusalKind::RelativeIri)),
+    }
+}
+
+// Two texts, one after the other.
+fn joined(alloc: Global, first: &Text, second: &Text) -> Result<Text, AllocError>
+    ensures { IfOk result (λ text. text ≡ first.now ++ second.now) }
+{
+    let mut text = String::new(alloc);
+    text.push_str(first.as_str())?;
+    text.push_str(second.as_str())?;
+    Ok(Text::from_string(text))
+}
+
+/// The prefix of a PNAME_NS or PNAME_LN.
+pub fn prefix_of(alloc: Global, text: &[char], token: Token) -> Result<Name, AllocError>
+    ensures { IfOk result (λ prefix. prefix ≡ Terms.prefix_of text.now token) }
+{
+    let (prefix, _) = split_name(token_text(text, token));
+    Ok(Name {
+        text: plain_text(alloc, prefix)?,
+    })
+}
+
+// The local name of a PNAME_LN; of a PNAME_NS an empty one.
+fn local_of(alloc: Global, text: &[char], token: Token) -> Result<Text, AllocError>
+    ensures { IfOk result (λ local. local ≡ Terms.local_of text.now token) }
+{
+    let (_, local) = split_name(token_text(text, token));
+    local_name(alloc, local)
+}
+
+// The IRI of a name whose prefix stands for this one.
+fn named_iri(alloc: Global, text: &[char], iri: &Text, token: Token) -> Result<Text, AllocError>
+    ensures { IfOk result (λ named. named ≡ iri.now ++ Terms.local_of text.now token) }
+{
+    let local = local_of(alloc, text, token)?;
+    joined(alloc, iri, &local)
+}
+
+// The IRI of a PNAME_NS or PNAME_LN.
+fn prefixed_iri(
+    alloc: Global,
+    text: &[char],
+    state: &State,
+    token: Token,
+) -> Result<Text, ReadFault>
+    ensures { Gives result state.now (Terms.prefixed_iri text.now token state.now) }
+{
+    let prefix = prefix_of(alloc, text, token)?;
+    match state.prefixes.get(&prefix) {
+        Some(iri) => Ok(named_iri(alloc, text, iri, token)?),
+        None => Err(refused(token, RefusalKind::UndeclaredPrefix)),
+    }
+}
+
+/// The IRI of an IRIREF, PNAME_NS or PNAME_LN (Turtle section 2.4); another token is refused.
+#[tactic(auto, unfolding(crate::specs::Terms::iri))]
+pub fn read_iri(
+    alloc: Global,
+    text: &[char],
+    state: &State,
+    token: Token,
+) -> Result<Text, ReadFault>
+    requires ready { IsReady text.now state.now }
+    ensures { Gives result state.now (Terms.iri text.now token state.now) }
+{
+    match token.kind {
+        TokenKind::IriRef => resolved_iri(alloc, text, state, token),
+        TokenKind::PrefixName | TokenKind::PrefixedName => prefixed_iri(alloc, text, state, token),
+        _ => Err(unexpected(token)),
+    }
+}
+
+// The label of a BLANK_NODE_LABEL.
+fn label_of(alloc: Global, text: &[char], token: Token) -> Result<Name, AllocError>
+    ensures { IfOk result (λ label. label ≡ Terms.label_of text.now token) }
+{
+    let label = behind(token_text(text, token), 2);
+    Ok(Name {
+        text: plain_text(alloc, label)?,
+    })
+}
+
+/// The blank node of a label (Turtle section 2.6): a new one at its first use.
+#[tactic(auto, unfolding(crate::specs::Terms::labelled))]
+pub fn labelled(
+    alloc: Global,
+    text: &[char],
+    state: &mut State,
+    token: Token,
+) -> Result<Term, ReadFault>
+    requires ready { IsReady text.now state.old }
+    requires room { need text.now state.old + 1 < 2 ^ 32 }
+    ensures reads { Gives result state.new (Terms.labelled text.now token state.old) }
+    ensures moved { OnOk result (Moved text.now 0 0 1 state.old state.new) }
+{
+    let label = label_of(alloc, text, token)?;
+    match state.labels.get(&label) {
+        Some(number) => Ok(Term::Blank {
+            session: state.session,
+            number: *number,
+        }),
+        None => {
+            let number = state.next;
+            state.labels.set(label, number)?;
+            state.next += 1;
+            Ok(Term::Blank {
+                session: state.session,
+                number,
+            })
+        }
+    }
+}

@@ -1,0 +1,21 @@
+ghost use Rattle.std.specs.Prelude.{◌≡◌};
+
+use crate::table::Table;
+use collections::Sequence;
+use rdf_model::Triple;
+use rdf_text::Text;
+use turtle_lex::{LexFault, Token};
+
+/// How far the reading of a text has come (Turtle section 7): the token ahead, or its fault; what
+/// prefixes stand for, and the base; the labels and the next number of a blank node; and the
+/// triples.
+#[derive(Debug, Drop)]
+pub struct State {
+    pub ahead: Result<Option<Token>, LexFault>,
+    pub prefixes: Table<Text>,
+    pub base: Option<Text>,
+    pub labels: Table<u32>,
+    pub session: u32,
+    pub next: u32,
+    pub triples: Sequence<Triple>,
+}
