@@ -4,6 +4,7 @@ use Rattle.std.proofs.lemmas.List.{length_push}
 use Rattle.std.proofs.lemmas.List.Elements.{Contains-get_or}
 use Rattle.regex.specs.Patterns.{Re, SameCaptures}
 use Rattle.rdf_model.specs.declared.term.Term.{Term}
+use Rattle.rdf_model.specs.Numbers.{term_at}
 use Rattle.component_rows.proofs.Told.{tells_more, tells_all}
 use Rattle.string_constraints.specs.Matches.{IsFoundIn}
 use Rattle.string_constraints.proofs.matching.are_found.Goals as goal
