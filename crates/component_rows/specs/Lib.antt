@@ -1,3 +1,4 @@
 pub mod Nodes
 pub mod Listed
 pub mod Answers
+pub mod Conformance

@@ -7,7 +7,9 @@
 mod answered;
 mod result;
 mod value_test;
+mod yes;
 
 pub use answered::{about_each, is_among, refused};
 pub use result::{named, row_about, row_alone, row_beside};
 pub use value_test::{ValueTest, failing};
+pub use yes::{count_all, count_yes};

@@ -1,8 +1,7 @@
 -- Value nodes that conform to shapes, by the answers at their places.
-use Rattle.std.proofs.Common.{◌≡◌, ◌∙◌, ℕ, zero, suc, ◌<◌, Bool, true, false, List, [], ◌∷◌, length, map, get_or, refl, sym, ap, arith, subst, inl, inr}
+use Rattle.std.proofs.Common.{◌≡◌, ◌∙◌, ℕ, zero, suc, ◌<◌, Bool, List, [], ◌∷◌, length, map, get_or, refl, sym, arith, subst, inl, inr}
 use Rattle.std.specs.Prelude.{◌↔◌}
 use Rattle.std.specs.List.{Contains}
-use Rattle.std.proofs.lemmas.List.Elements.{Contains-get_or}
 use Rattle.collections.proofs.Members.{has_cases}
 use Rattle.rdf_model.specs.declared.term.Term.{Term}
 use Rattle.rdf_model.specs.Numbers.{term_at, IsNumbering}
@@ -13,21 +12,13 @@ use Rattle.shape_model.specs.Triples.{IsMember}
 use Rattle.component_rows.specs.Answers.{AreAnswersTo}
 use Rattle.component_rows.specs.Listed.{Collects, at_nodes, untold, with_list}
 use Rattle.component_rows.specs.Nodes.{AreNodes, HasNode}
-use Rattle.component_rows.proofs.Answering.{place_in, at_one_place}
-use Rattle.component_rows.proofs.Collecting.{collects_same, mapped_from}
+use Rattle.component_rows.proofs.Collecting.{collects_same}
 use Rattle.logic_constraints.specs.declared.demand.Demand.{Demand}
 use Rattle.logic_constraints.specs.declared.demand.Demand.TheVariants.{All, Any, One, Neither}
-use Rattle.logic_constraints.specs.Conformance.{AreTold, told_shapes}
-use Rattle.logic_constraints.specs.Demands.{AreMet, IsMet, Meets, yes_at}
-use Rattle.logic_constraints.proofs.Counting.{Agrees, all_yes, none_yes, one_yes, some_yes}
-
--- lists of answers agree with terms where each does
-agrees_from : (C : Term → Type 0) (i : ℕ) (terms : List Term) (ns : List ℕ) (ls : List (List Bool)) → length ls ≡ length ns
-    → ((k : ℕ) → k < length ns → (get_or (get_or ls k []) i false ≡ true) ↔ C (term_at terms (get_or ns k 0))) → Agrees C i (map (term_at terms) ns) ls
-agrees_from C i terms [] [] many h = tt
-agrees_from C i terms [] (a ∷ ls) many h = absurd (omega (arith, many))
-agrees_from C i terms (n ∷ ns) [] many h = absurd (omega (arith, many))
-agrees_from C i terms (n ∷ ns) (a ∷ ls) many h = (h 0 (omega arith), agrees_from C i terms ns ls (omega (arith, many)) (λ k lt. h (suc k) (omega (arith, lt))))
+use Rattle.component_rows.specs.Conformance.{AreTold, told_shapes, yes_at}
+use Rattle.logic_constraints.specs.Demands.{AreMet, IsMet, Meets}
+use Rattle.component_rows.proofs.Conforming.{agreed, one_place, placed}
+use Rattle.component_rows.proofs.Tally.{all_yes, none_yes, one_yes, some_yes}
 
 -- the results about value nodes at which a demand isn't met
 abbrev pub Unmet : List Term → List ℕ → List (List Bool) → (Finding → ResultRow) → Demand → ResultRow → Type 0
@@ -38,20 +29,11 @@ zero_from zero h = refl
 zero_from (suc n) h = absurd (h (omega arith))
 
 module _ (terms : List Term) (numbering : IsNumbering terms) (values : List ℕ) (nodes : AreNodes terms values) where
-  -- two places of one term are one
-  one_place : (i j : ℕ) → i < length values → j < length values → term_at terms (get_or values i 0) ≡ term_at terms (get_or values j 0) → i ≡ j
-  one_place i j in_i in_j same =
-      at_one_place values nodes.ascending i j in_i in_j
-      (numbering (get_or values i 0) (get_or values j 0) (nodes.named (get_or values i 0) (Contains-get_or values i 0 in_i)) (nodes.named (get_or values j 0) (Contains-get_or values j 0 in_j)) same)
-
-  placed : (v : Term) → HasNode terms values v → (i : ℕ) × (i < length values) × (term_at terms (get_or values i 0) ≡ v)
-  placed v h = let m = mapped_from (term_at terms) values v h in let place = place_in values m.0 m.1 in (place.0, place.1, ap (term_at terms) place.2 ∙ m.2)
-
   module _ (answers : List (List Bool)) where
     -- a demand is met at the place of the node
     meets_at : (demand : Demand) (v : Term) (i : ℕ) → i < length values → term_at terms (get_or values i 0) ≡ v → Meets demand terms values answers v ↔ IsMet demand (yes_at i answers) (length answers)
     meets_at demand v i lt is = (
-      λ m. subst (λ (j : ℕ). IsMet demand (yes_at j answers) (length answers)) (one_place m.0 i m.1 lt (m.2 ∙ sym is)) m.3,
+      λ m. subst (λ (j : ℕ). IsMet demand (yes_at j answers) (length answers)) (one_place terms numbering values nodes m.0 i m.1 lt (m.2 ∙ sym is)) m.3,
       λ met. (i, lt, is, met),
     )
 
@@ -68,35 +50,13 @@ module _ (terms : List Term) (numbering : IsNumbering terms) (values : List ℕ)
       abbrev Around : Surroundings
       Around = told_shapes terms shapes values answers
 
-      one_list : (j k : ℕ) → j < length shapes → k < length shapes → term_at terms (get_or shapes j 0) ≡ term_at terms (get_or shapes k 0) → get_or answers j [] ≡ get_or answers k []
-      one_list j k in_j in_k same = told.same j k in_j in_k
-          (numbering (get_or shapes j 0) (get_or shapes k 0) (named (get_or shapes j 0) (Contains-get_or shapes j 0 in_j)) (named (get_or shapes k 0) (Contains-get_or shapes k 0 in_k)) same)
-
-      -- the answer is yes where the node conforms; the result stands for any
-      conforms_at : (r : ResultRow) (v : Term) (i : ℕ) → i < length values → term_at terms (get_or values i 0) ≡ v → (k : ℕ) → k < length shapes
-          → (get_or (get_or answers k []) i false ≡ true) ↔ ConformsTo Around (term_at terms (get_or shapes k 0)) v
-      conforms_at r v i lt is k in_k = (
-        λ told_yes other denied.
-            let list = one_list denied.0 k denied.2 in_k denied.4 in
-            let place : denied.1 ≡ i = one_place denied.1 i denied.3 lt (denied.5 ∙ sym is) in
-            let no : get_or (get_or answers k []) i false ≡ false = subst (λ (p : List Bool × ℕ). get_or p.0 p.1 false ≡ false) (λ j. (list j, place j)) denied.6 in
-            cc (told_yes, no),
-        λ conforms. elim (get_or (get_or answers k []) i false) as (λ b. get_or (get_or answers k []) i false ≡ b → b ≡ true) [
-          | true ↦ λ e. refl
-          | false ↦ λ e. absurd (conforms r (k, i, in_k, lt, refl, is, e))
-        ] refl,
-      )
-
-      agreed : (r : ResultRow) (v : Term) (i : ℕ) → i < length values → term_at terms (get_or values i 0) ≡ v → Agrees (λ m. ConformsTo Around m v) i (map (term_at terms) shapes) answers
-      agreed r v i lt is = agrees_from (λ m. ConformsTo Around m v) i terms shapes answers told.as_many (conforms_at r v i lt is)
-
       module _ (row : Finding → ResultRow) (q : Term) (rows : List ResultRow) where
         -- a value node that isn't enough, in two ways of saying
         swapped : (demand : Demand) (P : Term → Type 0) → ((r : ResultRow) (v : Term) (i : ℕ) → i < length values → term_at terms (get_or values i 0) ≡ v → (IsMet demand (yes_at i answers) (length answers) → ⊥) ↔ P v)
             → Collects (Unmet terms values answers row demand) rows → Collects (ForEach Around row P) rows
         swapped demand P same = collects_same (Unmet terms values answers row demand) (ForEach Around row P) rows (λ r. (
-          λ h. let p = placed h.0 h.1 in (h.0, h.1, (same r h.0 p.0 p.1 p.2).0 (λ met. h.2 ((meets_at demand h.0 p.0 p.1 p.2).1 met)), h.3),
-          λ h. let p = placed h.0 h.1 in (h.0, h.1, (λ m. (same r h.0 p.0 p.1 p.2).1 h.2 ((meets_at demand h.0 p.0 p.1 p.2).0 m)), h.3),
+          λ h. let p = placed terms numbering values nodes h.0 h.1 in (h.0, h.1, (same r h.0 p.0 p.1 p.2).0 (λ met. h.2 ((meets_at demand h.0 p.0 p.1 p.2).1 met)), h.3),
+          λ h. let p = placed terms numbering values nodes h.0 h.1 in (h.0, h.1, (λ m. (same r h.0 p.0 p.1 p.2).1 h.2 ((meets_at demand h.0 p.0 p.1 p.2).0 m)), h.3),
         ))
 
         abbrev Members : List Term
@@ -106,21 +66,21 @@ module _ (terms : List Term) (numbering : IsNumbering terms) (values : List ℕ)
         and_rows h = collects_same (ForEach Around row (λ v. ((m : Term) → IsMember Members m → ConformsTo Around m v) → ⊥)) (RowsOf components.And Around (with_list Members) q row) rows
             (λ r. (λ p. (Members, refl, p), λ p. subst (λ (ms : List Term). ForEach Around row (λ v. ((m : Term) → IsMember ms m → ConformsTo Around m v) → ⊥) r) p.1 p.2))
             (swapped All (λ v. ((m : Term) → IsMember Members m → ConformsTo Around m v) → ⊥) (λ r v i lt is.
-            let both = all_yes (λ m. ConformsTo Around m v) i Members answers (agreed r v i lt is) in
+            let both = all_yes (λ m. ConformsTo Around m v) i Members answers (agreed terms numbering values nodes answers shapes named told r v i lt is) in
             (λ unmet all. unmet (both.0 all), λ not met. not (both.1 met))) h)
 
         pub or_rows : Collects (Unmet terms values answers row Any) rows → Collects (RowsOf components.Or Around (with_list Members) q row) rows
         or_rows h = collects_same (ForEach Around row (λ v. NoneOf (λ m. ConformsTo Around m v) Members)) (RowsOf components.Or Around (with_list Members) q row) rows
             (λ r. (λ p. (Members, refl, p), λ p. subst (λ (ms : List Term). ForEach Around row (λ v. NoneOf (λ m. ConformsTo Around m v) ms) r) p.1 p.2))
             (swapped Any (λ v. NoneOf (λ m. ConformsTo Around m v) Members) (λ r v i lt is.
-            let both = none_yes (λ m. ConformsTo Around m v) i Members answers (agreed r v i lt is) in
+            let both = none_yes (λ m. ConformsTo Around m v) i Members answers (agreed terms numbering values nodes answers shapes named told r v i lt is) in
             (λ unmet. both.1 (zero_from (yes_at i answers) unmet), λ none met. let total = both.0 none in absurd (omega (arith, total, met)))) h)
 
         pub xone_rows : Collects (Unmet terms values answers row One) rows → Collects (RowsOf components.Xone Around (with_list Members) q row) rows
         xone_rows h = collects_same (ForEach Around row (λ v. OneOf (λ m. ConformsTo Around m v) Members → ⊥)) (RowsOf components.Xone Around (with_list Members) q row) rows
             (λ r. (λ p. (Members, refl, p), λ p. subst (λ (ms : List Term). ForEach Around row (λ v. OneOf (λ m. ConformsTo Around m v) ms → ⊥) r) p.1 p.2))
             (swapped One (λ v. OneOf (λ m. ConformsTo Around m v) Members → ⊥) (λ r v i lt is.
-            let both = one_yes (λ m. ConformsTo Around m v) i Members answers (agreed r v i lt is) in
+            let both = one_yes (λ m. ConformsTo Around m v) i Members answers (agreed terms numbering values nodes answers shapes named told r v i lt is) in
             (λ unmet one. unmet (both.0 one), λ not met. not (both.1 met))) h)
 
     -- of one shape alone
@@ -131,12 +91,12 @@ module _ (terms : List Term) (numbering : IsNumbering terms) (values : List ℕ)
       pub not_rows : Collects (Unmet terms values answers row Neither) rows
           → Collects (RowsOf components.Not (told_shapes terms (shape ∷ []) values answers) untold (term_at terms shape) row) rows
       not_rows = swapped (shape ∷ []) only told row (term_at terms shape) rows Neither (λ v. ConformsTo (told_shapes terms (shape ∷ []) values answers) (term_at terms shape) v) (λ r v i lt is.
-          some_yes (λ m. ConformsTo (told_shapes terms (shape ∷ []) values answers) m v) i (term_at terms shape) answers (agreed (shape ∷ []) only told r v i lt is))
+          some_yes (λ m. ConformsTo (told_shapes terms (shape ∷ []) values answers) m v) i (term_at terms shape) answers (agreed terms numbering values nodes answers (shape ∷ []) only told r v i lt is))
 
       pub node_rows : Collects (Unmet terms values answers row All) rows
           → Collects (RowsOf components.Node (told_shapes terms (shape ∷ []) values answers) untold (term_at terms shape) row) rows
       node_rows = swapped (shape ∷ []) only told row (term_at terms shape) rows All (λ v. ConformsTo (told_shapes terms (shape ∷ []) values answers) (term_at terms shape) v → ⊥) (λ r v i lt is.
-          let both = all_yes (λ m. ConformsTo (told_shapes terms (shape ∷ []) values answers) m v) i (term_at terms shape ∷ []) answers (agreed (shape ∷ []) only told r v i lt is) in (
+          let both = all_yes (λ m. ConformsTo (told_shapes terms (shape ∷ []) values answers) m v) i (term_at terms shape ∷ []) answers (agreed terms numbering values nodes answers (shape ∷ []) only told r v i lt is) in (
             λ unmet conforms. unmet (both.0 (λ m d. elim d [ inl e ↦ subst (λ (n : Term). ConformsTo (told_shapes terms (shape ∷ []) values answers) n v) e conforms | inr never ↦ absurd never ])),
             λ not met. not (both.1 met (term_at terms shape) (inl refl)),
           ))

@@ -1,16 +1,12 @@
 -- To how many of some shapes a value node has to conform (SHACL 4.6 and 4.7.1).
-use Rattle.std.specs.Prelude.{◌≡◌, ◌<◌, ℕ, ◌+◌, Bool, false, List, [], ◌∷◌, length, if◌then◌else◌}
+use Rattle.std.specs.Prelude.{◌≡◌, ◌<◌, ℕ, Bool, List, length}
 use Rattle.std.proofs.Common.{get_or}
 use Rattle.rdf_model.specs.declared.term.Term.{Term}
 use Rattle.rdf_model.specs.Numbers.{term_at}
 use Rattle.component_rows.specs.Answers.{Tells}
+use Rattle.component_rows.specs.Conformance.{yes_at}
 use Rattle.logic_constraints.specs.declared.demand.Demand.{Demand}
 use Rattle.logic_constraints.specs.declared.demand.Demand.TheVariants.{All, Any, One, Neither}
-
--- how many of the lists have a yes at the place
-abbrev pub yes_at : ℕ → List (List Bool) → ℕ
-yes_at i [] = 0
-yes_at i (answers ∷ more) = (if get_or answers i false then 1 else 0) + yes_at i more
 
 -- it conforms to so many of the shapes, which are enough
 abbrev pub IsMet : Demand → ℕ → ℕ → Type 0

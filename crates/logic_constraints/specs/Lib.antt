@@ -1,2 +1,1 @@
-pub mod Conformance
 pub mod Demands

@@ -4,7 +4,7 @@ ghost use Rattle.rdf_model.specs.Numbers.{IsNumbering, term_at};
 ghost use Rattle.shape_model.specs.declared.component.Component.TheVariants as components;
 ghost use Rattle.component_rows.specs.Listed.{ListsRows, untold, with_list};
 ghost use Rattle.component_rows.specs.Nodes.{AreNodes};
-ghost use Rattle.logic_constraints.specs.Conformance.{AreTold, told_shapes};
+ghost use Rattle.component_rows.specs.Conformance.{AreTold, told_shapes};
 
 use crate::demand::{Demand, unmet};
 use rdf_model::{Names, Term};

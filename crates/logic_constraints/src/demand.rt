@@ -1,13 +1,12 @@
-ghost use Rattle.std.specs.Prelude.{◌≡◌, ◌<◌, ◌↔◌, ◌+◌, ◌^◌, IfOk, IsTrue, if◌then◌else◌, length, map};
+ghost use Rattle.std.specs.Prelude.{◌≡◌, ◌<◌, ◌↔◌, IfOk, IsTrue, length, map};
 ghost use Rattle.std.specs.List.{Contains};
-ghost use Rattle.std.proofs.Common.{get_or};
 ghost use Rattle.rdf_model.specs.Numbers.{IsNumbering, term_at};
 ghost use Rattle.shape_model.specs.Components.{ForEach, row_of};
 ghost use Rattle.component_rows.specs.Listed.{Collects, at_nodes};
 ghost use Rattle.component_rows.specs.Nodes.{AreNodes, HasNode};
-ghost use Rattle.logic_constraints.specs.Demands.{AreMet, IsMet, Meets, yes_at};
+ghost use Rattle.logic_constraints.specs.Demands.{AreMet, IsMet, Meets};
 
-use component_rows::refused;
+use component_rows::{count_yes, refused};
 use rdf_model::{Names, Term};
 use shape_model::{Component, ResultRow};
 use std::alloc::{AllocError, Global};
@@ -31,26 +30,6 @@ fn is_met(demand: Demand, yes: usize, shapes: usize) -> bool
         Demand::One => yes == 1,
         Demand::Neither => yes == 0,
     }
-}
-
-// One more, where the answer is yes.
-fn with_answer(count: usize, answer: bool) -> usize
-    requires { count + 1 < 2 ^ 64 }
-    ensures { result ≡ count + (if answer then 1 else 0) }
-{
-    if answer { count + 1 } else { count }
-}
-
-// How many of the lists have a yes at the place.
-fn count_yes(answers: &[Vec<bool>], at: usize) -> usize
-    requires { (a : _) → Contains answers.now a → at < length a.items }
-    ensures { result ≡ yes_at at (map (λ a. a.items) answers.now) }
-{
-    let mut yes = 0;
-    for list in answers {
-        yes = with_answer(yes, list[at]);
-    }
-    yes
 }
 
 // Whether the demand is met at each place.

@@ -5,8 +5,8 @@ use Rattle.shape_model.specs.declared.component.Component.TheVariants as compone
 use Rattle.shape_model.specs.Components.{RowsOf, row_of}
 use Rattle.component_rows.specs.Listed.{Collects, with_list}
 use Rattle.logic_constraints.specs.declared.demand.Demand.TheVariants.{One}
-use Rattle.logic_constraints.specs.Conformance.{told_shapes}
-use Rattle.logic_constraints.proofs.Counting.{each_of}
+use Rattle.component_rows.specs.Conformance.{told_shapes}
+use Rattle.component_rows.proofs.Tally.{each_of}
 use Rattle.logic_constraints.proofs.Conforming.{Unmet, xone_rows}
 use Rattle.logic_constraints.proofs.components.xone.Goals as goal
 

@@ -2,7 +2,8 @@ use Rattle.std.proofs.Common.{ℕ, List, Bool, length, map, sym, subst}
 use Rattle.std.specs.Prelude.{◌↔◌, IsTrue}
 use Rattle.std.proofs.lemmas.List.{length-map}
 use Rattle.component_rows.proofs.Told.{tells_more, tells_all}
-use Rattle.logic_constraints.specs.Demands.{IsMet, yes_at}
+use Rattle.logic_constraints.specs.Demands.{IsMet}
+use Rattle.component_rows.specs.Conformance.{yes_at}
 use Rattle.logic_constraints.proofs.demand.are_met.Goals as goal
 
 pub loop-at-preserved : goal.loop-at-preserved

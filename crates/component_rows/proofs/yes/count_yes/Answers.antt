@@ -1,9 +1,9 @@
 use Rattle.std.proofs.Common.{◌≡◌, ◌∙◌, ◌+◌, ◌<◌, [], ◌∷◌, ◌++◌, get_or, length, map, take, ap, arith, sym, false}
 use Rattle.std.specs.Prelude.{if◌then◌else◌}
 use Rattle.std.proofs.lemmas.List.{get_or_default, take_more, take_all, map-append}
-use Rattle.logic_constraints.specs.Demands.{yes_at}
-use Rattle.logic_constraints.proofs.Counting.{yes_push, one_most}
-use Rattle.logic_constraints.proofs.demand.count_yes.Goals as goal
+use Rattle.component_rows.specs.Conformance.{yes_at}
+use Rattle.component_rows.proofs.Tally.{yes_push, one_most}
+use Rattle.component_rows.proofs.yes.count_yes.Goals as goal
 
 pub loop-list-preserved : goal.loop-list-preserved
 loop-list-preserved c =

@@ -6,7 +6,7 @@ use Rattle.collections.proofs.Members.{has_cases}
 use Rattle.rdf_model.specs.declared.term.Term.{Term}
 use Rattle.shape_model.specs.Triples.{IsMember}
 use Rattle.shape_model.specs.Components.{NoneOf, OneOf}
-use Rattle.logic_constraints.specs.Demands.{yes_at}
+use Rattle.component_rows.specs.Conformance.{yes_at, how_many}
 
 one_if : Bool → ℕ
 one_if b = if b then 1 else 0
@@ -28,7 +28,7 @@ module _ (C : Term → Type 0) (i : ℕ) where
   Agrees (m ∷ ms) (a ∷ ls) = ((get_or a i false ≡ true) ↔ C m) × Agrees ms ls
 
   -- what the first answer adds
-  first_yes : (a : List Bool) (ls : List (List Bool)) → get_or a i false ≡ true → yes_at i (a ∷ ls) ≡ suc (yes_at i ls)
+  pub first_yes : (a : List Bool) (ls : List (List Bool)) → get_or a i false ≡ true → yes_at i (a ∷ ls) ≡ suc (yes_at i ls)
   first_yes a ls e = let one = ap (λ b. (if b then 1 else 0) + yes_at i ls) e in omega (arith, one)
 
   first_no : (a : List Bool) (ls : List (List Bool)) → get_or a i false ≡ false → yes_at i (a ∷ ls) ≡ yes_at i ls
@@ -115,3 +115,8 @@ each_of h n (y ∷ ys) each x c = elim (has_cases y ys x c) [
   | inl e ↦ ap (λ z. length (h z)) (sym e) ∙ each 0 (omega arith)
   | inr d ↦ each_of h n ys (λ k lt. each (suc k) (omega (arith, lt))) x d
 ]
+
+-- one answer more at the end
+pub more_yes : (bs : List Bool) (b : Bool) → how_many (bs ++ b ∷ []) ≡ how_many bs + (if b then 1 else 0)
+more_yes [] b = omega arith
+more_yes (c ∷ cs) b = let rest = more_yes cs b in omega (arith, rest)

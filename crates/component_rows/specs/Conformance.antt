@@ -1,5 +1,5 @@
 -- Answers to value nodes for some shapes: whether each node conforms to each of them.
-use Rattle.std.specs.Prelude.{◌≡◌, ◌<◌, ℕ, Bool, false, List, [], length}
+use Rattle.std.specs.Prelude.{◌≡◌, ◌<◌, ◌+◌, ℕ, Bool, false, List, [], ◌∷◌, length, if◌then◌else◌}
 use Rattle.std.proofs.Common.{get_or}
 use Rattle.rdf_model.specs.declared.term.Term.{Term}
 use Rattle.rdf_model.specs.Numbers.{term_at}
@@ -22,3 +22,13 @@ IsDenied terms shapes values answers m v =
 -- surroundings in which a shape gives results at a value node just where the answer is no
 abbrev pub told_shapes : List Term → List ℕ → List ℕ → List (List Bool) → Surroundings
 told_shapes terms shapes values answers = record (at_nodes (HasNode terms values)) { row = λ m v r. IsDenied terms shapes values answers m v }
+
+-- how many of the lists have a yes at the place
+abbrev pub yes_at : ℕ → List (List Bool) → ℕ
+yes_at i [] = 0
+yes_at i (answers ∷ more) = (if get_or answers i false then 1 else 0) + yes_at i more
+
+-- how many of the answers are yes
+abbrev pub how_many : List Bool → ℕ
+how_many [] = 0
+how_many (b ∷ bs) = (if b then 1 else 0) + how_many bs
