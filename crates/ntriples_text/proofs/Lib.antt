@@ -9,5 +9,6 @@ pub mod ReadAgain
 pub mod RoundTrip
 pub mod Gives
 pub mod StoreLabels
+pub mod LabelLaws
 pub mod TokenLaws
 pub mod EarlyEnd

@@ -1,5 +1,5 @@
 -- Which triples a text can give, and that their text gives them.
-use Rattle.std.specs.Prelude.{◌≡◌, ℕ, ◌<◌, ◌≤◌, true, List, [], ◌∷◌, map, take, drop, Some, None, Ok, Err, bytes_eq, ◌⊎◌, ◌↔◌, ◌≢◌}
+use Rattle.std.specs.Prelude.{◌≡◌, ℕ, ◌<◌, ◌≤◌, true, List, [], ◌∷◌, ◌++◌, codes, map, take, drop, Some, None, Ok, Err, bytes_eq, ◌⊎◌, ◌↔◌, ◌≢◌}
 use Rattle.std.specs.List.{AllByRecursion, list_all, list_any}
 use Rattle.std.specs.Str.{IsUtf8, chars}
 use Rattle.iri_ref.specs.Scheme.{has_scheme}
@@ -7,6 +7,7 @@ use Rattle.rdf_lexical.specs.Characters.{is_iri_char}
 use Rattle.rdf_model.specs.declared.term.Term.{Term}
 use Rattle.rdf_model.specs.declared.term.Term.TheVariants.{Blank, Iri, Literal}
 use Rattle.rdf_model.specs.declared.triple.Triple.{Triple}
+use Rattle.rdf_model.specs.NTriples.{term_text}
 use Rattle.rdf_model.specs.Terms.{triple_cmp}
 use Rattle.collections.specs.Ordered.{IsAscending}
 use Rattle.rdf_lexical.specs.Meanings.{lower_case}
@@ -22,6 +23,7 @@ use Rattle.ntriples_text.specs.declared.statement.Node.TheVariants.{Labelled}
 use Rattle.ntriples_text.specs.Grammar.{literal, rdf_lang_string}
 use Rattle.ntriples_text.specs.Blanks.{once, term_of}
 use Rattle.ntriples_text.specs.Document.{reads}
+use Rattle.ntriples_text.specs.StoreLabels.{stored_node}
 use Rattle.ntriples_text.specs.Writing.{written}
 
 -- an IRI that an IRIREF can hold, with a scheme
@@ -81,6 +83,14 @@ GivesReadable = (bytes : List ℕ) (session first next : ℕ) (triples : List Tr
 abbrev pub LabelsStayApart : Type 0
 LabelsStayApart = (session first : ℕ) (labels : List (List ℕ)) (a b : List ℕ) → list_any (bytes_eq a) labels ≡ true → list_any (bytes_eq b) labels ≡ true
     → term_of session first (once labels) (Labelled a) ≡ term_of session first (once labels) (Labelled b) → a ≡ b
+
+-- a blank node that a label of the store may name: a session from 1 to 64, and a number below 2^32
+abbrev pub IsStored : ℕ → ℕ → Type 0
+IsStored session number = (1 ≤ session) × (session ≤ 64) × (1 ≤ number) × (number ≤ 4294967295)
+
+-- A label is that of a blank node of the store exactly where the node is written so.
+abbrev pub StoreLabelsAreWritten : Type 0
+StoreLabelsAreWritten = (label : List ℕ) (session number : ℕ) → (stored_node label ≡ Some (Blank session number)) ↔ (IsStored session number × (term_text (Blank session number) ≡ codes "_:" ++ label))
 
 -- The tokens by the productions. What is found behind blanks and a comment is the longest token that stands there, and
 -- what follows is left; or it is the text's end.

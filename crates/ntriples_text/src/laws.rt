@@ -1,4 +1,4 @@
-ghost use Rattle.ntriples_text.specs.Laws.{ReadsAgain, GivesReadable, LabelsStayApart, FindsLongest, MissesNone, StandsAlone, EndsEarly};
+ghost use Rattle.ntriples_text.specs.Laws.{ReadsAgain, GivesReadable, LabelsStayApart, StoreLabelsAreWritten, FindsLongest, MissesNone, StandsAlone, EndsEarly};
 
 /// Reading what was written gives the same triples, whatever triples without blank nodes a text can
 /// give.
@@ -15,6 +15,11 @@ pub fn read_gives_readable()
 /// Two labels of a text are one node only where they are one label.
 pub fn labels_stay_apart()
     ensures { LabelsStayApart }
+{}
+
+/// A label is that of a blank node of the store exactly where the node is written so.
+pub fn store_labels_are_written()
+    ensures { StoreLabelsAreWritten }
 {}
 
 /// What is found is the longest token that stands there, by the productions of section 7.

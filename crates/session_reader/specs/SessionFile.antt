@@ -6,6 +6,8 @@ use Rattle.std.specs.List.{slice_split, flat_map}
 use Rattle.rdf_model.specs.declared.triple.Triple.{Triple}
 use Rattle.rdf_model.specs.declared.pattern.Pattern.{Pattern}
 use Rattle.session_model.specs.declared.command.Command.{Command}
+use Rattle.session_reader.specs.declared.line.Syntax.{Syntax}
+use Rattle.session_reader.specs.declared.line.Syntax.TheVariants.{NTriples, Turtle}
 use Rattle.session_reader.specs.declared.line.BlockKind.{BlockKind}
 use Rattle.session_reader.specs.declared.line.BlockKind.TheVariants as blocks
 use Rattle.session_reader.specs.declared.line.LineKind.{LineKind}
@@ -14,6 +16,7 @@ use Rattle.session_reader.specs.declared.read_command.ReadCommand.{ReadCommand}
 use Rattle.session_reader.specs.declared.read_command.ReadCommand.TheVariants.{Begin, Add, BadAdd, Remove, BadRemove, Shapes, BadShapes, Commit, Find, Abort}
 use Rattle.rdf_lexical.specs.declared.refusal.RefusalKind.{RefusalKind}
 use Rattle.ntriples_text.specs.Document.{reads, reads_named}
+use Rattle.turtle_reader.specs.Document.{reads as turtle_reads}
 use Rattle.rdf_lexical.specs.Refusals.{number_of}
 use Rattle.session_reader.specs.FindLine.{find_of}
 use Rattle.session_reader.specs.Checking.{AreChecked}
@@ -33,9 +36,11 @@ is_skipped line = length line == 0 || slice_index line 0 == 35
 
 -- the kind of block that follows a line, if one does
 abbrev pub block_kind : List ℕ → Option BlockKind
-block_kind line = if bytes_eq line (codes "add ntriples") then Some blocks.Add else
+block_kind line = if bytes_eq line (codes "add ntriples") then Some (blocks.Add NTriples) else
+    (if bytes_eq line (codes "add turtle") then Some (blocks.Add Turtle) else
     (if bytes_eq line (codes "remove ntriples") then Some blocks.Remove else
-    (if bytes_eq line (codes "shapes ntriples") then Some blocks.Shapes else None))
+    (if bytes_eq line (codes "shapes ntriples") then Some (blocks.Shapes NTriples) else
+    (if bytes_eq line (codes "shapes turtle") then Some (blocks.Shapes Turtle) else None))))
 
 -- a line that isn't a single word: the command of a block, a find, or no command
 abbrev pub find_or_other : Option Pattern → LineKind
@@ -83,9 +88,14 @@ shapes_of (Err e) = BadShapes e.0 (number_of e.1)
 
 -- the command of a block of this kind, after its reading
 abbrev pub block_command : BlockKind → Result (List Triple × ℕ) (ℕ × RefusalKind) → ReadCommand
-block_command blocks.Add reading = add_of reading
+block_command (blocks.Add syntax) reading = add_of reading
 block_command blocks.Remove reading = remove_of reading
-block_command blocks.Shapes reading = shapes_of reading
+block_command (blocks.Shapes syntax) reading = shapes_of reading
+
+-- a reading in one of the languages, where each label is a new blank node
+abbrev pub new_reading : Syntax → List ℕ → ℕ → ℕ → Result (List Triple × ℕ) (ℕ × RefusalKind)
+new_reading NTriples text s first = reads text s first
+new_reading Turtle text s first = turtle_reads text s first
 
 -- a reading that numbers no blank node
 abbrev pub numbering_none : ℕ → Result (List Triple) (ℕ × RefusalKind) → Result (List Triple × ℕ) (ℕ × RefusalKind)
@@ -93,11 +103,11 @@ numbering_none first (Ok ts) = Ok (ts, first)
 numbering_none first (Err e) = Err e
 
 -- The reading of a block of this kind, for session s, whose next blank node has the number first. The labels of a removal
--- are those of the store; in the other blocks each label is a new blank node.
+-- are those of the store.
 abbrev pub block_reading : BlockKind → List ℕ → ℕ → ℕ → Result (List Triple × ℕ) (ℕ × RefusalKind)
-block_reading blocks.Add text s first = reads text s first
+block_reading (blocks.Add syntax) text s first = new_reading syntax text s first
 block_reading blocks.Remove text s first = numbering_none first (reads_named text)
-block_reading blocks.Shapes text s first = reads text s first
+block_reading (blocks.Shapes syntax) text s first = new_reading syntax text s first
 
 -- the next number of a blank node after a reading; a refused text uses none
 abbrev pub next_after : ℕ → Result (List Triple × ℕ) (ℕ × RefusalKind) → ℕ

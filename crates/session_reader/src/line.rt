@@ -7,15 +7,22 @@ use crate::find_line::find_pattern;
 use rdf_model::Pattern;
 use std::alloc::{AllocError, Global};
 
+/// The language of a block.
+#[derive(Clone, Copy, Debug, PartialEq, Eq)]
+pub enum Syntax {
+    NTriples,
+    Turtle,
+}
+
 /// What the block of a command is.
 #[derive(Clone, Copy, Debug, PartialEq, Eq)]
 pub enum BlockKind {
-    /// The triples of `add ntriples`.
-    Add,
+    /// The triples of `add ntriples` or `add turtle`.
+    Add(Syntax),
     /// The triples of `remove ntriples`.
     Remove,
-    /// The shapes graph of `shapes ntriples`.
-    Shapes,
+    /// The shapes graph of `shapes ntriples` or `shapes turtle`.
+    Shapes(Syntax),
 }
 
 /// What a line between commands is.
@@ -56,11 +63,15 @@ fn block_kind(line: &[u8]) -> Option<BlockKind>
     ensures { result ≡ SessionFile.block_kind line.now }
 {
     if line == b"add ntriples".as_slice() {
-        Some(BlockKind::Add)
+        Some(BlockKind::Add(Syntax::NTriples))
+    } else if line == b"add turtle".as_slice() {
+        Some(BlockKind::Add(Syntax::Turtle))
     } else if line == b"remove ntriples".as_slice() {
         Some(BlockKind::Remove)
     } else if line == b"shapes ntriples".as_slice() {
-        Some(BlockKind::Shapes)
+        Some(BlockKind::Shapes(Syntax::NTriples))
+    } else if line == b"shapes turtle".as_slice() {
+        Some(BlockKind::Shapes(Syntax::Turtle))
     } else {
         None
     }

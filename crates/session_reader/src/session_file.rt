@@ -4,12 +4,12 @@ ghost use Rattle.rdf_lexical.specs.Refusals.{Refuses};
 ghost use Rattle.session_reader.specs.declared.line.LineKind.TheVariants as kinds;
 ghost use Rattle.session_reader.specs.declared.read_command.ReadCommand.{ReadCommand as CommandData};
 ghost use Rattle.session_reader.specs.SessionFile;
-ghost use Rattle.session_reader.specs.SessionFile.{IsSession, session_of, block_command, block_reading, block_text, next_after, block_after, item_at, lines_of_block, with_command, with_item, commands_of, items_after};
+ghost use Rattle.session_reader.specs.SessionFile.{IsSession, session_of, block_command, block_reading, new_reading, block_text, next_after, block_after, item_at, lines_of_block, with_command, with_item, commands_of, items_after};
 ghost use Rattle.session_reader.specs.Progress.{with_commands};
 ghost use Rattle.session_reader.specs.Faults.{Fails};
 
 use crate::checking::check_commands;
-use crate::line::{BlockKind, LineKind, is_block_end, kind_of, trimmed};
+use crate::line::{BlockKind, LineKind, Syntax, is_block_end, kind_of, trimmed};
 use crate::prepare_fault::PrepareFault;
 use crate::read_command::ReadCommand;
 use collections::Sequence;
@@ -43,9 +43,9 @@ fn accepted_block(kind: BlockKind, triples: Sequence<Triple>) -> ReadCommand
     ensures { (next : ℕ) → result ≡ block_command kind (Ok (triples, next)) }
 {
     match kind {
-        BlockKind::Add => ReadCommand::Add(triples),
+        BlockKind::Add(_) => ReadCommand::Add(triples),
         BlockKind::Remove => ReadCommand::Remove(triples),
-        BlockKind::Shapes => ReadCommand::Shapes(triples),
+        BlockKind::Shapes(_) => ReadCommand::Shapes(triples),
     }
 }
 
@@ -55,9 +55,31 @@ fn refused_block(kind: BlockKind, line: u64, refusal: RefusalKind) -> ReadComman
 {
     let number = refusal.number();
     match kind {
-        BlockKind::Add => ReadCommand::BadAdd { line, kind: number },
+        BlockKind::Add(_) => ReadCommand::BadAdd { line, kind: number },
         BlockKind::Remove => ReadCommand::BadRemove { line, kind: number },
-        BlockKind::Shapes => ReadCommand::BadShapes { line, kind: number },
+        BlockKind::Shapes(_) => ReadCommand::BadShapes { line, kind: number },
+    }
+}
+
+// The triples of a text in this language, whose blank nodes are new.
+fn read_new(
+    alloc: Global,
+    session: u32,
+    next: &mut u32,
+    syntax: Syntax,
+    text: &[u8],
+) -> Result<Sequence<Triple>, ReadFault>
+    requires session { (1 ≤ session) × (session ≤ 64) }
+    requires next { 1 ≤ next.old }
+    requires room { next.old + length text.now < 2 ^ 32 }
+    ensures reads { let reading = new_reading syntax text.now session next.old in
+        MatchResult result (λ triples. reading ≡ Ok (triples, next.new)) (λ fault. Refuses fault reading) }
+    ensures unchanged { OnErr result (next.new ≡ next.old) }
+    ensures room { (next.old ≤ next.new) × (next.new ≤ next.old + length text.now) }
+{
+    match syntax {
+        Syntax::NTriples => ntriples_text::read(alloc, session, next, text),
+        Syntax::Turtle => turtle_reader::read(alloc, session, next, text),
     }
 }
 
@@ -79,7 +101,9 @@ fn read_triples(
 {
     match block {
         BlockKind::Remove => ntriples_text::read_named(alloc, text),
-        BlockKind::Add | BlockKind::Shapes => ntriples_text::read(alloc, session, next, text),
+        BlockKind::Add(syntax) | BlockKind::Shapes(syntax) => {
+            read_new(alloc, session, next, syntax, text)
+        }
     }
 }
 
@@ -269,8 +293,8 @@ fn read_session(
     read_items(alloc, session, &lines)
 }
 
-/// The commands of the file of a session, 1 to 64. A block that can't be read as N-Triples 1.1 gives a
-/// command that tells its refusal, and so does a shapes graph that isn't well-formed (SHACL section
+/// The commands of the file of a session, 1 to 64. A block that can't be read in its language,
+/// N-Triples 1.1 or Turtle 1.1, gives a command that tells its refusal, and so does a shapes graph that isn't well-formed (SHACL section
 /// 3.4.2), by the broken rule that is reported. The numbers of blank nodes go on from block to block.
 ///
 /// The error is the number of the first line that is no command, or of the command of a block that

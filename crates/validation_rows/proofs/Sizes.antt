@@ -13,6 +13,7 @@ use Rattle.rdf_model.specs.Terms.{triple_cmp}
 use Rattle.collections.specs.Ordered.{with_item}
 use Rattle.rdf_lexical.specs.declared.refusal.RefusalKind.{RefusalKind}
 use Rattle.rdf_lexical.specs.declared.refusal.RefusalKind.TheVariants.{NotUtf8}
+use Rattle.ntriples_text.specs.declared.statement.LabelKind.TheVariants.{OfText}
 use Rattle.ntriples_text.specs.declared.statement.Statement.{Statement}
 use Rattle.rdf_lexical.specs.Characters.{is_line_end}
 use Rattle.ntriples_text.specs.Grammar.{line}
@@ -62,9 +63,9 @@ line_within n k (Err kind) r h = tt
 line_within n k (Ok None) r h = more_within n r h
 line_within n k (Ok (Some s)) r h = statement_within n s r h
 
-lines_within : (k : ℕ) (ls : List (List ℕ)) → IsWithin (length ls) (lines_from k ls)
+lines_within : (k : ℕ) (ls : List (List ℕ)) → IsWithin (length ls) (lines_from OfText k ls)
 lines_within k [] = omega arith
-lines_within k (l ∷ ls) = line_within (length ls) k (line l) (lines_from (number_after k l) ls) (lines_within (number_after k l) ls)
+lines_within k (l ∷ ls) = line_within (length ls) k (line OfText l) (lines_from OfText (number_after k l) ls) (lines_within (number_after k l) ls)
 
 map_length : (session first : ℕ) (labels : List (List ℕ)) (ss : List Statement) → length (map (triple_of session first labels) ss) ≡ length ss
 map_length session first labels [] = refl
@@ -82,17 +83,17 @@ more_triples : (n m : ℕ) (r : Result (List Triple × ℕ) (ℕ × RefusalKind)
 more_triples n m (Ok p) le h = omega (arith, le, h)
 more_triples n m (Err fault) le h = tt
 
-text_within : (text : List ℕ) (session first : ℕ) → is_utf8 text ≡ true → IfOk (numbered session first (lines_from 1 (lines (chars text)))) (λ p. length p.0 ≤ length text)
+text_within : (text : List ℕ) (session first : ℕ) → is_utf8 text ≡ true → IfOk (numbered session first (lines_from OfText 1 (lines (chars text)))) (λ p. length p.0 ≤ length text)
 text_within text session first u =
     let count : length (chars text) ≤ length text = (fewer_chars text (chars text) (IsUtf8-from_is_utf8 text u) refl).1 in
     let le : length (lines (chars text)) ≤ length text = omega (arith, count, lines_length (chars text)) in
-    let reading = lines_from 1 (lines (chars text)) in
+    let reading = lines_from OfText 1 (lines (chars text)) in
     more_triples (length (lines (chars text))) (length text) (numbered session first reading) le
     (numbered_within (length (lines (chars text))) session first reading (lines_within 1 (lines (chars text))))
 
 reads_within : (text : List ℕ) (session first : ℕ) → IfOk (reads text session first) (λ p. length p.0 ≤ length text)
 reads_within text session first =
-    let reading = numbered session first (lines_from 1 (lines (chars text))) in
+    let reading = numbered session first (lines_from OfText 1 (lines (chars text))) in
     let refusal : Result (List Triple × ℕ) (ℕ × RefusalKind) = Err (line_of text (utf8_valid_len text), NotUtf8) in
     elim (is_utf8 text) as (λ b. is_utf8 text ≡ b → IfOk (cond b reading refusal) (λ p. length p.0 ≤ length text)) [
       | true ↦ λ u. text_within text session first u
