@@ -23,7 +23,7 @@ pub struct Limits {
 }
 
 /// What the words ask for. The names of files are as the words have them.
-#[derive(Debug)]
+#[derive(Debug, Drop)]
 pub enum Call {
     /// Runs session files.
     Run {
@@ -36,23 +36,6 @@ pub enum Call {
         history: Text,
         files: Sequence<Text>,
     },
-}
-
-// Written by hand, so that what owns one calls it in place of having it written out.
-impl Drop for Call {
-    fn drop(self) {
-        match self {
-            Call::Run {
-                limits: _,
-                files: _,
-            } => {}
-            Call::Replay {
-                limits: _,
-                history: _,
-                files: _,
-            } => {}
-        }
-    }
 }
 
 /// Why words are no call.
