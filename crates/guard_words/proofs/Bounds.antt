@@ -1,13 +1,12 @@
 -- The limits of a call are within their bounds.
-use Rattle.std.proofs.Common.{◌≡◌, ℕ, ◌≤◌, ◌&&◌, Bool, true, false, List, Option, Some, None, refl, ap, arith, nat_le, bytes_eq, codes, if◌then◌else◌, subst, sym}
+use Rattle.std.proofs.Common.{◌≡◌, ℕ, ◌≤◌, ◌&&◌, Bool, true, false, List, Option, Some, None, refl, ap, arith, nat_le, bytes_eq, codes, if◌then◌else◌}
 use Rattle.std.specs.Fmt.{decimal}
 use Rattle.std.specs.Str.Parse.{digits_value}
 use Rattle.std.proofs.lemmas.Bool.Decides.{nat_tests}
-use Rattle.clap.specs.Words.{Row, Text, fault_of, subcommand_of}
+use Rattle.clap.specs.Words.{Row, Text, subcommand_of}
 use Rattle.guard_words.specs.CommandLine.{command_line}
 use Rattle.guard_words.specs.Words.{limit_of, limit_or_default, limits_of_both, limits_in, run_of, replay_of, files_in, history_in, call_in, call_of}
 use Rattle.guard_words.specs.declared.call.Limits.{Limits}
-use Rattle.guard_words.specs.declared.call.Call.{Call}
 use Rattle.guard_words.specs.declared.call.Call.TheVariants.{Run, Replay}
 use Rattle.guard_words.proofs.Numbers.{both}
 
