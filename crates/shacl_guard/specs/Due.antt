@@ -1,65 +1,63 @@
 -- What the program has to print, and with which status.
-use Rattle.std.specs.Prelude.{◌≡◌, ℕ, ◌<◌, Bool, not, ◌&&◌, List, [], ◌∷◌, ◌++◌, length, Option, Some, None, Err, nat_lt, ◌==◌, if◌then◌else◌, slice_index, bytes_eq, codes}
+use Rattle.std.specs.Prelude.{◌≡◌, ℕ, ◌<◌, ◌≤◌, List, ◌++◌, length, Option, Some, None, codes}
 use Rattle.std.specs.Fmt.{decimal}
-use Rattle.store_model.specs.declared.event.Limits.{Limits}
 use Rattle.session_model.specs.declared.command.Command.{Command}
 use Rattle.session_model.specs.Print.{IsPrint, line}
-use Rattle.session_reader.specs.SessionFile.{IsSession, session_of}
-use Rattle.outside.specs.Files.{Contents, Loads}
+use Rattle.outside.specs.Files.{Contents}
 use Rattle.shacl_guard.specs.declared.status.Status.{Status}
-use Rattle.shacl_guard.specs.declared.status.Status.TheVariants.{Done, Usage, ReadFault, WriteFault, BadSession, Memory, TooLong}
+use Rattle.shacl_guard.specs.declared.status.Status.TheVariants.{Done, Usage, ReadFault, WriteFault, BadSession, Memory, TooLong, TooManyFiles}
+use Rattle.shacl_guard.specs.Requests.{Request, request_of}
+use Rattle.shacl_guard.specs.Loading.{HoldSessions, FirstAt, HasBadLine, IsTooLong}
 
--- the name of a file isn't empty and doesn't begin with `-`
-abbrev pub is_file_name : List ℕ → Bool
-is_file_name name = nat_lt 0 (length name) && not (slice_index name 0 == 45)
+-- the text is what a run of the files prints, within the limits, in an order that is valid for them
+abbrev pub IsRun : Option Contents → Request → List ℕ → Type 0
+IsRun held r text = (all : List (List Command)) × (order : List ℕ) × HoldSessions held 1 r.files all × IsPrint all r.limits order text
 
--- The file of the words, where they are taken: the program's name, `run` and a file's name.
-abbrev pub file_of : List (List ℕ) → Option (List ℕ)
-file_of [] = None
-file_of (p ∷ []) = None
-file_of (p ∷ r ∷ []) = None
-file_of (p ∷ r ∷ f ∷ []) = if bytes_eq r (codes "run") && is_file_name f then Some f else None
-file_of (p ∷ r ∷ f ∷ x ∷ xs) = None
+-- the line of a status that is an error with a line
+abbrev pub error_line : Status → Option (List ℕ)
+error_line Usage = Some (line (codes "error usage"))
+error_line (BadSession i n) = Some (line (codes "error session " ++ decimal i ++ codes " line " ++ decimal n))
+error_line (TooLong i) = Some (line (codes "error file " ++ decimal i ++ codes " too long"))
+error_line TooManyFiles = Some (line (codes "error too many files"))
+error_line Done = None
+error_line ReadFault = None
+error_line WriteFault = None
+error_line Memory = None
 
--- the files of the words, in order; none where the words aren't taken
-abbrev pub listed : Option (List ℕ) → List (List ℕ)
-listed None = []
-listed (Some name) = name ∷ []
+-- why the files of a request aren't run
+abbrev pub IsRefused : Option Contents → List (List ℕ) → Status → Type 0
+IsRefused held names TooManyFiles = 64 < length names
+IsRefused held names (BadSession i n) = (length names ≤ 64) × FirstAt held names i (HasBadLine held i n)
+IsRefused held names (TooLong i) = (length names ≤ 64) × FirstAt held names i (IsTooLong held)
+IsRefused held names Done = ⊥
+IsRefused held names Usage = ⊥
+IsRefused held names ReadFault = ⊥
+IsRefused held names WriteFault = ⊥
+IsRefused held names Memory = ⊥
 
-abbrev pub files_of : List (List ℕ) → List (List ℕ)
-files_of words = listed (file_of words)
+abbrev pub IsCause : List (List ℕ) → Option Contents → Status → Type 0
+IsCause words held Usage = request_of words ≡ None
+IsCause words held TooManyFiles = (r : Request) × (request_of words ≡ Some r) × IsRefused held r.files TooManyFiles
+IsCause words held (BadSession i n) = (r : Request) × (request_of words ≡ Some r) × IsRefused held r.files (BadSession i n)
+IsCause words held (TooLong i) = (r : Request) × (request_of words ≡ Some r) × IsRefused held r.files (TooLong i)
+IsCause words held Done = ⊥
+IsCause words held ReadFault = ⊥
+IsCause words held WriteFault = ⊥
+IsCause words held Memory = ⊥
 
--- a file may have 16,777,216 bytes; one more is asked for, to see whether it has
-abbrev pub room : ℕ
-room = 16777217
+abbrev pub IsRunDue : List (List ℕ) → Option Contents → List ℕ → Type 0
+IsRunDue words held text = (r : Request) × (request_of words ≡ Some r) × (length r.files ≤ 64) × IsRun held r text
 
--- more terms and triples than a file can hold
-abbrev pub no_limits : Limits
-no_limits = record { terms = 4294967290; triples = 4294967290 }
-
--- these are the first bytes of the file of the words, where what it holds is told
-abbrev pub IsInput : List (List ℕ) → Option Contents → List ℕ → Type 0
-IsInput words held bytes = (name : List ℕ) × (file_of words ≡ Some name) × Loads held name room bytes
-
--- The status of a session file, and its text.
-abbrev pub IsTextOf : Status → List ℕ → List ℕ → Type 0
-IsTextOf Done bytes text = (length bytes < room) × ((commands : List Command) × (order : List ℕ) × IsSession 1 bytes commands × IsPrint (commands ∷ []) no_limits order text)
-IsTextOf (BadSession i n) bytes text = (length bytes < room) × (i ≡ 1) × (session_of 1 bytes ≡ Err n) × (text ≡ line (codes "error session 1 line " ++ decimal n))
-IsTextOf (TooLong i) bytes text = (length bytes ≡ room) × (i ≡ 1) × (text ≡ line (codes "error file 1 too long"))
-IsTextOf Usage bytes text = ⊥
-IsTextOf ReadFault bytes text = ⊥
-IsTextOf WriteFault bytes text = ⊥
-IsTextOf Memory bytes text = ⊥
-
-abbrev pub IsFileDue : List (List ℕ) → Option Contents → Status → List ℕ → Type 0
-IsFileDue words held s text = (bytes : List ℕ) × IsInput words held bytes × IsTextOf s bytes text
+abbrev pub IsErrorDue : List (List ℕ) → Option Contents → Status → List ℕ → Type 0
+IsErrorDue words held s text = IsCause words held s × (error_line s ≡ Some text)
 
 -- The whole text that is due, and the status that it comes with.
 abbrev pub IsDue : List (List ℕ) → Option Contents → Status → List ℕ → Type 0
-IsDue words held Usage text = (file_of words ≡ None) × (text ≡ line (codes "error usage"))
-IsDue words held Done text = IsFileDue words held Done text
-IsDue words held (BadSession i n) text = IsFileDue words held (BadSession i n) text
-IsDue words held (TooLong i) text = IsFileDue words held (TooLong i) text
+IsDue words held Done text = IsRunDue words held text
+IsDue words held Usage text = IsErrorDue words held Usage text
+IsDue words held (BadSession i n) text = IsErrorDue words held (BadSession i n) text
+IsDue words held (TooLong i) text = IsErrorDue words held (TooLong i) text
+IsDue words held TooManyFiles text = IsErrorDue words held TooManyFiles text
 IsDue words held ReadFault text = ⊥
 IsDue words held WriteFault text = ⊥
 IsDue words held Memory text = ⊥

@@ -1,22 +1,25 @@
 -- What a status says of the words, the files and the sink.
-use Rattle.std.specs.Prelude.{◌≡◌, ℕ, ◌<◌, List, length, take, Option, Some, None, Ok}
+use Rattle.std.specs.Prelude.{◌≡◌, ℕ, ◌+◌, ◌<◌, ◌≤◌, List, [], ◌∷◌, length, take, Option, Some, None, Ok}
 use Rattle.session_reader.specs.declared.read_command.ReadCommand.{ReadCommand}
 use Rattle.session_reader.specs.SessionFile.{session_of}
 use Rattle.outside.specs.Files.{Contents, grown}
 use Rattle.shacl_guard.specs.declared.status.Status.{Status}
-use Rattle.shacl_guard.specs.declared.status.Status.TheVariants.{Done, Usage, ReadFault, WriteFault, BadSession, Memory, TooLong}
-use Rattle.shacl_guard.specs.Due.{IsDue, file_of, room}
-use Rattle.shacl_guard.specs.World.{Call, LoadsEach, LoadsFirst, NoneFailed, OneFailed}
+use Rattle.shacl_guard.specs.declared.status.Status.TheVariants.{Done, Usage, ReadFault, WriteFault, BadSession, Memory, TooLong, TooManyFiles}
+use Rattle.shacl_guard.specs.Requests.{Request, request_of, files_of}
+use Rattle.shacl_guard.specs.Loading.{room}
+use Rattle.shacl_guard.specs.Due.{IsDue}
+use Rattle.shacl_guard.specs.Faults.{OneFailed}
+use Rattle.shacl_guard.specs.World.{Call, LoadsUpTo, LoadsFirst, NoneFailed}
 
--- the whole text that is due with the status was taken, each file was loaded once and no load failed
+-- the whole text that is due with the status was taken, the files were loaded as far as it took them, and no load failed
 abbrev pub PrintsAll : Status → Call → Type 0
-PrintsAll s c = LoadsEach c.words c.before.loads c.after.loads × NoneFailed c.before.loads c.after.loads
+PrintsAll s c = LoadsUpTo s c.words c.before.loads c.after.loads × NoneFailed c.before.loads c.after.loads
     × ((text : List ℕ) × IsDue c.words c.held s text × (c.after.taken ≡ grown c.before.taken text))
 
 -- a part of what was due with some status was taken, and not all of it
 abbrev pub PrintsPart : Call → Type 0
-PrintsPart c = LoadsEach c.words c.before.loads c.after.loads × NoneFailed c.before.loads c.after.loads
-    × ((s : Status) × (text : List ℕ) × (n : ℕ) × (n < length text) × IsDue c.words c.held s text × (c.after.taken ≡ grown c.before.taken (take n text)))
+PrintsPart c = (s : Status) × LoadsUpTo s c.words c.before.loads c.after.loads × NoneFailed c.before.loads c.after.loads
+    × ((text : List ℕ) × (n : ℕ) × (n < length text) × IsDue c.words c.held s text × (c.after.taken ≡ grown c.before.taken (take n text)))
 
 -- By the status: what the words and the files are, and what the sink took. Want of memory prints nothing.
 abbrev pub IsOutcome : Status → Call → Type 0
@@ -24,14 +27,20 @@ IsOutcome Done c = PrintsAll Done c
 IsOutcome Usage c = PrintsAll Usage c
 IsOutcome (BadSession i n) c = PrintsAll (BadSession i n) c
 IsOutcome (TooLong i) c = PrintsAll (TooLong i) c
-IsOutcome ReadFault c = LoadsEach c.words c.before.loads c.after.loads × OneFailed c.words c.before.loads c.after.loads × (c.after.taken ≡ c.before.taken)
+IsOutcome TooManyFiles c = PrintsAll TooManyFiles c
+IsOutcome ReadFault c = OneFailed c.held (files_of c.words) c.before.loads c.after.loads × (c.after.taken ≡ c.before.taken)
 IsOutcome WriteFault c = PrintsPart c
-IsOutcome Memory c = LoadsFirst c.words c.before.loads c.after.loads × NoneFailed c.before.loads c.after.loads × (c.after.taken ≡ c.before.taken)
+IsOutcome Memory c = LoadsFirst (files_of c.words) c.before.loads c.after.loads × NoneFailed c.before.loads c.after.loads × (c.after.taken ≡ c.before.taken)
 
--- a file that the words name is there, within its length, and a session file
-abbrev pub HasSession : List (List ℕ) → Option Contents → Type 0
-HasSession words None = ⊥
-HasSession words (Some held) = (name : List ℕ) × (bytes : List ℕ) × (commands : List ReadCommand) × (file_of words ≡ Some name) × (held name ≡ Some bytes) × (length bytes < room) × (session_of 1 bytes ≡ Ok commands)
+-- these files are there from number i on, within their length, and session files
+abbrev pub AreThere : (List ℕ → Option (List ℕ)) → ℕ → List (List ℕ) → Type 0
+AreThere held i [] = Unit {0}
+AreThere held i (name ∷ names) = ((bytes : List ℕ) × (commands : List ReadCommand) × (held name ≡ Some bytes) × (length bytes < room) × (session_of i bytes ≡ Ok commands)) × AreThere held (i + 1) names
+
+-- the words name up to 64 such files
+abbrev pub HasSessions : List (List ℕ) → Option Contents → Type 0
+HasSessions words None = ⊥
+HasSessions words (Some held) = (r : Request) × (request_of words ≡ Some r) × (length r.files ≤ 64) × AreThere held 1 r.files
 
 abbrev pub IsDoneOrMemory : Status → Type 0
 IsDoneOrMemory Done = Unit {0}
@@ -41,3 +50,4 @@ IsDoneOrMemory ReadFault = ⊥
 IsDoneOrMemory WriteFault = ⊥
 IsDoneOrMemory (BadSession i n) = ⊥
 IsDoneOrMemory (TooLong i) = ⊥
+IsDoneOrMemory TooManyFiles = ⊥

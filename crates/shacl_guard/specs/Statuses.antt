@@ -1,7 +1,7 @@
 -- The numbers of the statuses.
 use Rattle.std.specs.Prelude.{ℕ}
 use Rattle.shacl_guard.specs.declared.status.Status.{Status}
-use Rattle.shacl_guard.specs.declared.status.Status.TheVariants.{Done, Usage, ReadFault, WriteFault, BadSession, Memory, TooLong}
+use Rattle.shacl_guard.specs.declared.status.Status.TheVariants.{Done, Usage, ReadFault, WriteFault, BadSession, Memory, TooLong, TooManyFiles}
 
 abbrev pub code_of : Status → ℕ
 code_of Done = 0
@@ -11,3 +11,4 @@ code_of WriteFault = 4
 code_of (BadSession session line) = 5
 code_of Memory = 6
 code_of (TooLong file) = 7
+code_of TooManyFiles = 8

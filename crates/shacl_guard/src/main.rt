@@ -6,6 +6,8 @@
 #![tactic(auto)]
 
 mod answer;
+mod loading;
+mod request;
 mod run;
 mod status;
 #[cfg(test)]

@@ -1,6 +1,6 @@
 ghost use Rattle.std.specs.Prelude.{◌≡◌, map};
 ghost use Rattle.outside.specs.Counts.{Rose};
-ghost use Rattle.shacl_guard.specs.Outcome.{IsOutcome, HasSession, IsDoneOrMemory};
+ghost use Rattle.shacl_guard.specs.Outcome.{IsOutcome, HasSessions, IsDoneOrMemory};
 
 use crate::Status;
 use crate::answer::answer_to;
@@ -9,8 +9,9 @@ use std::alloc::Global;
 
 /// Runs the command of the words, the first of which is the program's name.
 ///
-/// `run FILE` runs the session file: the sink takes what a plain store gives, asked one step at a time
-/// in the history that is printed, which holds the session's steps once and in the file's order.
+/// `run FILES..` runs up to 64 session files beside each other: the sink takes what a plain store gives,
+/// asked one step at a time in the history that is printed, which holds the steps of each session once
+/// and in its file's order.
 pub fn run_command<R, F: Files, K: Sink, M: Maker, G: Gate>(
     _rt: &R,
     alloc: Global,
@@ -29,8 +30,8 @@ pub fn run_command<R, F: Files, K: Sink, M: Maker, G: Gate>(
     }) }
     ensures write_fault { result ≡ Status.WriteFault → Rose (K.faults out.old) (K.faults out.new) }
 
-    // A session file within its length is run, unless a load or a write failed or memory ran out.
-    ensures complete { HasSession (map (λ w. w.now) words.now) (F.holds files.old) → F.failed files.new ≡ F.failed files.old
+    // Up to 64 session files within their length are run, unless a load or a write failed or memory ran out.
+    ensures complete { HasSessions (map (λ w. w.now) words.now) (F.holds files.old) → F.failed files.new ≡ F.failed files.old
         → (Rose (K.faults out.old) (K.faults out.new) → ⊥) → IsDoneOrMemory result }
 
     // No pattern is made so far.

@@ -1,6 +1,7 @@
 ghost use Rattle.std.specs.Prelude.{◌≡◌};
 ghost use Rattle.std.specs.Process.{exit_status};
 
+use std::alloc::AllocError;
 use std::process::ExitCode;
 
 /// How the program ends.
@@ -20,6 +21,18 @@ pub enum Status {
     Memory,
     /// A file has more than 16,777,216 bytes.
     TooLong { file: u32 },
+    /// More than 64 session files are named.
+    TooManyFiles,
+}
+
+impl From<AllocError> for Status {
+    ghost use Rattle.shacl_guard.specs.declared.status.Status.TheVariants.{Memory};
+
+    ghost from_gives = { λ _ status. status ≡ Memory };
+
+    fn from(_: AllocError) -> Status {
+        Status::Memory
+    }
 }
 
 impl Status {
@@ -37,6 +50,7 @@ impl Status {
             Status::BadSession { .. } => 5,
             Status::Memory => 6,
             Status::TooLong { .. } => 7,
+            Status::TooManyFiles => 8,
         }
     }
 

@@ -1,0 +1,58 @@
+-- The limits of a call are within their bounds.
+use Rattle.std.proofs.Common.{◌≡◌, ℕ, ◌≤◌, ◌&&◌, Bool, true, false, List, Option, Some, None, refl, ap, arith, nat_le, bytes_eq, codes, if◌then◌else◌}
+use Rattle.std.specs.Fmt.{decimal}
+use Rattle.std.specs.Str.Parse.{digits_value}
+use Rattle.std.proofs.lemmas.Bool.Decides.{nat_tests}
+use Rattle.clap.specs.Words.{Row, Text, subcommand_of}
+use Rattle.guard_words.specs.CommandLine.{command_line}
+use Rattle.guard_words.specs.Words.{limit_of, limit_or_default, limits_of_both, limits_in, run_of, replay_of, files_in, history_in, call_in, call_of}
+use Rattle.guard_words.specs.declared.call.Limits.{Limits}
+use Rattle.guard_words.specs.declared.call.Call.TheVariants.{Run, Replay}
+use Rattle.guard_words.proofs.Numbers.{both}
+
+-- a test that gave something held
+given : {X : Type 0} (b : Bool) (x : Option X) (y : X) → (if b then x else None) ≡ Some y → (b ≡ true) × (x ≡ Some y)
+given true x y e = (refl, e)
+given false x y e = cc
+
+limit_bound : (text : List ℕ) (n : ℕ) → limit_of text ≡ Some n → n ≤ 2000000
+limit_bound text n e =
+    let v = digits_value 10 text in
+    let g = given (bytes_eq text (decimal v) && nat_le 1 v && nat_le v 2000000) (Some v) n e in
+    let most = (both (bytes_eq text (decimal v) && nat_le 1 v) (nat_le v 2000000) g.0).1 in
+    let same : v ≡ n = let s = g.1 in cc in
+    grind (arith, nat_tests, most, same)
+
+default_bound : (o : Option (List ℕ)) (n : ℕ) → limit_or_default o ≡ Some n → n ≤ 2000000
+default_bound None n e = let same : 1000000 ≡ n = cc in omega (arith, same)
+default_bound (Some text) n e = limit_bound text n e
+
+terms_of_both : (a b : Option ℕ) (l : Limits) → limits_of_both a b ≡ Some l → a ≡ Some l.terms
+terms_of_both (Some t) (Some u) l e = let same : record { terms = t; triples = u } ≡ l = cc in ap (λ (x : Limits). Some x.terms) same
+terms_of_both (Some t) None l e = cc
+terms_of_both None b l e = cc
+
+limits_of_run : (o : Option Limits) (f : Option (List (List ℕ))) (l : Limits) (fs : List (List ℕ)) → run_of o f ≡ Some (Run l fs) → o ≡ Some l
+limits_of_run (Some m) (Some gs) l fs e = let same : Run m gs ≡ Run l fs = cc in let one : m ≡ l = cc in ap Some one
+limits_of_run (Some m) None l fs e = cc
+limits_of_run None f l fs e = cc
+
+never_a_run : (o : Option Limits) (h : Option (List ℕ)) (f : Option (List (List ℕ))) (l : Limits) (fs : List (List ℕ)) → replay_of o h f ≡ Some (Run l fs) → ⊥
+never_a_run (Some m) (Some h) (Some gs) l fs e = let no : Replay m h gs ≡ Run l fs = cc in cc
+never_a_run (Some m) (Some h) None l fs e = cc
+never_a_run (Some m) None f l fs e = cc
+never_a_run None h f l fs e = cc
+
+rows_bound : (rows : List Row) (l : Limits) → limits_in rows ≡ Some l → l.terms ≤ 2000000
+rows_bound rows l e = default_bound _ l.terms (terms_of_both _ _ l e)
+
+run_bound_in : (rows : List Row) (b : Bool) (l : Limits) (fs : List (List ℕ)) → (if b then run_of (limits_in rows) (files_in rows) else replay_of (limits_in rows) (history_in rows) (files_in rows)) ≡ Some (Run l fs) → l.terms ≤ 2000000
+run_bound_in rows true l fs e = rows_bound rows l (limits_of_run (limits_in rows) (files_in rows) l fs e)
+run_bound_in rows false l fs e = absurd (never_a_run (limits_in rows) (history_in rows) (files_in rows) l fs e)
+
+call_in_bound : (o : Option (Text × List Row)) (l : Limits) (fs : List (List ℕ)) → call_in o ≡ Some (Run l fs) → l.terms ≤ 2000000
+call_in_bound None l fs e = cc
+call_in_bound (Some p) l fs e = run_bound_in p.1 (bytes_eq p.0 (codes "run")) l fs e
+
+pub run_bound : (words : List Text) (l : Limits) (fs : List (List ℕ)) → call_of words ≡ Some (Run l fs) → l.terms ≤ 2000000
+run_bound words l fs e = call_in_bound (subcommand_of command_line words) l fs (given _ _ _ e).1

@@ -1,0 +1,29 @@
+-- The command line of the program, as `clap` has commands.
+use Rattle.std.specs.Prelude.{Some, true, codes}
+use Rattle.clap.specs.Words.{App, Rule, Text, new_app, new_rule, with_rule, with_subcommand}
+use Rattle.clap.specs.Simple.{on_top}
+use Rattle.clap.specs.Lexer.{usize_max}
+use Rattle.clap.specs.declared.builder.action.ArgAction.TheVariants.{Set, Append}
+
+-- `[--ID TEXT]`
+abbrev pub option_rule : Text → Rule
+option_rule id = record (new_rule id) { long = Some id; action = Some Set }
+
+-- `ID`
+abbrev pub name_rule : Text → Rule
+name_rule id = record (new_rule id) { required = true; action = Some Set }
+
+-- `ID..`, one or more
+abbrev pub names_rule : Text → Rule
+names_rule id = record (new_rule id) { required = true; action = Some Append; range = Some (record { start_inclusive = 1; end_inclusive = usize_max }) }
+
+-- `run [--max-terms N] [--max-triples N] FILES..`
+abbrev pub run : App
+run = with_rule (with_rule (with_rule (new_app (codes "run")) (option_rule (codes "max-terms"))) (option_rule (codes "max-triples"))) (names_rule (codes "files"))
+
+-- `replay [--max-terms N] [--max-triples N] HISTORY FILES..`
+abbrev pub replay : App
+replay = with_rule (with_rule (with_rule (with_rule (new_app (codes "replay")) (option_rule (codes "max-terms"))) (option_rule (codes "max-triples"))) (name_rule (codes "history"))) (names_rule (codes "files"))
+
+abbrev pub command_line : App
+command_line = with_subcommand (with_subcommand (on_top (λ s. record s { subcommand_required = true }) (new_app (codes "shacl_guard"))) run.top) replay.top

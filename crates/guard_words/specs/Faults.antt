@@ -1,0 +1,9 @@
+-- Why words are no call.
+use Rattle.std.specs.Prelude.{◌≡◌, Option, None}
+use Rattle.guard_words.specs.declared.call.Call.{Call}
+use Rattle.guard_words.specs.declared.call.WordsFault.{WordsFault}
+use Rattle.guard_words.specs.declared.call.WordsFault.TheVariants.{Usage, Memory}
+
+abbrev pub Refuses : WordsFault → Option Call → Type 0
+Refuses Usage call = call ≡ None
+Refuses Memory call = Unit {0}

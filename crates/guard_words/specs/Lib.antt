@@ -1,0 +1,4 @@
+pub mod CommandLine
+pub mod Words
+pub mod Faults
+pub mod Plain

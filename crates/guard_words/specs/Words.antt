@@ -1,0 +1,54 @@
+-- What the words ask for.
+use Rattle.std.specs.Prelude.{ℕ, ◌&&◌, List, length, Option, Some, None, if◌then◌else◌, nat_le, nat_eq, codes, bytes_eq}
+use Rattle.std.specs.Fmt.{decimal}
+use Rattle.std.specs.Str.Parse.{digits_value}
+use Rattle.clap.specs.Words.{Row, Text, all_of, fault_of, first_of, subcommand_of}
+use Rattle.guard_words.specs.CommandLine.{command_line}
+use Rattle.guard_words.specs.declared.call.Limits.{Limits}
+use Rattle.guard_words.specs.declared.call.Call.{Call}
+use Rattle.guard_words.specs.declared.call.Call.TheVariants.{Run, Replay}
+
+-- The number that a text is the decimal of, without sign or leading zero, from 1 to 2,000,000.
+abbrev pub limit_of : List ℕ → Option ℕ
+limit_of text = let n = digits_value 10 text in if bytes_eq text (decimal n) && nat_le 1 n && nat_le n 2000000 then Some n else None
+
+-- an option that isn't given is 1,000,000
+abbrev pub limit_or_default : Option (List ℕ) → Option ℕ
+limit_or_default None = Some 1000000
+limit_or_default (Some text) = limit_of text
+
+abbrev pub limits_of_both : Option ℕ → Option ℕ → Option Limits
+limits_of_both (Some terms) (Some triples) = Some (record { terms = terms; triples = triples })
+limits_of_both None triples = None
+limits_of_both (Some terms) None = None
+
+abbrev pub limits_in : List Row → Option Limits
+limits_in rows = limits_of_both (limit_or_default (first_of (codes "max-terms") rows)) (limit_or_default (first_of (codes "max-triples") rows))
+
+abbrev pub run_of : Option Limits → Option (List (List ℕ)) → Option Call
+run_of (Some limits) (Some files) = Some (Run limits files)
+run_of None files = None
+run_of (Some limits) None = None
+
+abbrev pub replay_of : Option Limits → Option (List ℕ) → Option (List (List ℕ)) → Option Call
+replay_of (Some limits) (Some history) (Some files) = Some (Replay limits history files)
+replay_of None history files = None
+replay_of (Some limits) None files = None
+replay_of (Some limits) (Some history) None = None
+
+abbrev pub files_in : List Row → Option (List (List ℕ))
+files_in rows = all_of (codes "files") rows
+
+abbrev pub history_in : List Row → Option (List ℕ)
+history_in rows = first_of (codes "history") rows
+
+-- the call of a subcommand's name and what was found for it
+abbrev pub call_in : Option (Text × List Row) → Option Call
+call_in None = None
+call_in (Some p) =
+    if bytes_eq p.0 (codes "run") then run_of (limits_in p.1) (files_in p.1)
+    else replay_of (limits_in p.1) (history_in p.1) (files_in p.1)
+
+-- The call of words that `clap` takes for the command line, with numbers within their bounds; no other words are one.
+abbrev pub call_of : List Text → Option Call
+call_of words = if nat_eq (length (fault_of command_line words)) 0 then call_in (subcommand_of command_line words) else None

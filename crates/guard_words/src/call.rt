@@ -1,0 +1,191 @@
+ghost use Rattle.std.specs.Prelude.{◌≡◌, ◌≢◌, [], IfErr, IfOk, MatchResult, Some, map, option_map};
+ghost use Rattle.clap.specs.Words.{all_of, fault_of, first_of, found_of, kind_of, rows_of, subcommand_of, subcommand_rows_of};
+ghost use Rattle.guard_words.specs.CommandLine;
+ghost use Rattle.guard_words.specs.Faults.{Refuses};
+ghost use Rattle.guard_words.specs.Words;
+
+use crate::command_line::command_line;
+use crate::number::limit;
+use clap::error::ErrorKind;
+use clap::{ArgMatches, Error};
+use collections::Sequence;
+use rdf_text::Text;
+use std::alloc::{AllocError, Global};
+
+// An option that isn't given.
+const DEFAULT: u32 = 1_000_000;
+
+/// How many terms a store may name, and how many triples its data graph may have.
+#[derive(Clone, Copy, Debug, PartialEq, Eq)]
+pub struct Limits {
+    pub terms: u32,
+    pub triples: u32,
+}
+
+/// What the words ask for. The names of files are as the words have them.
+#[derive(Debug, Drop)]
+pub enum Call {
+    /// Runs session files.
+    Run {
+        limits: Limits,
+        files: Sequence<Text>,
+    },
+    /// Runs session files in the order of a history.
+    Replay {
+        limits: Limits,
+        history: Text,
+        files: Sequence<Text>,
+    },
+}
+
+/// Why words are no call.
+#[derive(Clone, Copy, Debug, PartialEq, Eq)]
+pub enum WordsFault {
+    /// They aren't those of a command.
+    Usage,
+    /// Memory ran out.
+    Memory,
+}
+
+impl From<AllocError> for WordsFault {
+    ghost use Rattle.guard_words.specs.declared.call.WordsFault.TheVariants.{Memory};
+
+    ghost from_gives = { λ _ fault. fault ≡ Memory };
+
+    fn from(_: AllocError) -> WordsFault {
+        WordsFault::Memory
+    }
+}
+
+// The number of an option.
+fn limit_or_default(text: Option<&str>) -> Option<u32>
+    ensures { result ≡ Words.limit_or_default (option_map (λ t. t.now) text.entry) }
+{
+    match text {
+        Some(text) => limit(text),
+        None => Some(DEFAULT),
+    }
+}
+
+// The first value of an argument, as its rows have it.
+fn text_at<'a>(found: &ArgMatches<'a>, id: &str) -> Option<&'a str>
+    ensures { option_map (λ t. t.now) result ≡ first_of id.now (rows_of (found_of found.now)) }
+{
+    found.get_str(id)
+}
+
+// All values of an argument, as its rows have them.
+fn texts_at<'b, 'a>(found: &'b ArgMatches<'a>, id: &str) -> Option<&'b [&'a str]>
+    ensures { option_map (λ ts. map (λ t. t.now) ts.now) result ≡ all_of id.now (rows_of (found_of found.now)) }
+{
+    found.get_strs(id)
+}
+
+fn limits_in(found: &ArgMatches<'_>) -> Option<Limits>
+    ensures { result ≡ Words.limits_in (rows_of (found_of found.now)) }
+{
+    let terms = limit_or_default(text_at(found, "max-terms"));
+    let triples = limit_or_default(text_at(found, "max-triples"));
+    match (terms, triples) {
+        (Some(terms), Some(triples)) => Some(Limits { terms, triples }),
+        _ => None,
+    }
+}
+
+// The words as texts of their own.
+fn texts_of(alloc: Global, words: &[&str]) -> Result<Sequence<Text>, AllocError>
+    ensures { IfOk result (λ texts. texts ≡ map (λ w. w.now) words.now) }
+{
+    let mut texts = Sequence::new(alloc);
+    for word in words {
+        texts.push(Text::new(alloc, word)?)?;
+    }
+    Ok(texts)
+}
+
+fn run_in(alloc: Global, found: &ArgMatches<'_>) -> Result<Call, WordsFault>
+    ensures { let rows = rows_of (found_of found.now) in
+        let call = Words.run_of (Words.limits_in rows) (Words.files_in rows) in
+        MatchResult result (λ c. call ≡ Some c) (λ fault. Refuses fault call) }
+{
+    let Some(limits) = limits_in(found) else {
+        return Err(WordsFault::Usage);
+    };
+    let Some(files) = texts_at(found, "files") else {
+        return Err(WordsFault::Usage);
+    };
+    let files = texts_of(alloc, files)?;
+    Ok(Call::Run { limits, files })
+}
+
+fn replay_in(alloc: Global, found: &ArgMatches<'_>) -> Result<Call, WordsFault>
+    ensures { let rows = rows_of (found_of found.now) in
+        let call = Words.replay_of (Words.limits_in rows) (Words.history_in rows) (Words.files_in rows) in
+        MatchResult result (λ c. call ≡ Some c) (λ fault. Refuses fault call) }
+{
+    let Some(limits) = limits_in(found) else {
+        return Err(WordsFault::Usage);
+    };
+    let Some(history) = text_at(found, "history") else {
+        return Err(WordsFault::Usage);
+    };
+    let Some(files) = texts_at(found, "files") else {
+        return Err(WordsFault::Usage);
+    };
+    let files = texts_of(alloc, files)?;
+    let history = Text::new(alloc, history)?;
+    Ok(Call::Replay {
+        limits,
+        history,
+        files,
+    })
+}
+
+fn call_in(alloc: Global, name: &str, found: &ArgMatches<'_>) -> Result<Call, WordsFault>
+    ensures { let call = Words.call_in (Some (name.now, rows_of (found_of found.now))) in
+        MatchResult result (λ c. call ≡ Some c) (λ fault. Refuses fault call) }
+{
+    if name == "run" {
+        run_in(alloc, found)
+    } else {
+        replay_in(alloc, found)
+    }
+}
+
+// Want of memory is the one error that says nothing of the words.
+fn words_fault(error: &Error) -> WordsFault
+    ensures { result ≡ WordsFault.Usage → kind_of error.now ≢ ErrorKind.OutOfMemory }
+{
+    match error.kind() {
+        ErrorKind::OutOfMemory => WordsFault::Memory,
+        _ => WordsFault::Usage,
+    }
+}
+
+// What `clap` finds in the words.
+fn matches_of<'a>(alloc: Global, words: &'a [&'a str]) -> Result<ArgMatches<'a>, WordsFault>
+    ensures taken { IfOk result (λ m. fault_of CommandLine.command_line (map (λ w. w.now) words.now) ≡ []) }
+    ensures rows { IfOk result (λ m. subcommand_rows_of m ≡ subcommand_of CommandLine.command_line (map (λ w. w.now) words.now)) }
+    ensures usage { IfErr result (λ e. e ≡ WordsFault.Usage → fault_of CommandLine.command_line (map (λ w. w.now) words.now) ≢ []) }
+{
+    let command = match command_line(alloc) {
+        Ok(command) => command,
+        Err(_) => return Err(WordsFault::Memory),
+    };
+    match command.try_get_matches_from(words) {
+        Ok(found) => Ok(found),
+        Err(error) => Err(words_fault(&error)),
+    }
+}
+
+/// Reads the words, the first of which is the program's name.
+pub fn read_call<'a>(alloc: Global, words: &'a [&'a str]) -> Result<Call, WordsFault>
+    ensures { let call = Words.call_of (map (λ w. w.now) words.now) in
+        MatchResult result (λ c. call ≡ Some c) (λ fault. Refuses fault call) }
+{
+    let found = matches_of(alloc, words)?;
+    match found.subcommand() {
+        Some((name, rows)) => call_in(alloc, name, rows),
+        None => Err(WordsFault::Usage),
+    }
+}

@@ -1,0 +1,27 @@
+ghost use Rattle.std.specs.Prelude.{◌≡◌};
+ghost use Rattle.guard_words.specs.Plain;
+ghost use Rattle.guard_words.specs.Words.{limit_of};
+
+// The greatest number of an option.
+const MOST: u32 = 2_000_000;
+
+// Whether a text begins with neither a zero nor a plus sign.
+fn begins_plainly(text: &str) -> bool
+    ensures { result ≡ Plain.begins_plainly text.now }
+{
+    !text.is_empty() && text.as_bytes()[0] != b'0' && text.as_bytes()[0] != b'+'
+}
+
+/// The number of an option: digits without sign or leading zero, from 1 to 2,000,000.
+pub fn limit(text: &str) -> Option<u32>
+    ensures { result ≡ limit_of text.now }
+{
+    if !begins_plainly(text) {
+        return None;
+    }
+    match text.parse::<u32>() {
+        Ok(number) if number <= MOST => Some(number),
+        Ok(_) => None,
+        Err(_) => None,
+    }
+}

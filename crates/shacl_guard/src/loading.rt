@@ -1,0 +1,110 @@
+ghost use Rattle.std.specs.Prelude.{◌≡◌, ◌≤◌, [], ◌∷◌, ◌++◌, List, MatchResult, length};
+ghost use Rattle.session_model.specs.declared.command.Command.{Command};
+ghost use Rattle.shacl_guard.specs.Faults.{LoadsAll, Stops, Unloaded, Unread};
+ghost use Rattle.shacl_guard.specs.Loading;
+ghost use Rattle.shacl_guard.specs.Loading.{HoldsSession, HoldSessions};
+ghost use Rattle.shacl_guard.specs.World.{Loads, LoadsOne, NoneFailed};
+
+use crate::Status;
+use collections::Sequence;
+use outside::{Files, LoadFault, Maker};
+use rdf_text::Text;
+use session_model::Command;
+use session_reader::{PrepareFault, prepare};
+use std::alloc::Global;
+
+// A file may have one byte less; this many are asked for, to see whether it has more.
+const ROOM: usize = 16_777_217;
+
+// The commands of the bytes of a session's file.
+fn session_in<M: Maker>(
+    alloc: Global,
+    maker: &mut M,
+    session: u32,
+    bytes: &[u8],
+) -> Result<Sequence<Command>, Status>
+    requires session { (1 ≤ session) × (session ≤ 64) }
+    requires room { length bytes.now ≤ Loading.room }
+    ensures answer { MatchResult result (λ commands. Loading.AreSession session bytes.now commands) (λ s. Unread s session bytes.now) }
+    ensures maker { maker.new ≡ maker.old }
+{
+    if bytes.len() == ROOM {
+        return Err(Status::TooLong { file: session });
+    }
+    match prepare(alloc, maker, session, bytes) {
+        Ok(commands) => Ok(commands),
+        Err(PrepareFault::Line(line)) => Err(Status::BadSession { session, line }),
+        Err(PrepareFault::Memory) => Err(Status::Memory),
+    }
+}
+
+// The commands of a session's file.
+fn load_session<F: Files, M: Maker>(
+    alloc: Global,
+    files: &mut F,
+    maker: &mut M,
+    session: u32,
+    name: &str,
+) -> Result<Sequence<Command>, Status>
+    requires { (1 ≤ session) × (session ≤ 64) }
+    ensures answer { let before : Loads = record { loaded = F.loaded files.old; failed = F.failed files.old } in
+        let after : Loads = record { loaded = F.loaded files.new; failed = F.failed files.new } in
+        MatchResult result (λ commands. HoldsSession (F.holds files.old) session name.now commands × LoadsOne name.now before after × NoneFailed before after)
+        (λ s. Unloaded s (F.holds files.old) session name.now before after) }
+    ensures holds { F.holds files.new ≡ F.holds files.old }
+    ensures maker { maker.new ≡ maker.old }
+{
+    match files.load(alloc, name, ROOM) {
+        Ok(bytes) => session_in(alloc, maker, session, &bytes),
+        Err(LoadFault::Failed) => Err(Status::ReadFault),
+        Err(LoadFault::Memory) => Err(Status::Memory),
+    }
+}
+
+// Adds the commands of one more session's file.
+fn load_next<F: Files, M: Maker>(
+    alloc: Global,
+    files: &mut F,
+    maker: &mut M,
+    session: u32,
+    name: &str,
+    all: &mut Sequence<Sequence<Command>>,
+) -> Result<(), Status>
+    requires { (1 ≤ session) × (session ≤ 64) }
+    ensures answer { let before : Loads = record { loaded = F.loaded files.old; failed = F.failed files.old } in
+        let after : Loads = record { loaded = F.loaded files.new; failed = F.failed files.new } in
+        MatchResult result (λ _. (commands : List Command) × (all.new ≡ all.old ++ commands ∷ []) × HoldsSession (F.holds files.old) session name.now commands × LoadsOne name.now before after × NoneFailed before after)
+        (λ s. Unloaded s (F.holds files.old) session name.now before after) }
+    ensures holds { F.holds files.new ≡ F.holds files.old }
+    ensures maker { maker.new ≡ maker.old }
+{
+    let commands = load_session(alloc, files, maker, session, name)?;
+    all.push(commands)?;
+    Ok(())
+}
+
+/// The commands of each session's file, which are loaded in order up to the first that gives none.
+pub fn load_all<F: Files, M: Maker>(
+    alloc: Global,
+    files: &mut F,
+    maker: &mut M,
+    names: &[Text],
+) -> Result<Sequence<Sequence<Command>>, Status>
+    requires { length names.now ≤ 64 }
+    ensures answer { let before : Loads = record { loaded = F.loaded files.old; failed = F.failed files.old } in
+        let after : Loads = record { loaded = F.loaded files.new; failed = F.failed files.new } in
+        MatchResult result (λ all. HoldSessions (F.holds files.old) 1 names.now all × LoadsAll names.now before after)
+        (λ s. Stops s (F.holds files.old) names.now before after) }
+    ensures maker { maker.new ≡ maker.old }
+{
+    let mut all = Sequence::new(alloc);
+    let mut session = 0;
+    for name in names {
+        session += 1;
+        match load_next(alloc, files, maker, session, name.as_str(), &mut all) {
+            Ok(()) => {}
+            Err(status) => return Err(status),
+        }
+    }
+    Ok(all)
+}
