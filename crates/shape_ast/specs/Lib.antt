@@ -1,3 +1,4 @@
 pub mod Kinds
+pub mod PathReadings
 pub mod Naming
 pub mod Standing

@@ -12,12 +12,10 @@ use Rattle.shape_model.specs.declared.rule.Rule.TheVariants as rules
 use Rattle.shape_model.specs.declared.result_row.ResultRow.{ResultRow}
 use Rattle.shape_model.specs.Components.{AtIn, ComponentRow}
 use Rattle.shape_model.specs.Listings.{Counts}
-use Rattle.shape_model.specs.Paths.{Path as DefinedPath, Predicate as DefinedPredicate}
-use Rattle.shape_model.specs.Walks.{Walk}
+use Rattle.shape_model.specs.Paths.{Path}
 use Rattle.shape_model.specs.Readings.{Reading, SameReading, ValueNode, reading}
 use Rattle.shape_model.specs.ShapeSyntax.{HasProperty}
 use Rattle.shape_model.specs.TermTests.{IsOfKind, count_of}
-use Rattle.shape_model.specs.Triples.{Has}
 use Rattle.shape_model.specs.Validation.{At, surroundings}
 use Rattle.shape_model.specs.Vocabulary.{ShProperty, property_iri}
 use Rattle.shape_model.specs.WellFormed.{IsWellFormed}
@@ -26,9 +24,7 @@ use Rattle.shape_model.proofs.Surroundings.{at_same}
 use Rattle.shape_model.proofs.WellFormed.{acyclic_law}
 use Rattle.shape_ast.specs.declared.constraint.Constraint.{Constraint}
 use Rattle.shape_ast.specs.declared.constraint.Constraint.TheVariants.{NodeKind, MinCount, MaxCount}
-use Rattle.shape_ast.specs.declared.path.Path.{Path}
-use Rattle.shape_ast.specs.declared.path.Path.TheVariants.{Predicate}
-use Rattle.shape_ast.specs.declared.shape.Shape.{Shape}
+use Rattle.shape_ast.specs.Naming.{ReadShape}
 use Rattle.shape_ast.specs.Standing.{StandFor, IsRead, shape_reading}
 use Rattle.shape_eval.specs.ValueNodes.{IsValueNode}
 use Rattle.shape_eval.specs.CompiledRows.{ConstraintRow, ConstraintsRow, OwnRow, CompiledRow}
@@ -66,26 +62,23 @@ constraints_same ks P Q e shape f r = (
 )
 
 -- the value nodes are those of the shape's reading
-walked : (g : List Triple) (p : DefinedPath) (q f v : Term) → p ≡ DefinedPredicate q → Walk g p f v → Has g f q v
-walked g p q f v e w = subst (λ (p : DefinedPath). Walk g p f v) e w
-
-value_to : (shapes : List (Shape Term)) (g : List Triple) (c : Shape Term) (f v : Term) → ValueNode g (shape_reading shapes c) f v → IsValueNode g c.path f v
+value_to : (shapes : List ReadShape) (g : List Triple) (c : ReadShape) (f v : Term) → ValueNode g (shape_reading shapes c) f v → IsValueNode g c.path f v
 value_to shapes g c f v = elim [
-  | inl i ↦ subst (λ (p : Option (Path Term)). IsValueNode g p f v) (sym i.0) i.1
-  | inr i ↦ subst (λ (p : Option (Path Term)). IsValueNode g p f v) (sym i.1.1) (walked g i.0 i.1.0 f v i.1.2 i.2)
+  | inl i ↦ subst (λ (p : Option Path). IsValueNode g p f v) (sym i.0) i.1
+  | inr i ↦ subst (λ (p : Option Path). IsValueNode g p f v) (sym i.1) i.2
 ]
 
-value_from : (shapes : List (Shape Term)) (g : List Triple) (c : Shape Term) (path : Option (Path Term)) (f v : Term) → c.path ≡ path → IsValueNode g path f v → ValueNode g (shape_reading shapes c) f v
+value_from : (shapes : List ReadShape) (g : List Triple) (c : ReadShape) (path : Option Path) (f v : Term) → c.path ≡ path → IsValueNode g path f v → ValueNode g (shape_reading shapes c) f v
 value_from shapes g c None f v e i = inl (e, i)
-value_from shapes g c (Some (Predicate q)) f v e i = inr (DefinedPredicate q, (q, e, refl), i)
+value_from shapes g c (Some p) f v e i = inr (p, e, i)
 
-values_same : (shapes : List (Shape Term)) (g : List Triple) (c : Shape Term) (f v : Term) → ValueNode g (shape_reading shapes c) f v ↔ IsValueNode g c.path f v
+values_same : (shapes : List ReadShape) (g : List Triple) (c : ReadShape) (f v : Term) → ValueNode g (shape_reading shapes c) f v ↔ IsValueNode g c.path f v
 values_same shapes g c f v = (value_to shapes g c f v, value_from shapes g c c.path f v refl)
 
-module _ (shapes : List (Shape Term)) (g : List Triple) (row : Term → Term → ResultRow → Type 0) (c : Shape Term) (read : All IsRead c.constraints) (f : Term) (r : ResultRow) where
+module _ (shapes : List ReadShape) (g : List Triple) (row : Term → Term → ResultRow → Type 0) (c : ReadShape) (read : All IsRead c.constraints) (f : Term) (r : ResultRow) where
   -- the results by the results of the property shapes
   abbrev Opened : Type 0
-  Opened = OwnRow g c f r ⊎ ((n : ℕ) × (m : Shape Term) × Contains c.properties n × (slice_get shapes n ≡ Some m) × ((v : Term) × IsValueNode g c.path f v × row m.node v r))
+  Opened = OwnRow g c f r ⊎ ((n : ℕ) × (m : ReadShape) × Contains c.properties n × (slice_get shapes n ≡ Some m) × ((v : Term) × IsValueNode g c.path f v × row m.node v r))
 
   kind_row : ComponentRow components.NodeKind (surroundings row g (shape_reading shapes c) f) (shape_reading shapes c) c.node f r → OwnRow g c f r
   kind_row h =
@@ -172,9 +165,9 @@ none_nested : (s : List Triple) → IsWellFormed s → (n t u : Term) → HasPro
 none_nested s well n t u h k = well (record { node = n; rule = rules.Property; value = Some t })
     (inr (inr (inl (ShProperty, t, refl, h))), (t, h, inr (λ w path. well (record { node = t; rule = rules.Unsupported; value = Some (property_iri ShProperty) }) (inr (u, w, k, path, refl))), refl))
 
-module _ (g s : List Triple) (shapes : List (Shape Term)) (stand : StandFor shapes s) (well : IsWellFormed s) where
+module _ (g s : List Triple) (shapes : List ReadShape) (stand : StandFor shapes s) (well : IsWellFormed s) where
   -- a shape's results are those of its compiled form, by the results of its property shapes
-  opened : (c : Shape Term) (i : Contains shapes c) (f : Term) (r : ResultRow) → At g s c.node f r ↔ Opened shapes g (At g s) c (stand.read c i) f r
+  opened : (c : ReadShape) (i : Contains shapes c) (f : Term) (r : ResultRow) → At g s c.node f r ↔ Opened shapes g (At g s) c (stand.read c i) f r
   opened c i f r =
       let e = stand.each c i in
       let read = stand.read c i in
@@ -188,17 +181,17 @@ module _ (g s : List Triple) (shapes : List (Shape Term)) (stand : StandFor shap
       }) r in
       (λ a. opened_to shapes g (At g s) c read f r (same.0 (unfolded.0 a)), λ o. unfolded.1 (same.1 (opened_from shapes g (At g s) c read f r o)))
 
-  property_of : (c : Shape Term) → Contains shapes c → (n : ℕ) (m : Shape Term) → Contains c.properties n → slice_get shapes n ≡ Some m → HasProperty s c.node ShProperty m.node
+  property_of : (c : ReadShape) → Contains shapes c → (n : ℕ) (m : ReadShape) → Contains c.properties n → slice_get shapes n ≡ Some m → HasProperty s c.node ShProperty m.node
   property_of c i n m j e = ((stand.each c i).has ShProperty m.node).1 (n, m, j, e, refl)
 
   -- the results of a property shape are those of its own constraints
-  own_alone : (c : Shape Term) → Contains shapes c → (n : ℕ) (m : Shape Term) → Contains c.properties n → slice_get shapes n ≡ Some m → (v : Term) (r : ResultRow) → At g s m.node v r → OwnRow g m v r
+  own_alone : (c : ReadShape) → Contains shapes c → (n : ℕ) (m : ReadShape) → Contains c.properties n → slice_get shapes n ≡ Some m → (v : Term) (r : ResultRow) → At g s m.node v r → OwnRow g m v r
   own_alone c i n m j e v r a = elim ((opened m (of_place shapes n m e) v r).0 a) [
     | inl own ↦ own
     | inr k ↦ absurd (none_nested s well c.node m.node k.1.node (property_of c i n m j e) (property_of m (of_place shapes n m e) k.0 k.1 k.2 k.3))
   ]
 
-  pub at_compiled : (c : Shape Term) → Contains shapes c → (f : Term) (r : ResultRow) → At g s c.node f r ↔ CompiledRow g shapes c f r
+  pub at_compiled : (c : ReadShape) → Contains shapes c → (f : Term) (r : ResultRow) → At g s c.node f r ↔ CompiledRow g shapes c f r
   at_compiled c i f r = (
     λ a. elim ((opened c i f r).0 a) [
       | inl own ↦ inl own

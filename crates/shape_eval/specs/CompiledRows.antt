@@ -10,8 +10,8 @@ use Rattle.shape_model.specs.Listings.{Counts}
 use Rattle.shape_ast.specs.declared.constraint.Constraint.{Constraint}
 use Rattle.shape_ast.specs.declared.constraint.Constraint.TheVariants.{NodeKind, MinCount, MaxCount}
 use Rattle.shape_ast.specs.declared.node_kind.NodeKind.{NodeKind as Kind}
-use Rattle.shape_ast.specs.declared.shape.Shape.{Shape}
 use Rattle.shape_ast.specs.Kinds.{is_accepted}
+use Rattle.shape_ast.specs.Naming.{ReadShape}
 use Rattle.shape_eval.specs.ValueNodes.{IsValueNode}
 
 -- the result about a value node that isn't of the kind (SHACL 4.1.3)
@@ -35,20 +35,20 @@ abbrev pub ConstraintsRow : List (Constraint Term) → (Term → Type 0) → Ter
 ConstraintsRow constraints IsValue shape f = FromSome constraints (λ k r. ConstraintRow k IsValue shape f r)
 
 -- the results of the shape's own constraints
-abbrev pub OwnRow : List Triple → Shape Term → Term → ResultRow → Type 0
+abbrev pub OwnRow : List Triple → ReadShape → Term → ResultRow → Type 0
 OwnRow g c f = ConstraintsRow c.constraints (IsValueNode g c.path f) c.node f
 
 -- the results that a property shape gives by its own constraints at each value node (SHACL 4.7.2)
-abbrev pub RowAtValue : List Triple → Shape Term → (Term → Type 0) → ResultRow → Type 0
+abbrev pub RowAtValue : List Triple → ReadShape → (Term → Type 0) → ResultRow → Type 0
 RowAtValue g m IsValue r = (v : Term) × IsValue v × OwnRow g m v r
 
 -- the same of the property shape at a place
-abbrev pub PropertyAt : List Triple → List (Shape Term) → (Term → Type 0) → ℕ → ResultRow → Type 0
-PropertyAt g shapes IsValue n r = (m : Shape Term) × (slice_get shapes n ≡ Some m) × RowAtValue g m IsValue r
+abbrev pub PropertyAt : List Triple → List ReadShape → (Term → Type 0) → ℕ → ResultRow → Type 0
+PropertyAt g shapes IsValue n r = (m : ReadShape) × (slice_get shapes n ≡ Some m) × RowAtValue g m IsValue r
 
 -- The results of a compiled shape: those of its own constraints and of its property shapes. In a well-formed shapes
 -- graph, as far as shapes are read so far, a property shape has no property shapes.
-abbrev pub CompiledRow : List Triple → List (Shape Term) → Shape Term → Term → ResultRow → Type 0
+abbrev pub CompiledRow : List Triple → List ReadShape → ReadShape → Term → ResultRow → Type 0
 CompiledRow g shapes c f r = OwnRow g c f r ⊎ FromSome c.properties (PropertyAt g shapes (IsValueNode g c.path f)) r
 
 -- the list has just the results of which P holds, in any order, each once or more

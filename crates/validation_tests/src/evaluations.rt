@@ -1,8 +1,9 @@
-ghost use Rattle.std.specs.Prelude.{◌≡◌, ◌<◌, ℕ, IsTrue, MatchOption, length};
+ghost use Rattle.std.specs.Prelude.{◌≡◌, ◌<◌, ℕ, IsTrue, length};
 ghost use Rattle.std.specs.List.{All};
 ghost use Rattle.rdf_model.specs.declared.ids.Ids.{Ids as IdsData};
 ghost use Rattle.rdf_model.specs.Numbers.{AreNumbered, IsNumbering, term_at};
-ghost use Rattle.shape_ast.specs.Naming.{AreBound, IsBoundShape, constraint_number, path_number};
+ghost use Rattle.shape_ast.specs.Naming.{AreBound, IsBoundShape, constraint_number};
+ghost use Rattle.shape_ast.specs.PathReadings.{IsBoundOptional, IsBoundPath};
 
 use crate::short_forms::{term, text_of_rows};
 use collections::Sequence;
@@ -144,19 +145,26 @@ fn are_places(places: &[usize], shapes: usize) -> bool
 }
 
 fn is_path(path: &Option<Path<u32>>, terms: usize) -> bool
-    ensures { IsTrue result → MatchOption path.now (Unit {0}) (λ p. path_number p < terms) }
+    ensures { IsTrue result → IsBoundOptional terms path.now }
 {
     match path {
         None => true,
-        Some(path) => is_predicate(path, terms),
+        Some(path) => is_bound_path(path, terms),
     }
 }
 
-fn is_predicate(path: &Path<u32>, terms: usize) -> bool
-    ensures { IsTrue result → path_number path.now < terms }
+// Whether all numbers of a path without members are in range.
+fn is_bound_path(path: &Path<u32>, terms: usize) -> bool
+    ensures { IsTrue result → IsBoundPath terms path.now }
 {
     match path {
         Path::Predicate(predicate) => (*predicate as usize) < terms,
+        Path::Inverse(inner) => is_bound_path(inner, terms),
+        Path::ZeroOrMore(inner) => is_bound_path(inner, terms),
+        Path::OneOrMore(inner) => is_bound_path(inner, terms),
+        Path::ZeroOrOne(inner) => is_bound_path(inner, terms),
+        Path::Sequence(_, _) => false,
+        Path::Alternative(_, _) => false,
     }
 }
 
@@ -404,4 +412,56 @@ fn property_shapes(rt: HostRuntime) -> Result<(), Fail> {
     assert_sharing(&rt, alloc, 0, A, OF_BOTH)?;
     assert_sharing(&rt, alloc, 1, A, OF_PROPERTY)?;
     assert_sharing(&rt, alloc, 1, X, AT_LITERAL)
+}
+
+// Paths of e:p (backwards, at most once, once or more often), the focus node, and the most value nodes
+// that there may be, where e:a has the values "x" and e:b: whether the count is met.
+const PATHS: &str = "^ b 1 met
+^ b 0 broken
+^ a 0 met
+? a 2 broken
+? a 3 met
+? b 1 met
+? b 0 broken
++ a 2 met
++ a 1 broken
++ x 0 met";
+
+fn path_of(alloc: Global, mark: &str) -> Result<Path<u32>, AllocError> {
+    let inner = Box::new(alloc, Path::Predicate(P))?;
+    Ok(match mark {
+        "^" => Path::Inverse(inner),
+        "?" => Path::ZeroOrOne(inner),
+        _ => Path::OneOrMore(inner),
+    })
+}
+
+fn focus_of(letter: &str) -> u32 {
+    match letter {
+        "a" => A,
+        "b" => B,
+        _ => X,
+    }
+}
+
+fn assert_path(rt: &impl Abort, alloc: Global, line: &str) -> Result<(), Fail> {
+    let mut parts = line.split(' ');
+    let path = path_of(alloc, parts.next().unwrap_or(""))?;
+    let focus = focus_of(parts.next().unwrap_or(""));
+    let bound = bound_of(false, count_of(parts.next().unwrap_or("")));
+    let mut shapes = Sequence::new(alloc);
+    shapes.push(shape(alloc, PROPERTY, Some(path), bound, &[])?)?;
+    let text = printed(rt, alloc, &[X, B], shapes, 0, focus)?;
+    let is_broken = text.as_str().contains("MaxCount");
+    assert_eq!(rt; is_broken, parts.next().unwrap_or("") == "broken", "{line}");
+    Ok(())
+}
+
+// Value nodes along paths of other kinds (SHACL sections 2.3.1.4 to 2.3.1.7).
+#[test]
+fn paths(rt: HostRuntime) -> Result<(), Fail> {
+    for line in PATHS.lines() {
+        assert_path(&rt, rt.alloc(), line)?;
+    }
+    Ok(())
 }
