@@ -11,7 +11,8 @@ use Rattle.shape_model.specs.WellFormed.{IsWellFormed}
 use Rattle.shape_ast.specs.declared.shape.Shape.{Shape}
 use Rattle.shape_ast.specs.Naming.{ReadShape, named_shapes}
 use Rattle.shape_ast.specs.Standing.{StandFor}
-use Rattle.shape_eval.specs.CompiledRows.{Collects, FromSome}
+use Rattle.component_rows.specs.Listed.{Collects}
+use Rattle.shape_eval.specs.CompiledRows.{FromSome}
 
 -- a result of a shape at one of its targets (SHACL 3.4)
 abbrev pub IsResultOf : List Triple → List Triple → Term → ResultRow → Type 0

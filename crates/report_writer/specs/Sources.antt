@@ -1,7 +1,6 @@
 -- Which results a report can name the shapes of.
 use Rattle.std.specs.Prelude.{◌≡◌, List}
 use Rattle.std.specs.List.{All, Contains}
-use Rattle.rdf_model.specs.declared.term.Term.{Term}
 use Rattle.shape_model.specs.declared.result_row.ResultRow.{ResultRow}
 use Rattle.shape_ast.specs.Naming.{ReadShape}
 

@@ -1,4 +1,4 @@
-ghost use Rattle.std.specs.Prelude.{◌≡◌, ◌++◌, OnOk, codes, map, string_bytes};
+ghost use Rattle.std.specs.Prelude.{◌≡◌, ◌++◌, OnOk, map, string_bytes};
 ghost use Rattle.shape_ast.specs.PathReadings.{defined_path, members};
 ghost use Rattle.report_writer.specs.PathTexts.{list_text, members_text, node_text, path_text};
 

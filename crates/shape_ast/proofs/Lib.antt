@@ -3,3 +3,4 @@ pub mod Parts
 pub mod Sizes
 mod ReadItems
 pub mod Names
+pub mod HasTerms

@@ -5,7 +5,7 @@ use Rattle.rdf_model.specs.declared.term.Term.{Term}
 use Rattle.rdf_model.specs.Numbers.{term_at}
 use Rattle.shape_model.specs.Paths.{Path}
 use Rattle.shape_ast.specs.declared.constraint.Constraint.{Constraint}
-use Rattle.shape_ast.specs.declared.constraint.Constraint.TheVariants.{NodeKind, MinCount, MaxCount}
+use Rattle.shape_ast.specs.declared.constraint.Constraint.TheVariants.{NodeKind, MinCount, MaxCount, ByTerm}
 use Rattle.shape_ast.specs.declared.shape.Target.{Target}
 use Rattle.shape_ast.specs.declared.shape.Target.TheVariants.{Node, SubjectsOf}
 use Rattle.shape_ast.specs.declared.shape.Shape.{Shape}
@@ -41,6 +41,7 @@ abbrev pub named_constraint : List Term → Constraint ℕ → Constraint Term
 named_constraint terms (NodeKind kind q) = NodeKind kind (term_at terms q)
 named_constraint terms (MinCount count q) = MinCount count (term_at terms q)
 named_constraint terms (MaxCount count q) = MaxCount count (term_at terms q)
+named_constraint terms (ByTerm component q) = ByTerm component (term_at terms q)
 
 abbrev pub named_shape : List Term → Shape ℕ → ReadShape
 named_shape terms s = record {
@@ -63,6 +64,7 @@ abbrev pub constraint_term : Constraint Term → Term
 constraint_term (NodeKind kind q) = q
 constraint_term (MinCount count q) = q
 constraint_term (MaxCount count q) = q
+constraint_term (ByTerm component q) = q
 
 abbrev pub target_number : Target ℕ → ℕ
 target_number (Node n) = n
@@ -72,6 +74,7 @@ abbrev pub constraint_number : Constraint ℕ → ℕ
 constraint_number (NodeKind kind q) = q
 constraint_number (MinCount count q) = q
 constraint_number (MaxCount count q) = q
+constraint_number (ByTerm component q) = q
 
 -- each number has a term, of so many
 pub record IsBoundShape (terms shapes : ℕ) (s : Shape ℕ) : Type 0 where

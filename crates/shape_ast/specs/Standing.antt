@@ -10,10 +10,11 @@ use Rattle.shape_model.specs.Paths.{Predicate}
 use Rattle.shape_model.specs.Readings.{Reading, SameReading, reading}
 use Rattle.shape_model.specs.ShapeSyntax.{IsShape}
 use Rattle.shape_model.specs.TermTests.{count_of}
-use Rattle.shape_model.specs.Vocabulary.{ShapeProperty, ShNodeKind, ShMinCount, ShMaxCount, ShProperty, ShPath, ShTargetNode, ShTargetSubjectsOf}
+use Rattle.shape_model.specs.Vocabulary.{ShapeProperty, ShNodeKind, ShMinCount, ShMaxCount, ShDatatype, ShMinExclusive, ShMinInclusive, ShMaxExclusive, ShMaxInclusive, ShEquals, ShDisjoint, ShLessThan, ShLessThanOrEquals, ShHasValue, ShProperty, ShPath, ShTargetNode, ShTargetSubjectsOf}
 use Rattle.shape_ast.specs.declared.constraint.Constraint.{Constraint}
-use Rattle.shape_ast.specs.declared.constraint.Constraint.TheVariants.{NodeKind, MinCount, MaxCount}
+use Rattle.shape_ast.specs.declared.constraint.Constraint.TheVariants.{NodeKind, MinCount, MaxCount, ByTerm}
 use Rattle.shape_ast.specs.declared.node_kind.NodeKind.{NodeKind as Kind}
+use Rattle.shape_ast.specs.declared.term_component.TermComponent.TheVariants as by
 use Rattle.shape_ast.specs.declared.shape.Target.TheVariants.{Node, SubjectsOf}
 use Rattle.shape_ast.specs.Kinds.{kind_iri}
 use Rattle.shape_ast.specs.Naming.{ReadShape}
@@ -25,6 +26,16 @@ ShapeHas shapes s ShTargetSubjectsOf v = Contains s.targets (SubjectsOf v)
 ShapeHas shapes s ShNodeKind v = (kind : Kind) × Contains s.constraints (NodeKind kind v)
 ShapeHas shapes s ShMinCount v = (count : ℤ) × Contains s.constraints (MinCount count v)
 ShapeHas shapes s ShMaxCount v = (count : ℤ) × Contains s.constraints (MaxCount count v)
+ShapeHas shapes s ShDatatype v = Contains s.constraints (ByTerm by.Datatype v)
+ShapeHas shapes s ShMinExclusive v = Contains s.constraints (ByTerm by.MinExclusive v)
+ShapeHas shapes s ShMinInclusive v = Contains s.constraints (ByTerm by.MinInclusive v)
+ShapeHas shapes s ShMaxExclusive v = Contains s.constraints (ByTerm by.MaxExclusive v)
+ShapeHas shapes s ShMaxInclusive v = Contains s.constraints (ByTerm by.MaxInclusive v)
+ShapeHas shapes s ShEquals v = Contains s.constraints (ByTerm by.Equals v)
+ShapeHas shapes s ShDisjoint v = Contains s.constraints (ByTerm by.Disjoint v)
+ShapeHas shapes s ShLessThan v = Contains s.constraints (ByTerm by.LessThan v)
+ShapeHas shapes s ShLessThanOrEquals v = Contains s.constraints (ByTerm by.LessThanOrEquals v)
+ShapeHas shapes s ShHasValue v = Contains s.constraints (ByTerm by.HasValue v)
 ShapeHas shapes s ShProperty v = (n : ℕ) × (m : ReadShape) × Contains s.properties n × (slice_get shapes n ≡ Some m) × (m.node ≡ v)
 ShapeHas shapes s ShPath v = s.path ≡ Some (Predicate v)
 ShapeHas shapes s p v = ⊥
@@ -50,6 +61,7 @@ abbrev pub IsRead : Constraint Term → Type 0
 IsRead (NodeKind kind q) = q ≡ kind_iri kind
 IsRead (MinCount count q) = count_of q ≡ Some count
 IsRead (MaxCount count q) = count_of q ≡ Some count
+IsRead (ByTerm component q) = Unit {0}
 
 -- the order of shapes is that of their nodes
 abbrev pub shape_cmp : ReadShape → ReadShape → Ordering

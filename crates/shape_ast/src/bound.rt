@@ -44,6 +44,13 @@ fn bind_constraint<N: Names>(names: &N, constraint: &Constraint<Term>) -> Constr
             count: *count,
             parameter: number_of(names, parameter),
         },
+        Constraint::ByTerm {
+            component,
+            parameter,
+        } => Constraint::ByTerm {
+            component: *component,
+            parameter: number_of(names, parameter),
+        },
     }
 }
 

@@ -12,6 +12,7 @@ mod constraint;
 mod node_kind;
 mod path;
 mod shape;
+mod term_component;
 
 pub use binding::bind_path;
 pub use bound::{Bound, bind};
@@ -20,3 +21,4 @@ pub use node_kind::NodeKind;
 pub use path::Path;
 pub use shape::{Shape, Shapes, Target};
 pub use shape_model::{Component, ResultRow};
+pub use term_component::TermComponent;

@@ -1,6 +1,6 @@
 -- What the lists of an evaluation collect.
 use Rattle.std.proofs.Common.{◌≡◌, ◌∙◌, ℕ, suc, zero, ◌<◌, ◌≤◌, List, [], ◌∷◌, ◌++◌, length, map, take, get_or, sym, ap, arith, subst}
-use Rattle.std.specs.Prelude.{◌↔◌, Some, slice_get}
+use Rattle.std.specs.Prelude.{Some, slice_get}
 use Rattle.std.specs.List.{Contains}
 use Rattle.collections.specs.Listings.{IsListing}
 use Rattle.rdf_model.specs.declared.term.Term.{Term}
@@ -14,10 +14,13 @@ use Rattle.shape_model.proofs.Listings.{listing_same}
 use Rattle.shape_ast.specs.declared.shape.Shape.{Shape}
 use Rattle.shape_ast.specs.Naming.{ReadShape, named_constraint, named_shape, named_shapes}
 use Rattle.shape_ast.specs.PathReadings.{optional_path_of}
-use Rattle.shape_eval.specs.ValueNodes.{AreValueNodes, HasNode, IsValueNode}
-use Rattle.shape_eval.specs.CompiledRows.{Collects, CompiledRow, ConstraintsRow, FromSome, OwnRow, PropertyAt, RowAtValue}
+use Rattle.component_rows.specs.Nodes.{HasNode}
+use Rattle.shape_eval.specs.ValueNodes.{AreValueNodes, IsValueNode}
+use Rattle.component_rows.specs.Listed.{Collects}
+use Rattle.shape_eval.specs.CompiledRows.{CompiledRow, ConstraintsRow, FromSome, OwnRow, PropertyAt, RowAtValue}
 use Rattle.shape_eval.specs.Results.{ListsResults}
-use Rattle.shape_eval.proofs.Rows.{by_map, collects_both, collects_same, loop_end}
+use Rattle.component_rows.proofs.Collecting.{collects_same, loop_end}
+use Rattle.shape_eval.proofs.Rows.{collects_both}
 use Rattle.shape_eval.proofs.Unfolding.{at_compiled, constraints_same, of_place}
 
 -- the shape at a place has its name at that place
@@ -32,14 +35,14 @@ property_to g shapes P Q to n r h = (h.0, h.1, (h.2.0, to h.2.0 h.2.1, h.2.2))
 
 module _ (terms : List Term) (ids : List Ids) where
   pub own_at : (s : Shape ℕ) (f : ℕ) (ns : List ℕ) → AreValueNodes terms ids s.path f ns
-      → (rows : List ResultRow) → Collects (ConstraintsRow (map (named_constraint terms) s.constraints) (HasNode terms ns) (term_at terms s.node) (term_at terms f)) rows
+      → (rows : List ResultRow) → Collects (ConstraintsRow (graph_of terms ids) (map (named_constraint terms) s.constraints) (HasNode terms ns) (term_at terms s.node) (term_at terms f)) rows
       → Collects (OwnRow (graph_of terms ids) (named_shape terms s) (term_at terms f)) rows
   own_at s f ns values rows h =
-      collects_same (ConstraintsRow (map (named_constraint terms) s.constraints) (HasNode terms ns) (term_at terms s.node) (term_at terms f)) (OwnRow (graph_of terms ids) (named_shape terms s) (term_at terms f)) rows
-      (constraints_same (map (named_constraint terms) s.constraints) (HasNode terms ns) (IsValueNode (graph_of terms ids) (optional_path_of terms s.path) (term_at terms f)) values.each (term_at terms s.node) (term_at terms f)) h
+      collects_same (ConstraintsRow (graph_of terms ids) (map (named_constraint terms) s.constraints) (HasNode terms ns) (term_at terms s.node) (term_at terms f)) (OwnRow (graph_of terms ids) (named_shape terms s) (term_at terms f)) rows
+      (constraints_same (graph_of terms ids) (map (named_constraint terms) s.constraints) (HasNode terms ns) (IsValueNode (graph_of terms ids) (optional_path_of terms s.path) (term_at terms f)) values.each (term_at terms s.node) (term_at terms f)) h
 
   pub compiled_at : (shapes : List (Shape ℕ)) (s : Shape ℕ) (f : ℕ) (ns : List ℕ) → AreValueNodes terms ids s.path f ns
-      → (rows more all : List ResultRow) → Collects (ConstraintsRow (map (named_constraint terms) s.constraints) (HasNode terms ns) (term_at terms s.node) (term_at terms f)) rows
+      → (rows more all : List ResultRow) → Collects (ConstraintsRow (graph_of terms ids) (map (named_constraint terms) s.constraints) (HasNode terms ns) (term_at terms s.node) (term_at terms f)) rows
       → Collects (FromSome s.properties (PropertyAt (graph_of terms ids) (named_shapes terms shapes) (HasNode terms ns))) more → all ≡ rows ++ more
       → Collects (CompiledRow (graph_of terms ids) (named_shapes terms shapes) (named_shape terms s) (term_at terms f)) all
   compiled_at shapes s f ns values rows more all h k e =
@@ -56,8 +59,7 @@ module _ (terms : List Term) (ids : List Ids) where
 -- the rows of a shape at each value node
 pub each_value : (g : List Triple) (m : ReadShape) (terms : List Term) (ns : List ℕ) (i : ℕ) (rows : List ResultRow) → length ns ≤ i → Collects (FromSome (take i ns) (λ n r. OwnRow g m (term_at terms n) r)) rows
     → Collects (RowAtValue g m (HasNode terms ns)) rows
-each_value g m terms ns i rows le h =
-    collects_same (FromSome ns (λ n r. OwnRow g m (term_at terms n) r)) (RowAtValue g m (HasNode terms ns)) rows (by_map (term_at terms) ns (OwnRow g m)) (loop_end (λ n r. OwnRow g m (term_at terms n) r) ns i rows le h)
+each_value g m terms ns i rows le h = loop_end (term_at terms) (OwnRow g m) ns i rows le h
 
 some_same : {X : Type 0} → (x y : X) → Some x ≡ Some y → x ≡ y
 some_same x y e = cc

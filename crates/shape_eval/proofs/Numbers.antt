@@ -1,7 +1,7 @@
 -- Value nodes by their numbers are the value nodes by terms, and as many.
-use Rattle.std.proofs.Common.{◌≡◌, ◌∙◌, ℕ, suc, ◌<◌, List, [], ◌∷◌, length, map, refl, sym, ap, arith, subst, inl, inr}
+use Rattle.std.proofs.Common.{◌≡◌, ◌∙◌, ℕ, suc, ◌<◌, List, [], ◌∷◌, length, map, refl, sym, ap, subst, inl, inr}
 use Rattle.std.specs.Prelude.{false, Some, None}
-use Rattle.std.specs.List.{AllByRecursion, Contains}
+use Rattle.std.specs.List.{Contains}
 use Rattle.std.specs.Ordering.{nat_cmp, match_ordering}
 use Rattle.std.specs.declared.cmp.Ordering.TheVariants.{Less, Equal, Greater}
 use Rattle.collections.specs.Ordered.{IsAscending, with_item}
@@ -21,24 +21,9 @@ use Rattle.shape_model.proofs.Listings.{one_listing}
 use Rattle.shape_ast.specs.declared.path.Path.{Path}
 use Rattle.shape_ast.specs.PathReadings.{path_of}
 use Rattle.path_eval.specs.Naming.{AreValues}
-use Rattle.shape_eval.specs.ValueNodes.{AreNodes, AreValueNodes, HasNode}
-
--- an item of a list of which something holds
-pub of_all : {X : Type 0} → (P : X → Type 0) (xs : List X) (x : X) → AllByRecursion P xs → Contains xs x → P x
-of_all P [] x a c = absurd (omega arith)
-of_all P (y ∷ ys) x a c = elim (has_cases y ys x c) [ inl e ↦ subst P e a.0 | inr d ↦ of_all P ys x a.1 d ]
-
--- what stands in a list that was made item by item
-pub mapped_from : {X Y : Type 0} → (h : X → Y) (xs : List X) (y : Y) → Contains (map h xs) y → (x : X) × Contains xs x × (h x ≡ y)
-mapped_from h [] y c = absurd (omega arith)
-mapped_from h (x ∷ xs) y c = elim (has_cases (h x) (map h xs) y c) [
-  | inl e ↦ (x, has_equal x xs x refl, e)
-  | inr d ↦ let k = mapped_from h xs y d in (k.0, has_tail x xs k.0 k.1, k.2)
-]
-
-pub mapped_to : {X Y : Type 0} → (h : X → Y) (xs : List X) (x : X) → Contains xs x → Contains (map h xs) (h x)
-mapped_to h [] x c = absurd (omega arith)
-mapped_to h (z ∷ zs) x c = elim (has_cases z zs x c) [ inl e ↦ has_equal (h z) (map h zs) (h x) (ap h e) | inr d ↦ has_tail (h z) (map h zs) (h x) (mapped_to h zs x d) ]
+use Rattle.component_rows.proofs.Collecting.{mapped_from, mapped_to}
+use Rattle.component_rows.specs.Nodes.{AreNodes, HasNode}
+use Rattle.shape_eval.specs.ValueNodes.{AreValueNodes}
 
 -- the terms of numbers, ascending
 sorted_terms : List Term → List ℕ → List Term

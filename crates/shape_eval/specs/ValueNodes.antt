@@ -1,14 +1,12 @@
 -- The value nodes of a compiled shape (SHACL 3.7), by terms and by the numbers of terms.
-use Rattle.std.specs.Prelude.{◌≡◌, ◌↔◌, ◌<◌, ℕ, List, length, map, Option, Some, None}
-use Rattle.std.specs.List.{Contains}
-use Rattle.std.specs.Ordering.{nat_cmp}
-use Rattle.collections.specs.Ordered.{IsAscending}
+use Rattle.std.specs.Prelude.{◌≡◌, ◌↔◌, ◌<◌, ℕ, List, length, Option, Some, None}
 use Rattle.rdf_model.specs.declared.term.Term.{Term}
 use Rattle.rdf_model.specs.declared.triple.Triple.{Triple}
 use Rattle.rdf_model.specs.declared.ids.Ids.{Ids}
 use Rattle.rdf_model.specs.Numbers.{term_at, graph_of, IsNumbering, AreNumbered}
 use Rattle.shape_model.specs.Paths.{Path as DefinedPath}
 use Rattle.shape_model.specs.Walks.{Walk}
+use Rattle.component_rows.specs.Nodes.{AreNodes, HasNode}
 use Rattle.shape_ast.specs.declared.path.Path.{Path}
 use Rattle.shape_ast.specs.PathReadings.{IsBoundOptional, optional_path_of}
 
@@ -16,15 +14,6 @@ use Rattle.shape_ast.specs.PathReadings.{IsBoundOptional, optional_path_of}
 abbrev pub IsValueNode : List Triple → Option DefinedPath → Term → Term → Type 0
 IsValueNode g None f v = f ≡ v
 IsValueNode g (Some p) f v = Walk g p f v
-
--- ascending numbers that each have a term
-pub record AreNodes (terms : List Term) (numbers : List ℕ) : Type 0 where
-  pub ascending : IsAscending nat_cmp numbers
-  pub named : (n : ℕ) → Contains numbers n → n < length terms
-
--- one of the numbers has the term
-abbrev pub HasNode : List Term → List ℕ → Term → Type 0
-HasNode terms numbers v = Contains (map (term_at terms) numbers) v
 
 -- the numbers are those of just the value nodes at the focus node
 pub record AreValueNodes (terms : List Term) (ids : List Ids) (path : Option (Path ℕ)) (f : ℕ) (numbers : List ℕ) : Type 0 where

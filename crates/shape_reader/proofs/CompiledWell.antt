@@ -20,8 +20,10 @@ use Rattle.shape_model.specs.Triples.{Has, IsBlank, IsIri, IsMember}
 use Rattle.shape_model.specs.Vocabulary.{ShapeProperty, property_iri, rdf_type, sh, ShClass, ShDatatype, ShNodeKind, ShMinCount, ShMaxCount, ShMinExclusive, ShMinInclusive, ShMaxExclusive, ShMaxInclusive, ShMinLength, ShMaxLength, ShPattern, ShFlags, ShLanguageIn, ShUniqueLang, ShEquals, ShDisjoint, ShLessThan, ShLessThanOrEquals, ShNot, ShAnd, ShOr, ShXone, ShNode, ShProperty, ShQualifiedValueShape, ShQualifiedMinCount, ShQualifiedMaxCount, ShQualifiedValueShapesDisjoint, ShClosed, ShIgnoredProperties, ShHasValue, ShIn, ShDeactivated, ShPath, ShTargetNode, ShTargetClass, ShTargetSubjectsOf, ShTargetObjectsOf}
 use Rattle.shape_model.specs.WellFormed.{IsNodeKind, IsWellFormed, unread_predicates}
 use Rattle.shape_ast.specs.declared.constraint.Constraint.{Constraint}
-use Rattle.shape_ast.specs.declared.constraint.Constraint.TheVariants.{NodeKind, MinCount, MaxCount}
+use Rattle.shape_ast.specs.declared.constraint.Constraint.TheVariants.{NodeKind, MinCount, MaxCount, ByTerm}
 use Rattle.shape_ast.specs.declared.node_kind.NodeKind.{NodeKind as Kind}
+use Rattle.shape_ast.specs.declared.term_component.TermComponent.{TermComponent}
+use Rattle.shape_ast.specs.declared.term_component.TermComponent.TheVariants as by
 use Rattle.shape_ast.specs.declared.node_kind.NodeKind.TheVariants as kinds
 use Rattle.shape_ast.specs.declared.shape.Target.TheVariants.{Node, SubjectsOf}
 use Rattle.shape_ast.specs.Kinds.{kind_iri}
@@ -256,24 +258,32 @@ module _ (s : List Triple) (well : IsWellFormed s) where
         let object : t.0.object ≡ m.node = let f = sym t.2.1 ∙ here in cc in
         subst (λ (v : Term). HasProperty s c.node ShProperty v) object (has_at s t.0.subject c.node t.0.predicate (property_iri ShProperty) t.0.object t.2.0.0 t.2.0.1 t.1)
 
+    -- no constraint of another component is compiled so far
+    no_term : (c : ReadShape) → Contains shapes c → (k : TermComponent) (v : Term) → Contains c.constraints (ByTerm k v) → ⊥
+    no_term c i k v d = let t = ((compiled c i).constraints (ByTerm k v)).0 d in elim t.2 [
+      | inl a ↦ let f = a.1.2 in cc
+      | inr (inl a) ↦ let f = a.1.2 in cc
+      | inr (inr a) ↦ let f = a.1.2 in cc
+    ]
+
     has_same : (c : ReadShape) → Contains shapes c → (p : ShapeProperty) (v : Term) → HasProperty s c.node p v ↔ ShapeHas shapes c p v
     unfolding is_read
     has_same c i ShClass v = (λ h. absurd (unread_property c.node ShClass v refl h), λ h. absurd h)
-    has_same c i ShDatatype v = (λ h. absurd (unread_property c.node ShDatatype v refl h), λ h. absurd h)
-    has_same c i ShMinExclusive v = (λ h. absurd (unread_property c.node ShMinExclusive v refl h), λ h. absurd h)
-    has_same c i ShMinInclusive v = (λ h. absurd (unread_property c.node ShMinInclusive v refl h), λ h. absurd h)
-    has_same c i ShMaxExclusive v = (λ h. absurd (unread_property c.node ShMaxExclusive v refl h), λ h. absurd h)
-    has_same c i ShMaxInclusive v = (λ h. absurd (unread_property c.node ShMaxInclusive v refl h), λ h. absurd h)
+    has_same c i ShDatatype v = (λ h. absurd (unread_property c.node ShDatatype v refl h), λ d. absurd (no_term c i by.Datatype v d))
+    has_same c i ShMinExclusive v = (λ h. absurd (unread_property c.node ShMinExclusive v refl h), λ d. absurd (no_term c i by.MinExclusive v d))
+    has_same c i ShMinInclusive v = (λ h. absurd (unread_property c.node ShMinInclusive v refl h), λ d. absurd (no_term c i by.MinInclusive v d))
+    has_same c i ShMaxExclusive v = (λ h. absurd (unread_property c.node ShMaxExclusive v refl h), λ d. absurd (no_term c i by.MaxExclusive v d))
+    has_same c i ShMaxInclusive v = (λ h. absurd (unread_property c.node ShMaxInclusive v refl h), λ d. absurd (no_term c i by.MaxInclusive v d))
     has_same c i ShMinLength v = (λ h. absurd (unread_property c.node ShMinLength v refl h), λ h. absurd h)
     has_same c i ShMaxLength v = (λ h. absurd (unread_property c.node ShMaxLength v refl h), λ h. absurd h)
     has_same c i ShPattern v = (λ h. absurd (unread_property c.node ShPattern v refl h), λ h. absurd h)
     has_same c i ShFlags v = (λ h. absurd (unread_property c.node ShFlags v refl h), λ h. absurd h)
     has_same c i ShLanguageIn v = (λ h. absurd (unread_property c.node ShLanguageIn v refl h), λ h. absurd h)
     has_same c i ShUniqueLang v = (λ h. absurd (unread_property c.node ShUniqueLang v refl h), λ h. absurd h)
-    has_same c i ShEquals v = (λ h. absurd (unread_property c.node ShEquals v refl h), λ h. absurd h)
-    has_same c i ShDisjoint v = (λ h. absurd (unread_property c.node ShDisjoint v refl h), λ h. absurd h)
-    has_same c i ShLessThan v = (λ h. absurd (unread_property c.node ShLessThan v refl h), λ h. absurd h)
-    has_same c i ShLessThanOrEquals v = (λ h. absurd (unread_property c.node ShLessThanOrEquals v refl h), λ h. absurd h)
+    has_same c i ShEquals v = (λ h. absurd (unread_property c.node ShEquals v refl h), λ d. absurd (no_term c i by.Equals v d))
+    has_same c i ShDisjoint v = (λ h. absurd (unread_property c.node ShDisjoint v refl h), λ d. absurd (no_term c i by.Disjoint v d))
+    has_same c i ShLessThan v = (λ h. absurd (unread_property c.node ShLessThan v refl h), λ d. absurd (no_term c i by.LessThan v d))
+    has_same c i ShLessThanOrEquals v = (λ h. absurd (unread_property c.node ShLessThanOrEquals v refl h), λ d. absurd (no_term c i by.LessThanOrEquals v d))
     has_same c i ShNot v = (λ h. absurd (unread_property c.node ShNot v refl h), λ h. absurd h)
     has_same c i ShAnd v = (λ h. absurd (unread_property c.node ShAnd v refl h), λ h. absurd h)
     has_same c i ShOr v = (λ h. absurd (unread_property c.node ShOr v refl h), λ h. absurd h)
@@ -285,7 +295,7 @@ module _ (s : List Triple) (well : IsWellFormed s) where
     has_same c i ShQualifiedValueShapesDisjoint v = (λ h. absurd (unread_property c.node ShQualifiedValueShapesDisjoint v refl h), λ h. absurd h)
     has_same c i ShClosed v = (λ h. absurd (unread_property c.node ShClosed v refl h), λ h. absurd h)
     has_same c i ShIgnoredProperties v = (λ h. absurd (unread_property c.node ShIgnoredProperties v refl h), λ h. absurd h)
-    has_same c i ShHasValue v = (λ h. absurd (unread_property c.node ShHasValue v refl h), λ h. absurd h)
+    has_same c i ShHasValue v = (λ h. absurd (unread_property c.node ShHasValue v refl h), λ d. absurd (no_term c i by.HasValue v d))
     has_same c i ShIn v = (λ h. absurd (unread_property c.node ShIn v refl h), λ h. absurd h)
     has_same c i ShDeactivated v = (λ h. absurd (unread_property c.node ShDeactivated v refl h), λ h. absurd h)
     has_same c i ShTargetClass v = (λ h. absurd (unread_property c.node ShTargetClass v refl h), λ h. absurd h)

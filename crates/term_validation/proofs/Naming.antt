@@ -5,17 +5,20 @@ use Rattle.std.specs.List.{All, Contains}
 use Rattle.std.proofs.lemmas.List.Elements.{All-contains, All-contains_itself}
 use Rattle.rdf_model.specs.declared.term.Term.{Term}
 use Rattle.rdf_model.specs.declared.triple.Triple.{Triple}
+use Rattle.shape_model.specs.Components.{parameter_of}
 use Rattle.shape_model.specs.Paths.{Path, Predicate, Inverse, Sequence, Alternative, ZeroOrMore, OneOrMore, ZeroOrOne, Paths, Last, Also}
 use Rattle.shape_model.specs.Triples.{Has, IsMember}
 use Rattle.shape_model.specs.ShapeSyntax.{HasProperty, IsShape, ListOf, PathOf, PathsOf}
 use Rattle.shape_model.specs.Vocabulary.{ShapeProperty, ShNodeKind, ShMinCount, ShMaxCount, ShPath, ShTargetNode, ShTargetSubjectsOf, property_iri, rdf_first, rdf_type, sh}
 use Rattle.shape_ast.specs.declared.constraint.Constraint.{Constraint}
-use Rattle.shape_ast.specs.declared.constraint.Constraint.TheVariants.{NodeKind, MinCount, MaxCount}
+use Rattle.shape_ast.specs.declared.constraint.Constraint.TheVariants.{NodeKind, MinCount, MaxCount, ByTerm}
 use Rattle.shape_ast.specs.declared.shape.Target.{Target}
 use Rattle.shape_ast.specs.declared.shape.Target.TheVariants.{Node, SubjectsOf}
 use Rattle.shape_ast.specs.Naming.{AreNamed, IsNamedShape, ReadShape, constraint_term, target_term}
 use Rattle.shape_ast.specs.PathReadings.{HoldsOfAll, HoldsOfEach, IsNamed}
 use Rattle.shape_ast.specs.Standing.{StandFor}
+use Rattle.shape_ast.specs.TermComponents.{component_of}
+use Rattle.shape_ast.proofs.HasTerms.{has_term}
 use Rattle.term_validation.specs.Named.{AreNamedTriples, IsNamedTriple}
 
 -- what holds of each member holds of all
@@ -71,6 +74,7 @@ module _ (names : List Term) (s : List Triple) (named : AreNamedTriples names s)
     constraint_named (NodeKind kind q) i = value_named ShNodeKind q (((stand.each c here).has ShNodeKind q).1 (kind, i))
     constraint_named (MinCount count q) i = value_named ShMinCount q (((stand.each c here).has ShMinCount q).1 (count, i))
     constraint_named (MaxCount count q) i = value_named ShMaxCount q (((stand.each c here).has ShMaxCount q).1 (count, i))
+    constraint_named (ByTerm k q) i = value_named (parameter_of (component_of k)) q (((stand.each c here).has (parameter_of (component_of k)) q).1 (has_term shapes c k q i))
 
     declaration_named : (t : Target Term) → Contains c.targets t → IsNamed names (target_term t)
     declaration_named (Node n) i = value_named ShTargetNode n (((stand.each c here).has ShTargetNode n).1 i)

@@ -8,7 +8,7 @@ ghost use Rattle.shape_ast.specs.PathReadings.{IsBoundOptional, IsBoundPath};
 use crate::short_forms::{term, text_of_rows};
 use collections::Sequence;
 use rdf_model::{Footprint, Ids, ListGraph, ListNames, Look, Term};
-use shape_ast::{Bound, Constraint, NodeKind, Path, Shape};
+use shape_ast::{Bound, Constraint, NodeKind, Path, Shape, TermComponent};
 use shape_eval::{Permit, Steps, eval, permit};
 use std::alloc::{AllocError, Global};
 use std::marker::Brand;
@@ -127,6 +127,7 @@ fn parameter_of(constraint: &Constraint<u32>) -> u32
         Constraint::NodeKind { parameter, .. } => *parameter,
         Constraint::MinCount { parameter, .. } => *parameter,
         Constraint::MaxCount { parameter, .. } => *parameter,
+        Constraint::ByTerm { parameter, .. } => *parameter,
     }
 }
 
@@ -351,6 +352,7 @@ fn count_of(digit: &str) -> i128 {
         "0" => 0,
         "1" => 1,
         "2" => 2,
+        "4" => 4,
         _ => 3,
     }
 }
@@ -462,6 +464,80 @@ fn assert_path(rt: &impl Abort, alloc: Global, line: &str) -> Result<(), Fail> {
 fn paths(rt: HostRuntime) -> Result<(), Fail> {
     for line in PATHS.lines() {
         assert_path(&rt, rt.alloc(), line)?;
+    }
+    Ok(())
+}
+
+// Components, the parameter, and how many results a property shape of e:p has at e:a, where e:a has the
+// values "x" and e:b: no literal is less than itself, and an IRI is at most nothing.
+const COMPONENTS: &str = "datatype kind 2
+least one 2
+above one 2
+most one 2
+below one 2
+equal p 0
+equal kind 2
+disjoint p 2
+disjoint kind 0
+less p 4
+up p 3
+value b 0
+value a 1";
+
+fn component_of(word: &str) -> TermComponent {
+    match word {
+        "datatype" => TermComponent::Datatype,
+        "least" => TermComponent::MinInclusive,
+        "above" => TermComponent::MinExclusive,
+        "most" => TermComponent::MaxInclusive,
+        "below" => TermComponent::MaxExclusive,
+        "equal" => TermComponent::Equals,
+        "disjoint" => TermComponent::Disjoint,
+        "less" => TermComponent::LessThan,
+        "up" => TermComponent::LessThanOrEquals,
+        _ => TermComponent::HasValue,
+    }
+}
+
+fn parameter_named(word: &str) -> u32 {
+    match word {
+        "kind" => KIND,
+        "one" => COUNT,
+        "p" => P,
+        "b" => B,
+        _ => A,
+    }
+}
+
+fn assert_component(rt: &impl Abort, alloc: Global, line: &str) -> Result<(), Fail> {
+    let mut parts = line.split(' ');
+    let component = component_of(parts.next().unwrap_or(""));
+    let parameter = parameter_named(parts.next().unwrap_or(""));
+    let constraint = Constraint::ByTerm {
+        component,
+        parameter,
+    };
+    let shapes = of_property(alloc, constraint)?;
+    let text = printed(rt, alloc, &[X, B], shapes, 0, A)?;
+    let results = text
+        .as_str()
+        .lines()
+        .filter(|written| written.starts_with("<e:P>"))
+        .count();
+    assert_eq!(rt;
+        results,
+        count_of(parts.next().unwrap_or("")) as usize,
+        "{line}"
+    );
+    Ok(())
+}
+
+// Results of components that ask no more of their parameter than the term (SHACL sections 4.1.2, 4.3, 4.5
+// and 4.8.2).
+#[test]
+fn components(rt: HostRuntime) -> Result<(), Fail> {
+    for line in COMPONENTS.lines() {
+        assert_component(&rt, rt.alloc(), line)?;
     }
     Ok(())
 }

@@ -2,8 +2,9 @@ use Rattle.std.proofs.Common.{ℕ, List, map, sym, subst}
 use Rattle.rdf_model.specs.Numbers.{graph_of, term_at}
 use Rattle.shape_ast.specs.Naming.{named_constraint, named_shapes}
 use Rattle.shape_ast.specs.declared.constraint.Constraint.{Constraint}
-use Rattle.shape_eval.specs.ValueNodes.{AreNodes, HasNode}
-use Rattle.shape_eval.specs.CompiledRows.{Collects, ConstraintsRow, FromSome, PropertyAt}
+use Rattle.component_rows.specs.Nodes.{AreNodes, HasNode}
+use Rattle.component_rows.specs.Listed.{Collects}
+use Rattle.shape_eval.specs.CompiledRows.{ConstraintsRow, FromSome, PropertyAt}
 use Rattle.shape_eval.proofs.Evaluations.{compiled_at}
 use Rattle.shape_eval.proofs.evaluation.compiled_rows.Goals as goal
 
@@ -27,7 +28,7 @@ returns g c =
     let values = c.in_ok-values.values.items in
     let rows = c.in_ok-rows.rows.items in
     let more = c.in_ok-more.more.items in
-    let Own : List (Constraint ℕ) → List ℕ → Type 0 = λ ks ns. Collects (ConstraintsRow (map (named_constraint terms) ks) (HasNode terms ns) (term_at terms s.node) (term_at terms c.args.focus)) rows in
+    let Own : List (Constraint ℕ) → List ℕ → Type 0 = λ ks ns. Collects (ConstraintsRow (graph_of terms triples) (map (named_constraint terms) ks) (HasNode terms ns) (term_at terms s.node) (term_at terms c.args.focus)) rows in
     let Further : List ℕ → List ℕ → Type 0 = λ places ns. Collects (FromSome places (PropertyAt (graph_of terms triples) (named_shapes terms c.args.shapes.now) (HasNode terms ns))) more in
     compiled_at terms triples c.args.shapes.now s c.args.focus values (c.in_ok-values.ensures terms c.requires.numbering c.requires.graph c.requires.shape.1.path c.requires.focus) rows more c.append.new.self.items
     (subst (λ (ks : List (Constraint ℕ)). Own ks values) c.as_slice.ensures (subst (λ (ns : List ℕ). Own c.as_slice.result.now ns) c.deref.ensures.value c.in_ok-rows.ensures))

@@ -1,8 +1,7 @@
-use Rattle.std.proofs.Common.{◌≡◌, ℕ, List, IfOk, Option, Some, None, false, sym, subst}
+use Rattle.std.proofs.Common.{◌≡◌, ℕ, IfOk, Option, Some, None, false, sym, subst}
 use Rattle.std.proofs.lemmas.Result.{IfOk-weaker}
 use Rattle.std.specs.Ordering.{nat_cmp}
 use Rattle.collections.specs.Listings.{IsListing}
-use Rattle.rdf_model.specs.declared.term.Term.{Term}
 use Rattle.shape_ast.specs.declared.path.Path.{Path}
 use Rattle.path_eval.specs.Naming.{AreValues, Numbered}
 use Rattle.shape_eval.specs.ValueNodes.{AreValueNodes, AtNumbers}
