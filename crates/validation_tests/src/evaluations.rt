@@ -154,18 +154,24 @@ fn is_path(path: &Option<Path<u32>>, terms: usize) -> bool
     }
 }
 
-// Whether all numbers of a path without members are in range.
+// Whether the path is a predicate, or is made of one, with a number in range.
 fn is_bound_path(path: &Path<u32>, terms: usize) -> bool
     ensures { IsTrue result → IsBoundPath terms path.now }
 {
     match path {
+        Path::Inverse(inner) => is_predicate(inner, terms),
+        Path::OneOrMore(inner) => is_predicate(inner, terms),
+        Path::ZeroOrOne(inner) => is_predicate(inner, terms),
+        _ => is_predicate(path, terms),
+    }
+}
+
+fn is_predicate(path: &Path<u32>, terms: usize) -> bool
+    ensures { IsTrue result → IsBoundPath terms path.now }
+{
+    match path {
         Path::Predicate(predicate) => (*predicate as usize) < terms,
-        Path::Inverse(inner) => is_bound_path(inner, terms),
-        Path::ZeroOrMore(inner) => is_bound_path(inner, terms),
-        Path::OneOrMore(inner) => is_bound_path(inner, terms),
-        Path::ZeroOrOne(inner) => is_bound_path(inner, terms),
-        Path::Sequence(_, _) => false,
-        Path::Alternative(_, _) => false,
+        _ => false,
     }
 }
 
