@@ -1,7 +1,7 @@
 -- The targets of a compiled shape are those of the shape by the triples of its shapes graph.
 use Rattle.std.proofs.Common.{◌≡◌, ◌∙◌, ℕ, ◌+◌, ◌<◌, ◌≤◌, List, [], ◌∷◌, ◌++◌, length, map, take, get_or, refl, sym, ap, subst, arith, inl, inr}
 use Rattle.std.specs.Prelude.{◌↔◌, ◌⊎◌}
-use Rattle.std.specs.List.{All, Contains}
+use Rattle.std.specs.List.{All, AllByRecursion, Contains}
 use Rattle.std.proofs.lemmas.List.{get_or_default, take_all, take_more}
 use Rattle.std.proofs.lemmas.List.Elements.{All-contains, Contains-append_cases, Contains-append_left, Contains-append_right}
 use Rattle.std.specs.Ordering.{nat_cmp}
@@ -21,7 +21,7 @@ use Rattle.shape_ast.specs.declared.shape.Target.{Target as Declared}
 use Rattle.shape_ast.specs.declared.shape.Target.TheVariants.{Node, SubjectsOf}
 use Rattle.shape_ast.specs.Naming.{named_shape, named_shapes, named_target, target_number}
 use Rattle.shape_ast.specs.Standing.{shape_reading}
-use Rattle.shape_eval.proofs.Numbers.{mapped_from, mapped_to, of_all}
+use Rattle.component_rows.proofs.Collecting.{mapped_from, mapped_to}
 use Rattle.graph_validation.specs.Targets.{AreMembers, IsSubject, IsSubjectBelow, IsTargetOf, IsTargetOfSome}
 
 first_found : (ids : List Ids) (p k : ℕ) (found : List ℕ) → IsListing nat_cmp (IsFound (Out k p) ids) found → (found ≡ [] → ⊥) → IsSubject ids p k
@@ -65,6 +65,11 @@ no_subject ids p k subjects found listing none before n = (
 
 pub no_subject_yet : (ids : List Ids) (p : ℕ) → AreMembers (IsSubjectBelow ids p 0) []
 no_subject_yet ids p n = (λ c. absurd (omega arith), λ i. absurd (omega (arith, i.0)))
+
+-- an item of a list of which something holds
+of_all : {X : Type 0} → (P : X → Type 0) (xs : List X) (x : X) → AllByRecursion P xs → Contains xs x → P x
+of_all P [] x a c = absurd (omega arith)
+of_all P (y ∷ ys) x a c = elim (has_cases y ys x c) [ inl e ↦ subst P e a.0 | inr d ↦ of_all P ys x a.1 d ]
 
 -- the numbers of a triple that stands there
 numbers_of : (terms : List Term) (ids : List Ids) → AreNumbered terms ids → (i : Ids) → Contains ids i → (i.subject < length terms) × (i.predicate < length terms) × (i.object < length terms)

@@ -9,9 +9,10 @@ use Rattle.shape_model.specs.Targets.{Target}
 use Rattle.shape_model.specs.Validation.{At, Listing}
 use Rattle.shape_model.specs.WellFormed.{IsWellFormed}
 use Rattle.shape_ast.specs.declared.shape.Shape.{Shape}
-use Rattle.shape_ast.specs.Naming.{named_shapes}
+use Rattle.shape_ast.specs.Naming.{ReadShape, named_shapes}
 use Rattle.shape_ast.specs.Standing.{StandFor}
-use Rattle.shape_eval.specs.CompiledRows.{Collects, FromSome}
+use Rattle.component_rows.specs.Listed.{Collects}
+use Rattle.shape_eval.specs.CompiledRows.{FromSome}
 
 -- a result of a shape at one of its targets (SHACL 3.4)
 abbrev pub IsResultOf : List Triple → List Triple → Term → ResultRow → Type 0
@@ -19,12 +20,12 @@ IsResultOf g s shape r = (f : Term) × Target g s shape f × At g s shape f r
 
 -- the results of the shape at the place k, at the nodes with these numbers
 abbrev pub CollectsAt : List Term → List Ids → List (Shape ℕ) → ℕ → List ℕ → List ResultRow → Type 0
-CollectsAt terms ids shapes k nodes rows = (s : List Triple) (c : Shape Term) → StandFor (named_shapes terms shapes) s → IsWellFormed s
+CollectsAt terms ids shapes k nodes rows = (s : List Triple) (c : ReadShape) → StandFor (named_shapes terms shapes) s → IsWellFormed s
     → slice_get (named_shapes terms shapes) k ≡ Some c → Collects (FromSome nodes (λ n. At (graph_of terms ids) s c.node (term_at terms n))) rows
 
 -- the same at its targets
 abbrev pub CollectsOfShape : List Term → List Ids → List (Shape ℕ) → ℕ → List ResultRow → Type 0
-CollectsOfShape terms ids shapes k rows = (s : List Triple) (c : Shape Term) → StandFor (named_shapes terms shapes) s → IsWellFormed s
+CollectsOfShape terms ids shapes k rows = (s : List Triple) (c : ReadShape) → StandFor (named_shapes terms shapes) s → IsWellFormed s
     → slice_get (named_shapes terms shapes) k ≡ Some c → Collects (IsResultOf (graph_of terms ids) s c.node) rows
 
 -- the same of the first shapes

@@ -5,14 +5,10 @@
 //! the class path to a class. Repetitions go level by level, and each node is gone on from once.
 #![tactic(auto)]
 
-mod binding;
 mod instances;
-mod path;
 mod queries;
 mod visited;
 mod walk;
 
-pub use binding::bind_path;
 pub use instances::{ClassWords, class_instances, is_instance};
-pub use path::Path;
 pub use queries::{back, values};

@@ -7,10 +7,10 @@ ghost use Rattle.path_eval.specs.Relations.{Adds, Enters, FromSome, IsFollowed, 
 ghost use Rattle.path_eval.specs.NumberedWalks.{Backward, Onward, Reaches, ReachesSome, look_from};
 ghost use Rattle.path_eval.specs.NumberedLooks.{AtRepeated, Reads, ReadsBackward, ReadsOnward, ReadsSome};
 
-use crate::Path;
 use crate::visited::{Visited, enter_all};
 use collections::sorted_once;
 use rdf_model::{Footprint, Look, Triples};
+use shape_ast::Path;
 use std::alloc::{AllocError, Global};
 
 // The look that finds the values of a predicate at a node, or the nodes that have it as value.

@@ -1,5 +1,5 @@
 -- The shape of a node is found among the shapes, where it is one of them.
-use Rattle.std.proofs.Common.{◌||◌, Bor, ◌≡◌, Bool, true, false, List, [], ◌∷◌, cond, refl, sym, subst, arith, inl, inr}
+use Rattle.std.proofs.Common.{◌||◌, Bor, ◌≡◌, ◌∙◌, Bool, true, false, List, [], ◌∷◌, cond, refl, sym, ap, subst, arith, inl, inr}
 use Rattle.std.specs.Prelude.{Option, Some, None, slice_index_or}
 use Rattle.std.specs.List.{Contains, find, list_all, list_any}
 use Rattle.std.specs.Option.{IsSome, option_copied}
@@ -9,6 +9,7 @@ use Rattle.rdf_model.specs.declared.term.Term.{Term}
 use Rattle.rdf_model.specs.Matching.{same_term}
 use Rattle.rdf_model.proofs.SameTerms.{equal_same, same_equal}
 use Rattle.shape_ast.specs.declared.shape.Shape.{Shape}
+use Rattle.shape_ast.specs.Naming.{ReadShape, read_shape, read_shapes}
 use Rattle.shape_model.specs.declared.result_row.ResultRow.{ResultRow}
 use Rattle.report_writer.specs.Sources.{HaveSources}
 
@@ -34,24 +35,50 @@ found_first test (y ∷ ys) x e =
       | false ↦ λ k m. let rest = found_first test ys x m in (has_tail y ys x rest.0, rest.1)
     ] refl e
 
-pub finds : (shapes : List (Shape Term)) (n : Term) (c : Shape Term) → Contains shapes c → c.node ≡ n → IsSome (find (has_node n) shapes)
-finds shapes n c i e = first_found (has_node n) shapes c i (equal_same c.node n e)
+-- a shape as it is read, and the shape
+pub read_from : (shapes : List (Shape Term)) (r : ReadShape) → Contains (read_shapes shapes) r → (c : Shape Term) × Contains shapes c × (read_shape c ≡ r)
+read_from [] r i = absurd (omega arith)
+read_from (c ∷ shapes) r i = elim (has_cases (read_shape c) (read_shapes shapes) r i) [
+  | inl e ↦ (c, has_head c shapes, e)
+  | inr j ↦ let k = read_from shapes r j in (k.0, has_tail c shapes k.0 k.1, k.2)
+]
 
-pub found : (shapes : List (Shape Term)) (n : Term) (c : Shape Term) → find (has_node n) shapes ≡ Some c → Contains shapes c × (c.node ≡ n)
-found shapes n c e = let k = found_first (has_node n) shapes c e in (k.0, same_equal c.node n k.1)
+pub finds : (shapes : List (Shape Term)) (n : Term) (r : ReadShape) → Contains (read_shapes shapes) r → r.node ≡ n → IsSome (find (has_node n) shapes)
+finds shapes n r i e =
+    let c = read_from shapes r i in
+    first_found (has_node n) shapes c.0 c.1 (equal_same c.0.node n (ap (λ (s : ReadShape). s.node) c.2 ∙ e))
+
+-- the shape that is found is the one that is found as it is read
+pub found_read : (shapes : List (Shape Term)) (n : Term) (c : Shape Term) → find (has_node n) shapes ≡ Some c → find (λ r. same_term r.node n) (read_shapes shapes) ≡ Some (read_shape c)
+found_read [] n c e = cc
+found_read (d ∷ shapes) n c e =
+    elim (same_term d.node n) as (λ b. cond b (Some d) (find (has_node n) shapes) ≡ Some c → cond b (Some (read_shape d)) (find (λ r. same_term r.node n) (read_shapes shapes)) ≡ Some (read_shape c)) [
+      | true ↦ λ k. let same : d ≡ c = cc in ap (λ (s : Shape Term). Some (read_shape s)) same
+      | false ↦ λ k. found_read shapes n c k
+    ] e
+
+-- one of the shapes with the node is found
+pub is_there : (shapes : List ReadShape) (n : Term) (c : ReadShape) → Contains shapes c → c.node ≡ n → (d : ReadShape) × (find (λ r. same_term r.node n) shapes ≡ Some d) × Contains shapes d × (d.node ≡ n)
+is_there shapes n c i e =
+    let test : ReadShape → Bool = λ r. same_term r.node n in
+    let some = first_found test shapes c i (equal_same c.node n e) in
+    elim (find test shapes) as (λ o. find test shapes ≡ o → IsSome o → (d : ReadShape) × (find test shapes ≡ Some d) × Contains shapes d × (d.node ≡ n)) [
+      | None ↦ λ k s. cc
+      | Some d ↦ λ k s. let f = found_first test shapes d k in (d, k, f.0, same_equal d.node n f.1)
+    ] refl some
 
 pub is_found : (o : Option (Bor (Shape Term))) → IsSome (option_copied o) → IsSome o
 is_found None h = cc
 is_found (Some c) h = refl
 
-with_node : (shapes : List (Shape Term)) (n : Term) → list_any (has_node n) shapes ≡ true → (c : Shape Term) × Contains shapes c × (c.node ≡ n)
+with_node : (shapes : List (Shape Term)) (n : Term) → list_any (has_node n) shapes ≡ true → (c : ReadShape) × Contains (read_shapes shapes) c × (c.node ≡ n)
 with_node [] n e = cc
 with_node (c ∷ shapes) n e =
-    elim (has_node n c) as (λ b. has_node n c ≡ b → (b || list_any (has_node n) shapes) ≡ true → (d : Shape Term) × Contains (c ∷ shapes) d × (d.node ≡ n)) [
-      | true ↦ λ k m. (c, has_head c shapes, same_equal c.node n k)
-      | false ↦ λ k m. let rest = with_node shapes n m in (rest.0, has_tail c shapes rest.0 rest.1, rest.2)
+    elim (has_node n c) as (λ b. has_node n c ≡ b → (b || list_any (has_node n) shapes) ≡ true → (d : ReadShape) × Contains (read_shapes (c ∷ shapes)) d × (d.node ≡ n)) [
+      | true ↦ λ k m. (read_shape c, has_head (read_shape c) (read_shapes shapes), same_equal c.node n k)
+      | false ↦ λ k m. let rest = with_node shapes n m in (rest.0, has_tail (read_shape c) (read_shapes shapes) rest.0 rest.1, rest.2)
     ] refl e
 
 -- the test of a list of results
-pub have_sources : (shapes : List (Shape Term)) (rows : List ResultRow) → list_all (λ r. list_any (has_node r.source_shape) shapes) rows ≡ true → HaveSources shapes rows
+pub have_sources : (shapes : List (Shape Term)) (rows : List ResultRow) → list_all (λ r. list_any (has_node r.source_shape) shapes) rows ≡ true → HaveSources (read_shapes shapes) rows
 have_sources shapes rows e k d less = with_node shapes (slice_index_or rows k d).source_shape (AllPass-from_list_all (λ (r : ResultRow). list_any (has_node r.source_shape) shapes) rows e k d less)

@@ -2,60 +2,38 @@
 use Rattle.std.proofs.Common.{◌≡◌, ◌∙◌, ℕ, List, [], ◌∷◌, ◌++◌, sym, ap, codes, append_assoc, append-nil, false, length, suc}
 use Rattle.std.proofs.Math.Dec.{eqb-suc-zero}
 use Rattle.std.specs.Prelude.{◌==◌, Bool, Some, if◌then◌else◌}
-use Rattle.rdf_model.specs.declared.term.Term.{Term}
-use Rattle.rdf_model.specs.declared.triple.Triple.{Triple}
 use Rattle.rdf_model.specs.NTriples.{term_text}
 use Rattle.shape_model.specs.declared.result_row.ResultRow.{ResultRow}
 use Rattle.shape_model.specs.Vocabulary.{sh}
-use Rattle.shape_model.specs.Declarations.{messages_of, severity_of}
-use Rattle.report_writer.specs.Report.{component_name, conforms_text, listed, result_text, statement, statements}
-use Rattle.report_writer.specs.Defaults.{HasDefaults}
+use Rattle.report_writer.specs.Report.{component_name, conforms_text, listed, result_lines, statement, statements, term_statements}
 
 in_turn : (o o1 o2 o3 o4 o5 o6 a b c p v s n k : List ℕ) → o1 ≡ o ++ a ++ b ++ c → o2 ≡ o1 ++ p → o3 ≡ o2 ++ v → o4 ≡ o3 ++ s → o5 ≡ o4 ++ (n ++ []) → o6 ≡ o5 ++ k
     → o6 ≡ o ++ (a ++ b ++ c ++ p ++ v ++ s ++ n ++ k ++ [])
 in_turn o o1 o2 o3 o4 o5 o6 a b c p v s n k e1 e2 e3 e4 e5 e6 = rw (e6, e5, e4, e3, e2, e1) (simp (append_assoc, append-nil))
 
--- the lines of a result with this path, severity and messages
-lines : List ℕ → ResultRow → List Term → Term → List Term → List ℕ
-lines label r path severity messages =
-    statement (codes "_:r") (codes "sh:result") label
-    ++ statement label (codes "a") (codes "sh:ValidationResult")
-    ++ statement label (codes "sh:focusNode") (term_text r.focus_node)
-    ++ statements label (codes "sh:resultPath") path
-    ++ statements label (codes "sh:value") (listed r.value)
-    ++ statement label (codes "sh:resultSeverity") (term_text severity)
-    ++ statement label (codes "sh:sourceShape") (term_text r.source_shape)
-    ++ statement label (codes "sh:sourceConstraintComponent") (codes "sh:" ++ component_name r.component ++ codes "ConstraintComponent")
-    ++ statements label (codes "sh:resultMessage") messages
-
-by_defaults : (s : List Triple) (label : List ℕ) (r : ResultRow) (path : List Term) → HasDefaults s path r → result_text s label r ≡ lines label r path (sh (codes "Violation")) []
-unfolding lines
-by_defaults s label r path d =
-    ap (λ p. lines label r p (severity_of s r.source_shape) (messages_of s r.source_shape)) d.path
-    ∙ ap (λ v. lines label r path v (messages_of s r.source_shape)) d.severity
-    ∙ ap (λ m. lines label r path (sh (codes "Violation")) m) d.messages
-
-pub joined : (s : List Triple) (label : List ℕ) (r : ResultRow) (path : List Term) (o o1 o2 o3 o4 o5 o6 : List ℕ) → HasDefaults s path r
+pub joined : (label : List ℕ) (r : ResultRow) (path : List (List ℕ)) (o o1 o2 o3 o4 o5 o6 : List ℕ)
     → o1 ≡ o ++ statement (codes "_:r") (codes "sh:result") label ++ statement label (codes "a") (codes "sh:ValidationResult") ++ statement label (codes "sh:focusNode") (term_text r.focus_node)
     → o2 ≡ o1 ++ statements label (codes "sh:resultPath") path
-    → o3 ≡ o2 ++ statements label (codes "sh:value") (listed r.value)
+    → o3 ≡ o2 ++ term_statements label (codes "sh:value") (listed r.value)
     → o4 ≡ o3 ++ statement label (codes "sh:resultSeverity") (term_text (sh (codes "Violation")))
-    → o5 ≡ o4 ++ statements label (codes "sh:sourceShape") (listed (Some r.source_shape))
+    → o5 ≡ o4 ++ term_statements label (codes "sh:sourceShape") (listed (Some r.source_shape))
     → o6 ≡ o5 ++ statement label (codes "sh:sourceConstraintComponent") (codes "sh:" ++ component_name r.component ++ codes "ConstraintComponent")
-    → o6 ≡ o ++ result_text s label r
-unfolding lines
-joined s label r path o o1 o2 o3 o4 o5 o6 d e1 e2 e3 e4 e5 e6 =
+    → o6 ≡ o ++ result_lines label r path (sh (codes "Violation")) []
+joined label r path o o1 o2 o3 o4 o5 o6 e1 e2 e3 e4 e5 e6 =
     in_turn o o1 o2 o3 o4 o5 o6
     (statement (codes "_:r") (codes "sh:result") label)
     (statement label (codes "a") (codes "sh:ValidationResult"))
     (statement label (codes "sh:focusNode") (term_text r.focus_node))
     (statements label (codes "sh:resultPath") path)
-    (statements label (codes "sh:value") (listed r.value))
+    (term_statements label (codes "sh:value") (listed r.value))
     (statement label (codes "sh:resultSeverity") (term_text (sh (codes "Violation"))))
     (statement label (codes "sh:sourceShape") (term_text r.source_shape))
     (statement label (codes "sh:sourceConstraintComponent") (codes "sh:" ++ component_name r.component ++ codes "ConstraintComponent"))
     e1 e2 e3 e4 e5 e6
-    ∙ sym (ap (λ t. o ++ t) (by_defaults s label r path d))
+
+-- a line that is written in three parts
+pub path_line : (o o1 o2 o3 label text : List ℕ) → o1 ≡ o ++ (label ++ codes " sh:resultPath ") → o2 ≡ o1 ++ text → o3 ≡ o2 ++ codes " .\n" → o3 ≡ o ++ statement label (codes "sh:resultPath") text
+path_line o o1 o2 o3 label text e1 e2 e3 = rw (e3, e2, e1) (simp append_assoc)
 
 -- a statement whose object has three parts, from the left
 in_parts : (label p x y z : List ℕ) → statement label p (x ++ y ++ z) ≡ label ++ (codes " " ++ (p ++ (codes " " ++ (x ++ (y ++ (z ++ codes " .\n"))))))

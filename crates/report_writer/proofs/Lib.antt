@@ -1,5 +1,6 @@
+pub mod PathLists
 pub mod Joins
-pub mod Graphs
 pub mod Finding
+pub mod Graphs
 pub mod Results
 pub mod Sources

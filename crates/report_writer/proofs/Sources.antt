@@ -4,7 +4,7 @@ use Rattle.std.specs.Prelude.{slice_index_or}
 use Rattle.std.proofs.lemmas.List.Elements.{All-contains_itself}
 use Rattle.rdf_model.specs.declared.term.Term.{Term}
 use Rattle.rdf_model.specs.declared.triple.Triple.{Triple}
-use Rattle.shape_ast.specs.declared.shape.Shape.{Shape}
+use Rattle.shape_ast.specs.Naming.{ReadShape}
 use Rattle.shape_ast.specs.Standing.{StandFor}
 use Rattle.shape_model.specs.declared.result_row.ResultRow.{ResultRow}
 use Rattle.shape_model.specs.Readings.{reading}
@@ -39,7 +39,7 @@ module _ (g s : List Triple) where
   ]
 
 -- the shapes that stand for the graph have the source of each of its results
-pub listing_sources : (g s : List Triple) (shapes : List (Shape Term)) (rows : List ResultRow) → StandFor shapes s → Listing g s rows → HaveSources shapes rows
+pub listing_sources : (g s : List Triple) (shapes : List ReadShape) (rows : List ResultRow) → StandFor shapes s → Listing g s rows → HaveSources shapes rows
 listing_sources g s shapes rows stand listing k d less =
     let r = slice_index_or rows k d in
     let h = (listing.members r).0 (All-contains_itself rows k d less) in

@@ -1,5 +1,5 @@
 -- The text of a validation report (SHACL 3.6): Turtle, one statement a line, by the triples of the shapes graph.
-use Rattle.std.specs.Prelude.{◌+◌, ℕ, List, [], ◌∷◌, ◌++◌, Option, Some, None, codes}
+use Rattle.std.specs.Prelude.{◌+◌, ℕ, List, [], ◌∷◌, ◌++◌, Option, Some, None, codes, map}
 use Rattle.std.specs.List.{flat_map}
 use Rattle.std.specs.Fmt.{decimal}
 use Rattle.rdf_model.specs.declared.term.Term.{Term}
@@ -19,14 +19,15 @@ abbrev pub listed : Option Term → List Term
 listed None = []
 listed (Some t) = t ∷ []
 
--- the path of a result (SHACL 3.6.2.2): the predicate that a closed shape doesn't allow, else the path of its source
--- shape, if that is a property shape; each path is an IRI so far
-abbrev pub path_by : Component → List Term → List Term → List Term
+-- the text of the path of a result (SHACL 3.6.2.2): that of the predicate which a closed shape doesn't allow, else of
+-- the path of its source shape, if that is a property shape
+abbrev pub path_by : Component → List (List ℕ) → List (List ℕ) → List (List ℕ)
 path_by components.Closed other own = other
 path_by c other own = own
 
-abbrev pub path_of : List Triple → ResultRow → List Term
-path_of s r = path_by r.component (listed r.other) (first_of (values_of s r.source_shape (property_iri ShPath)))
+-- by the triples, where each path is an IRI so far
+abbrev pub path_of : List Triple → ResultRow → List (List ℕ)
+path_of s r = path_by r.component (map term_text (listed r.other)) (map term_text (first_of (values_of s r.source_shape (property_iri ShPath))))
 
 -- the local name of a component's IRI (SHACL 4), without `ConstraintComponent`
 abbrev pub component_name : Component → List ℕ
@@ -63,41 +64,52 @@ component_name components.In = codes "In"
 abbrev pub statement : List ℕ → List ℕ → List ℕ → List ℕ
 statement subject predicate object = subject ++ codes " " ++ predicate ++ codes " " ++ object ++ codes " .\n"
 
--- a line for each of the terms
-abbrev pub statements : List ℕ → List ℕ → List Term → List ℕ
-statements subject predicate terms = flat_map (λ t. statement subject predicate (term_text t)) terms
+-- a line for each of the objects, and for each of the terms
+abbrev pub statements : List ℕ → List ℕ → List (List ℕ) → List ℕ
+statements subject predicate objects = flat_map (statement subject predicate) objects
+
+abbrev pub term_statements : List ℕ → List ℕ → List Term → List ℕ
+term_statements subject predicate terms = statements subject predicate (map term_text terms)
 
 -- the label of the i-th result
 abbrev pub result_label : ℕ → List ℕ
 result_label i = codes "_:r" ++ decimal i
 
--- the lines of one result (SHACL 3.6.2), under its label
-abbrev pub result_text : List Triple → List ℕ → ResultRow → List ℕ
-result_text s label r =
+-- the lines of one result (SHACL 3.6.2), under its label, with the text of its path if it has one, its severity and its messages
+abbrev pub result_lines : List ℕ → ResultRow → List (List ℕ) → Term → List Term → List ℕ
+result_lines label r path severity messages =
     statement (codes "_:r") (codes "sh:result") label
     ++ statement label (codes "a") (codes "sh:ValidationResult")
     ++ statement label (codes "sh:focusNode") (term_text r.focus_node)
-    ++ statements label (codes "sh:resultPath") (path_of s r)
-    ++ statements label (codes "sh:value") (listed r.value)
-    ++ statement label (codes "sh:resultSeverity") (term_text (severity_of s r.source_shape))
+    ++ statements label (codes "sh:resultPath") path
+    ++ term_statements label (codes "sh:value") (listed r.value)
+    ++ statement label (codes "sh:resultSeverity") (term_text severity)
     ++ statement label (codes "sh:sourceShape") (term_text r.source_shape)
     ++ statement label (codes "sh:sourceConstraintComponent") (codes "sh:" ++ component_name r.component ++ codes "ConstraintComponent")
-    ++ statements label (codes "sh:resultMessage") (messages_of s r.source_shape)
+    ++ term_statements label (codes "sh:resultMessage") messages
 
--- the results from number i on
-abbrev pub results_text : List Triple → ℕ → List ResultRow → List ℕ
-results_text s i [] = []
-results_text s i (r ∷ rows) = result_text s (result_label i) r ++ results_text s (i + 1) rows
+-- by the triples of the shapes graph
+abbrev pub result_text : List Triple → List ℕ → ResultRow → List ℕ
+result_text s label r = result_lines label r (path_of s r) (severity_of s r.source_shape) (messages_of s r.source_shape)
+
+-- the results from number i on, each with these lines
+abbrev pub results_by : (List ℕ → ResultRow → List ℕ) → ℕ → List ResultRow → List ℕ
+results_by text i [] = []
+results_by text i (r ∷ rows) = text (result_label i) r ++ results_by text (i + 1) rows
 
 -- whether the data graph conforms (SHACL 3.6.1.1)
 abbrev pub conforms_text : List ResultRow → List ℕ
 conforms_text [] = codes "true"
 conforms_text (r ∷ rows) = codes "false"
 
--- ReportText: the report of these results under the shapes graph s (SHACL 3.6)
-abbrev pub report_text : List Triple → List ResultRow → List ℕ
-report_text s rows =
+-- the report of these results, each with these lines
+abbrev pub report_by : (List ℕ → ResultRow → List ℕ) → List ResultRow → List ℕ
+report_by text rows =
     codes "@prefix sh: <http://www.w3.org/ns/shacl#> .\n"
     ++ statement (codes "_:r") (codes "a") (codes "sh:ValidationReport")
     ++ statement (codes "_:r") (codes "sh:conforms") (conforms_text rows)
-    ++ results_text s 1 rows
+    ++ results_by text 1 rows
+
+-- ReportText: the report of these results under the shapes graph s (SHACL 3.6)
+abbrev pub report_text : List Triple → List ResultRow → List ℕ
+report_text s rows = report_by (result_text s) rows

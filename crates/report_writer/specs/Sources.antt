@@ -1,10 +1,9 @@
 -- Which results a report can name the shapes of.
 use Rattle.std.specs.Prelude.{◌≡◌, List}
 use Rattle.std.specs.List.{All, Contains}
-use Rattle.rdf_model.specs.declared.term.Term.{Term}
 use Rattle.shape_model.specs.declared.result_row.ResultRow.{ResultRow}
-use Rattle.shape_ast.specs.declared.shape.Shape.{Shape}
+use Rattle.shape_ast.specs.Naming.{ReadShape}
 
 -- the source shape of each result is one of the shapes
-abbrev pub HaveSources : List (Shape Term) → List ResultRow → Type 0
-HaveSources shapes rows = All (λ r. (c : Shape Term) × Contains shapes c × (c.node ≡ r.source_shape)) rows
+abbrev pub HaveSources : List ReadShape → List ResultRow → Type 0
+HaveSources shapes rows = All (λ r. (c : ReadShape) × Contains shapes c × (c.node ≡ r.source_shape)) rows

@@ -1,14 +1,16 @@
-ghost use Rattle.std.specs.Prelude.{◌≡◌, ◌++◌, List, codes, string_bytes, OnOk};
+ghost use Rattle.std.specs.Prelude.{◌≡◌, ◌++◌, [], codes, string_bytes, OnOk};
 ghost use Rattle.std.specs.Option.{option_copied};
-ghost use Rattle.rdf_model.specs.declared.triple.Triple.{Triple};
 ghost use Rattle.rdf_model.specs.NTriples.{term_text};
 ghost use Rattle.shape_model.specs.Vocabulary.{sh};
-ghost use Rattle.report_writer.specs.Report.{component_name, listed, result_label, result_text, statement, statements};
-ghost use Rattle.report_writer.specs.Defaults.{HasDefaults};
+ghost use Rattle.shape_ast.specs.PathReadings.{defined_path, optional_path};
+ghost use Rattle.report_writer.specs.PathTexts.{optional_text, path_text};
+ghost use Rattle.report_writer.specs.Report.{component_name, listed, result_label, result_lines, statement, statements, term_statements};
+ghost use Rattle.report_writer.specs.CompiledReport.{result_path};
 
 use crate::component::name_of;
+use crate::paths::push_path;
 use rdf_model::Term;
-use shape_ast::{Component, ResultRow};
+use shape_ast::{Component, Path, ResultRow};
 use std::alloc::AllocError;
 
 // The severity of shapes that declare none (SHACL section 2.1.4).
@@ -36,7 +38,7 @@ fn push_term(
     property: &str,
     term: Option<&Term>,
 ) -> Result<(), AllocError>
-    ensures { OnOk result (string_bytes out.new ≡ string_bytes out.old ++ statements (result_label number) property.now (listed (option_copied term.entry))) }
+    ensures { OnOk result (string_bytes out.new ≡ string_bytes out.old ++ term_statements (result_label number) property.now (listed (option_copied term.entry))) }
 {
     match term {
         Some(term) => write!(out, "_:r{number} {property} {term} .\n"),
@@ -64,17 +66,51 @@ fn push_component(out: &mut String, number: u64, component: Component) -> Result
     )
 }
 
-/// The lines of one result (SHACL section 3.6.2) with this path.
+// The line on the path of a result.
+fn push_path_line(out: &mut String, number: u64, path: &Path<Term>) -> Result<(), AllocError>
+    ensures { OnOk result (string_bytes out.new ≡ string_bytes out.old ++ statement (result_label number) (codes "sh:resultPath") (path_text (defined_path path.now))) }
+{
+    write!(out, "_:r{number} sh:resultPath ")?;
+    push_path(out, path)?;
+    write!(out, " .\n")
+}
+
+// The same where there is a path.
+fn push_own_path(out: &mut String, number: u64, path: &Option<Path<Term>>) -> Result<(), AllocError>
+    ensures { OnOk result (string_bytes out.new ≡ string_bytes out.old ++ statements (result_label number) (codes "sh:resultPath") (optional_text (optional_path path.now))) }
+{
+    match path {
+        Some(path) => push_path_line(out, number, path),
+        None => Ok(()),
+    }
+}
+
+// The line on the path of a result of a shape with this path (SHACL section 3.6.2.2).
+fn push_result_path(
+    out: &mut String,
+    number: u64,
+    row: &ResultRow,
+    path: &Option<Path<Term>>,
+) -> Result<(), AllocError>
+    ensures { OnOk result (string_bytes out.new ≡ string_bytes out.old ++ statements (result_label number) (codes "sh:resultPath") (result_path (optional_path path.now) row.now)) }
+{
+    match row.component {
+        Component::Closed => push_term(out, number, "sh:resultPath", row.other.as_ref()),
+        _ => push_own_path(out, number, path),
+    }
+}
+
+/// The lines of one result (SHACL section 3.6.2) of a shape with this path.
 pub fn push_result(
     out: &mut String,
     number: u64,
     row: &ResultRow,
-    path: Option<&Term>,
+    path: &Option<Path<Term>>,
 ) -> Result<(), AllocError>
-    ensures { OnOk result ((s : List Triple) → HasDefaults s (listed (option_copied path.entry)) row.now → string_bytes out.new ≡ string_bytes out.old ++ result_text s (result_label number) row.now) }
+    ensures { OnOk result (string_bytes out.new ≡ string_bytes out.old ++ result_lines (result_label number) row.now (result_path (optional_path path.now) row.now) (sh (codes "Violation")) []) }
 {
     push_head(out, number, &row.focus_node)?;
-    push_term(out, number, "sh:resultPath", path)?;
+    push_result_path(out, number, row, path)?;
     push_term(out, number, "sh:value", row.value.as_ref())?;
     push_severity(out, number)?;
     push_term(out, number, "sh:sourceShape", Some(&row.source_shape))?;

@@ -1,19 +1,18 @@
 ghost use Rattle.std.specs.Prelude.{◌≡◌, ◌++◌, List, IfOk, OnOk, codes, string_bytes};
 ghost use Rattle.std.specs.List.{Contains, find};
 ghost use Rattle.std.specs.Option.{option_copied};
-ghost use Rattle.rdf_model.specs.declared.term.Term.{Term as TermData};
 ghost use Rattle.rdf_model.specs.declared.triple.Triple.{Triple};
 ghost use Rattle.rdf_model.specs.Matching.{same_term};
-ghost use Rattle.shape_ast.specs.declared.shape.Shape.{Shape as ShapeData};
+ghost use Rattle.shape_ast.specs.Naming.{ReadShape, read_shapes};
 ghost use Rattle.shape_ast.specs.Standing.{StandFor};
 ghost use Rattle.shape_model.specs.WellFormed.{IsWellFormed};
-ghost use Rattle.report_writer.specs.Report.{conforms_text, listed, report_text, result_label, result_text, statement};
-ghost use Rattle.report_writer.specs.Defaults.{compiled_path};
+ghost use Rattle.report_writer.specs.Report.{conforms_text, report_text, result_label, statement};
+ghost use Rattle.report_writer.specs.CompiledReport.{compiled_report, compiled_text};
 ghost use Rattle.report_writer.specs.Sources.{HaveSources};
 
 use crate::lines::push_result;
 use rdf_model::Term;
-use shape_ast::{Component, Path, ResultRow, Shape, Shapes};
+use shape_ast::{ResultRow, Shape, Shapes};
 use std::alloc::{AllocError, Global};
 
 // The shape with this node, if it is among the shapes.
@@ -23,19 +22,6 @@ fn shape_of<'a>(shapes: &'a [Shape<Term>], node: &Term) -> Option<&'a Shape<Term
     shapes.iter().find(|shape| shape.node == *node)
 }
 
-// The path of a result of the shape (SHACL section 3.6.2.2).
-fn path_of<'a>(row: &'a ResultRow, shape: &'a Shape<Term>) -> Option<&'a Term>
-    ensures { listed (option_copied result) ≡ compiled_path shape.now.path row.now }
-{
-    match row.component {
-        Component::Closed => row.other.as_ref(),
-        _ => match &shape.path {
-            Some(Path::Predicate(predicate)) => Some(predicate),
-            None => None,
-        },
-    }
-}
-
 // The lines of one result, by the shape that gave it.
 fn push_row(
     out: &mut String,
@@ -43,11 +29,11 @@ fn push_row(
     row: &ResultRow,
     shapes: &[Shape<Term>],
 ) -> Result<(), AllocError>
-    requires { (c : ShapeData TermData) × Contains shapes.now c × (c.node ≡ row.now.source_shape) }
-    ensures { OnOk result ((s : List Triple) → StandFor shapes.now s → IsWellFormed s → string_bytes out.new ≡ string_bytes out.old ++ result_text s (result_label number) row.now) }
+    requires { (c : ReadShape) × Contains (read_shapes shapes.now) c × (c.node ≡ row.now.source_shape) }
+    ensures { OnOk result (string_bytes out.new ≡ string_bytes out.old ++ compiled_text (read_shapes shapes.now) (result_label number) row.now) }
 {
     let shape = shape_of(shapes, &row.source_shape).unwrap();
-    push_result(out, number, row, path_of(row, shape))
+    push_result(out, number, row, &shape.path)
 }
 
 // The lines on the whole report.
@@ -64,15 +50,25 @@ fn head(alloc: Global, rows: &[ResultRow]) -> Result<String, AllocError>
     )
 }
 
-/// The report of these results, whose source shapes are among the shapes: byte for byte the one by
-/// each well-formed shapes graph that the shapes stand for. It fails only for want of memory.
-pub fn report(alloc: Global, rows: &[ResultRow], shapes: &Shapes) -> Result<String, AllocError>
-    requires { HaveSources shapes.now.shapes rows.now }
-    ensures { IfOk result (λ text. (s : List Triple) → StandFor shapes.now.shapes s → IsWellFormed s → string_bytes text ≡ report_text s rows.now) }
+// The report, by the shapes.
+fn written(alloc: Global, rows: &[ResultRow], shapes: &[Shape<Term>]) -> Result<String, AllocError>
+    requires { HaveSources (read_shapes shapes.now) rows.now }
+    ensures { IfOk result (λ text. string_bytes text ≡ compiled_report (read_shapes shapes.now) rows.now) }
 {
     let mut out = head(alloc, rows)?;
     for (i, row) in rows.iter().enumerate() {
-        push_row(&mut out, i as u64 + 1, row, shapes.shapes.as_slice())?;
+        push_row(&mut out, i as u64 + 1, row, shapes)?;
     }
     Ok(out)
+}
+
+/// The report of these results, whose source shapes are among the shapes: byte for byte the one by
+/// the shapes, and so by each well-formed shapes graph that they stand for. It fails only for want
+/// of memory.
+pub fn report(alloc: Global, rows: &[ResultRow], shapes: &Shapes) -> Result<String, AllocError>
+    requires { HaveSources (read_shapes shapes.now.shapes) rows.now }
+    ensures shapes { IfOk result (λ text. string_bytes text ≡ compiled_report (read_shapes shapes.now.shapes) rows.now) }
+    ensures graph { IfOk result (λ text. (s : List Triple) → StandFor (read_shapes shapes.now.shapes) s → IsWellFormed s → string_bytes text ≡ report_text s rows.now) }
+{
+    Ok(written(alloc, rows, shapes.shapes.as_slice())?)
 }

@@ -1,1 +1,6 @@
-mod Binding
+pub mod Rows
+pub mod Parts
+pub mod Sizes
+mod ReadItems
+pub mod Names
+pub mod HasTerms

@@ -1,3 +1,5 @@
 pub mod Kinds
+pub mod TermComponents
+pub mod PathReadings
 pub mod Naming
 pub mod Standing

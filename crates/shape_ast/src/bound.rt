@@ -1,8 +1,9 @@
 ghost use Rattle.std.specs.Prelude.{◌≡◌, ◌<◌, IfOk, MatchOption, length, map};
 ghost use Rattle.std.specs.List.{All};
-ghost use Rattle.rdf_model.specs.Numbers.{term_at};
-ghost use Rattle.shape_ast.specs.Naming.{AreBound, AreNamed, IsBoundShape, IsNamed, IsNamedShape, constraint_number, constraint_term, named_constraint, named_optional_path, named_path, named_shape, named_shapes, named_target, path_number, path_term, target_number, target_term};
+ghost use Rattle.shape_ast.specs.PathReadings.{HoldsOfEach, IsBoundOptional, IsNamed, optional_path, optional_path_of};
+ghost use Rattle.shape_ast.specs.Naming.{AreBound, AreNamed, IsBoundShape, IsNamedShape, constraint_number, constraint_term, named_constraint, named_shape, named_shapes, named_target, read_shape, read_shapes, target_number, target_term};
 
+use crate::binding::{bind_path, number_of};
 use crate::{Constraint, Path, Shape, Shapes, Target};
 use collections::Sequence;
 use rdf_model::{Names, Term};
@@ -12,25 +13,6 @@ use std::alloc::{AllocError, Global};
 #[derive(Debug, Drop)]
 pub struct Bound {
     pub shapes: Sequence<Shape<u32>>,
-}
-
-// The number of a term that has one.
-fn number_of<N: Names>(names: &N, term: &Term) -> u32
-    requires { IsNamed (N.terms names.now) term.now }
-    ensures bound { result < length (N.terms names.now) }
-    ensures term { term_at (N.terms names.now) result ≡ term.now }
-{
-    names.id(term).unwrap()
-}
-
-fn bind_path<N: Names>(names: &N, path: &Path<Term>) -> Path<u32>
-    requires { IsNamed (N.terms names.now) (path_term path.now) }
-    ensures bound { path_number result < length (N.terms names.now) }
-    ensures path { named_path (N.terms names.now) result ≡ path.now }
-{
-    match path {
-        Path::Predicate(predicate) => Path::Predicate(number_of(names, predicate)),
-    }
 }
 
 fn bind_target<N: Names>(names: &N, target: &Target<Term>) -> Target<u32>
@@ -60,6 +42,13 @@ fn bind_constraint<N: Names>(names: &N, constraint: &Constraint<Term>) -> Constr
         },
         Constraint::MaxCount { count, parameter } => Constraint::MaxCount {
             count: *count,
+            parameter: number_of(names, parameter),
+        },
+        Constraint::ByTerm {
+            component,
+            parameter,
+        } => Constraint::ByTerm {
+            component: *component,
             parameter: number_of(names, parameter),
         },
     }
@@ -105,14 +94,18 @@ fn bind_properties(alloc: Global, properties: &[usize]) -> Result<Sequence<usize
     Ok(copy)
 }
 
-fn bind_optional_path<N: Names>(names: &N, path: &Option<Path<Term>>) -> Option<Path<u32>>
-    requires { MatchOption path.now (Unit {0}) (λ p. IsNamed (N.terms names.now) (path_term p)) }
-    ensures bound { MatchOption result (Unit {0}) (λ p. path_number p < length (N.terms names.now)) }
-    ensures path { named_optional_path (N.terms names.now) result ≡ path.now }
+fn bind_optional_path<N: Names>(
+    alloc: Global,
+    names: &N,
+    path: &Option<Path<Term>>,
+) -> Result<Option<Path<u32>>, AllocError>
+    requires { MatchOption (optional_path path.now) (Unit {0}) (HoldsOfEach (IsNamed (N.terms names.now))) }
+    ensures bound { IfOk result (λ bound. IsBoundOptional (length (N.terms names.now)) bound) }
+    ensures path { IfOk result (λ bound. optional_path_of (N.terms names.now) bound ≡ optional_path path.now) }
 {
     match path {
-        Some(path) => Some(bind_path(names, path)),
-        None => None,
+        Some(path) => Ok(Some(bind_path(alloc, names, path)?)),
+        None => Ok(None),
     }
 }
 
@@ -122,22 +115,22 @@ fn bind_shape<N: Names>(
     shapes: usize,
     shape: &Shape<Term>,
 ) -> Result<Shape<u32>, AllocError>
-    requires { IsNamedShape (N.terms names.now) shapes shape.now }
-    ensures { IfOk result (λ bound. IsBoundShape (length (N.terms names.now)) shapes bound × (named_shape (N.terms names.now) bound ≡ shape.now)) }
+    requires { IsNamedShape (N.terms names.now) shapes (read_shape shape.now) }
+    ensures { IfOk result (λ bound. IsBoundShape (length (N.terms names.now)) shapes bound × (named_shape (N.terms names.now) bound ≡ read_shape shape.now)) }
 {
     Ok(Shape {
         node: number_of(names, &shape.node),
-        path: bind_optional_path(names, &shape.path),
+        path: bind_optional_path(alloc, names, &shape.path)?,
         targets: bind_targets(alloc, names, shape.targets.as_slice())?,
         constraints: bind_constraints(alloc, names, shape.constraints.as_slice())?,
         properties: bind_properties(alloc, shape.properties.as_slice())?,
     })
 }
 
-/// The shapes, with each term as its number among the names.
+/// The shapes by the numbers of their terms among the names: they read the same.
 pub fn bind<N: Names>(alloc: Global, shapes: &Shapes, names: &N) -> Result<Bound, AllocError>
-    requires { AreNamed (N.terms names.now) shapes.now.shapes }
-    ensures { IfOk result (λ bound. AreBound (N.terms names.now) bound.shapes × (named_shapes (N.terms names.now) bound.shapes ≡ shapes.now.shapes)) }
+    requires { AreNamed (N.terms names.now) (read_shapes shapes.now.shapes) }
+    ensures { IfOk result (λ bound. AreBound (N.terms names.now) bound.shapes × (named_shapes (N.terms names.now) bound.shapes ≡ read_shapes shapes.now.shapes)) }
 {
     let all = shapes.shapes.as_slice();
     let mut bound = Sequence::new(alloc);

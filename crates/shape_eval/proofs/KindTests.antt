@@ -1,5 +1,5 @@
 -- A term is of the node kind that a compiled kind names where the kind accepts it.
-use Rattle.std.proofs.Common.{◌≡◌, ◌∙◌, ℕ, Bool, true, false, length, refl, sym, ap, inl, inr}
+use Rattle.std.proofs.Common.{◌≡◌, ◌∙◌, ℕ, Bool, true, length, refl, sym, ap, inl, inr}
 use Rattle.std.specs.Prelude.{◌⊎◌, ◌↔◌, ◌==◌, if◌then◌else◌}
 use Rattle.rdf_model.specs.declared.term.Term.{Term}
 use Rattle.rdf_model.specs.declared.term.Term.TheVariants as terms
@@ -62,21 +62,8 @@ literal BlankNodeOrIri h = cc
 literal BlankNodeOrLiteral h = inr (inl refl)
 literal IriOrLiteral h = inr (inr refl)
 
-kind_law : (k : NodeKind) (v : Term) → IsOfKind (kind_iri k) v ↔ (is_accepted k v ≡ true)
+-- a term is accepted by a kind where it is of the node kind that the kind's IRI names
+pub kind_law : (k : NodeKind) (v : Term) → IsOfKind (kind_iri k) v ↔ (is_accepted k v ≡ true)
 kind_law k (terms.Blank session number) = (accepted accepts_blank BlankNode BlankNodeOrIri BlankNodeOrLiteral refl refl refl k, blank k)
 kind_law k (terms.Iri iri_bytes) = (accepted accepts_iri Iri BlankNodeOrIri IriOrLiteral refl refl refl k, iri k)
 kind_law k (terms.Literal lexical datatype language) = (accepted accepts_literal Literal BlankNodeOrLiteral IriOrLiteral refl refl refl k, literal k)
-
-not_both : (b : Bool) → b ≡ true → b ≡ false → ⊥
-not_both b h k = cc
-
-or_false : (b : Bool) → (b ≡ true → ⊥) → b ≡ false
-or_false true h = absurd (h refl)
-or_false false h = refl
-
--- a term is refused by a kind where it is not of the node kind that the kind's IRI names
-pub refused : (k : NodeKind) (v : Term) → (IsOfKind (kind_iri k) v → ⊥) ↔ (is_accepted k v ≡ false)
-refused k v = (
-  λ h. or_false (is_accepted k v) (λ e. h ((kind_law k v).1 e)),
-  λ e h. not_both (is_accepted k v) ((kind_law k v).0 h) e,
-)

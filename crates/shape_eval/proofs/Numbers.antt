@@ -1,7 +1,7 @@
 -- Value nodes by their numbers are the value nodes by terms, and as many.
-use Rattle.std.proofs.Common.{◌≡◌, ◌∙◌, ℕ, suc, ◌<◌, List, [], ◌∷◌, length, map, refl, sym, ap, arith, subst, inl, inr}
-use Rattle.std.specs.Prelude.{◌↔◌, Option, Some, None, MatchOption}
-use Rattle.std.specs.List.{AllByRecursion, Contains}
+use Rattle.std.proofs.Common.{◌≡◌, ◌∙◌, ℕ, suc, ◌<◌, List, [], ◌∷◌, length, map, refl, sym, ap, subst, inl, inr}
+use Rattle.std.specs.Prelude.{false, Some, None}
+use Rattle.std.specs.List.{Contains}
 use Rattle.std.specs.Ordering.{nat_cmp, match_ordering}
 use Rattle.std.specs.declared.cmp.Ordering.TheVariants.{Less, Equal, Greater}
 use Rattle.collections.specs.Ordered.{IsAscending, with_item}
@@ -11,35 +11,19 @@ use Rattle.collections.proofs.Members.{has_cases, has_equal, has_tail, below, wi
 use Rattle.std.specs.Cmp.{tied_itself}
 use Rattle.std.proofs.lemmas.Cmp.{nat_cmp_total}
 use Rattle.rdf_model.specs.declared.term.Term.{Term}
-use Rattle.rdf_model.specs.declared.triple.Triple.{Triple}
 use Rattle.rdf_model.specs.declared.ids.Ids.{Ids}
 use Rattle.rdf_model.specs.Terms.{term_cmp}
 use Rattle.rdf_model.specs.Orders.{term_total, term_exact}
-use Rattle.rdf_model.specs.Numbers.{term_at, triple_at, graph_of, IsNumbering, AreNumbered}
+use Rattle.rdf_model.specs.Numbers.{term_at, graph_of, IsNumbering}
 use Rattle.shape_model.specs.Listings.{Counts}
-use Rattle.shape_model.specs.Triples.{Has}
+use Rattle.shape_model.specs.Walks.{Walk}
 use Rattle.shape_model.proofs.Listings.{one_listing}
 use Rattle.shape_ast.specs.declared.path.Path.{Path}
-use Rattle.shape_ast.specs.declared.path.Path.TheVariants.{Predicate}
-use Rattle.shape_ast.specs.Naming.{named_optional_path, path_number}
-use Rattle.shape_eval.specs.ValueNodes.{IsValueNode, IsNumberedValue, AreNodes, HasNode}
-
--- an item of a list of which something holds
-pub of_all : {X : Type 0} → (P : X → Type 0) (xs : List X) (x : X) → AllByRecursion P xs → Contains xs x → P x
-of_all P [] x a c = absurd (omega arith)
-of_all P (y ∷ ys) x a c = elim (has_cases y ys x c) [ inl e ↦ subst P e a.0 | inr d ↦ of_all P ys x a.1 d ]
-
--- what stands in a list that was made item by item
-pub mapped_from : {X Y : Type 0} → (h : X → Y) (xs : List X) (y : Y) → Contains (map h xs) y → (x : X) × Contains xs x × (h x ≡ y)
-mapped_from h [] y c = absurd (omega arith)
-mapped_from h (x ∷ xs) y c = elim (has_cases (h x) (map h xs) y c) [
-  | inl e ↦ (x, has_equal x xs x refl, e)
-  | inr d ↦ let k = mapped_from h xs y d in (k.0, has_tail x xs k.0 k.1, k.2)
-]
-
-pub mapped_to : {X Y : Type 0} → (h : X → Y) (xs : List X) (x : X) → Contains xs x → Contains (map h xs) (h x)
-mapped_to h [] x c = absurd (omega arith)
-mapped_to h (z ∷ zs) x c = elim (has_cases z zs x c) [ inl e ↦ has_equal (h z) (map h zs) (h x) (ap h e) | inr d ↦ has_tail (h z) (map h zs) (h x) (mapped_to h zs x d) ]
+use Rattle.shape_ast.specs.PathReadings.{path_of}
+use Rattle.path_eval.specs.Naming.{AreValues}
+use Rattle.component_rows.proofs.Collecting.{mapped_from, mapped_to}
+use Rattle.component_rows.specs.Nodes.{AreNodes, HasNode}
+use Rattle.shape_eval.specs.ValueNodes.{AreValueNodes}
 
 -- the terms of numbers, ascending
 sorted_terms : List Term → List ℕ → List Term
@@ -107,36 +91,24 @@ counted terms numbering ns nodes = record {
 pub one_count : (P : Term → Type 0) (n m : ℕ) → Counts P n → Counts P m → n ≡ m
 one_count P n m c d = sym c.count ∙ ap length (one_listing term_cmp term_total P c.items d.items c.listing d.listing) ∙ d.count
 
--- a numbered graph has the triple of three terms where it has that of their numbers
-module _ (terms : List Term) (numbering : IsNumbering terms) (ids : List Ids) (numbered : AreNumbered terms ids) where
-  pub value_named : (p f n : ℕ) → Contains ids (record { subject = f; predicate = p; object = n }) → n < length terms
-  value_named p f n c = (of_all (λ (i : Ids). (i.subject < length terms) × (i.predicate < length terms) × (i.object < length terms)) ids (record { subject = f; predicate = p; object = n }) numbered c).2
-
-  value_to : (p f : ℕ) (v : Term) (n : ℕ) → Contains ids (record { subject = f; predicate = p; object = n }) → term_at terms n ≡ v → Has (graph_of terms ids) (term_at terms f) (term_at terms p) v
-  value_to p f v n c e = subst (λ (w : Term). Has (graph_of terms ids) (term_at terms f) (term_at terms p) w) e (mapped_to (triple_at terms) ids (record { subject = f; predicate = p; object = n }) c)
-
-  value_from : (p f : ℕ) (v : Term) → p < length terms → f < length terms → Has (graph_of terms ids) (term_at terms f) (term_at terms p) v → (n : ℕ) × Contains ids (record { subject = f; predicate = p; object = n }) × (term_at terms n ≡ v)
-  value_from p f v a b c =
-      let k = mapped_from (triple_at terms) ids (record { subject = term_at terms f; predicate = term_at terms p; object = v }) c in
-      let in_range = of_all (λ (i : Ids). (i.subject < length terms) × (i.predicate < length terms) × (i.object < length terms)) ids k.0 numbered k.1 in
-      let subject : k.0.subject ≡ f = numbering k.0.subject f in_range.0 b (ap (λ (t : Triple). t.subject) k.2) in
-      let predicate : k.0.predicate ≡ p = numbering k.0.predicate p in_range.1 a (ap (λ (t : Triple). t.predicate) k.2) in
-      let is : k.0 ≡ record { subject = f; predicate = p; object = k.0.object } = λ i. record { subject = subject i; predicate = predicate i; object = k.0.object } in
-      (k.0.object, subst (λ (x : Ids). Contains ids x) is k.1, ap (λ (t : Triple). t.object) k.2)
-
-  -- the listed numbers are those of the value nodes
-  pub values_named : (path : Option (Path ℕ)) → MatchOption path (Unit {0}) (λ p. path_number p < length terms) → (f : ℕ) → f < length terms → (ns : List ℕ) → IsListing nat_cmp (IsNumberedValue ids path f) ns
-      → (v : Term) → HasNode terms ns v ↔ IsValueNode (graph_of terms ids) (named_optional_path terms path) (term_at terms f) v
-  values_named None bound f in_range ns listing v = (
-    λ c. let k = mapped_from (term_at terms) ns v c in let e : f ≡ k.0 = (listing.members k.0).0 k.1 in ap (term_at terms) e ∙ k.2,
+-- the focus node alone, where there is no path
+pub alone_is : (terms : List Term) (ids : List Ids) (f : ℕ) (ns : List ℕ) → f < length terms → IsListing nat_cmp (λ n. f ≡ n) ns → AreValueNodes terms ids None f ns
+alone_is terms ids f ns lt listing = record {
+  nodes = record { ascending = listing.ascending; named = λ n c. subst (λ (m : ℕ). m < length terms) ((listing.members n).0 c) lt };
+  each = λ v. (
+    λ c. let k = mapped_from (term_at terms) ns v c in ap (term_at terms) ((listing.members k.0).0 k.1) ∙ k.2,
     λ e. subst (λ (w : Term). HasNode terms ns w) e (mapped_to (term_at terms) ns f ((listing.members f).1 refl)),
-  )
-  values_named (Some (Predicate p)) bound f in_range ns listing v = (
-    λ c. let k = mapped_from (term_at terms) ns v c in value_to p f v k.0 ((listing.members k.0).0 k.1) k.2,
-    λ h. let k = value_from p f v bound in_range h in subst (λ (w : Term). HasNode terms ns w) k.2 (mapped_to (term_at terms) ns k.0 ((listing.members k.0).1 k.1)),
-  )
+  );
+}
 
-  -- and they have terms
-  pub values_are_nodes : (path : Option (Path ℕ)) (f : ℕ) → f < length terms → (ns : List ℕ) → IsListing nat_cmp (IsNumberedValue ids path f) ns → AreNodes terms ns
-  values_are_nodes None f in_range ns listing = record { ascending = listing.ascending; named = λ n c. subst (λ (m : ℕ). m < length terms) ((listing.members n).0 c) in_range }
-  values_are_nodes (Some (Predicate p)) f in_range ns listing = record { ascending = listing.ascending; named = λ n c. value_named p f n ((listing.members n).0 c) }
+-- the ends of the walks along the path
+pub walked_are : (terms : List Term) (ids : List Ids) (path : Path ℕ) (f : ℕ) (ns : List ℕ) → AreValues terms ids false path f ns → AreValueNodes terms ids (Some path) f ns
+walked_are terms ids path f ns values = record {
+  nodes = record { ascending = values.listed.ascending; named = λ n c. ((values.listed.members n).0 c).0 };
+  each = λ v. (
+    λ c.
+        let k = mapped_from (term_at terms) ns v c in
+        subst (λ (w : Term). Walk (graph_of terms ids) (path_of terms path) (term_at terms f) w) k.2 ((values.listed.members k.0).0 k.1).1,
+    λ w. values.every v w,
+  );
+}

@@ -1,35 +1,25 @@
 -- The value nodes of a compiled shape (SHACL 3.7), by terms and by the numbers of terms.
-use Rattle.std.specs.Prelude.{◌≡◌, ◌<◌, ℕ, List, length, map, Option, Some, None}
-use Rattle.std.specs.List.{Contains}
-use Rattle.std.specs.Ordering.{nat_cmp}
-use Rattle.collections.specs.Ordered.{IsAscending}
+use Rattle.std.specs.Prelude.{◌≡◌, ◌↔◌, ◌<◌, ℕ, List, length, Option, Some, None}
 use Rattle.rdf_model.specs.declared.term.Term.{Term}
 use Rattle.rdf_model.specs.declared.triple.Triple.{Triple}
 use Rattle.rdf_model.specs.declared.ids.Ids.{Ids}
-use Rattle.rdf_model.specs.declared.look.Look.TheVariants.{Out}
-use Rattle.rdf_model.specs.Numbers.{term_at, IsFound}
-use Rattle.shape_model.specs.Triples.{Has}
+use Rattle.rdf_model.specs.Numbers.{term_at, graph_of, IsNumbering, AreNumbered}
+use Rattle.shape_model.specs.Paths.{Path as DefinedPath}
+use Rattle.shape_model.specs.Walks.{Walk}
+use Rattle.component_rows.specs.Nodes.{AreNodes, HasNode}
 use Rattle.shape_ast.specs.declared.path.Path.{Path}
-use Rattle.shape_ast.specs.declared.path.Path.TheVariants.{Predicate}
+use Rattle.shape_ast.specs.PathReadings.{IsBoundOptional, optional_path_of}
 
--- the focus node itself without a path, else the values of its predicate at the focus node
-abbrev pub IsValueNode : List Triple → Option (Path Term) → Term → Term → Type 0
+-- the focus node itself without a path, else the nodes to which it walks along the path
+abbrev pub IsValueNode : List Triple → Option DefinedPath → Term → Term → Type 0
 IsValueNode g None f v = f ≡ v
-IsValueNode g (Some (Predicate p)) f v = Has g f p v
+IsValueNode g (Some p) f v = Walk g p f v
 
--- the same by numbers
-abbrev pub IsReached : List Ids → Path ℕ → ℕ → ℕ → Type 0
-IsReached ids (Predicate p) f n = IsFound (Out f p) ids n
+-- the numbers are those of just the value nodes at the focus node
+pub record AreValueNodes (terms : List Term) (ids : List Ids) (path : Option (Path ℕ)) (f : ℕ) (numbers : List ℕ) : Type 0 where
+  pub nodes : AreNodes terms numbers
+  pub each : (v : Term) → HasNode terms numbers v ↔ IsValueNode (graph_of terms ids) (optional_path_of terms path) (term_at terms f) v
 
-abbrev pub IsNumberedValue : List Ids → Option (Path ℕ) → ℕ → ℕ → Type 0
-IsNumberedValue ids None f n = f ≡ n
-IsNumberedValue ids (Some p) f n = IsReached ids p f n
-
--- ascending numbers that each have a term
-pub record AreNodes (terms : List Term) (numbers : List ℕ) : Type 0 where
-  pub ascending : IsAscending nat_cmp numbers
-  pub named : (n : ℕ) → Contains numbers n → n < length terms
-
--- one of the numbers has the term
-abbrev pub HasNode : List Term → List ℕ → Term → Type 0
-HasNode terms numbers v = Contains (map (term_at terms) numbers) v
+-- in whatever way the graph, the path and the focus node are numbered
+abbrev pub AtNumbers : List Ids → Option (Path ℕ) → ℕ → (List Term → Type 0) → Type 0
+AtNumbers ids path f P = (terms : List Term) → IsNumbering terms → AreNumbered terms ids → IsBoundOptional (length terms) path → f < length terms → P terms

@@ -1,78 +1,20 @@
 // The results of each component at the value nodes of a focus node, as numbers of terms.
-ghost use Rattle.std.specs.Prelude.{◌≡◌, ◌<◌, [], ◌∷◌, ◌++◌, IfOk, OnOk, length};
-ghost use Rattle.rdf_model.specs.Numbers.{IsNumbering, term_at};
-ghost use Rattle.shape_model.specs.Components.{row_about, row_without_value};
+ghost use Rattle.std.specs.Prelude.{◌≡◌, ◌<◌, [], ◌∷◌, IfOk, length};
+ghost use Rattle.rdf_model.specs.Numbers.{AreNumbered, IsNumbering, graph_of, term_at};
 ghost use Rattle.shape_ast.specs.Naming.{named_constraint, constraint_number};
-ghost use Rattle.shape_eval.specs.ValueNodes.{AreNodes, HasNode};
-ghost use Rattle.shape_eval.specs.CompiledRows.{Collects, ConstraintRow, KindRow};
+ghost use Rattle.component_rows.specs.Listed.{Collects};
+ghost use Rattle.component_rows.specs.Nodes.{AreNodes, HasNode};
+ghost use Rattle.shape_eval.specs.CompiledRows.{ConstraintRow, KindRow, LeastRow, MostRow, TermRow};
 
-use collections::both;
-use rdf_model::{Names, Term};
-use shape_ast::{Component, Constraint, NodeKind, ResultRow};
+use component_rows::{ValueTest, failing, row_alone};
+use pair_constraints::{disjoint, equals, less_than, less_than_or_equals};
+use rdf_model::{Names, Term, Triples};
+use shape_ast::{Component, Constraint, NodeKind, ResultRow, TermComponent};
 use shape_model::{is_fewer, is_more};
 use std::alloc::{AllocError, Global};
-
-// The term of a number that has one.
-pub(crate) fn named<'a, N: Names>(names: &'a N, number: u32) -> &'a Term
-    requires { number < length (N.terms names.now) }
-    ensures { result.now ≡ term_at (N.terms names.now) number }
-{
-    match names.term(number) {
-        Some(term) => term,
-        None => unreachable!(),
-    }
-}
-
-// The result of a component about no value node.
-fn row_alone<N: Names>(
-    names: &N,
-    source: &Term,
-    component: Component,
-    parameter: u32,
-    focus: u32,
-) -> Result<ResultRow, AllocError>
-    requires parameter { parameter < length (N.terms names.now) }
-    requires focus { focus < length (N.terms names.now) }
-    ensures { IfOk result (λ row. row ≡ row_without_value component source.now (term_at (N.terms names.now) focus) (term_at (N.terms names.now) parameter)) }
-{
-    Ok(ResultRow {
-        source_shape: source.clone()?,
-        focus_node: named(names, focus).clone()?,
-        component,
-        parameter: Some(named(names, parameter).clone()?),
-        about: None,
-        value: None,
-        other: None,
-    })
-}
-
-// The result of a component about a value node.
-fn row_at<N: Names>(
-    names: &N,
-    source: &Term,
-    component: Component,
-    parameter: u32,
-    focus: u32,
-    value: &Term,
-) -> Result<ResultRow, AllocError>
-    requires parameter { parameter < length (N.terms names.now) }
-    requires focus { focus < length (N.terms names.now) }
-    ensures { IfOk result (λ row. row ≡ row_about component source.now (term_at (N.terms names.now) focus) (term_at (N.terms names.now) parameter) value.now) }
-{
-    let ends = both(source.clone(), named(names, focus).clone());
-    let values = both(value.clone(), value.clone());
-    let rest = both(named(names, parameter).clone(), values);
-    let ((source_shape, focus_node), (parameter, (about, value))) = both(ends, rest)?;
-    Ok(ResultRow {
-        source_shape,
-        focus_node,
-        component,
-        parameter: Some(parameter),
-        about: Some(about),
-        value: Some(value),
-        other: None,
-    })
-}
+use value_constraints::{
+    datatype, has_value, max_exclusive, max_inclusive, min_exclusive, min_inclusive,
+};
 
 // One result.
 fn alone(alloc: Global, row: ResultRow) -> Result<Vec<ResultRow>, AllocError>
@@ -97,7 +39,7 @@ pub(crate) fn min_count<N: Names>(
     requires nodes { AreNodes (N.terms names.now) values.now }
     requires parameter { parameter < length (N.terms names.now) }
     requires focus { focus < length (N.terms names.now) }
-    ensures { IfOk result (λ rows. Collects (ConstraintRow (Constraint.MinCount count.now (term_at (N.terms names.now) parameter)) (HasNode (N.terms names.now) values.now)
+    ensures { IfOk result (λ rows. Collects (LeastRow count.now (term_at (N.terms names.now) parameter) (HasNode (N.terms names.now) values.now)
         source.now (term_at (N.terms names.now) focus)) rows.items) }
 {
     if !is_fewer(values.len(), count) {
@@ -123,7 +65,7 @@ pub(crate) fn max_count<N: Names>(
     requires nodes { AreNodes (N.terms names.now) values.now }
     requires parameter { parameter < length (N.terms names.now) }
     requires focus { focus < length (N.terms names.now) }
-    ensures { IfOk result (λ rows. Collects (ConstraintRow (Constraint.MaxCount count.now (term_at (N.terms names.now) parameter)) (HasNode (N.terms names.now) values.now)
+    ensures { IfOk result (λ rows. Collects (MostRow count.now (term_at (N.terms names.now) parameter) (HasNode (N.terms names.now) values.now)
         source.now (term_at (N.terms names.now) focus)) rows.items) }
 {
     if !is_more(values.len(), count) {
@@ -135,28 +77,21 @@ pub(crate) fn max_count<N: Names>(
     )
 }
 
-// Adds the result about a value node, unless it is of the kind.
-fn add_refused<N: Names>(
-    rows: &mut Vec<ResultRow>,
-    names: &N,
-    source: &Term,
+// A term of the kind.
+#[derive(Drop)]
+struct OfKind {
     kind: NodeKind,
-    parameter: u32,
-    focus: u32,
-    value: u32,
-) -> Result<(), AllocError>
-    requires parameter { parameter < length (N.terms names.now) }
-    requires focus { focus < length (N.terms names.now) }
-    requires value { value < length (N.terms names.now) }
-    ensures { OnOk result ((more : _) × (rows.new.items ≡ rows.old.items ++ more)
-        × Collects (KindRow kind (term_at (N.terms names.now) parameter) source.now (term_at (N.terms names.now) focus) (term_at (N.terms names.now) value)) more) }
-{
-    let term = named(names, value);
-    if kind.accepts(term) {
-        return Ok(());
+}
+
+impl ValueTest for OfKind {
+    ghost use Rattle.std.specs.Prelude.{◌≡◌, true};
+    ghost use Rattle.shape_ast.specs.Kinds.{is_accepted};
+
+    ghost accepts = { λ t v. is_accepted t.kind v ≡ true };
+
+    fn passes(&self, value: &Term) -> bool {
+        self.kind.accepts(value)
     }
-    rows.push(row_at(names, source, Component::NodeKind, parameter, focus, term)?)?;
-    Ok(())
 }
 
 /// One result about each value node that isn't of the kind (SHACL section 4.1.3).
@@ -172,19 +107,73 @@ pub(crate) fn node_kind<N: Names>(
     requires nodes { AreNodes (N.terms names.now) values.now }
     requires parameter { parameter < length (N.terms names.now) }
     requires focus { focus < length (N.terms names.now) }
-    ensures { IfOk result (λ rows. Collects (ConstraintRow (Constraint.NodeKind kind (term_at (N.terms names.now) parameter)) (HasNode (N.terms names.now) values.now)
+    ensures { IfOk result (λ rows. Collects (KindRow kind (term_at (N.terms names.now) parameter) (HasNode (N.terms names.now) values.now)
         source.now (term_at (N.terms names.now) focus)) rows.items) }
 {
-    let mut rows = Vec::new(alloc);
-    for value in values {
-        add_refused(&mut rows, names, source, kind, parameter, focus, *value)?;
+    let test = OfKind { kind };
+    failing(
+        alloc,
+        names,
+        source,
+        Component::NodeKind,
+        parameter,
+        focus,
+        values,
+        &test,
+    )
+}
+
+/// The results of a component at a value of its parameter (SHACL sections 4.1.2, 4.3, 4.5 and 4.8.2).
+pub(crate) fn term_rows<R: Triples, N: Names>(
+    alloc: Global,
+    graph: &R,
+    names: &N,
+    source: &Term,
+    component: TermComponent,
+    parameter: u32,
+    focus: u32,
+    values: &[u32],
+) -> Result<Vec<ResultRow>, AllocError>
+    requires numbering { IsNumbering (N.terms names.now) }
+    requires graph { AreNumbered (N.terms names.now) (R.triples graph.now) }
+    requires nodes { AreNodes (N.terms names.now) values.now }
+    requires parameter { parameter < length (N.terms names.now) }
+    requires focus { focus < length (N.terms names.now) }
+    ensures { IfOk result (λ rows. Collects (TermRow (graph_of (N.terms names.now) (R.triples graph.now)) component (term_at (N.terms names.now) parameter) (HasNode (N.terms names.now) values.now)
+        source.now (term_at (N.terms names.now) focus)) rows.items) }
+{
+    match component {
+        TermComponent::Datatype => { datatype(alloc, names, source, parameter, focus, values) }
+        TermComponent::MinExclusive => {
+            min_exclusive(alloc, names, source, parameter, focus, values)
+        }
+        TermComponent::MinInclusive => {
+            min_inclusive(alloc, names, source, parameter, focus, values)
+        }
+        TermComponent::MaxExclusive => {
+            max_exclusive(alloc, names, source, parameter, focus, values)
+        }
+        TermComponent::MaxInclusive => {
+            max_inclusive(alloc, names, source, parameter, focus, values)
+        }
+        TermComponent::Equals => { equals(alloc, graph, names, source, parameter, focus, values) }
+        TermComponent::Disjoint => {
+            disjoint(alloc, graph, names, source, parameter, focus, values)
+        }
+        TermComponent::LessThan => {
+            less_than(alloc, graph, names, source, parameter, focus, values)
+        }
+        TermComponent::LessThanOrEquals => {
+            less_than_or_equals(alloc, graph, names, source, parameter, focus, values)
+        }
+        TermComponent::HasValue => { has_value(alloc, names, source, parameter, focus, values) }
     }
-    Ok(rows)
 }
 
 /// The results of a constraint.
-pub(crate) fn constraint_rows<N: Names>(
+pub(crate) fn constraint_rows<R: Triples, N: Names>(
     alloc: Global,
+    graph: &R,
     names: &N,
     source: &Term,
     constraint: &Constraint<u32>,
@@ -192,10 +181,11 @@ pub(crate) fn constraint_rows<N: Names>(
     values: &[u32],
 ) -> Result<Vec<ResultRow>, AllocError>
     requires numbering { IsNumbering (N.terms names.now) }
+    requires graph { AreNumbered (N.terms names.now) (R.triples graph.now) }
     requires nodes { AreNodes (N.terms names.now) values.now }
     requires constraint { constraint_number constraint.now < length (N.terms names.now) }
     requires focus { focus < length (N.terms names.now) }
-    ensures { IfOk result (λ rows. Collects (ConstraintRow (named_constraint (N.terms names.now) constraint.now) (HasNode (N.terms names.now) values.now)
+    ensures { IfOk result (λ rows. Collects (ConstraintRow (graph_of (N.terms names.now) (R.triples graph.now)) (named_constraint (N.terms names.now) constraint.now) (HasNode (N.terms names.now) values.now)
         source.now (term_at (N.terms names.now) focus)) rows.items) }
 {
     match constraint {
@@ -208,5 +198,11 @@ pub(crate) fn constraint_rows<N: Names>(
         Constraint::MaxCount { count, parameter } => {
             max_count(alloc, names, source, count, *parameter, focus, values)
         }
+        Constraint::ByTerm {
+            component,
+            parameter,
+        } => term_rows(
+            alloc, graph, names, source, *component, *parameter, focus, values,
+        ),
     }
 }

@@ -1,23 +1,26 @@
-ghost use Rattle.std.specs.Prelude.{◌≡◌, ◌<◌, IfOk, length, map, Some, slice_get};
+ghost use Rattle.std.specs.Prelude.{◌<◌, IfOk, length, map};
 ghost use Rattle.std.specs.List.{All};
 ghost use Rattle.rdf_model.specs.Numbers.{AreNumbered, IsNumbering, graph_of, term_at};
 ghost use Rattle.shape_ast.specs.Naming.{AreBound, constraint_number, named_constraint, named_shape, named_shapes};
-ghost use Rattle.shape_eval.specs.ValueNodes.{AreNodes, HasNode};
-ghost use Rattle.shape_eval.specs.CompiledRows.{Collects, CompiledRow, ConstraintsRow, FromSome, OwnRow, PropertyAt, RowAtValue};
+ghost use Rattle.component_rows.specs.Listed.{Collects};
+ghost use Rattle.component_rows.specs.Nodes.{AreNodes, HasNode};
+ghost use Rattle.shape_eval.specs.CompiledRows.{CompiledRow, ConstraintsRow, FromSome, OwnRow, PropertyAt, RowAtValue};
 ghost use Rattle.shape_eval.specs.Bounds.{IsBoundAlone};
 ghost use Rattle.shape_eval.specs.Results.{ListsResults};
 
-use crate::components::{constraint_rows, named};
+use crate::components::constraint_rows;
 use crate::rights::Permit;
 use crate::value_nodes::value_nodes;
 use collections::sorted_once;
+use component_rows::named;
 use rdf_model::{Footprint, Names, Triples};
 use shape_ast::{Bound, Constraint, ResultRow, Shape};
 use std::alloc::{AllocError, Global};
 
 // The results of a shape's own constraints at a focus node with these value nodes.
-fn own_rows<N: Names>(
+fn own_rows<R: Triples, N: Names>(
     alloc: Global,
+    graph: &R,
     names: &N,
     source: u32,
     constraints: &[Constraint<u32>],
@@ -25,17 +28,18 @@ fn own_rows<N: Names>(
     values: &[u32],
 ) -> Result<Vec<ResultRow>, AllocError>
     requires numbering { IsNumbering (N.terms names.now) }
+    requires graph { AreNumbered (N.terms names.now) (R.triples graph.now) }
     requires nodes { AreNodes (N.terms names.now) values.now }
     requires source { source < length (N.terms names.now) }
     requires constraints { All (λ k. constraint_number k < length (N.terms names.now)) constraints.now }
     requires focus { focus < length (N.terms names.now) }
-    ensures { IfOk result (λ rows. Collects (ConstraintsRow (map (named_constraint (N.terms names.now)) constraints.now) (HasNode (N.terms names.now) values.now)
+    ensures { IfOk result (λ rows. Collects (ConstraintsRow (graph_of (N.terms names.now) (R.triples graph.now)) (map (named_constraint (N.terms names.now)) constraints.now) (HasNode (N.terms names.now) values.now)
         (term_at (N.terms names.now) source) (term_at (N.terms names.now) focus)) rows.items) }
 {
     let node = named(names, source);
     let mut rows = Vec::new(alloc);
     for constraint in constraints {
-        let mut more = constraint_rows(alloc, names, node, constraint, focus, values)?;
+        let mut more = constraint_rows(alloc, graph, names, node, constraint, focus, values)?;
         rows.append(&mut more)?;
     }
     Ok(rows)
@@ -59,6 +63,7 @@ fn rows_at<R: Triples, N: Names>(
     let values = value_nodes(alloc, graph, &shape.path, focus, footprint)?;
     own_rows(
         alloc,
+        graph,
         names,
         shape.node,
         shape.constraints.as_slice(),
@@ -136,6 +141,7 @@ fn compiled_rows<R: Triples, N: Names>(
     let values = value_nodes(alloc, graph, &shape.path, focus, footprint)?;
     let mut rows = own_rows(
         alloc,
+        graph,
         names,
         shape.node,
         shape.constraints.as_slice(),

@@ -1,14 +1,15 @@
 ghost use Rattle.std.specs.Prelude.{◌≡◌, IfOk};
 ghost use Rattle.std.specs.Ordering.{nat_cmp};
 ghost use Rattle.collections.specs.Listings.{IsListing};
-ghost use Rattle.shape_eval.specs.ValueNodes.{IsNumberedValue, IsReached};
+ghost use Rattle.shape_eval.specs.ValueNodes.{AreValueNodes, AtNumbers};
 
-use rdf_model::{Footprint, Look, Triples};
+use path_eval::values;
+use rdf_model::{Footprint, Triples};
 use shape_ast::Path;
 use std::alloc::{AllocError, Global};
 
 /// The value nodes at a focus node (SHACL section 3.7), ascending by number, for a shape with this
-/// path or none. The look that finds them is added to the footprint.
+/// path or none. The looks that find them are added to the footprint.
 pub(crate) fn value_nodes<R: Triples>(
     alloc: Global,
     graph: &R,
@@ -16,31 +17,11 @@ pub(crate) fn value_nodes<R: Triples>(
     focus: u32,
     footprint: &mut Footprint,
 ) -> Result<Vec<u32>, AllocError>
-    ensures { IfOk result (λ values. IsListing nat_cmp (IsNumberedValue (R.triples graph.now) path.now focus) values.items) }
+    ensures { IfOk result (λ values. AtNumbers (R.triples graph.now) path.now focus (λ terms. AreValueNodes terms (R.triples graph.now) path.now focus values.items)) }
 {
     match path {
         None => alone(alloc, focus),
-        Some(path) => reached(alloc, graph, path, focus, footprint),
-    }
-}
-
-// The nodes that a path leads to.
-fn reached<R: Triples>(
-    alloc: Global,
-    graph: &R,
-    path: &Path<u32>,
-    focus: u32,
-    footprint: &mut Footprint,
-) -> Result<Vec<u32>, AllocError>
-    ensures { IfOk result (λ values. IsListing nat_cmp (IsReached (R.triples graph.now) path.now focus) values.items) }
-{
-    match path {
-        Path::Predicate(predicate) => {
-            let look = Look::Out(focus, *predicate);
-            let found = graph.find(alloc, &look)?;
-            footprint.add(look)?;
-            Ok(found)
-        }
+        Some(path) => values(alloc, graph, path, focus, footprint),
     }
 }
 

@@ -12,25 +12,24 @@ use Rattle.rdf_model.specs.declared.triple.Triple.{Triple}
 use Rattle.rdf_model.specs.Terms.{term_cmp}
 use Rattle.shape_model.specs.declared.rule.Rule.TheVariants as rules
 use Rattle.shape_model.specs.Instances.{Instance}
-use Rattle.shape_model.specs.Paths.{Path as DefinedPath, Inverse, Sequence, Alternative, ZeroOrMore, OneOrMore, ZeroOrOne, Predicate as DefinedPredicate}
+use Rattle.shape_model.specs.Paths.{Path, Inverse, Sequence, Alternative, ZeroOrMore, OneOrMore, ZeroOrOne, Predicate}
 use Rattle.shape_model.specs.Readings.{IsAllowed, IsNodeShape, SameReading, ShapePath, reading}
 use Rattle.shape_model.specs.ShapeSyntax.{HasProperty, IsShape, PathOf, TakesList}
 use Rattle.shape_model.specs.TermTests.{count_of}
 use Rattle.shape_model.specs.Triples.{Has, IsBlank, IsIri, IsMember}
 use Rattle.shape_model.specs.Vocabulary.{ShapeProperty, property_iri, rdf_type, sh, ShClass, ShDatatype, ShNodeKind, ShMinCount, ShMaxCount, ShMinExclusive, ShMinInclusive, ShMaxExclusive, ShMaxInclusive, ShMinLength, ShMaxLength, ShPattern, ShFlags, ShLanguageIn, ShUniqueLang, ShEquals, ShDisjoint, ShLessThan, ShLessThanOrEquals, ShNot, ShAnd, ShOr, ShXone, ShNode, ShProperty, ShQualifiedValueShape, ShQualifiedMinCount, ShQualifiedMaxCount, ShQualifiedValueShapesDisjoint, ShClosed, ShIgnoredProperties, ShHasValue, ShIn, ShDeactivated, ShPath, ShTargetNode, ShTargetClass, ShTargetSubjectsOf, ShTargetObjectsOf}
 use Rattle.shape_model.specs.WellFormed.{IsNodeKind, IsWellFormed, unread_predicates}
-use Rattle.shape_ast.specs.declared.path.Path.{Path}
-use Rattle.shape_ast.specs.declared.path.Path.TheVariants.{Predicate}
 use Rattle.shape_ast.specs.declared.constraint.Constraint.{Constraint}
-use Rattle.shape_ast.specs.declared.constraint.Constraint.TheVariants.{NodeKind, MinCount, MaxCount}
+use Rattle.shape_ast.specs.declared.constraint.Constraint.TheVariants.{NodeKind, MinCount, MaxCount, ByTerm}
 use Rattle.shape_ast.specs.declared.node_kind.NodeKind.{NodeKind as Kind}
+use Rattle.shape_ast.specs.declared.term_component.TermComponent.{TermComponent}
+use Rattle.shape_ast.specs.declared.term_component.TermComponent.TheVariants as by
 use Rattle.shape_ast.specs.declared.node_kind.NodeKind.TheVariants as kinds
 use Rattle.shape_ast.specs.declared.shape.Target.TheVariants.{Node, SubjectsOf}
-use Rattle.shape_ast.specs.declared.shape.Shape.{Shape}
 use Rattle.shape_ast.specs.Kinds.{kind_iri}
-use Rattle.shape_ast.specs.Naming.{path_term}
+use Rattle.shape_ast.specs.Naming.{ReadShape}
 use Rattle.shape_ast.specs.Standing.{IsRead, ShapeAllows, ShapeHas, StandFor, shape_cmp, shape_reading}
-use Rattle.shape_reader.specs.Parts.{IsCompiled}
+use Rattle.shape_reader.specs.Parts.{IsCompiled, IsPathAt}
 use Rattle.shape_reader.specs.Shapes.{IsMadeShape, IsTakenShape}
 use Rattle.shape_reader.proofs.Equals.{member_unless, same_unless}
 use Rattle.shape_reader.proofs.Scans.{contains_member, has_cases, image_from}
@@ -160,25 +159,28 @@ pub map_contains : {X Y : Type 0} → (f : X → Y) (xs : List X) (y : Y) → Co
 map_contains f [] y c = absurd (omega arith)
 map_contains f (z ∷ zs) y c = elim (has_cases (f z) (map f zs) y c) [ inl e ↦ (z, has_head z zs, e) | inr d ↦ let k = map_contains f zs y d in (k.0, has_tail z zs k.0 k.1, k.2) ]
 
-abbrev pub node_of : Shape Term → Term
+abbrev pub node_of : ReadShape → Term
 node_of c = c.node
 
-above_nodes : (c : Shape Term) (cs : List (Shape Term)) → AllAbove term_cmp c.node (map node_of cs) → AllAbove shape_cmp c cs
+above_nodes : (c : ReadShape) (cs : List ReadShape) → AllAbove term_cmp c.node (map node_of cs) → AllAbove shape_cmp c cs
 above_nodes c [] a = tt
 above_nodes c (d ∷ ds) a = (a.0, above_nodes c ds a.1)
 
-ascending_nodes : (cs : List (Shape Term)) → IsAscending term_cmp (map node_of cs) → IsAscending shape_cmp cs
+ascending_nodes : (cs : List ReadShape) → IsAscending term_cmp (map node_of cs) → IsAscending shape_cmp cs
 ascending_nodes [] a = tt
 ascending_nodes (c ∷ cs) a = (above_nodes c cs a.0, ascending_nodes cs a.1)
 
--- what a part of the code says of a path
-none_path : (s : List Triple) (n : Term) (o : Option (Path Term)) → MatchOption o (IsNodeShape s n) (λ p. HasProperty s n ShPath (path_term p)) → IsNodeShape s n ↔ (o ≡ None)
+-- what the parts of a shape say of its path
+none_path : (s : List Triple) (n : Term) (o : Option Path) → MatchOption o (IsNodeShape s n) (IsPathAt s n) → IsNodeShape s n ↔ (o ≡ None)
 none_path s n None h = (λ i. refl, λ e. h)
-none_path s n (Some (Predicate q)) h = (λ i. absurd (i q h), λ e. cc)
+none_path s n (Some p) h = (λ i. absurd (i h.0 h.2), λ e. cc)
 
-some_path : (s : List Triple) (n : Term) → ((v w : Term) → HasProperty s n ShPath v → HasProperty s n ShPath w → v ≡ w) → (o : Option (Path Term)) → MatchOption o (IsNodeShape s n) (λ p. HasProperty s n ShPath (path_term p)) → (v : Term) → HasProperty s n ShPath v ↔ (o ≡ Some (Predicate v))
+some_path : (s : List Triple) (n : Term) → ((v w : Term) → HasProperty s n ShPath v → HasProperty s n ShPath w → v ≡ w) → (o : Option Path) → MatchOption o (IsNodeShape s n) (IsPathAt s n) → (v : Term) → HasProperty s n ShPath v ↔ (o ≡ Some (Predicate v))
 some_path s n one None h v = (λ k. absurd (h v k), λ e. cc)
-some_path s n one (Some (Predicate q)) h v = (λ k. ap (λ (t : Term). Some (Predicate t)) (one q v h k), λ e. let d : q ≡ v = cc in subst (λ (t : Term). HasProperty s n ShPath t) d h)
+some_path s n one (Some p) h v = (
+  λ k. ap Some (h.1 ∙ ap Predicate (one h.0 v h.2 k)),
+  λ e. let same : h.0 ≡ v = let is = h.1 in cc in subst (λ (t : Term). HasProperty s n ShPath t) same h.2,
+)
 
 module _ (s : List Triple) (well : IsWellFormed s) where
   unread : (n p v : Term) → IsMember unread_predicates p → Has s n p v → ⊥
@@ -223,8 +225,8 @@ module _ (s : List Triple) (well : IsWellFormed s) where
   max_said n shape v h = some_unless (count_of v) (λ none. well (record { node = n; rule = rules.Count; value = Some v }) (ShMaxCount, inr refl, (shape, (v, h, none, refl))))
 
   -- an IRI stands for itself alone
-  path_of_iri : (v : Term) → IsIri v → (p : DefinedPath) → PathOf s v p → p ≡ DefinedPredicate v
-  path_of_iri v i (DefinedPredicate q) h = ap DefinedPredicate (sym h.0)
+  path_of_iri : (v : Term) → IsIri v → (p : Path) → PathOf s v p → p ≡ Predicate v
+  path_of_iri v i (Predicate q) h = ap Predicate (sym h.0)
   path_of_iri v i (Inverse p) h = absurd (iri_no_blank v i h.1.0)
   path_of_iri v i (Sequence ps) h = absurd (iri_no_blank v i h.0)
   path_of_iri v i (Alternative ps) h = absurd (iri_no_blank v i h.1.0)
@@ -232,48 +234,56 @@ module _ (s : List Triple) (well : IsWellFormed s) where
   path_of_iri v i (OneOrMore p) h = absurd (iri_no_blank v i h.1.0)
   path_of_iri v i (ZeroOrOne p) h = absurd (iri_no_blank v i h.1.0)
 
-  module _ (shapes : List (Shape Term)) (nodes : List Term) (listing : IsListing term_cmp (λ n. IsMadeShape s n ⊎ IsTakenShape s n) nodes) (same : map node_of shapes ≡ nodes) (compiled : (c : Shape Term) → Contains shapes c → IsCompiled s nodes c) where
-    is_shape : (c : Shape Term) → Contains shapes c → IsShape s c.node
+  module _ (shapes : List ReadShape) (nodes : List Term) (listing : IsListing term_cmp (λ n. IsMadeShape s n ⊎ IsTakenShape s n) nodes) (same : map node_of shapes ≡ nodes) (compiled : (c : ReadShape) → Contains shapes c → IsCompiled s nodes c) where
+    is_shape : (c : ReadShape) → Contains shapes c → IsShape s c.node
     is_shape c i = either_way c.node ((listing.members c.node).0 (subst (λ (ns : List Term). Contains ns c.node) same (contains_map node_of shapes c i)))
 
-    all_shapes : (n : Term) → IsShape s n → (c : Shape Term) × Contains shapes c × (c.node ≡ n)
+    all_shapes : (n : Term) → IsShape s n → (c : ReadShape) × Contains shapes c × (c.node ≡ n)
     all_shapes n i = map_contains node_of shapes n (subst (λ (ns : List Term). Contains ns n) (sym same) ((listing.members n).1 (ways n i)))
 
-    path_said : (c : Shape Term) → Contains shapes c → (v : Term) → HasProperty s c.node ShPath v ↔ (c.path ≡ Some (Predicate v))
+    path_said : (c : ReadShape) → Contains shapes c → (v : Term) → HasProperty s c.node ShPath v ↔ (c.path ≡ Some (Predicate v))
     path_said c i = some_path s c.node (one_path c.node (is_shape c i)) c.path (compiled c i).path
 
     -- a property shape by its place
-    to_place : (c : Shape Term) → Contains shapes c → (v : Term) → HasProperty s c.node ShProperty v → (k : ℕ) × (m : Shape Term) × Contains c.properties k × (slice_get shapes k ≡ Some m) × (m.node ≡ v)
+    to_place : (c : ReadShape) → Contains shapes c → (v : Term) → HasProperty s c.node ShProperty v → (k : ℕ) × (m : ReadShape) × Contains c.properties k × (slice_get shapes k ≡ Some m) × (m.node ≡ v)
     to_place c i v h =
         let place = place_in nodes v ((listing.members v).1 (inr (ShProperty, c.node, inr (inr (inl refl)), h))) in
         let m = get_map node_of shapes place.0 v (subst (λ (ns : List Term). slice_get ns place.0 ≡ Some v) (sym same) place.1) in
         (place.0, m.0, ((compiled c i).properties place.0).1 (record { subject = c.node; predicate = property_iri ShProperty; object = v }, h, ((refl, refl), place.1)), m.1, m.2)
 
-    from_place : (c : Shape Term) → Contains shapes c → (k : ℕ) (m : Shape Term) → Contains c.properties k → slice_get shapes k ≡ Some m → HasProperty s c.node ShProperty m.node
+    from_place : (c : ReadShape) → Contains shapes c → (k : ℕ) (m : ReadShape) → Contains c.properties k → slice_get shapes k ≡ Some m → HasProperty s c.node ShProperty m.node
     from_place c i k m d e =
         let t = ((compiled c i).properties k).0 d in
         let here : slice_get nodes k ≡ Some m.node = subst (λ (ns : List Term). slice_get ns k ≡ Some m.node) same (map_get node_of shapes k m e) in
         let object : t.0.object ≡ m.node = let f = sym t.2.1 ∙ here in cc in
         subst (λ (v : Term). HasProperty s c.node ShProperty v) object (has_at s t.0.subject c.node t.0.predicate (property_iri ShProperty) t.0.object t.2.0.0 t.2.0.1 t.1)
 
-    has_same : (c : Shape Term) → Contains shapes c → (p : ShapeProperty) (v : Term) → HasProperty s c.node p v ↔ ShapeHas shapes c p v
+    -- no constraint of another component is compiled so far
+    no_term : (c : ReadShape) → Contains shapes c → (k : TermComponent) (v : Term) → Contains c.constraints (ByTerm k v) → ⊥
+    no_term c i k v d = let t = ((compiled c i).constraints (ByTerm k v)).0 d in elim t.2 [
+      | inl a ↦ let f = a.1.2 in cc
+      | inr (inl a) ↦ let f = a.1.2 in cc
+      | inr (inr a) ↦ let f = a.1.2 in cc
+    ]
+
+    has_same : (c : ReadShape) → Contains shapes c → (p : ShapeProperty) (v : Term) → HasProperty s c.node p v ↔ ShapeHas shapes c p v
     unfolding is_read
     has_same c i ShClass v = (λ h. absurd (unread_property c.node ShClass v refl h), λ h. absurd h)
-    has_same c i ShDatatype v = (λ h. absurd (unread_property c.node ShDatatype v refl h), λ h. absurd h)
-    has_same c i ShMinExclusive v = (λ h. absurd (unread_property c.node ShMinExclusive v refl h), λ h. absurd h)
-    has_same c i ShMinInclusive v = (λ h. absurd (unread_property c.node ShMinInclusive v refl h), λ h. absurd h)
-    has_same c i ShMaxExclusive v = (λ h. absurd (unread_property c.node ShMaxExclusive v refl h), λ h. absurd h)
-    has_same c i ShMaxInclusive v = (λ h. absurd (unread_property c.node ShMaxInclusive v refl h), λ h. absurd h)
+    has_same c i ShDatatype v = (λ h. absurd (unread_property c.node ShDatatype v refl h), λ d. absurd (no_term c i by.Datatype v d))
+    has_same c i ShMinExclusive v = (λ h. absurd (unread_property c.node ShMinExclusive v refl h), λ d. absurd (no_term c i by.MinExclusive v d))
+    has_same c i ShMinInclusive v = (λ h. absurd (unread_property c.node ShMinInclusive v refl h), λ d. absurd (no_term c i by.MinInclusive v d))
+    has_same c i ShMaxExclusive v = (λ h. absurd (unread_property c.node ShMaxExclusive v refl h), λ d. absurd (no_term c i by.MaxExclusive v d))
+    has_same c i ShMaxInclusive v = (λ h. absurd (unread_property c.node ShMaxInclusive v refl h), λ d. absurd (no_term c i by.MaxInclusive v d))
     has_same c i ShMinLength v = (λ h. absurd (unread_property c.node ShMinLength v refl h), λ h. absurd h)
     has_same c i ShMaxLength v = (λ h. absurd (unread_property c.node ShMaxLength v refl h), λ h. absurd h)
     has_same c i ShPattern v = (λ h. absurd (unread_property c.node ShPattern v refl h), λ h. absurd h)
     has_same c i ShFlags v = (λ h. absurd (unread_property c.node ShFlags v refl h), λ h. absurd h)
     has_same c i ShLanguageIn v = (λ h. absurd (unread_property c.node ShLanguageIn v refl h), λ h. absurd h)
     has_same c i ShUniqueLang v = (λ h. absurd (unread_property c.node ShUniqueLang v refl h), λ h. absurd h)
-    has_same c i ShEquals v = (λ h. absurd (unread_property c.node ShEquals v refl h), λ h. absurd h)
-    has_same c i ShDisjoint v = (λ h. absurd (unread_property c.node ShDisjoint v refl h), λ h. absurd h)
-    has_same c i ShLessThan v = (λ h. absurd (unread_property c.node ShLessThan v refl h), λ h. absurd h)
-    has_same c i ShLessThanOrEquals v = (λ h. absurd (unread_property c.node ShLessThanOrEquals v refl h), λ h. absurd h)
+    has_same c i ShEquals v = (λ h. absurd (unread_property c.node ShEquals v refl h), λ d. absurd (no_term c i by.Equals v d))
+    has_same c i ShDisjoint v = (λ h. absurd (unread_property c.node ShDisjoint v refl h), λ d. absurd (no_term c i by.Disjoint v d))
+    has_same c i ShLessThan v = (λ h. absurd (unread_property c.node ShLessThan v refl h), λ d. absurd (no_term c i by.LessThan v d))
+    has_same c i ShLessThanOrEquals v = (λ h. absurd (unread_property c.node ShLessThanOrEquals v refl h), λ d. absurd (no_term c i by.LessThanOrEquals v d))
     has_same c i ShNot v = (λ h. absurd (unread_property c.node ShNot v refl h), λ h. absurd h)
     has_same c i ShAnd v = (λ h. absurd (unread_property c.node ShAnd v refl h), λ h. absurd h)
     has_same c i ShOr v = (λ h. absurd (unread_property c.node ShOr v refl h), λ h. absurd h)
@@ -285,7 +295,7 @@ module _ (s : List Triple) (well : IsWellFormed s) where
     has_same c i ShQualifiedValueShapesDisjoint v = (λ h. absurd (unread_property c.node ShQualifiedValueShapesDisjoint v refl h), λ h. absurd h)
     has_same c i ShClosed v = (λ h. absurd (unread_property c.node ShClosed v refl h), λ h. absurd h)
     has_same c i ShIgnoredProperties v = (λ h. absurd (unread_property c.node ShIgnoredProperties v refl h), λ h. absurd h)
-    has_same c i ShHasValue v = (λ h. absurd (unread_property c.node ShHasValue v refl h), λ h. absurd h)
+    has_same c i ShHasValue v = (λ h. absurd (unread_property c.node ShHasValue v refl h), λ d. absurd (no_term c i by.HasValue v d))
     has_same c i ShIn v = (λ h. absurd (unread_property c.node ShIn v refl h), λ h. absurd h)
     has_same c i ShDeactivated v = (λ h. absurd (unread_property c.node ShDeactivated v refl h), λ h. absurd h)
     has_same c i ShTargetClass v = (λ h. absurd (unread_property c.node ShTargetClass v refl h), λ h. absurd h)
@@ -337,15 +347,15 @@ module _ (s : List Triple) (well : IsWellFormed s) where
       ],
     )
 
-    path_same : (c : Shape Term) → Contains shapes c → (p : DefinedPath) → ShapePath s c.node p ↔ ((q : Term) × (c.path ≡ Some (Predicate q)) × (p ≡ DefinedPredicate q))
+    path_same : (c : ReadShape) → Contains shapes c → (p : Path) → ShapePath s c.node p ↔ (c.path ≡ Some p)
     path_same c i p = (
-      λ h. (h.0, (path_said c i h.0).0 h.1, path_of_iri h.0 (path_iri c.node (is_shape c i) h.0 h.1) p h.2),
-      λ h.
-          let said = (path_said c i h.0).1 h.1 in
-          (h.0, said, subst (λ (q : DefinedPath). PathOf s h.0 q) (sym h.2) (refl, path_iri c.node (is_shape c i) h.0 said)),
+      λ h. (path_said c i h.0).0 h.1 ∙ ap Some (sym (path_of_iri h.0 (path_iri c.node (is_shape c i) h.0 h.1) p h.2)),
+      λ e.
+          let k : IsPathAt s c.node p = subst (λ (o : Option Path). MatchOption o (IsNodeShape s c.node) (IsPathAt s c.node)) e (compiled c i).path in
+          (k.0, k.2, subst (λ (q : Path). PathOf s k.0 q) (sym k.1) (refl, path_iri c.node (is_shape c i) k.0 k.2)),
     )
 
-    allowed_same : (c : Shape Term) → Contains shapes c → (p : Term) → IsAllowed s c.node p ↔ ShapeAllows shapes c p
+    allowed_same : (c : ReadShape) → Contains shapes c → (p : Term) → IsAllowed s c.node p ↔ ShapeAllows shapes c p
     unfolding is_read
     allowed_same c i p = (
       λ h. elim h [
@@ -357,7 +367,7 @@ module _ (s : List Triple) (well : IsWellFormed s) where
       λ h. inl (h.1.node, from_place c i h.0 h.1 h.2 h.3, (path_said h.1 (get_in shapes h.0 h.1 h.3) p).1 h.4),
     )
 
-    no_list : (c : Shape Term) (p : ShapeProperty) → TakesList p → (head : Term) → HasProperty s c.node p head → ⊥
+    no_list : (c : ReadShape) (p : ShapeProperty) → TakesList p → (head : Term) → HasProperty s c.node p head → ⊥
     unfolding is_read
     no_list c p takes head h = elim takes [
       | inl e ↦ unread_property c.node ShLanguageIn head refl (at e)
@@ -371,7 +381,7 @@ module _ (s : List Triple) (well : IsWellFormed s) where
         at : {q : ShapeProperty} → p ≡ q → HasProperty s c.node q head
         at e = subst (λ (q : ShapeProperty). HasProperty s c.node q head) e h
 
-    says_alike : (c : Shape Term) → Contains shapes c → SameReading (reading s c.node) (shape_reading shapes c)
+    says_alike : (c : ReadShape) → Contains shapes c → SameReading (reading s c.node) (shape_reading shapes c)
     unfolding is_read
     says_alike c i = record {
       path = path_same c i;
@@ -383,14 +393,14 @@ module _ (s : List Triple) (well : IsWellFormed s) where
       is_class = (λ h. no_instance c.node _ h.1, λ h. absurd h);
     }
 
-    read_of : (c : Shape Term) → Contains shapes c → (x : Constraint Term) → Contains c.constraints x → IsRead x
+    read_of : (c : ReadShape) → Contains shapes c → (x : Constraint Term) → Contains c.constraints x → IsRead x
     read_of c i x d = let t = ((compiled c i).constraints x).0 d in elim t.2 [
       | inl a ↦ subst IsRead (sym a.1.2) a.1.1
       | inr (inl a) ↦ subst IsRead (sym a.1.2) a.1.1
       | inr (inr a) ↦ subst IsRead (sym a.1.2) a.1.1
     ]
 
-    place_within : (c : Shape Term) → Contains shapes c → (k : ℕ) → Contains c.properties k → k < length shapes
+    place_within : (c : ReadShape) → Contains shapes c → (k : ℕ) → Contains c.properties k → k < length shapes
     place_within c i k d =
         let t = ((compiled c i).properties k).0 d in
         let within : k < length nodes = get_within nodes k t.0.object t.2.1 in

@@ -4,6 +4,7 @@ use Rattle.std.specs.List.{Contains}
 use Rattle.rdf_model.specs.declared.term.Term.{Term}
 use Rattle.rdf_model.specs.declared.triple.Triple.{Triple}
 use Rattle.shape_model.specs.Vocabulary.{ShMaxCount, ShMinCount, ShNodeKind, ShPath, ShProperty, ShTargetNode, ShTargetSubjectsOf, ShapeProperty, property_iri}
+use Rattle.shape_model.specs.Paths.{Path, Predicate}
 use Rattle.shape_model.specs.ShapeSyntax.{HasProperty, MakesShape, TakesShape}
 use Rattle.shape_model.specs.Readings.{IsNodeShape}
 use Rattle.shape_model.specs.TermTests.{count_of}
@@ -12,9 +13,8 @@ use Rattle.shape_ast.specs.declared.constraint.Constraint.TheVariants.{NodeKind,
 use Rattle.shape_ast.specs.declared.node_kind.NodeKind.{NodeKind as Kind}
 use Rattle.shape_ast.specs.declared.shape.Target.{Target}
 use Rattle.shape_ast.specs.declared.shape.Target.TheVariants.{Node, SubjectsOf}
-use Rattle.shape_ast.specs.declared.shape.Shape.{Shape}
 use Rattle.shape_ast.specs.Kinds.{kind_iri}
-use Rattle.shape_ast.specs.Naming.{path_term}
+use Rattle.shape_ast.specs.Naming.{ReadShape}
 use Rattle.shape_reader.specs.Shapes.{IsPropertyOf}
 
 -- some triple of the graph says the part
@@ -24,6 +24,10 @@ IsSaid At s x = (t : Triple) × Contains s t × At t x
 -- the triple has a value of the property at the node
 abbrev pub Says : Term → ShapeProperty → Triple → Type 0
 Says n p t = (t.subject ≡ n) × (t.predicate ≡ property_iri p)
+
+-- the path of the node, which is an IRI so far (SHACL 2.3.1.1)
+abbrev pub IsPathAt : List Triple → Term → Path → Type 0
+IsPathAt s n p = (q : Term) × (p ≡ Predicate q) × HasProperty s n ShPath q
 
 -- a target of the node (SHACL 2.1.3.1, 2.1.3.4)
 abbrev pub IsNodeTargetAt : Term → Triple → Target Term → Type 0
@@ -63,8 +67,8 @@ abbrev pub IsShapeAt : Triple → Term → Type 0
 IsShapeAt t n = IsMadeAt t n ⊎ IsTakenAt t n
 
 -- the shape's parts are those that the graph says of its node
-pub record IsCompiled (s : List Triple) (nodes : List Term) (c : Shape Term) : Type 0 where
-  pub path : MatchOption c.path (IsNodeShape s c.node) (λ p. HasProperty s c.node ShPath (path_term p))
+pub record IsCompiled (s : List Triple) (nodes : List Term) (c : ReadShape) : Type 0 where
+  pub path : MatchOption c.path (IsNodeShape s c.node) (IsPathAt s c.node)
   pub targets : (x : Target Term) → Contains c.targets x ↔ IsSaid (IsTargetAt c.node) s x
   pub constraints : (x : Constraint Term) → Contains c.constraints x ↔ IsSaid (IsConstraintAt c.node) s x
   pub properties : (k : ℕ) → Contains c.properties k ↔ IsSaid (IsPropertyAt nodes c.node) s k

@@ -5,12 +5,10 @@ ghost use Rattle.collections.specs.Ordered.{IsAscending};
 ghost use Rattle.rdf_model.specs.declared.term.Term.{Term};
 ghost use Rattle.rdf_model.specs.Terms.{term_cmp};
 ghost use Rattle.shape_model.specs.Readings.{IsNodeShape};
-ghost use Rattle.shape_model.specs.ShapeSyntax.{HasProperty};
-ghost use Rattle.shape_model.specs.Vocabulary.{ShPath};
 ghost use Rattle.shape_ast.specs.declared.constraint.Constraint.{Constraint};
 ghost use Rattle.shape_ast.specs.declared.shape.Target.{Target};
-ghost use Rattle.shape_ast.specs.Naming.{path_term};
-ghost use Rattle.shape_reader.specs.Parts.{IsConstraintAt, IsKindAt, IsMaxCountAt, IsMinCountAt, IsNodeTargetAt, IsPropertyAt, IsSaid, IsSubjectsTargetAt, IsTargetAt};
+ghost use Rattle.shape_ast.specs.PathReadings.{optional_path};
+ghost use Rattle.shape_reader.specs.Parts.{IsConstraintAt, IsKindAt, IsMaxCountAt, IsMinCountAt, IsNodeTargetAt, IsPathAt, IsPropertyAt, IsSaid, IsSubjectsTargetAt, IsTargetAt};
 
 use crate::graph::is_word_triple;
 use crate::kinds::kind_of;
@@ -23,7 +21,7 @@ use std::alloc::{AllocError, Global};
 
 // The path of the shape at the node, if it has one.
 pub(crate) fn path_of(shapes: &[Triple], node: &Term) -> Result<Option<Path<Term>>, AllocError>
-    ensures { IfOk result (λ path. MatchOption path (IsNodeShape shapes.now node.now) (λ p. HasProperty shapes.now node.now ShPath (path_term p))) }
+    ensures { IfOk result (λ path. MatchOption (optional_path path) (IsNodeShape shapes.now node.now) (IsPathAt shapes.now node.now)) }
 {
     for triple in shapes {
         if is_word_triple(triple, node, "path") {

@@ -4,8 +4,8 @@ ghost use Rattle.collections.specs.Ordered.{IsAscending};
 ghost use Rattle.rdf_model.specs.declared.term.Term.{Term};
 ghost use Rattle.rdf_model.specs.Terms.{term_cmp};
 ghost use Rattle.shape_ast.specs.declared.constraint.Constraint.{Constraint as ConstraintData};
-ghost use Rattle.shape_ast.specs.declared.shape.Shape.{Shape};
 ghost use Rattle.shape_ast.specs.declared.shape.Target.{Target as TargetData};
+ghost use Rattle.shape_ast.specs.Naming.{ReadShape, read_shape, read_shapes};
 ghost use Rattle.shape_ast.specs.Standing.{StandFor};
 ghost use Rattle.shape_model.specs.WellFormed.{IsWellFormed};
 ghost use Rattle.shape_reader.specs.Faults.{IsCause};
@@ -55,7 +55,7 @@ fn compile_shape(
 ) -> Result<Shape<Term>, AllocError>
     requires { IsAscending term_cmp nodes.now }
     ensures node { IfOk result (λ shape. shape.node ≡ node.now) }
-    ensures compiled { IfOk result (λ shape. IsCompiled triples.now nodes.now shape) }
+    ensures compiled { IfOk result (λ shape. IsCompiled triples.now nodes.now (read_shape shape)) }
 {
     let (targets, constraints, properties) = parts_of(alloc, triples, nodes, node)?;
     Ok(Shape {
@@ -74,8 +74,8 @@ fn compile_nodes(
     nodes: &[Term],
 ) -> Result<Sequence<Shape<Term>>, AllocError>
     requires { IsAscending term_cmp nodes.now }
-    ensures nodes { IfOk result (λ shapes. map (λ c. c.node) shapes ≡ nodes.now) }
-    ensures compiled { IfOk result (λ shapes. (c : Shape Term) → Contains shapes c → IsCompiled triples.now nodes.now c) }
+    ensures nodes { IfOk result (λ shapes. map (λ c. c.node) (read_shapes shapes) ≡ nodes.now) }
+    ensures compiled { IfOk result (λ shapes. (c : ReadShape) → Contains (read_shapes shapes) c → IsCompiled triples.now nodes.now c) }
 {
     let mut shapes = Sequence::new(alloc);
     for node in nodes {
@@ -88,7 +88,7 @@ fn compile_nodes(
 // The shapes of a well-formed shapes graph.
 fn compile(alloc: Global, triples: &[Triple]) -> Result<Shapes, AllocError>
     requires { IsWellFormed triples.now }
-    ensures { IfOk result (λ shapes. StandFor shapes.shapes triples.now) }
+    ensures { IfOk result (λ shapes. StandFor (read_shapes shapes.shapes) triples.now) }
 {
     let nodes = shape_nodes(alloc, triples)?;
     let shapes = compile_nodes(alloc, triples, nodes.as_slice())?;
@@ -103,7 +103,7 @@ pub fn read_shapes<M: Maker>(
     triples: &[Triple],
 ) -> Result<Shapes, ShapeFault>
     ensures answer { MatchResult result
-        (λ shapes. IsWellFormed triples.now × StandFor shapes.shapes triples.now)
+        (λ shapes. IsWellFormed triples.now × StandFor (read_shapes shapes.shapes) triples.now)
         (λ fault. IsCause triples.now fault) }
     ensures maker { maker.new ≡ maker.old }
 {

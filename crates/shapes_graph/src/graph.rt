@@ -1,4 +1,5 @@
 ghost use Rattle.std.specs.Prelude.{◌≡◌, [], IfOk};
+ghost use Rattle.shape_ast.specs.Naming.{read_shapes};
 ghost use Rattle.shape_ast.specs.Standing.{StandFor};
 ghost use Rattle.shape_model.specs.WellFormed.{IsWellFormed};
 
@@ -25,6 +26,7 @@ impl Model for ShapesGraph {
     ghost use Rattle.std.specs.Prelude.{List};
     ghost use Rattle.std.specs.Arc.{arc_value};
     ghost use Rattle.rdf_model.specs.declared.triple.Triple.{Triple};
+    ghost use Rattle.shape_ast.specs.Naming.{read_shapes};
     ghost use Rattle.shape_ast.specs.Standing.{StandFor};
     ghost use Rattle.shape_model.specs.WellFormed.{IsWellFormed};
     ghost use Rattle.shapes_graph.specs.declared.graph.Content.{Content};
@@ -33,7 +35,7 @@ impl Model for ShapesGraph {
 
     ghost view = { λ g. (arc_value g.content).triples };
 
-    ghost invariant = { λ g. IsWellFormed (arc_value g.content).triples × StandFor (arc_value g.content).shapes.shapes (arc_value g.content).triples };
+    ghost invariant = { λ g. IsWellFormed (arc_value g.content).triples × StandFor (read_shapes (arc_value g.content).shapes.shapes) (arc_value g.content).triples };
 }
 
 impl ShapesGraph {
@@ -44,7 +46,7 @@ impl ShapesGraph {
         shapes: Shapes,
     ) -> Result<ShapesGraph, AllocError>
         requires well_formed { IsWellFormed triples }
-        requires shapes { StandFor shapes.shapes triples }
+        requires shapes { StandFor (read_shapes shapes.shapes) triples }
         ensures { IfOk result (λ graph. graph ≡ triples) }
     {
         Ok(ShapesGraph {
@@ -75,7 +77,7 @@ impl ShapesGraph {
     /// The compiled shapes.
     pub fn shapes(&self) -> &Shapes
         ensures well_formed { IsWellFormed self.now }
-        ensures shapes { StandFor result.now.shapes self.now }
+        ensures shapes { StandFor (read_shapes result.now.shapes) self.now }
     {
         &self.content.shapes
     }

@@ -1,13 +1,14 @@
-ghost use Rattle.std.specs.Prelude.{◌≡◌, ◌<◌, ℕ, IsTrue, MatchOption, length};
+ghost use Rattle.std.specs.Prelude.{◌≡◌, ◌<◌, ℕ, IsTrue, length};
 ghost use Rattle.std.specs.List.{All};
 ghost use Rattle.rdf_model.specs.declared.ids.Ids.{Ids as IdsData};
 ghost use Rattle.rdf_model.specs.Numbers.{AreNumbered, IsNumbering, term_at};
-ghost use Rattle.shape_ast.specs.Naming.{AreBound, IsBoundShape, constraint_number, path_number};
+ghost use Rattle.shape_ast.specs.Naming.{AreBound, IsBoundShape, constraint_number};
+ghost use Rattle.shape_ast.specs.PathReadings.{IsBoundOptional, IsBoundPath};
 
 use crate::short_forms::{term, text_of_rows};
 use collections::Sequence;
 use rdf_model::{Footprint, Ids, ListGraph, ListNames, Look, Term};
-use shape_ast::{Bound, Constraint, NodeKind, Path, Shape};
+use shape_ast::{Bound, Constraint, NodeKind, Path, Shape, TermComponent};
 use shape_eval::{Permit, Steps, eval, permit};
 use std::alloc::{AllocError, Global};
 use std::marker::Brand;
@@ -126,6 +127,7 @@ fn parameter_of(constraint: &Constraint<u32>) -> u32
         Constraint::NodeKind { parameter, .. } => *parameter,
         Constraint::MinCount { parameter, .. } => *parameter,
         Constraint::MaxCount { parameter, .. } => *parameter,
+        Constraint::ByTerm { parameter, .. } => *parameter,
     }
 }
 
@@ -144,19 +146,32 @@ fn are_places(places: &[usize], shapes: usize) -> bool
 }
 
 fn is_path(path: &Option<Path<u32>>, terms: usize) -> bool
-    ensures { IsTrue result → MatchOption path.now (Unit {0}) (λ p. path_number p < terms) }
+    ensures { IsTrue result → IsBoundOptional terms path.now }
 {
     match path {
         None => true,
-        Some(path) => is_predicate(path, terms),
+        Some(path) => is_bound_path(path, terms),
+    }
+}
+
+// Whether the path is a predicate, or is made of one, with a number in range.
+fn is_bound_path(path: &Path<u32>, terms: usize) -> bool
+    ensures { IsTrue result → IsBoundPath terms path.now }
+{
+    match path {
+        Path::Inverse(inner) => is_predicate(inner, terms),
+        Path::OneOrMore(inner) => is_predicate(inner, terms),
+        Path::ZeroOrOne(inner) => is_predicate(inner, terms),
+        _ => is_predicate(path, terms),
     }
 }
 
 fn is_predicate(path: &Path<u32>, terms: usize) -> bool
-    ensures { IsTrue result → path_number path.now < terms }
+    ensures { IsTrue result → IsBoundPath terms path.now }
 {
     match path {
         Path::Predicate(predicate) => (*predicate as usize) < terms,
+        _ => false,
     }
 }
 
@@ -343,6 +358,7 @@ fn count_of(digit: &str) -> i128 {
         "0" => 0,
         "1" => 1,
         "2" => 2,
+        "4" => 4,
         _ => 3,
     }
 }
@@ -404,4 +420,130 @@ fn property_shapes(rt: HostRuntime) -> Result<(), Fail> {
     assert_sharing(&rt, alloc, 0, A, OF_BOTH)?;
     assert_sharing(&rt, alloc, 1, A, OF_PROPERTY)?;
     assert_sharing(&rt, alloc, 1, X, AT_LITERAL)
+}
+
+// Paths of e:p (backwards, at most once, once or more often), the focus node, and the most value nodes
+// that there may be, where e:a has the values "x" and e:b: whether the count is met.
+const PATHS: &str = "^ b 1 met
+^ b 0 broken
+^ a 0 met
+? a 2 broken
+? a 3 met
+? b 1 met
+? b 0 broken
++ a 2 met
++ a 1 broken
++ x 0 met";
+
+fn path_of(alloc: Global, mark: &str) -> Result<Path<u32>, AllocError> {
+    let inner = Box::new(alloc, Path::Predicate(P))?;
+    Ok(match mark {
+        "^" => Path::Inverse(inner),
+        "?" => Path::ZeroOrOne(inner),
+        _ => Path::OneOrMore(inner),
+    })
+}
+
+fn focus_of(letter: &str) -> u32 {
+    match letter {
+        "a" => A,
+        "b" => B,
+        _ => X,
+    }
+}
+
+fn assert_path(rt: &impl Abort, alloc: Global, line: &str) -> Result<(), Fail> {
+    let mut parts = line.split(' ');
+    let path = path_of(alloc, parts.next().unwrap_or(""))?;
+    let focus = focus_of(parts.next().unwrap_or(""));
+    let bound = bound_of(false, count_of(parts.next().unwrap_or("")));
+    let mut shapes = Sequence::new(alloc);
+    shapes.push(shape(alloc, PROPERTY, Some(path), bound, &[])?)?;
+    let text = printed(rt, alloc, &[X, B], shapes, 0, focus)?;
+    let is_broken = text.as_str().contains("MaxCount");
+    assert_eq!(rt; is_broken, parts.next().unwrap_or("") == "broken", "{line}");
+    Ok(())
+}
+
+// Value nodes along paths of other kinds (SHACL sections 2.3.1.4 to 2.3.1.7).
+#[test]
+fn paths(rt: HostRuntime) -> Result<(), Fail> {
+    for line in PATHS.lines() {
+        assert_path(&rt, rt.alloc(), line)?;
+    }
+    Ok(())
+}
+
+// Components, the parameter, and how many results a property shape of e:p has at e:a, where e:a has the
+// values "x" and e:b: no literal is less than itself, and an IRI is at most nothing.
+const COMPONENTS: &str = "datatype kind 2
+least one 2
+above one 2
+most one 2
+below one 2
+equal p 0
+equal kind 2
+disjoint p 2
+disjoint kind 0
+less p 4
+up p 3
+value b 0
+value a 1";
+
+fn component_of(word: &str) -> TermComponent {
+    match word {
+        "datatype" => TermComponent::Datatype,
+        "least" => TermComponent::MinInclusive,
+        "above" => TermComponent::MinExclusive,
+        "most" => TermComponent::MaxInclusive,
+        "below" => TermComponent::MaxExclusive,
+        "equal" => TermComponent::Equals,
+        "disjoint" => TermComponent::Disjoint,
+        "less" => TermComponent::LessThan,
+        "up" => TermComponent::LessThanOrEquals,
+        _ => TermComponent::HasValue,
+    }
+}
+
+fn parameter_named(word: &str) -> u32 {
+    match word {
+        "kind" => KIND,
+        "one" => COUNT,
+        "p" => P,
+        "b" => B,
+        _ => A,
+    }
+}
+
+fn assert_component(rt: &impl Abort, alloc: Global, line: &str) -> Result<(), Fail> {
+    let mut parts = line.split(' ');
+    let component = component_of(parts.next().unwrap_or(""));
+    let parameter = parameter_named(parts.next().unwrap_or(""));
+    let constraint = Constraint::ByTerm {
+        component,
+        parameter,
+    };
+    let shapes = of_property(alloc, constraint)?;
+    let text = printed(rt, alloc, &[X, B], shapes, 0, A)?;
+    let results = text
+        .as_str()
+        .lines()
+        .filter(|written| written.starts_with("<e:P>"))
+        .count();
+    assert_eq!(rt;
+        results,
+        count_of(parts.next().unwrap_or("")) as usize,
+        "{line}"
+    );
+    Ok(())
+}
+
+// Results of components that ask no more of their parameter than the term (SHACL sections 4.1.2, 4.3, 4.5
+// and 4.8.2).
+#[test]
+fn components(rt: HostRuntime) -> Result<(), Fail> {
+    for line in COMPONENTS.lines() {
+        assert_component(&rt, rt.alloc(), line)?;
+    }
+    Ok(())
 }

@@ -9,6 +9,8 @@ mod evaluations;
 #[cfg(test)]
 mod listings;
 #[cfg(test)]
+mod path_texts;
+#[cfg(test)]
 mod reading;
 #[cfg(test)]
 mod reports;

@@ -1,6 +1,7 @@
 ghost use Rattle.std.specs.Prelude.{◌≡◌, IsTrue};
 ghost use Rattle.std.specs.List.{list_all, list_any};
 ghost use Rattle.rdf_model.specs.Matching.{same_term};
+ghost use Rattle.shape_ast.specs.Naming.{read_shapes};
 ghost use Rattle.report_writer.specs.Sources.{HaveSources};
 
 use crate::short_forms::{optional_term, term};
@@ -13,7 +14,7 @@ use std::process::Abort;
 use std::test::Fail;
 
 // A shape as far as a report reads it.
-fn shape(alloc: Global, node: Term, path: Option<Path<Term>>) -> Shape<Term> {
+pub(crate) fn shape(alloc: Global, node: Term, path: Option<Path<Term>>) -> Shape<Term> {
     Shape {
         node,
         path,
@@ -35,7 +36,7 @@ fn shapes(alloc: Global) -> Result<Shapes, AllocError> {
 
 // A result as far as a report writes it: the source shape, the focus node, the component, the value and
 // what else tells results apart.
-type Parts = (
+pub(crate) type Parts = (
     &'static str,
     &'static str,
     Component,
@@ -44,7 +45,7 @@ type Parts = (
 );
 
 // e:a has no value of e:p.
-const TOO_FEW: Parts = ("e:P", "e:a", Component::MinCount, "", "");
+pub(crate) const TOO_FEW: Parts = ("e:P", "e:a", Component::MinCount, "", "");
 
 // A literal is no IRI.
 const WRONG_KIND: Parts = ("_2", "\"x", Component::NodeKind, "\"x", "");
@@ -65,7 +66,7 @@ fn row(alloc: Global, parts: &Parts) -> Result<ResultRow, AllocError> {
     })
 }
 
-fn rows(alloc: Global, table: &[Parts]) -> Result<Vec<ResultRow>, AllocError> {
+pub(crate) fn rows(alloc: Global, table: &[Parts]) -> Result<Vec<ResultRow>, AllocError> {
     let mut rows = Vec::new(alloc);
     for parts in table {
         rows.push(row(alloc, parts)?)?;
@@ -86,8 +87,8 @@ fn all_have(rows: &[ResultRow], shapes: &[Shape<Term>]) -> bool
     rows.iter().all(|row| has_source(row, shapes))
 }
 
-fn have_sources(rows: &[ResultRow], shapes: &Shapes) -> bool
-    ensures { IsTrue result → HaveSources shapes.now.shapes rows.now }
+pub(crate) fn have_sources(rows: &[ResultRow], shapes: &Shapes) -> bool
+    ensures { IsTrue result → HaveSources (read_shapes shapes.now.shapes) rows.now }
 {
     all_have(rows, shapes.shapes.as_slice())
 }

@@ -1,7 +1,8 @@
 use Rattle.std.proofs.Common.{subst, sym}
 use Rattle.shape_ast.specs.declared.constraint.Constraint.{Constraint}
 use Rattle.rdf_model.specs.declared.term.Term.{Term}
-use Rattle.shape_ast.specs.Naming.{IsNamed, constraint_term}
+use Rattle.shape_ast.specs.Naming.{constraint_term}
+use Rattle.shape_ast.specs.PathReadings.{IsNamed}
 use Rattle.shape_ast.proofs.bound.bind_constraints.Goals as goal
 
 pub bind_constraint-requires : goal.bind_constraint-requires

@@ -1,7 +1,8 @@
 use Rattle.std.proofs.Common.{subst, sym}
 use Rattle.shape_ast.specs.declared.shape.Target.{Target}
 use Rattle.rdf_model.specs.declared.term.Term.{Term}
-use Rattle.shape_ast.specs.Naming.{IsNamed, target_term}
+use Rattle.shape_ast.specs.Naming.{target_term}
+use Rattle.shape_ast.specs.PathReadings.{IsNamed}
 use Rattle.shape_ast.proofs.bound.bind_targets.Goals as goal
 
 pub bind_target-requires : goal.bind_target-requires

@@ -1,8 +1,9 @@
 use Rattle.std.proofs.Common.{take}
 use Rattle.rdf_model.specs.Numbers.{graph_of}
 use Rattle.shape_ast.specs.Naming.{named_shapes}
-use Rattle.shape_eval.specs.ValueNodes.{HasNode}
-use Rattle.shape_eval.specs.CompiledRows.{Collects, FromSome, PropertyAt}
+use Rattle.component_rows.specs.Nodes.{HasNode}
+use Rattle.component_rows.specs.Listed.{Collects}
+use Rattle.shape_eval.specs.CompiledRows.{FromSome, PropertyAt}
 use Rattle.shape_eval.proofs.evaluation.property_rows.Given as goal
 
 abbrev pub invariant-loop-place : goal.invariant-loop-place

@@ -4,9 +4,9 @@ use Rattle.rdf_model.specs.Numbers.{graph_of, term_at}
 use Rattle.shape_ast.specs.Naming.{named_constraint, named_shape}
 use Rattle.shape_ast.specs.declared.constraint.Constraint.{Constraint}
 use Rattle.shape_model.specs.declared.result_row.ResultRow.{ResultRow}
-use Rattle.shape_eval.specs.ValueNodes.{AreNodes, HasNode}
-use Rattle.shape_eval.specs.CompiledRows.{Collects, ConstraintsRow, OwnRow}
-use Rattle.shape_eval.proofs.Numbers.{values_are_nodes}
+use Rattle.component_rows.specs.Nodes.{AreNodes, HasNode}
+use Rattle.component_rows.specs.Listed.{Collects}
+use Rattle.shape_eval.specs.CompiledRows.{ConstraintsRow, OwnRow}
 use Rattle.shape_eval.proofs.Evaluations.{own_at}
 use Rattle.shape_eval.proofs.evaluation.rows_at.Goals as goal
 
@@ -14,15 +14,15 @@ pub own_rows-requires-clause-nodes : goal.own_rows-requires-clause-nodes
 own_rows-requires-clause-nodes g c =
     let terms = g.N.Names.terms c.args.names.now in
     subst (λ (ns : List ℕ). AreNodes terms ns) (sym c.deref.ensures.value)
-    (values_are_nodes terms c.requires.numbering (g.R.Triples.triples c.args.graph.now) c.requires.graph c.args.shape.now.path c.args.focus c.requires.focus c.in_ok-values.values.items c.in_ok-values.ensures)
+    (c.in_ok-values.ensures terms c.requires.numbering c.requires.graph c.requires.shape.1.path c.requires.focus).nodes
 
 pub returns : goal.returns
 returns g c =
     let terms = g.N.Names.terms c.args.names.now in
     let triples = g.R.Triples.triples c.args.graph.now in
     let s = c.args.shape.now in
-    let Given : List (Constraint ℕ) → List ℕ → List ResultRow → Type 0 = λ ks ns. Collects (ConstraintsRow (map (named_constraint terms) ks) (HasNode terms ns) (term_at terms s.node) (term_at terms c.args.focus)) in
+    let Given : List (Constraint ℕ) → List ℕ → List ResultRow → Type 0 = λ ks ns. Collects (ConstraintsRow (graph_of terms triples) (map (named_constraint terms) ks) (HasNode terms ns) (term_at terms s.node) (term_at terms c.args.focus)) in
     IfOk-weaker c.own_rows.result (λ rows. Given c.as_slice.result.now c.deref.result.now rows.items) (λ rows. Collects (OwnRow (graph_of terms triples) (named_shape terms s) (term_at terms c.args.focus)) rows.items)
-    (λ rows h. own_at terms c.requires.numbering triples c.requires.graph s c.requires.shape c.args.focus c.requires.focus c.in_ok-values.values.items c.in_ok-values.ensures rows.items
+    (λ rows h. own_at terms triples s c.args.focus c.in_ok-values.values.items (c.in_ok-values.ensures terms c.requires.numbering c.requires.graph c.requires.shape.1.path c.requires.focus) rows.items
     (subst (λ (ks : List (Constraint ℕ)). Given ks c.in_ok-values.values.items rows.items) c.as_slice.ensures (subst (λ (ns : List ℕ). Given c.as_slice.result.now ns rows.items) c.deref.ensures.value h)))
     c.own_rows.ensures

@@ -1,7 +1,8 @@
 use Rattle.std.proofs.Common.{take}
 use Rattle.rdf_model.specs.Numbers.{graph_of, term_at}
 use Rattle.shape_ast.specs.Naming.{named_shape}
-use Rattle.shape_eval.specs.CompiledRows.{Collects, FromSome, OwnRow}
+use Rattle.component_rows.specs.Listed.{Collects}
+use Rattle.shape_eval.specs.CompiledRows.{FromSome, OwnRow}
 use Rattle.shape_eval.proofs.evaluation.rows_at_each.Given as goal
 
 abbrev pub invariant-loop-value : goal.invariant-loop-value

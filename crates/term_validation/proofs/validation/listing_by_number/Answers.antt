@@ -1,19 +1,18 @@
 use Rattle.std.proofs.Common.{◌≡◌, ◌∙◌, List, ap, subst, sym}
-use Rattle.rdf_model.specs.declared.term.Term.{Term}
 use Rattle.rdf_model.specs.declared.triple.Triple.{Triple}
 use Rattle.rdf_model.specs.Numbers.{graph_of}
 use Rattle.shape_model.specs.Validation.{Listing}
-use Rattle.shape_ast.specs.declared.shape.Shape.{Shape}
+use Rattle.shape_ast.specs.Naming.{ReadShape, read_shapes}
 use Rattle.shape_ast.specs.Standing.{StandFor}
 use Rattle.term_validation.proofs.Naming.{are_named}
 use Rattle.term_validation.proofs.validation.listing_by_number.Goals as goal
 
 pub bind-requires : goal.bind-requires
-bind-requires g c = are_named (g.N.Names.terms c.args.names.now) c.args.shapes.now c.shapes.result.now.shapes c.shapes.ensures.shapes c.requires.shapes
+bind-requires g c = are_named (g.N.Names.terms c.args.names.now) c.args.shapes.now (read_shapes c.shapes.result.now.shapes) c.shapes.ensures.shapes c.requires.shapes
 
 pub returns : goal.returns
 returns g c =
     let s = c.args.shapes.now in
-    let stand = subst (λ (all : List (Shape Term)). StandFor all s) (sym c.in_ok-bound.ensures.1) c.shapes.ensures.shapes in
+    let stand = subst (λ (all : List ReadShape). StandFor all s) (sym c.in_ok-bound.ensures.1) c.shapes.ensures.shapes in
     let same : graph_of (g.N.Names.terms c.args.names.now) c.from_triples-ids.result ≡ c.args.graph.now = ap (graph_of (g.N.Names.terms c.args.names.now)) c.from_triples-ids.ensures ∙ c.in_ok-number_triples.ensures.1 in
     subst (λ (triples : List Triple). Listing triples s c.in_ok-whole.field-0.items) same (c.in_ok-whole.ensures s stand c.shapes.ensures.well_formed)

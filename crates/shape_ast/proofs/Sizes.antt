@@ -1,7 +1,7 @@
 -- How many parts a path has: the measure of a recursion along it.
 use Rattle.std.proofs.Common.{◌≡◌, ◌∙◌, ℕ, zero, suc, ◌+◌, ◌<◌, List, [], ◌∷◌, Vec, Box, Global, length, get_or, refl, ap, arith}
-use Rattle.path_eval.specs.declared.path.Path.{Path, Predicate, Inverse', Sequence', Alternative', ZeroOrMore', OneOrMore', ZeroOrOne', Sequence, Alternative, Row_of-Path, end_of-Path, more_of-Path, items-the_row-Path, items_hidden-the_row-Path-0}
-use Rattle.path_eval.proofs.Rows.{row_of}
+use Rattle.shape_ast.specs.declared.path.Path.{Path, Predicate, Inverse', Sequence', Alternative', ZeroOrMore', OneOrMore', ZeroOrOne', Sequence, Alternative, Row_of-Path, end_of-Path, more_of-Path, items-the_row-Path, items_hidden-the_row-Path-0}
+use Rattle.shape_ast.proofs.Rows.{row_of}
 
 abbrev mutual
   pub path_size : {P : Type 0} → Path P → ℕ

@@ -4,9 +4,9 @@ use Rattle.std.specs.List.{All, Contains}
 use Rattle.rdf_model.specs.declared.term.Term.{Term}
 use Rattle.rdf_model.specs.Numbers.{term_at}
 use Rattle.shape_model.specs.Paths as defined
-use Rattle.path_eval.specs.declared.path.Path.{Path, Sequence, Alternative}
-use Rattle.path_eval.specs.PathReadings.{IsBoundFrom, IsBoundPath, IsNamedPath, defined_path, members, path_of}
-use Rattle.path_eval.proofs.Rows.{sequence_each, sequence_read, alternative_each, alternative_read}
+use Rattle.shape_ast.specs.declared.path.Path.{Path, Sequence, Alternative}
+use Rattle.shape_ast.specs.PathReadings.{IsBoundFrom, IsBoundPath, IsNamedPath, defined_path, members, path_of}
+use Rattle.shape_ast.proofs.Rows.{sequence_each, sequence_read, alternative_each, alternative_read}
 
 module _ (terms : List Term) (path : Path Term) (first : Box (Path Term) Global) (others : Vec (Path Term) Global) where
   pub named_in_sequence : path ≡ Sequence first others → IsNamedPath terms path → (ps : List (Path Term)) → ps ≡ others.items → All (IsNamedPath terms) ps

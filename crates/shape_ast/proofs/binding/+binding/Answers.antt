@@ -1,8 +1,8 @@
 use Rattle.std.proofs.Common.{◌<◌, ℕ, length, arith, sym, subst}
-use Rattle.path_eval.specs.PathReadings.{IsNamedPath}
-use Rattle.path_eval.proofs.Parts.{named_in_sequence, named_in_alternative, sequence_bound, alternative_bound}
-use Rattle.path_eval.proofs.Sizes.{alternative_more, list_size, member_more, path_size, sequence_more}
-use Rattle.path_eval.proofs.binding.+binding.Goals as goal
+use Rattle.shape_ast.specs.PathReadings.{IsNamedPath}
+use Rattle.shape_ast.proofs.Parts.{named_in_sequence, named_in_alternative, sequence_bound, alternative_bound}
+use Rattle.shape_ast.proofs.Sizes.{alternative_more, list_size, member_more, path_size, sequence_more}
+use Rattle.shape_ast.proofs.binding.+binding.Goals as goal
 
 pub bind_path-bind_paths-requires : goal.bind_path-bind_paths-requires
 bind_path-bind_paths-requires g t c κs within =

@@ -1,10 +1,10 @@
 -- Compiled paths, with what stands for a term in them read as that term.
-use Rattle.std.specs.Prelude.{◌≡◌, ◌<◌, ℕ, List, [], ◌∷◌, length}
+use Rattle.std.specs.Prelude.{◌≡◌, ◌<◌, ℕ, List, [], ◌∷◌, length, Option, Some, None, MatchOption}
 use Rattle.std.specs.List.{Contains}
 use Rattle.rdf_model.specs.declared.term.Term.{Term}
 use Rattle.rdf_model.specs.Numbers.{term_at}
 use Rattle.shape_model.specs.Paths as defined
-use Rattle.path_eval.specs.declared.path.Path.{Path, Predicate, Inverse', Sequence', Alternative', ZeroOrMore', OneOrMore', ZeroOrOne', Row_of-Path, end_of-Path, more_of-Path}
+use Rattle.shape_ast.specs.declared.path.Path.{Path, Predicate, Inverse', Sequence', Alternative', ZeroOrMore', OneOrMore', ZeroOrOne', Row_of-Path, end_of-Path, more_of-Path}
 
 -- one path, and others
 abbrev pub members : defined.Path → List defined.Path → defined.Paths
@@ -41,6 +41,21 @@ abbrev mutual
   RowHasEach Q end_of-Path = Unit {0}
   RowHasEach Q (more_of-Path p ps) = HasEach Q p × RowHasEach Q ps
 
+-- the same of the paths of SHACL
+abbrev mutual
+  pub HoldsOfEach : (Term → Type 0) → defined.Path → Type 0
+  HoldsOfEach Q (defined.Predicate p) = Q p
+  HoldsOfEach Q (defined.Inverse p) = HoldsOfEach Q p
+  HoldsOfEach Q (defined.Sequence ps) = HoldsOfAll Q ps
+  HoldsOfEach Q (defined.Alternative ps) = HoldsOfAll Q ps
+  HoldsOfEach Q (defined.ZeroOrMore p) = HoldsOfEach Q p
+  HoldsOfEach Q (defined.OneOrMore p) = HoldsOfEach Q p
+  HoldsOfEach Q (defined.ZeroOrOne p) = HoldsOfEach Q p
+
+  pub HoldsOfAll : (Term → Type 0) → defined.Paths → Type 0
+  HoldsOfAll Q (defined.Last p) = HoldsOfEach Q p
+  HoldsOfAll Q (defined.Also p ps) = HoldsOfEach Q p × HoldsOfAll Q ps
+
 -- a path of terms, and one of numbers among some terms
 abbrev pub defined_path : Path Term → defined.Path
 defined_path path = read_path (λ t. t) path
@@ -48,9 +63,13 @@ defined_path path = read_path (λ t. t) path
 abbrev pub path_of : List Term → Path ℕ → defined.Path
 path_of terms path = read_path (term_at terms) path
 
+-- a term is one of the terms
+abbrev pub IsNamed : List Term → Term → Type 0
+IsNamed terms t = Contains terms t
+
 -- each term of the path is one of the terms; each number has a term, of so many
 abbrev pub IsNamedPath : List Term → Path Term → Type 0
-IsNamedPath terms path = HasEach (Contains terms) path
+IsNamedPath terms path = HasEach (IsNamed terms) path
 
 abbrev pub IsBoundPath : ℕ → Path ℕ → Type 0
 IsBoundPath n path = HasEach (λ p. p < n) path
@@ -59,3 +78,15 @@ IsBoundPath n path = HasEach (λ p. p < n) path
 pub record IsBoundFrom (terms : List Term) (path : Path Term) (bound : Path ℕ) : Type 0 where
   pub in_range : IsBoundPath (length terms) bound
   pub same : path_of terms bound ≡ defined_path path
+
+-- the same of a shape's path, if it has one
+abbrev pub optional_path : Option (Path Term) → Option defined.Path
+optional_path None = None
+optional_path (Some path) = Some (defined_path path)
+
+abbrev pub optional_path_of : List Term → Option (Path ℕ) → Option defined.Path
+optional_path_of terms None = None
+optional_path_of terms (Some path) = Some (path_of terms path)
+
+abbrev pub IsBoundOptional : ℕ → Option (Path ℕ) → Type 0
+IsBoundOptional n path = MatchOption path (Unit {0}) (IsBoundPath n)

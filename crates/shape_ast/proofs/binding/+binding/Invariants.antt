@@ -1,8 +1,8 @@
 use Rattle.std.proofs.Common.{◌≡◌, length, map, take}
 use Rattle.std.specs.List.{All}
-use Rattle.path_eval.specs.PathReadings.{IsBoundPath, defined_path, path_of}
-use Rattle.path_eval.proofs.Sizes.{list_size, path_size}
-use Rattle.path_eval.proofs.binding.+binding.Given as goal
+use Rattle.shape_ast.specs.PathReadings.{IsBoundPath, defined_path, path_of}
+use Rattle.shape_ast.proofs.Sizes.{list_size, path_size}
+use Rattle.shape_ast.proofs.binding.+binding.Given as goal
 
 -- the paths so far are bound
 abbrev pub invariant-bind_paths-loop-path : goal.invariant-bind_paths-loop-path
