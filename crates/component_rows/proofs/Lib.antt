@@ -3,4 +3,4 @@ pub mod Answering
 pub mod Told
 pub mod Tally
 pub mod Conforming
-pub mod Counted
+pub mod Numbers

@@ -5,11 +5,13 @@
 #![tactic(auto)]
 
 mod answered;
+mod bound;
 mod result;
 mod value_test;
 mod yes;
 
 pub use answered::{about_each, is_among, refused};
+pub use bound::{End, counted, is_wrong};
 pub use result::{named, row_about, row_alone, row_beside};
 pub use value_test::{ValueTest, failing};
 pub use yes::{count_all, count_yes};

@@ -16,10 +16,11 @@ use Rattle.component_rows.specs.Listed.{Collects}
 use Rattle.component_rows.specs.Nodes.{AreNodes, HasNode}
 use Rattle.component_rows.proofs.Collecting.{collects_same}
 use Rattle.component_rows.proofs.Conforming.{agreed}
-use Rattle.component_rows.proofs.Counted.{counted_answers, counts_same, one_count}
+use Rattle.component_rows.proofs.Numbers.{counted_answers, counts_same, one_count}
 use Rattle.component_rows.proofs.Tally.{Agrees, first_yes, none_yes}
-use Rattle.qualified_shapes.specs.declared.qualified.End.{End}
-use Rattle.qualified_shapes.specs.Qualified.{IsWrong, Qualifies, with_qualified}
+use Rattle.component_rows.specs.declared.bound.End.{End}
+use Rattle.qualified_shapes.specs.Qualified.{Qualifies, with_qualified}
+use Rattle.component_rows.specs.Bounds.{IsWrong}
 
 -- the first of the answers alone is yes
 first_alone : (C : Term → Type 0) (i : ℕ) (m : Term) (ms : List Term) (ls : List (List Bool)) → Agrees C i (m ∷ ms) ls → Qualifies ls i ↔ (C m × NoneOf C ms)

@@ -1,37 +1,17 @@
 ghost use Rattle.std.specs.Prelude.{◌≡◌, ◌<◌, ◌↔◌, ◌∷◌, IfOk, IsTrue, length, map};
 ghost use Rattle.std.specs.List.{Contains};
 ghost use Rattle.rdf_model.specs.Numbers.{IsNumbering, term_at};
-ghost use Rattle.shape_model.specs.TermTests as tests;
-ghost use Rattle.shape_model.specs.Components.{row_of, found_alone};
 ghost use Rattle.shape_model.specs.declared.component.Component.TheVariants as components;
 ghost use Rattle.component_rows.specs.Answers.{Tells};
-ghost use Rattle.component_rows.specs.Conformance.{AreTold, how_many, told_shapes};
-ghost use Rattle.component_rows.specs.Listed.{Collects, ListsRows};
+ghost use Rattle.component_rows.specs.Conformance.{AreTold, told_shapes};
+ghost use Rattle.component_rows.specs.Listed.{ListsRows};
 ghost use Rattle.component_rows.specs.Nodes.{AreNodes};
-ghost use Rattle.qualified_shapes.specs.Qualified.{IsWrong, Qualifies, with_qualified};
+ghost use Rattle.qualified_shapes.specs.Qualified.{Qualifies, with_qualified};
 
-use component_rows::{count_all, count_yes, named, row_alone};
+use component_rows::{End, count_all, count_yes, counted};
 use rdf_model::{Names, Term};
-use shape_model::{Component, ResultRow, count_of, is_fewer, is_more};
+use shape_model::{Component, ResultRow};
 use std::alloc::{AllocError, Global};
-
-// At which end a number is bounded.
-#[derive(Clone, Copy)]
-enum End {
-    Least,
-    Most,
-}
-
-// Whether the bound forbids so many. One that says no number forbids none.
-fn is_wrong(end: End, count: &Option<i128>, number: usize) -> bool
-    ensures { IsTrue result ↔ IsWrong end count.now number }
-{
-    match (end, count) {
-        (End::Least, Some(least)) => is_fewer(number, least),
-        (End::Most, Some(most)) => is_more(number, most),
-        (_, None) => false,
-    }
-}
 
 // Whether the node at the place conforms to the first shape and to no other.
 fn qualifies(answers: &[Vec<bool>], at: usize) -> bool
@@ -57,31 +37,6 @@ fn are_qualified(
         told.push(qualifies(answers, at))?;
     }
     Ok(told)
-}
-
-// One result, where a wrong number of value nodes qualifies.
-fn counted<N: Names>(
-    alloc: Global,
-    names: &N,
-    source: &Term,
-    component: Component,
-    end: End,
-    parameter: u32,
-    focus: u32,
-    number: usize,
-) -> Result<Vec<ResultRow>, AllocError>
-    requires parameter { parameter < length (N.terms names.now) }
-    requires focus { focus < length (N.terms names.now) }
-    ensures { IfOk result (λ rows. Collects (λ r. IsWrong end (tests.count_of (term_at (N.terms names.now) parameter)) number
-        × (r ≡ row_of component source.now (term_at (N.terms names.now) focus) (term_at (N.terms names.now) parameter) found_alone)) rows.items) }
-{
-    let mut rows = Vec::new(alloc);
-    let count = count_of(named(names, parameter));
-    if !is_wrong(end, &count, number) {
-        return Ok(rows);
-    }
-    rows.push(row_alone(names, source, component, parameter, focus)?)?;
-    Ok(rows)
 }
 
 /// The results of sh:qualifiedMinCount (SHACL section 4.7.3): one where fewer value nodes than the parameter says

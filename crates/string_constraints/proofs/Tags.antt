@@ -23,9 +23,10 @@ use Rattle.shape_model.specs.Triples.{IsMember}
 use Rattle.component_rows.specs.Nodes.{AreNodes, HasNode}
 use Rattle.component_rows.proofs.Answering.{place_in, at_one_place}
 use Rattle.component_rows.proofs.Collecting.{mapped_from, mapped_to}
-use Rattle.string_constraints.specs.declared.length.End.{End}
-use Rattle.string_constraints.specs.declared.length.End.TheVariants.{Least, Most}
-use Rattle.string_constraints.specs.Lengths.{HasWrongLength, IsWrong}
+use Rattle.component_rows.specs.declared.bound.End.{End}
+use Rattle.component_rows.specs.declared.bound.End.TheVariants.{Least, Most}
+use Rattle.component_rows.specs.Bounds.{IsWrong}
+use Rattle.string_constraints.specs.Lengths.{HasWrongLength}
 use Rattle.string_constraints.specs.Languages.{tag_of, is_in_range, Adds, Notes, AreShared}
 
 -- whether a length is wrong is decided

@@ -1,35 +1,17 @@
-ghost use Rattle.std.specs.Prelude.{◌<◌, ◌↔◌, IfOk, IsTrue, length};
+ghost use Rattle.std.specs.Prelude.{◌<◌, IfOk, length};
 ghost use Rattle.rdf_model.specs.Numbers.{term_at};
 ghost use Rattle.shape_model.specs.declared.component.Component.TheVariants as components;
 ghost use Rattle.shape_model.specs.Components.{ForEach, row_of};
 ghost use Rattle.shape_model.specs.TermTests as tests;
 ghost use Rattle.component_rows.specs.Listed.{Collects, ListsRows, at_nodes, untold};
 ghost use Rattle.component_rows.specs.Nodes.{AreNodes, HasNode};
-ghost use Rattle.string_constraints.specs.Lengths.{HasWrongLength, IsWrong};
+ghost use Rattle.string_constraints.specs.Lengths.{HasWrongLength};
 
-use component_rows::{ValueTest, failing, named};
+use component_rows::{End, ValueTest, failing, is_wrong, named};
 use literal_order::char_len;
 use rdf_model::{Names, Term};
-use shape_model::{Component, ResultRow, count_of, is_fewer, is_more};
+use shape_model::{Component, ResultRow, count_of};
 use std::alloc::{AllocError, Global};
-
-// At which end a length is bounded.
-#[derive(Clone, Copy)]
-enum End {
-    Least,
-    Most,
-}
-
-// Whether the bound forbids a text of so many characters. One that says no number forbids none.
-fn is_wrong(end: End, count: &Option<i128>, length: usize) -> bool
-    ensures { IsTrue result ↔ IsWrong end count.now length }
-{
-    match (end, count) {
-        (End::Least, Some(least)) => is_fewer(length, least),
-        (End::Most, Some(most)) => is_more(length, most),
-        (_, None) => false,
-    }
-}
 
 // A term with a text whose length the bound allows.
 #[derive(Drop)]

@@ -7,8 +7,9 @@ use Rattle.shape_model.specs.declared.component.Component.TheVariants as compone
 use Rattle.component_rows.specs.Conformance.{how_many, told_shapes}
 use Rattle.component_rows.specs.Listed.{Collects}
 use Rattle.component_rows.proofs.Tally.{each_of}
-use Rattle.qualified_shapes.specs.declared.qualified.End.TheVariants.{Least}
-use Rattle.qualified_shapes.specs.Qualified.{IsWrong, with_qualified}
+use Rattle.component_rows.specs.declared.bound.End.TheVariants.{Least}
+use Rattle.component_rows.specs.Bounds.{IsWrong}
+use Rattle.qualified_shapes.specs.Qualified.{with_qualified}
 use Rattle.qualified_shapes.proofs.Counting.{qualified_rows}
 use Rattle.qualified_shapes.proofs.qualified.qualified_min_count.Goals as goal
 

@@ -1,0 +1,110 @@
+ghost use Rattle.std.specs.Prelude.{◌≡◌, ◌⊎◌, ◌<◌, ◌↔◌, IfOk, IsTrue, codes, length};
+ghost use Rattle.rdf_model.specs.Numbers.{term_at};
+ghost use Rattle.rdf_model.specs.declared.term.Term.TheVariants as data_terms;
+ghost use Rattle.shape_model.specs.TermTests.{IsOfKind};
+ghost use Rattle.shape_model.specs.Vocabulary.{sh};
+ghost use Rattle.shape_model.specs.declared.component.Component.TheVariants as components;
+ghost use Rattle.component_rows.specs.Listed.{ListsRows, at_nodes, untold};
+ghost use Rattle.component_rows.specs.Nodes.{AreNodes, HasNode};
+
+use component_rows::{ValueTest, failing, named};
+use rdf_model::{Names, Term};
+use shape_model::{Component, ResultRow};
+use std::alloc::{AllocError, Global};
+
+// Whether the term is the IRI.
+fn is_named(term: &Term, iri: &str) -> bool
+    ensures { IsTrue result ↔ (term.now ≡ data_terms.Iri iri.now) }
+{
+    match term {
+        Term::Iri(text) => text.as_str() == iri,
+        _ => false,
+    }
+}
+
+// Whether a node kind takes blank nodes.
+#[tactic(auto, unfolding(shape_model::specs::Vocabulary::sh))]
+fn takes_blank(kind: &Term) -> bool
+    ensures { IsTrue result ↔ ((kind.now ≡ sh (codes "BlankNode")) ⊎ (kind.now ≡ sh (codes "BlankNodeOrIRI")) ⊎ (kind.now ≡ sh (codes "BlankNodeOrLiteral"))) }
+{
+    is_named(kind, "http://www.w3.org/ns/shacl#BlankNode")
+        || is_named(kind, "http://www.w3.org/ns/shacl#BlankNodeOrIRI")
+        || is_named(kind, "http://www.w3.org/ns/shacl#BlankNodeOrLiteral")
+}
+
+// Whether a node kind takes IRIs.
+#[tactic(auto, unfolding(shape_model::specs::Vocabulary::sh))]
+fn takes_iri(kind: &Term) -> bool
+    ensures { IsTrue result ↔ ((kind.now ≡ sh (codes "IRI")) ⊎ (kind.now ≡ sh (codes "BlankNodeOrIRI")) ⊎ (kind.now ≡ sh (codes "IRIOrLiteral"))) }
+{
+    is_named(kind, "http://www.w3.org/ns/shacl#IRI")
+        || is_named(kind, "http://www.w3.org/ns/shacl#BlankNodeOrIRI")
+        || is_named(kind, "http://www.w3.org/ns/shacl#IRIOrLiteral")
+}
+
+// Whether a node kind takes literals.
+#[tactic(auto, unfolding(shape_model::specs::Vocabulary::sh))]
+fn takes_literal(kind: &Term) -> bool
+    ensures { IsTrue result ↔ ((kind.now ≡ sh (codes "Literal")) ⊎ (kind.now ≡ sh (codes "BlankNodeOrLiteral")) ⊎ (kind.now ≡ sh (codes "IRIOrLiteral"))) }
+{
+    is_named(kind, "http://www.w3.org/ns/shacl#Literal")
+        || is_named(kind, "http://www.w3.org/ns/shacl#BlankNodeOrLiteral")
+        || is_named(kind, "http://www.w3.org/ns/shacl#IRIOrLiteral")
+}
+
+// Whether the value is of the node kind that a term names.
+fn is_of_kind(kind: &Term, value: &Term) -> bool
+    ensures { IsTrue result ↔ IsOfKind kind.now value.now }
+{
+    match value {
+        Term::Blank { .. } => takes_blank(kind),
+        Term::Iri(_) => takes_iri(kind),
+        Term::Literal { .. } => takes_literal(kind),
+    }
+}
+
+// A value of the kind.
+#[derive(Drop)]
+struct OfKind<'a> {
+    kind: &'a Term,
+}
+
+impl ValueTest for OfKind<'_> {
+    ghost use Rattle.shape_model.specs.TermTests.{IsOfKind};
+
+    ghost accepts = { λ t v. IsOfKind t.kind.now v };
+
+    fn passes(&self, value: &Term) -> bool {
+        is_of_kind(self.kind, value)
+    }
+}
+
+/// The results of sh:nodeKind (SHACL section 4.1.3): one about each value node that isn't of the kind.
+pub fn node_kind<N: Names>(
+    alloc: Global,
+    names: &N,
+    source: &Term,
+    parameter: u32,
+    focus: u32,
+    values: &[u32],
+) -> Result<Vec<ResultRow>, AllocError>
+    requires nodes { AreNodes (N.terms names.now) values.now }
+    requires parameter { parameter < length (N.terms names.now) }
+    requires focus { focus < length (N.terms names.now) }
+    ensures { IfOk result (λ rows. ListsRows components.NodeKind (at_nodes (HasNode (N.terms names.now) values.now)) untold
+        source.now (term_at (N.terms names.now) focus) (term_at (N.terms names.now) parameter) rows.items) }
+{
+    let test = OfKind {
+        kind: named(names, parameter),
+    };
+    failing(
+        alloc,
+        names,
+        source,
+        Component::NodeKind,
+        parameter,
+        focus,
+        values,
+        &test,
+    )
+}
