@@ -41,7 +41,7 @@ parts_of s n small =
     let next : position_or_len (λ c. eqb c 120) text + 1 ≡ suc (length (decimal s)) = omega (arith, at) in
     (ap (λ k. take k text) at ∙ take-append_seam (decimal s) (120 ∷ decimal n), ap (λ k. drop k text) next ∙ behind_seam (decimal s) (decimal n))
 
-stored : (label : List ℕ) (s n : ℕ) → IsStored s n → label ≡ 115 ∷ (decimal s ++ 120 ∷ decimal n) → stored_node label ≡ Some (Blank s n)
+pub stored : (label : List ℕ) (s n : ℕ) → IsStored s n → label ≡ 115 ∷ (decimal s ++ 120 ∷ decimal n) → stored_node label ≡ Some (Blank s n)
 stored label s n (s1, s64, n1, top) is =
     let p = parts_of s n (omega (arith, s64)) in
     let one = a_number 64 s (before_first (λ c. eqb c 120) (decimal s ++ 120 ∷ decimal n)) (omega (arith, s64)) p.0 s1 s64 in

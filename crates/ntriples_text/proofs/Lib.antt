@@ -12,3 +12,4 @@ pub mod StoreLabels
 pub mod LabelLaws
 pub mod TokenLaws
 pub mod EarlyEnd
+pub mod StoreNodes

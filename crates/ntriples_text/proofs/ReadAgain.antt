@@ -29,15 +29,17 @@ use Rattle.rdf_model.specs.NTriples.{xsd_string}
 use Rattle.rdf_lexical.specs.declared.refusal.RefusalKind.{RefusalKind}
 use Rattle.rdf_lexical.specs.declared.refusal.RefusalKind.TheVariants.{RelativeIri}
 use Rattle.ntriples_text.specs.declared.lexeme.TokenKind.TheVariants as kinds
-use Rattle.ntriples_text.specs.declared.token.Token.TheVariants.{IriRef, Quoted, LanguageTag}
+use Rattle.ntriples_text.specs.declared.token.Token.{Token}
+use Rattle.ntriples_text.specs.declared.token.Token.TheVariants.{IriRef, Label, Quoted, LanguageTag}
 use Rattle.ntriples_text.specs.declared.statement.Node.TheVariants.{Plain}
 use Rattle.ntriples_text.specs.declared.statement.LabelKind.{LabelKind}
 use Rattle.ntriples_text.specs.declared.statement.Statement.{Statement}
 use Rattle.rdf_lexical.specs.Refusals.{◌>>=◌}
 use Rattle.ntriples_text.specs.Tokens.{token_at, token}
-use Rattle.ntriples_text.specs.Grammar.{rdf_lang_string, iri_of, iri, predicate, literal, literal_at, literal_from, object_at, object, dot, end, statement_from, line}
+use Rattle.ntriples_text.specs.Grammar.{rdf_lang_string, iri_of, iri, predicate, literal, literal_at, literal_from, node_of, object_at, object, dot, end, statement_from, line}
 use Rattle.ntriples_text.specs.Document.{lines}
-use Rattle.ntriples_text.specs.Laws.{IsIriText, IsTagChars, IsReadableObject, IsNone}
+use Rattle.ntriples_text.specs.Laws.{IsIriText, IsTagChars, IsReadableSubject, IsReadableObject, IsStored}
+use Rattle.ntriples_text.proofs.StoreNodes.{IsNodeOf, gives_node, label_alone, name_before_space, node_label, not_end_plain, plain_label, is_plain, stored_of}
 use Rattle.ntriples_text.proofs.Lexemes.{iri_met, string_met, tag_before_space, found_token}
 use Rattle.ntriples_text.proofs.Written.{in_angles, in_quotes, escape_chars, all_escaped, suffix_chars, end_chars, object_chars, parts_chars}
 
@@ -144,6 +146,15 @@ token_tag tag rest u h =
     let text : lower_text cs ≡ tag = ap encodes h.1 ∙ encodes-chars tag u in
     found_token kinds.LanguageTag (64 ∷ cs) (32 ∷ rest) (omega arith) (tag_before_space cs rest h.0) ∙ ap (λ x. Ok (LanguageTag x, 32 ∷ rest)) text
 
+-- a label of the store
+token_label : (s n : ℕ) (rest : List ℕ) → IsStored s n → token (95 ∷ 58 ∷ (node_label s n ++ 32 ∷ rest)) ≡ Ok (Label (node_label s n), 32 ∷ rest)
+unfolding token
+token_label s n rest h =
+    let name = node_label s n in
+    let size : 2 + length name ≡ length (95 ∷ 58 ∷ name) = omega arith in
+    let met = ap (λ k. Ok (kinds.BlankNodeLabel, 2 + k)) (name_before_space name rest (plain_label s n h)) ∙ ap (λ k. Ok (kinds.BlankNodeLabel, k)) size in
+    found_token kinds.BlankNodeLabel (95 ∷ 58 ∷ name) (32 ∷ rest) (omega arith) met ∙ ap (λ x. Ok (Label x, 32 ∷ rest)) (label_alone s n h)
+
 after_blank : (cs : List ℕ) → token (32 ∷ cs) ≡ token cs
 unfolding token
 after_blank cs = refl
@@ -198,12 +209,15 @@ read_literal labels l ends o rest u e =
     bound (token (32 ∷ in_quotes l ends)) (Quoted l, ends) (object_at labels) (after_blank (in_quotes l ends) ∙ token_in_quotes l ends u)
     ∙ bound (literal_from l ends) (o, tail_chars rest) (λ r. Ok (Plain r.0, r.1)) e
 
-read_object : (labels : LabelKind) (o : Term) (rest : List ℕ) → IsReadableObject IsNone o → object labels (32 ∷ object_chars o (tail_chars rest)) ≡ Ok (Plain o, tail_chars rest)
+read_object : (labels : LabelKind) (o : Term) (rest : List ℕ) → IsReadableObject (IsNodeOf labels) o → object labels (32 ∷ object_chars o (tail_chars rest)) ≡ Ok (Plain o, tail_chars rest)
 unfolding object
 read_object labels (Iri a) rest r =
     bound (token (32 ∷ in_angles a (tail_chars rest))) (IriRef a, tail_chars rest) (object_at labels) (after_blank (in_angles a (tail_chars rest)) ∙ token_in_angles a (tail_chars rest) r.0 r.1)
     ∙ ap (λ q. (q >>= λ x. Ok (Plain (Iri x))) >>= λ n. Ok (n, tail_chars rest)) (scheme_iri a r.2)
-read_object labels (Blank s n) rest r = absurd r
+read_object labels (Blank s n) rest r =
+    bound (token (32 ∷ 95 ∷ 58 ∷ (node_label s n ++ tail_chars rest))) (Label (node_label s n), tail_chars rest) (object_at labels)
+    (after_blank (95 ∷ 58 ∷ (node_label s n ++ tail_chars rest)) ∙ token_label s n (46 ∷ rest) (stored_of labels s n r))
+    ∙ ap (λ q. q >>= λ x. Ok (x, tail_chars rest)) (gives_node labels s n r)
 read_object labels (Literal l d None) rest r = read_literal labels l (end_chars d None (tail_chars rest)) (Literal l d None) rest r.0 (read_suffix l d rest r.1 r.2)
 read_object labels (Literal l d (Some tag)) rest r =
     read_literal labels l (end_chars d (Some tag) (tail_chars rest)) (Literal l d (Some tag)) rest r.0
@@ -217,20 +231,24 @@ read_end : end (10 ∷ []) ≡ Ok tt
 unfolding end token
 read_end = refl
 
-abbrev pub plain_statement : List ℕ → List ℕ → Term → Statement
-plain_statement a b o = record { subject = Plain (Iri a); predicate = b; object = Plain o }
+abbrev pub plain_statement : Term → List ℕ → Term → Statement
+plain_statement s b o = record { subject = Plain s; predicate = b; object = Plain o }
 
-read_from : (labels : LabelKind) (a b : List ℕ) (o : Term) → IsIriText a → IsIriText b → IsReadableObject IsNone o
-    → statement_from labels (IriRef a, 32 ∷ in_angles b (32 ∷ object_chars o (tail_chars (10 ∷ [])))) ≡ Ok (plain_statement a b o)
+read_from : (labels : LabelKind) (t : Token) (s : Term) (b : List ℕ) (o : Term) → node_of labels t ≡ Ok (Plain s) → IsIriText b → IsReadableObject (IsNodeOf labels) o
+    → statement_from labels (t, 32 ∷ in_angles b (32 ∷ object_chars o (tail_chars (10 ∷ [])))) ≡ Ok (plain_statement s b o)
 unfolding statement_from
-read_from labels a b o ha hb ho =
-    rw (ha.2, predicate_blank b (32 ∷ object_chars o (tail_chars (10 ∷ []))) hb, read_object labels o (10 ∷ []) ho, read_dot (10 ∷ []), read_end) refl
+read_from labels t s b o hs hb ho =
+    rw (hs, predicate_blank b (32 ∷ object_chars o (tail_chars (10 ∷ []))) hb, read_object labels o (10 ∷ []) ho, read_dot (10 ∷ []), read_end) refl
 
-pub read_parts : (labels : LabelKind) (a b : List ℕ) (o : Term) → IsIriText a → IsIriText b → IsReadableObject IsNone o → line labels (parts_chars (Iri a) (Iri b) o []) ≡ Ok (Some (plain_statement a b o))
+pub read_parts : (labels : LabelKind) (s : Term) (b : List ℕ) (o : Term) → IsReadableSubject (IsNodeOf labels) s → IsIriText b → IsReadableObject (IsNodeOf labels) o → line labels (parts_chars s (Iri b) o []) ≡ Ok (Some (plain_statement s b o))
 unfolding line
-read_parts labels a b o ha hb ho =
+read_parts labels (Iri a) b o ha hb ho =
     let rest = 32 ∷ in_angles b (32 ∷ object_chars o (tail_chars (10 ∷ []))) in
-    rw (token_in_angles a rest ha.0 ha.1) (ap (λ q. q >>= λ x. Ok (Some x)) (read_from labels a b o ha hb ho))
+    rw (token_in_angles a rest ha.0 ha.1) (ap (λ q. q >>= λ x. Ok (Some x)) (read_from labels (IriRef a) (Iri a) b o (ap (λ q. q >>= λ x. Ok (Plain (Iri x))) (scheme_iri a ha.2)) hb ho))
+read_parts labels (Blank s n) b o hs hb ho =
+    let rest = in_angles b (32 ∷ object_chars o (tail_chars (10 ∷ []))) in
+    rw (token_label s n rest (stored_of labels s n hs)) (ap (λ q. q >>= λ x. Ok (Some x)) (read_from labels (Label (node_label s n)) (Blank s n) b o (gives_node labels s n hs) hb ho))
+read_parts labels (Literal l d t) b o hs hb ho = absurd hs
 
 -- the lines
 not_end_iri : (c : ℕ) → is_iri_char c ≡ true → is_line_end c ≡ false
@@ -289,17 +307,19 @@ suffix_on d rest l ls false r e = one_on 94 (94 ∷ in_angles d rest) (94 ∷ in
 quotes_on : (x rest l : List ℕ) (ls : List (List ℕ)) → lines rest ≡ l ∷ ls → lines (in_quotes x rest) ≡ in_quotes x l ∷ ls
 quotes_on x rest l ls e = one_on 34 (all_escaped (chars x) (34 ∷ rest)) (all_escaped (chars x) (34 ∷ l)) ls refl (all_escaped_on (chars x) (34 ∷ rest) (34 ∷ l) ls (one_on 34 rest l ls refl e))
 
-object_on : (t : Term) (rest l : List ℕ) (ls : List (List ℕ)) → IsReadableObject IsNone t → lines rest ≡ l ∷ ls → lines (object_chars t rest) ≡ object_chars t l ∷ ls
-object_on (Iri a) rest l ls r e = angles_on a rest l ls r e
-object_on (Blank s n) rest l ls r e = absurd r
-object_on (Literal x d None) rest l ls r e = quotes_on x (end_chars d None rest) (end_chars d None l) ls (suffix_on d rest l ls (bytes_eq d xsd_string) r.1 e)
-object_on (Literal x d (Some tag)) rest l ls r e =
+object_on : (labels : LabelKind) (t : Term) (rest l : List ℕ) (ls : List (List ℕ)) → IsReadableObject (IsNodeOf labels) t → lines rest ≡ l ∷ ls → lines (object_chars t rest) ≡ object_chars t l ∷ ls
+object_on labels (Iri a) rest l ls r e = angles_on a rest l ls r e
+object_on labels (Blank s n) rest l ls r e =
+    let name = node_label s n in
+    one_on 95 (58 ∷ (name ++ rest)) (58 ∷ (name ++ l)) ls refl (one_on 58 (name ++ rest) (name ++ l) ls refl (all_on is_plain not_end_plain name rest l ls (plain_label s n (stored_of labels s n r)) e))
+object_on labels (Literal x d None) rest l ls r e = quotes_on x (end_chars d None rest) (end_chars d None l) ls (suffix_on d rest l ls (bytes_eq d xsd_string) r.1 e)
+object_on labels (Literal x d (Some tag)) rest l ls r e =
     quotes_on x (end_chars d (Some tag) rest) (end_chars d (Some tag) l) ls
     (one_on 64 (chars tag ++ rest) (chars tag ++ l) ls refl (all_on is_tag_part not_end_tag (chars tag) rest l ls (all_tag_parts (chars tag) r.3) e))
 
-pub parts_on : (a b : List ℕ) (o : Term) (rest : List ℕ) → IsIriText a → IsIriText b → IsReadableObject IsNone o → lines (parts_chars (Iri a) (Iri b) o rest) ≡ parts_chars (Iri a) (Iri b) o [] ∷ lines rest
-parts_on a b o rest ha hb ho =
+pub parts_on : (labels : LabelKind) (s : Term) (b : List ℕ) (o : Term) (rest : List ℕ) → IsReadableObject (IsNodeOf labels) s → IsIriText b → IsReadableObject (IsNodeOf labels) o → lines (parts_chars s (Iri b) o rest) ≡ parts_chars s (Iri b) o [] ∷ lines rest
+parts_on labels s b o rest hs hb ho =
     let dotted : lines (32 ∷ 46 ∷ 10 ∷ rest) ≡ (32 ∷ 46 ∷ 10 ∷ []) ∷ lines rest = refl in
-    let third = one_on 32 (object_chars o (32 ∷ 46 ∷ 10 ∷ rest)) (object_chars o (32 ∷ 46 ∷ 10 ∷ [])) (lines rest) refl (object_on o (32 ∷ 46 ∷ 10 ∷ rest) (32 ∷ 46 ∷ 10 ∷ []) (lines rest) ho dotted) in
+    let third = one_on 32 (object_chars o (32 ∷ 46 ∷ 10 ∷ rest)) (object_chars o (32 ∷ 46 ∷ 10 ∷ [])) (lines rest) refl (object_on labels o (32 ∷ 46 ∷ 10 ∷ rest) (32 ∷ 46 ∷ 10 ∷ []) (lines rest) ho dotted) in
     let second = one_on 32 (in_angles b (32 ∷ object_chars o (32 ∷ 46 ∷ 10 ∷ rest))) (in_angles b (32 ∷ object_chars o (32 ∷ 46 ∷ 10 ∷ []))) (lines rest) refl (angles_on b (32 ∷ object_chars o (32 ∷ 46 ∷ 10 ∷ rest)) (32 ∷ object_chars o (32 ∷ 46 ∷ 10 ∷ [])) (lines rest) hb third) in
-    angles_on a (32 ∷ in_angles b (32 ∷ object_chars o (32 ∷ 46 ∷ 10 ∷ rest))) (32 ∷ in_angles b (32 ∷ object_chars o (32 ∷ 46 ∷ 10 ∷ []))) (lines rest) ha second
+    object_on labels s (32 ∷ in_angles b (32 ∷ object_chars o (32 ∷ 46 ∷ 10 ∷ rest))) (32 ∷ in_angles b (32 ∷ object_chars o (32 ∷ 46 ∷ 10 ∷ []))) (lines rest) hs second

@@ -11,7 +11,9 @@ use Rattle.rdf_model.specs.declared.term.Term.TheVariants.{Blank, Iri, Literal}
 use Rattle.rdf_model.specs.declared.triple.Triple.{Triple}
 use Rattle.rdf_model.specs.NTriples.{xsd_string, escaped, literal_suffix, term_text}
 use Rattle.ntriples_text.specs.Writing.{written}
-use Rattle.ntriples_text.specs.Laws.{IsReadableSubject, IsReadableIri, IsReadableObject, IsReadable, IsNone}
+use Rattle.ntriples_text.specs.Laws.{IsReadableSubject, IsReadableIri, IsReadableObject, IsReadable}
+use Rattle.ntriples_text.specs.declared.statement.LabelKind.{LabelKind}
+use Rattle.ntriples_text.proofs.StoreNodes.{IsNodeOf, blank_text, encodes_label, node_label, plain_label, plain_scalars, stored_of}
 
 abbrev pub in_angles : List ℕ → List ℕ → List ℕ
 in_angles a rest = 60 ∷ (chars a ++ 62 ∷ rest)
@@ -41,21 +43,21 @@ iri_chars (Literal l d t) rest = rest
 
 abbrev pub object_chars : Term → List ℕ → List ℕ
 object_chars (Iri a) rest = in_angles a rest
-object_chars (Blank s n) rest = rest
+object_chars (Blank s n) rest = 95 ∷ 58 ∷ (node_label s n ++ rest)
 object_chars (Literal l d t) rest = in_quotes l (end_chars d t rest)
 
 abbrev pub parts_chars : Term → Term → Term → List ℕ → List ℕ
-parts_chars s p o rest = iri_chars s (32 ∷ iri_chars p (32 ∷ object_chars o (32 ∷ 46 ∷ 10 ∷ rest)))
+parts_chars s p o rest = object_chars s (32 ∷ iri_chars p (32 ∷ object_chars o (32 ∷ 46 ∷ 10 ∷ rest)))
 
 abbrev pub all_chars : List Triple → List ℕ
 all_chars [] = []
 all_chars (t ∷ ts) = parts_chars t.subject t.predicate t.object (all_chars ts)
 
--- without blank nodes a subject is an IRI
-pub as_iri : (t : Term) → IsReadableSubject IsNone t → IsReadableIri t
-as_iri (Iri a) r = r
-as_iri (Blank s n) r = absurd r
-as_iri (Literal l d t) r = absurd r
+-- a subject may be an object
+pub as_object : (IsNode : ℕ → ℕ → Type 0) (t : Term) → IsReadableSubject IsNode t → IsReadableObject IsNode t
+as_object IsNode (Iri a) r = r
+as_object IsNode (Blank s n) r = r
+as_object IsNode (Literal l d t) r = absurd r
 
 -- their bytes
 encodes-in_angles : (a rest : List ℕ) → IsUtf8 a → encodes (in_angles a rest) ≡ 60 ∷ (a ++ 62 ∷ encodes rest)
@@ -113,30 +115,30 @@ encodes-literal l suffix rest ends e =
     ∙ (ap (λ x. 34 ∷ (flat_map escaped (chars l) ++ 34 ∷ x)) e
     ∙ regroup_quotes (34 ∷ []) (flat_map escaped (chars l)) suffix (encodes rest))
 
-pub encodes-object : (t : Term) (rest : List ℕ) → IsReadableObject IsNone t → encodes (object_chars t rest) ≡ term_text t ++ encodes rest
+pub encodes-object : (labels : LabelKind) (t : Term) (rest : List ℕ) → IsReadableObject (IsNodeOf labels) t → encodes (object_chars t rest) ≡ term_text t ++ encodes rest
 unfolding encode
-encodes-object (Iri a) rest r = encodes-in_angles a rest r.0 ∙ ap (λ x. 60 ∷ x) (sym (append_assoc a (62 ∷ []) (encodes rest)))
-encodes-object (Blank s n) rest r = absurd r
-encodes-object (Literal l d None) rest r = encodes-literal l (literal_suffix d None) rest (end_chars d None rest) (encodes-suffix d rest (bytes_eq d xsd_string) r.1.0)
-encodes-object (Literal l d (Some tag)) rest r = encodes-literal l (literal_suffix d (Some tag)) rest (end_chars d (Some tag) rest) (encodes-tag tag rest r.2)
+encodes-object labels (Iri a) rest r = encodes-in_angles a rest r.0 ∙ ap (λ x. 60 ∷ x) (sym (append_assoc a (62 ∷ []) (encodes rest)))
+encodes-object labels (Blank s n) rest r = ap (λ x. 95 ∷ 58 ∷ x) (encodes_label s n rest (stored_of labels s n r)) ∙ ap (λ x. x ++ encodes rest) (sym (blank_text s n))
+encodes-object labels (Literal l d None) rest r = encodes-literal l (literal_suffix d None) rest (end_chars d None rest) (encodes-suffix d rest (bytes_eq d xsd_string) r.1.0)
+encodes-object labels (Literal l d (Some tag)) rest r = encodes-literal l (literal_suffix d (Some tag)) rest (end_chars d (Some tag) rest) (encodes-tag tag rest r.2)
 
-encodes-parts : (s p o : Term) (rest : List ℕ) → IsReadableIri s → IsReadableIri p → IsReadableObject IsNone o
+encodes-parts : (labels : LabelKind) (s p o : Term) (rest : List ℕ) → IsReadableObject (IsNodeOf labels) s → IsReadableIri p → IsReadableObject (IsNodeOf labels) o
     → encodes (parts_chars s p o rest) ≡ term_text s ++ 32 ∷ (term_text p ++ 32 ∷ (term_text o ++ 32 ∷ 46 ∷ 10 ∷ encodes rest))
 unfolding encode
-encodes-parts s p o rest hs hp ho =
-    encodes-iri s (32 ∷ iri_chars p (32 ∷ object_chars o (32 ∷ 46 ∷ 10 ∷ rest))) hs
+encodes-parts labels s p o rest hs hp ho =
+    encodes-object labels s (32 ∷ iri_chars p (32 ∷ object_chars o (32 ∷ 46 ∷ 10 ∷ rest))) hs
     ∙ ap (λ x. term_text s ++ 32 ∷ x) (encodes-iri p (32 ∷ object_chars o (32 ∷ 46 ∷ 10 ∷ rest)) hp
-    ∙ ap (λ x. term_text p ++ 32 ∷ x) (encodes-object o (32 ∷ 46 ∷ 10 ∷ rest) ho))
+    ∙ ap (λ x. term_text p ++ 32 ∷ x) (encodes-object labels o (32 ∷ 46 ∷ 10 ∷ rest) ho))
 
 regroup : (s p o rest : List ℕ) → (s ++ codes " " ++ p ++ codes " " ++ o ++ codes " ." ++ codes "\n") ++ rest ≡ s ++ 32 ∷ (p ++ 32 ∷ (o ++ 32 ∷ 46 ∷ 10 ∷ rest))
 regroup s p o rest = simp append_assoc
 
-pub encodes-all : (ts : List Triple) → AllByRecursion (IsReadable IsNone) ts → encodes (all_chars ts) ≡ written ts
+pub encodes-all : (labels : LabelKind) (ts : List Triple) → AllByRecursion (IsReadable (IsNodeOf labels)) ts → encodes (all_chars ts) ≡ written ts
 unfolding encode
-encodes-all [] r = refl
-encodes-all (t ∷ ts) r =
-    encodes-parts t.subject t.predicate t.object (all_chars ts) (as_iri t.subject r.0.subject) r.0.predicate r.0.object
-    ∙ (ap (λ x. term_text t.subject ++ 32 ∷ (term_text t.predicate ++ 32 ∷ (term_text t.object ++ 32 ∷ 46 ∷ 10 ∷ x))) (encodes-all ts r.1)
+encodes-all labels [] r = refl
+encodes-all labels (t ∷ ts) r =
+    encodes-parts labels t.subject t.predicate t.object (all_chars ts) (as_object (IsNodeOf labels) t.subject r.0.subject) r.0.predicate r.0.object
+    ∙ (ap (λ x. term_text t.subject ++ 32 ∷ (term_text t.predicate ++ 32 ∷ (term_text t.object ++ 32 ∷ 46 ∷ 10 ∷ x))) (encodes-all labels ts r.1)
     ∙ sym (regroup (term_text t.subject) (term_text t.predicate) (term_text t.object) (written ts)))
 
 -- they are characters
@@ -169,15 +171,15 @@ scalars-suffix : (d rest : List ℕ) (same : Bool) → IsUtf8 d → scalars rest
 scalars-suffix d rest true u h = h
 scalars-suffix d rest false u h = scalars-append (chars d) (62 ∷ rest) (scalars-chars d u) h
 
-scalars-object : (t : Term) (rest : List ℕ) → IsReadableObject IsNone t → scalars rest ≡ true → scalars (object_chars t rest) ≡ true
-scalars-object (Iri a) rest r h = scalars-append (chars a) (62 ∷ rest) (scalars-chars a r.0) h
-scalars-object (Blank s n) rest r h = absurd r
-scalars-object (Literal l d None) rest r h = scalars-all_escaped (chars l) (34 ∷ end_chars d None rest) (scalars-chars l r.0) (scalars-suffix d rest (bytes_eq d xsd_string) r.1.0 h)
-scalars-object (Literal l d (Some tag)) rest r h = scalars-all_escaped (chars l) (34 ∷ end_chars d (Some tag) rest) (scalars-chars l r.0) (scalars-append (chars tag) rest (scalars-chars tag r.2) h)
+scalars-object : (labels : LabelKind) (t : Term) (rest : List ℕ) → IsReadableObject (IsNodeOf labels) t → scalars rest ≡ true → scalars (object_chars t rest) ≡ true
+scalars-object labels (Iri a) rest r h = scalars-append (chars a) (62 ∷ rest) (scalars-chars a r.0) h
+scalars-object labels (Blank s n) rest r h = plain_scalars (node_label s n) rest (plain_label s n (stored_of labels s n r)) h
+scalars-object labels (Literal l d None) rest r h = scalars-all_escaped (chars l) (34 ∷ end_chars d None rest) (scalars-chars l r.0) (scalars-suffix d rest (bytes_eq d xsd_string) r.1.0 h)
+scalars-object labels (Literal l d (Some tag)) rest r h = scalars-all_escaped (chars l) (34 ∷ end_chars d (Some tag) rest) (scalars-chars l r.0) (scalars-append (chars tag) rest (scalars-chars tag r.2) h)
 
-pub scalars-all : (ts : List Triple) → AllByRecursion (IsReadable IsNone) ts → scalars (all_chars ts) ≡ true
-scalars-all [] r = refl
-scalars-all (t ∷ ts) r =
-    let o = scalars-object t.object (32 ∷ 46 ∷ 10 ∷ all_chars ts) r.0.object (scalars-all ts r.1) in
+pub scalars-all : (labels : LabelKind) (ts : List Triple) → AllByRecursion (IsReadable (IsNodeOf labels)) ts → scalars (all_chars ts) ≡ true
+scalars-all labels [] r = refl
+scalars-all labels (t ∷ ts) r =
+    let o = scalars-object labels t.object (32 ∷ 46 ∷ 10 ∷ all_chars ts) r.0.object (scalars-all labels ts r.1) in
     let p = scalars-iri t.predicate (32 ∷ object_chars t.object (32 ∷ 46 ∷ 10 ∷ all_chars ts)) r.0.predicate o in
-    scalars-iri t.subject (32 ∷ iri_chars t.predicate (32 ∷ object_chars t.object (32 ∷ 46 ∷ 10 ∷ all_chars ts))) (as_iri t.subject r.0.subject) p
+    scalars-object labels t.subject (32 ∷ iri_chars t.predicate (32 ∷ object_chars t.object (32 ∷ 46 ∷ 10 ∷ all_chars ts))) (as_object (IsNodeOf labels) t.subject r.0.subject) p

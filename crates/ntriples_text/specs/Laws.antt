@@ -22,7 +22,7 @@ use Rattle.ntriples_text.specs.Productions.{IsTokenAt, HasNoToken, BeginsToken, 
 use Rattle.ntriples_text.specs.declared.statement.Node.TheVariants.{Labelled}
 use Rattle.ntriples_text.specs.Grammar.{literal, rdf_lang_string}
 use Rattle.ntriples_text.specs.Blanks.{once, term_of}
-use Rattle.ntriples_text.specs.Document.{reads}
+use Rattle.ntriples_text.specs.Document.{reads, reads_named}
 use Rattle.ntriples_text.specs.StoreLabels.{stored_node}
 use Rattle.ntriples_text.specs.Writing.{written}
 
@@ -64,6 +64,10 @@ pub record IsReadable (IsNode : ℕ → ℕ → Type 0) (t : Triple) : Type 0 wh
 abbrev pub IsNone : ℕ → ℕ → Type 0
 IsNone session number = ⊥
 
+-- a blank node that a label of the store may name: a session from 1 to 64, and a number below 2^32
+abbrev pub IsStored : ℕ → ℕ → Type 0
+IsStored session number = (1 ≤ session) × (session ≤ 64) × (1 ≤ number) × (number ≤ 4294967295)
+
 -- one of a session with a number from first up to below next
 abbrev pub IsWithin : ℕ → ℕ → ℕ → ℕ → ℕ → Type 0
 IsWithin session first next s n = (s ≡ session) × (first ≤ n) × (n < next)
@@ -72,6 +76,10 @@ IsWithin session first next s n = (s ≡ session) × (first ≤ n) × (n < next)
 -- speaks of triples without them.
 abbrev pub ReadsAgain : Type 0
 ReadsAgain = (triples : List Triple) (session first : ℕ) → AllByRecursion (IsReadable IsNone) triples → IsAscending triple_cmp triples → reads (written triples) session first ≡ Ok (triples, first)
+
+-- Read by the labels of the store, what was written gives the same triples, blank nodes included.
+abbrev pub ReadsNamedAgain : Type 0
+ReadsNamedAgain = (triples : List Triple) → AllByRecursion (IsReadable IsStored) triples → IsAscending triple_cmp triples → reads_named (written triples) ≡ Ok triples
 
 -- The triples of a text ascend, and each can stand in one; its blank nodes are the session's, with numbers from first up
 -- to below next.
@@ -83,10 +91,6 @@ GivesReadable = (bytes : List ℕ) (session first next : ℕ) (triples : List Tr
 abbrev pub LabelsStayApart : Type 0
 LabelsStayApart = (session first : ℕ) (labels : List (List ℕ)) (a b : List ℕ) → list_any (bytes_eq a) labels ≡ true → list_any (bytes_eq b) labels ≡ true
     → term_of session first (once labels) (Labelled a) ≡ term_of session first (once labels) (Labelled b) → a ≡ b
-
--- a blank node that a label of the store may name: a session from 1 to 64, and a number below 2^32
-abbrev pub IsStored : ℕ → ℕ → Type 0
-IsStored session number = (1 ≤ session) × (session ≤ 64) × (1 ≤ number) × (number ≤ 4294967295)
 
 -- A label is that of a blank node of the store exactly where the node is written so.
 abbrev pub StoreLabelsAreWritten : Type 0

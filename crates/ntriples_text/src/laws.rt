@@ -1,9 +1,14 @@
-ghost use Rattle.ntriples_text.specs.Laws.{ReadsAgain, GivesReadable, LabelsStayApart, StoreLabelsAreWritten, FindsLongest, MissesNone, StandsAlone, EndsEarly};
+ghost use Rattle.ntriples_text.specs.Laws.{ReadsAgain, ReadsNamedAgain, GivesReadable, LabelsStayApart, StoreLabelsAreWritten, FindsLongest, MissesNone, StandsAlone, EndsEarly};
 
 /// Reading what was written gives the same triples, whatever triples without blank nodes a text can
 /// give.
 pub fn read_after_write()
     ensures { ReadsAgain }
+{}
+
+/// Reading by the labels of the store what was written gives the same triples, blank nodes included.
+pub fn read_named_after_write()
+    ensures { ReadsNamedAgain }
 {}
 
 /// What a text gives ascends, and can stand in a text again; its blank nodes are those of the
