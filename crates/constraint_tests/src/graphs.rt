@@ -1,0 +1,115 @@
+ghost use Rattle.std.specs.Prelude.{◌≡◌, ◌<◌, length};
+ghost use Rattle.rdf_model.specs.Numbers.{AreNumbered, IsNumbering, term_at};
+ghost use Rattle.component_rows.specs.Nodes.{AreNodes};
+ghost use Rattle.shape_model.specs.Vocabulary.{true_literal};
+
+use crate::case::{Case, assert_found, read_case};
+use crate::checks::is_true;
+use pair_constraints::{disjoint, equals, less_than, less_than_or_equals};
+use shape_model::ResultRow;
+use std::alloc::{AllocError, Global};
+use std::process::Abort;
+use std::test::Fail;
+use value_constraints::closed;
+
+// The value nodes and the values of e:q: equal ones, pairs in order, of equal value, and that don't compare.
+const PAIRS: &str = "\
+LessThan; e:q; 5^integer; 3^integer 4^integer; 5^integer|5^integer|3^integer 5^integer|5^integer|4^integer
+LessThan; e:q; 5^integer; 5^integer 5.0^decimal 6^integer; 5^integer|5^integer|5^integer 5^integer|5^integer|5.0^decimal
+LessThanOrEquals; e:q; 5^integer; 5^integer 5.0^decimal 6^integer 4.9^decimal; 5^integer|5^integer|4.9^decimal
+LessThan; e:q; 1^integer e:a _1 x@en; 2^integer; e:a|e:a|2^integer _1|_1|2^integer x@en|x@en|2^integer
+LessThanOrEquals; e:q; e:a x@en _1; e:a; e:a|e:a|e:a x@en|x@en|e:a _1|_1|e:a
+LessThan; e:q; 1^integer; b^string 2^integer two^integer; 1^integer|1^integer|b^string 1^integer|1^integer|two^integer
+LessThan; e:q; 2000-01-01^date 2000-01-01Z^date; 2000-01-02Z^date 2000-01-02^date; 2000-01-01^date|2000-01-01^date|2000-01-02Z^date 2000-01-01Z^date|2000-01-01Z^date|2000-01-02^date
+LessThan; e:q; 1^integer;;
+LessThan; e:q;; 1^integer;
+Equals; e:q; e:a 1^integer; 1^integer e:b; e:a e:b
+Equals; e:q; 1^integer; 1.0^decimal; 1^integer 1.0^decimal
+Equals; e:q; x@en _1; _1 x@EN;
+Equals; e:q; e:a _1;; e:a _1
+Equals; e:q;; e:a e:a x^string; e:a x^string
+Equals; e:q;;;
+Disjoint; e:q; e:a 1^integer _1 x@en; x@EN 1^integer _2 e:b; 1^integer x@en
+Disjoint; e:q; 1^integer; 1.0^decimal 1^string;
+Disjoint; e:q; _1 e:a; _1 e:a; _1 e:a
+Disjoint; e:q; e:q;;";
+
+// Triples of several subjects, and the predicates that a closed shape allows.
+const GRAPH: &str = "\
+e:a rdf:type e:C
+e:a e:p e:b
+e:a e:p e:c
+e:b e:p 1^integer
+e:b e:q e:b
+e:b e:p e:q";
+
+const CLOSINGS: &str = "\
+Closed; true^boolean; e:a; rdf:type; e:a|e:b|e:p e:a|e:c|e:p
+Closed; true^boolean; e:a;; e:a|e:C|rdf:type e:a|e:b|e:p e:a|e:c|e:p
+Closed; true^boolean; e:a e:b; e:p rdf:type e:p; e:b|e:b|e:q
+Closed; true^boolean; e:b; e:q; e:b|1^integer|e:p e:b|e:q|e:p
+Closed; true^boolean; e:a; e:p rdf:type;
+Closed; true^boolean; e:c 1^integer _1;;
+Closed; true^boolean;;;";
+
+fn pair_rows(alloc: Global, case: &Case<'_>) -> Result<Vec<ResultRow>, AllocError>
+    requires numbering { IsNumbering case.now.names }
+    requires graph { AreNumbered case.now.names case.now.graph }
+    requires nodes { AreNodes case.now.names case.now.values.items }
+    requires parameter { case.now.parameter < length case.now.names }
+    requires focus { case.now.focus < length case.now.names }
+{
+    let (graph, names, source) = (&case.graph, &case.names, &case.source);
+    let (parameter, focus, values) = (case.parameter, case.focus, case.values.as_slice());
+    match case.component {
+        "Equals" => equals(alloc, graph, names, source, parameter, focus, values),
+        "Disjoint" => disjoint(alloc, graph, names, source, parameter, focus, values),
+        "LessThan" => less_than(alloc, graph, names, source, parameter, focus, values),
+        _ => less_than_or_equals(alloc, graph, names, source, parameter, focus, values),
+    }
+}
+
+fn assert_pairs(rt: &impl Abort, alloc: Global, line: &str) -> Result<(), Fail> {
+    let case = read_case(rt, alloc, "", line)?;
+    let rows = pair_rows(alloc, &case)?;
+    assert_found(rt, alloc, &case, &rows, line)
+}
+
+fn closed_rows(alloc: Global, case: &Case<'_>) -> Result<Vec<ResultRow>, AllocError>
+    requires numbering { IsNumbering case.now.names }
+    requires graph { AreNumbered case.now.names case.now.graph }
+    requires nodes { AreNodes case.now.names case.now.values.items }
+    requires members { AreNodes case.now.names case.now.members.items }
+    requires parameter { case.now.parameter < length case.now.names }
+    requires is_true { term_at case.now.names case.now.parameter ≡ true_literal }
+    requires focus { case.now.focus < length case.now.names }
+{
+    closed(
+        alloc,
+        &case.graph,
+        &case.names,
+        &case.source,
+        case.parameter,
+        &case.members,
+        case.focus,
+        &case.values,
+    )
+}
+
+fn assert_closed(rt: &impl Abort, alloc: Global, line: &str) -> Result<(), Fail> {
+    let case = read_case(rt, alloc, GRAPH, line)?;
+    assert!(rt; is_true(&case.names, case.parameter));
+    let rows = closed_rows(alloc, &case)?;
+    assert_found(rt, alloc, &case, &rows, line)
+}
+
+#[test]
+fn pairs_and_closings(rt: HostRuntime) -> Result<(), Fail> {
+    for line in PAIRS.lines() {
+        assert_pairs(&rt, rt.alloc(), line)?;
+    }
+    for line in CLOSINGS.lines() {
+        assert_closed(&rt, rt.alloc(), line)?;
+    }
+    Ok(())
+}

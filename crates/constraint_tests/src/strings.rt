@@ -1,0 +1,190 @@
+ghost use Rattle.std.specs.Prelude.{◌≡◌, ◌<◌, IsTrue, length};
+ghost use Rattle.std.specs.List.{Contains};
+ghost use Rattle.rdf_model.specs.Numbers.{IsNumbering, term_at};
+ghost use Rattle.component_rows.specs.Nodes.{AreNodes};
+ghost use Rattle.shape_model.specs.Vocabulary.{true_literal};
+
+use crate::case::{Case, assert_found, read_case};
+use crate::checks::{have_names, is_true};
+use outside::{MakeFault, Maker, RegexMaker};
+use rdf_model::Names;
+use regex::Regex;
+use shape_model::ResultRow;
+use std::alloc::{AllocError, Global};
+use std::process::Abort;
+use std::test::Fail;
+use string_constraints::{language_in, max_length, min_length, pattern, unique_lang};
+
+// Lengths equal to the bound, of characters of more bytes than one, of IRIs and of ill-typed literals; bounds of
+// other types, which forbid no length.
+const LENGTHS: &str = "\
+MinLength; 2^integer; ^string a^string ab^string abc^string;; ^string a^string
+MaxLength; 2^integer; ^string a^string ab^string abc^string;; abc^string
+MinLength; 3^integer; äöü^string 日本^string e:a e: _1 five^integer 12^integer a@en;; 日本^string e: _1 12^integer a@en
+MaxLength; 3^integer; äöü^string 日本^string e:a e:ab _1 five^integer 12^integer a@en;; e:ab _1 five^integer
+MinLength; 0^integer; ^string _1 e:a;; _1
+MaxLength; 0^integer; ^string _1 a^string;; _1 a^string
+MinLength; 5^decimal; ^string a^string _2;; _2
+MaxLength; -1^integer; ^string;; ^string
+MinLength; -1^integer; ^string;;
+MaxLength; 9^integer;;;";
+
+// Ranges and tags of both cases, whole subtags, any tag, empty lists, repeated members.
+const LANGUAGES: &str = "\
+LanguageIn; e:L; x@en x@EN-us x@english x@de x^string e:a _1; en^string; x@english x@de x^string e:a _1
+LanguageIn; e:L; x@en y@DE-at z@fr; EN^string De^string; z@fr
+LanguageIn; e:L; x@en-us x@en; en-US^string; x@en
+LanguageIn; e:L; x@en x^string e:a; *^string; x^string e:a
+LanguageIn; e:L; x@en x^string;; x@en x^string
+LanguageIn; e:L; x@fr y@fr z@de; fr^string fr^string; z@de
+LanguageIn; e:L; x@en; ^string _1 e:a; x@en";
+
+// One result for each tag that two value nodes have, whichever their case; texts without a tag share none.
+const TAGS: &str = "\
+UniqueLang; true^boolean; x@en y@EN z@de w@de;; -|-|de^string -|-|en^string
+UniqueLang; true^boolean; x@en x@EN;;
+UniqueLang; true^boolean; a@en b@en c@en;; -|-|en^string
+UniqueLang; true^boolean; x@en x@en-us y@de x^string y^string e:a _1;;
+UniqueLang; true^boolean; a@EN-us b@en-US;; -|-|en-us^string
+UniqueLang; true^boolean;;;";
+
+// Patterns that match a part, the whole or nothing; flags, where other terms tell them.
+const PATTERNS: &str = "\
+Pattern; ^a+$^string; aa^string b^string;; b^string
+Pattern; b^string; abc^string e:b xb@en _1 B^string 5^integer;; _1 B^string 5^integer
+Pattern; b^string; abc^string B^string _1; i; _1
+Pattern; ^string; ^string _1 e:a;; _1
+Pattern; [0-9]{2}^string; 12^integer 1^integer five^integer;; 1^integer five^integer";
+
+fn length_rows(alloc: Global, case: &Case<'_>) -> Result<Vec<ResultRow>, AllocError>
+    requires nodes { AreNodes case.now.names case.now.values.items }
+    requires parameter { case.now.parameter < length case.now.names }
+    requires focus { case.now.focus < length case.now.names }
+{
+    let (names, source) = (&case.names, &case.source);
+    let (parameter, focus, values) = (case.parameter, case.focus, case.values.as_slice());
+    match case.component {
+        "MinLength" => min_length(alloc, names, source, parameter, focus, values),
+        _ => max_length(alloc, names, source, parameter, focus, values),
+    }
+}
+
+fn assert_length(rt: &impl Abort, alloc: Global, line: &str) -> Result<(), Fail> {
+    let case = read_case(rt, alloc, "", line)?;
+    let rows = length_rows(alloc, &case)?;
+    assert_found(rt, alloc, &case, &rows, line)
+}
+
+fn language_rows(
+    alloc: Global,
+    case: &Case<'_>,
+    ranges: &[u32],
+) -> Result<Vec<ResultRow>, AllocError>
+    requires nodes { AreNodes case.now.names case.now.values.items }
+    requires ranges { (n : _) → Contains ranges.now n → n < length case.now.names }
+    requires parameter { case.now.parameter < length case.now.names }
+    requires focus { case.now.focus < length case.now.names }
+{
+    language_in(
+        alloc,
+        &case.names,
+        &case.source,
+        case.parameter,
+        ranges,
+        case.focus,
+        &case.values,
+    )
+}
+
+fn assert_languages(rt: &impl Abort, alloc: Global, line: &str) -> Result<(), Fail> {
+    let case = read_case(rt, alloc, "", line)?;
+    let ranges = case.others.as_slice();
+    assert!(rt; have_names(ranges, &case.names));
+    let rows = language_rows(alloc, &case, ranges)?;
+    assert_found(rt, alloc, &case, &rows, line)
+}
+
+fn assert_tags(rt: &impl Abort, alloc: Global, line: &str) -> Result<(), Fail> {
+    let case = read_case(rt, alloc, "", line)?;
+    assert!(rt; is_true(&case.names, case.parameter));
+    let rows = unique_lang(
+        alloc,
+        &case.names,
+        &case.source,
+        case.parameter,
+        case.focus,
+        &case.values,
+    )?;
+    assert_found(rt, alloc, &case, &rows, line)
+}
+
+#[test]
+fn lengths_and_languages(rt: HostRuntime) -> Result<(), Fail> {
+    for line in LENGTHS.lines() {
+        assert_length(&rt, rt.alloc(), line)?;
+    }
+    for line in LANGUAGES.lines() {
+        assert_languages(&rt, rt.alloc(), line)?;
+    }
+    for line in TAGS.lines() {
+        assert_tags(&rt, rt.alloc(), line)?;
+    }
+    Ok(())
+}
+
+// The pattern of the parameter's text.
+fn regex_of(alloc: Global, case: &Case<'_>, flags: &str) -> Result<Option<Regex>, AllocError> {
+    let text = match case.names.term(case.parameter) {
+        Some(term) => literal_order::str(term).unwrap_or(""),
+        None => "",
+    };
+    match RegexMaker::new(alloc).build(alloc, text, flags) {
+        Ok(regex) => Ok(Some(regex)),
+        Err(MakeFault::Refused) => Ok(None),
+        Err(MakeFault::Memory) => Err(AllocError),
+    }
+}
+
+fn pattern_rows(
+    alloc: Global,
+    case: &Case<'_>,
+    flags: &str,
+) -> Result<Option<Vec<ResultRow>>, AllocError>
+    requires numbering { IsNumbering case.now.names }
+    requires nodes { AreNodes case.now.names case.now.values.items }
+    requires parameter { case.now.parameter < length case.now.names }
+    requires focus { case.now.focus < length case.now.names }
+{
+    let (names, source) = (&case.names, &case.source);
+    match regex_of(alloc, case, flags)? {
+        Some(regex) => Ok(Some(pattern(
+            alloc,
+            names,
+            source,
+            case.parameter,
+            &regex,
+            case.focus,
+            &case.values,
+        )?)),
+        None => Ok(None),
+    }
+}
+
+fn assert_pattern(rt: &impl Abort, alloc: Global, line: &str) -> Result<(), Fail> {
+    let case = read_case(rt, alloc, "", line)?;
+    let flags = line.split(';').nth(3).unwrap_or("").trim();
+    let rows = pattern_rows(alloc, &case, flags)?;
+    assert!(rt; rows.is_some(), "{line}");
+    if let Some(rows) = rows {
+        assert_found(rt, alloc, &case, &rows, line)?;
+    }
+    Ok(())
+}
+
+#[test]
+fn patterns(rt: HostRuntime) -> Result<(), Fail> {
+    for line in PATTERNS.lines() {
+        assert_pattern(&rt, rt.alloc(), line)?;
+    }
+    Ok(())
+}

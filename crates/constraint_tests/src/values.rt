@@ -1,0 +1,116 @@
+ghost use Rattle.std.specs.Prelude.{◌<◌, length};
+ghost use Rattle.rdf_model.specs.Numbers.{IsNumbering};
+ghost use Rattle.component_rows.specs.Nodes.{AreNodes};
+
+use crate::case::{Case, assert_found, read_case};
+use shape_model::ResultRow;
+use std::alloc::{AllocError, Global};
+use std::process::Abort;
+use std::test::Fail;
+use value_constraints::{
+    datatype, has_value, in_list, max_exclusive, max_inclusive, min_exclusive, min_inclusive,
+};
+
+// Bounds equal to the value, values of other types that compare and that don't, ill-typed ones, dates with an
+// offset and without.
+const RANGES: &str = "\
+MinInclusive; 5^integer; 5.^decimal .5^decimal;; .5^decimal
+MinInclusive; 5^integer; 4^integer 5^integer 6^integer 05^byte;; 4^integer
+MinExclusive; 5^integer; 4^integer 5^integer 6^integer 5.0^decimal 5.01^decimal;; 4^integer 5^integer 5.0^decimal
+MaxInclusive; 5^integer; 4^integer 5^integer 6^integer 5.00^decimal;; 6^integer
+MaxExclusive; 5^integer; 4^integer 5^integer 6^integer 4.99^decimal;; 5^integer 6^integer
+MinInclusive; 0^integer; e:a _1 5^string x@en five^integer 1.5^integer 300^byte true^boolean 1^float 1^integer;; e:a _1 5^string x@en five^integer 1.5^integer 300^byte true^boolean 1^float
+MaxExclusive; 0^integer; e:a _1 -5^string x@en five^integer -200^byte false^boolean -1^integer;; e:a _1 -5^string x@en five^integer -200^byte false^boolean
+MinExclusive; five^integer; five^integer 9^integer;; five^integer 9^integer
+MaxInclusive; e:a; e:a 1^integer;; e:a 1^integer
+MinInclusive; 2000-01-01^date; 2000-01-01^date 1999-12-31^date 2000-01-01Z^date 2000-01-02^date 2000-02-30^date;; 1999-12-31^date 2000-01-01Z^date 2000-02-30^date
+MaxInclusive; 2000-01-01Z^date; 2000-01-01Z^date 2000-01-01+01:00^date 2000-01-01-01:00^date 1999-01-01^date;; 2000-01-01-01:00^date 1999-01-01^date
+MinExclusive; 2000-01-01T00:00:00Z^dateTime; 2000-01-01T01:00:00+01:00^dateTime 2000-01-01T00:00:00.1Z^dateTime 1999-12-31T24:00:00Z^dateTime 2001-01-01T00:00:00^dateTime 2001-01-01Z^date;; 2000-01-01T01:00:00+01:00^dateTime 1999-12-31T24:00:00Z^dateTime 2001-01-01T00:00:00^dateTime 2001-01-01Z^date
+MaxExclusive; true^boolean; false^boolean 0^boolean true^boolean 1^boolean;; true^boolean 1^boolean
+MaxExclusive; b^string; a^string b^string ab^string c^string ^string a@en;; b^string c^string a@en
+MinInclusive; 5^integer;;;";
+
+// Terms that are members and value nodes, values alike that are other terms, empty lists, repeated members.
+const SETS: &str = "\
+In; e:L; 5.^decimal .5^decimal; 5.0^decimal; 5.^decimal .5^decimal
+In; e:L; e:a _1 x@en x^string; e:a x@EN e:a; _1 x^string
+In; e:L; e:a 1^integer;; e:a 1^integer
+In; e:L;; e:a;
+In; e:L; e:L; e:a; e:L
+In; e:L; _1 _2 x^string; x^string _2 e:a _2; _1
+HasValue; e:v; e:a e:v _1;;
+HasValue; e:v; e:a _1;; -
+HasValue; 1^integer; 01^integer 1^decimal 1^string;; -
+HasValue; x@en; x@EN;;
+HasValue; x^string; x@en;; -
+HasValue; _1; _1;;
+HasValue; e:v;;; -
+Datatype; http://www.w3.org/2001/XMLSchema#integer; 1^integer -1^integer five^integer 1.0^integer ^integer 1^int 1^decimal 1^string e:a _1;; five^integer 1.0^integer ^integer 1^int 1^decimal 1^string e:a _1
+Datatype; http://www.w3.org/2001/XMLSchema#byte; 127^byte 128^byte -128^byte -129^byte +5^byte;; 128^byte -129^byte
+Datatype; http://www.w3.org/2001/XMLSchema#date; 2000-02-29^date 1900-02-29^date 2000-02-29Z^date 2000-02-29+14:00^date 2000-02-29+14:01^date 2000-02-29T00:00:00^date 2000-2-29^date;; 1900-02-29^date 2000-02-29+14:01^date 2000-02-29T00:00:00^date 2000-2-29^date
+Datatype; http://www.w3.org/2001/XMLSchema#float; 1^float abc^float 1^double;; 1^double
+Datatype; http://www.w3.org/2001/XMLSchema#boolean; true^boolean 0^boolean TRUE^boolean 2^boolean;; TRUE^boolean 2^boolean
+Datatype; http://www.w3.org/1999/02/22-rdf-syntax-ns#langString; x@en x@EN-us x^string;; x^string
+Datatype; http://www.w3.org/2001/XMLSchema#string; x^string ^string x@en http://www.w3.org/2001/XMLSchema#string;; x@en http://www.w3.org/2001/XMLSchema#string";
+
+fn range_rows(alloc: Global, case: &Case<'_>) -> Result<Vec<ResultRow>, AllocError>
+    requires nodes { AreNodes case.now.names case.now.values.items }
+    requires parameter { case.now.parameter < length case.now.names }
+    requires focus { case.now.focus < length case.now.names }
+{
+    let (names, source) = (&case.names, &case.source);
+    let (parameter, focus, values) = (case.parameter, case.focus, case.values.as_slice());
+    match case.component {
+        "MinInclusive" => min_inclusive(alloc, names, source, parameter, focus, values),
+        "MinExclusive" => min_exclusive(alloc, names, source, parameter, focus, values),
+        "MaxInclusive" => max_inclusive(alloc, names, source, parameter, focus, values),
+        _ => max_exclusive(alloc, names, source, parameter, focus, values),
+    }
+}
+
+fn set_rows(alloc: Global, case: &Case<'_>) -> Result<Vec<ResultRow>, AllocError>
+    requires numbering { IsNumbering case.now.names }
+    requires nodes { AreNodes case.now.names case.now.values.items }
+    requires members { AreNodes case.now.names case.now.members.items }
+    requires parameter { case.now.parameter < length case.now.names }
+    requires focus { case.now.focus < length case.now.names }
+{
+    let (names, source) = (&case.names, &case.source);
+    let (parameter, focus, values) = (case.parameter, case.focus, case.values.as_slice());
+    match case.component {
+        "In" => in_list(
+            alloc,
+            names,
+            source,
+            parameter,
+            &case.members,
+            focus,
+            values,
+        ),
+        "HasValue" => has_value(alloc, names, source, parameter, focus, values),
+        _ => datatype(alloc, names, source, parameter, focus, values),
+    }
+}
+
+fn assert_range(rt: &impl Abort, alloc: Global, line: &str) -> Result<(), Fail> {
+    let case = read_case(rt, alloc, "", line)?;
+    let rows = range_rows(alloc, &case)?;
+    assert_found(rt, alloc, &case, &rows, line)
+}
+
+fn assert_set(rt: &impl Abort, alloc: Global, line: &str) -> Result<(), Fail> {
+    let case = read_case(rt, alloc, "", line)?;
+    let rows = set_rows(alloc, &case)?;
+    assert_found(rt, alloc, &case, &rows, line)
+}
+
+#[test]
+fn ranges_and_sets(rt: HostRuntime) -> Result<(), Fail> {
+    for line in RANGES.lines() {
+        assert_range(&rt, rt.alloc(), line)?;
+    }
+    for line in SETS.lines() {
+        assert_set(&rt, rt.alloc(), line)?;
+    }
+    Ok(())
+}
