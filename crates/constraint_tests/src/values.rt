@@ -8,7 +8,8 @@ use std::alloc::{AllocError, Global};
 use std::process::Abort;
 use std::test::Fail;
 use value_constraints::{
-    datatype, has_value, in_list, max_exclusive, max_inclusive, min_exclusive, min_inclusive,
+    datatype, has_value, in_list, max_count, max_exclusive, max_inclusive, min_count,
+    min_exclusive, min_inclusive, node_kind,
 };
 
 // Bounds equal to the value, values of other types that compare and that don't, ill-typed ones, dates with an
@@ -53,6 +54,29 @@ Datatype; http://www.w3.org/2001/XMLSchema#boolean; true^boolean 0^boolean TRUE^
 Datatype; http://www.w3.org/1999/02/22-rdf-syntax-ns#langString; x@en x@EN-us x^string;; x^string
 Datatype; http://www.w3.org/2001/XMLSchema#string; x^string ^string x@en http://www.w3.org/2001/XMLSchema#string;; x@en http://www.w3.org/2001/XMLSchema#string";
 
+// The six kinds and a term that is none; counts 0 and 1, below 0, with a sign, and terms that say no number.
+const KINDS: &str = "\
+NodeKind; http://www.w3.org/ns/shacl#IRI; e:a _1 x^string 1^integer;; _1 x^string 1^integer
+NodeKind; http://www.w3.org/ns/shacl#BlankNode; e:a _1 x@en;; e:a x@en
+NodeKind; http://www.w3.org/ns/shacl#Literal; e:a _1 x^string;; e:a _1
+NodeKind; http://www.w3.org/ns/shacl#BlankNodeOrIRI; e:a _1 x^string;; x^string
+NodeKind; http://www.w3.org/ns/shacl#BlankNodeOrLiteral; e:a _1 x@en;; e:a
+NodeKind; http://www.w3.org/ns/shacl#IRIOrLiteral; e:a _1 x@en;; _1
+NodeKind; e:IRI; e:a;; e:a
+MinCount; 1^integer; e:a;;
+MinCount; 1^integer;;; -
+MinCount; 2^integer; e:a;; -
+MinCount; 0^integer;;;
+MinCount; -1^integer;;;
+MinCount; +2^integer; e:a x^string;;
+MinCount; x^integer;;;
+MaxCount; 0^integer; e:a;; -
+MaxCount; 0^integer;;;
+MaxCount; 1^integer; e:a _1;; -
+MaxCount; 2^integer; e:a _1;;
+MaxCount; -1^integer;;; -
+MaxCount; 1^int; e:a _1;;";
+
 fn range_rows(alloc: Global, case: &Case<'_>) -> Result<Vec<ResultRow>, AllocError>
     requires nodes { AreNodes case.now.names case.now.values.items }
     requires parameter { case.now.parameter < length case.now.names }
@@ -92,6 +116,21 @@ fn set_rows(alloc: Global, case: &Case<'_>) -> Result<Vec<ResultRow>, AllocError
     }
 }
 
+fn kind_rows(alloc: Global, case: &Case<'_>) -> Result<Vec<ResultRow>, AllocError>
+    requires numbering { IsNumbering case.now.names }
+    requires nodes { AreNodes case.now.names case.now.values.items }
+    requires parameter { case.now.parameter < length case.now.names }
+    requires focus { case.now.focus < length case.now.names }
+{
+    let (names, source) = (&case.names, &case.source);
+    let (parameter, focus, values) = (case.parameter, case.focus, case.values.as_slice());
+    match case.component {
+        "MinCount" => min_count(alloc, names, source, parameter, focus, values),
+        "MaxCount" => max_count(alloc, names, source, parameter, focus, values),
+        _ => node_kind(alloc, names, source, parameter, focus, values),
+    }
+}
+
 fn assert_range(rt: &impl Abort, alloc: Global, line: &str) -> Result<(), Fail> {
     let case = read_case(rt, alloc, "", line)?;
     let rows = range_rows(alloc, &case)?;
@@ -102,6 +141,20 @@ fn assert_set(rt: &impl Abort, alloc: Global, line: &str) -> Result<(), Fail> {
     let case = read_case(rt, alloc, "", line)?;
     let rows = set_rows(alloc, &case)?;
     assert_found(rt, alloc, &case, &rows, line)
+}
+
+fn assert_kind(rt: &impl Abort, alloc: Global, line: &str) -> Result<(), Fail> {
+    let case = read_case(rt, alloc, "", line)?;
+    let rows = kind_rows(alloc, &case)?;
+    assert_found(rt, alloc, &case, &rows, line)
+}
+
+#[test]
+fn kinds_and_counts(rt: HostRuntime) -> Result<(), Fail> {
+    for line in KINDS.lines() {
+        assert_kind(&rt, rt.alloc(), line)?;
+    }
+    Ok(())
 }
 
 #[test]
