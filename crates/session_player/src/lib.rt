@@ -8,10 +8,13 @@
 
 mod find;
 mod perform;
+mod player;
 mod print;
+mod replay;
 mod run;
 mod stage;
 mod transaction;
 
 pub use print::text_of;
+pub use replay::{ReplayFault, replay_all};
 pub use run::{Run, run_all};
