@@ -77,7 +77,7 @@ OpensSessions-next s m n k i o a =
           (RunsInOrder-append s.limits (world s.state ps) (world m.state ps) (world n.state ps) (map (λ (x : Event). x.session) o.events) (i ∷ []) (o.runs ps le) last);
     }
 
-all-append : (ps : List SessionState) (q : SessionState) → AllByRecursion (λ p. p.commands ≡ []) ps → q.commands ≡ [] → AllByRecursion (λ p. p.commands ≡ []) (ps ++ q ∷ [])
+pub all-append : (ps : List SessionState) (q : SessionState) → AllByRecursion (λ p. p.commands ≡ []) ps → q.commands ≡ [] → AllByRecursion (λ p. p.commands ≡ []) (ps ++ q ∷ [])
 all-append [] q a e = (e, tt)
 all-append (p ∷ ps) q a e = (a.0, all-append ps q a.1 e)
 

@@ -1,5 +1,7 @@
 -- What each command does to a session.
-use Rattle.std.proofs.Common.{◌≡◌, ◌≢◌, ℕ, ◌+◌, ◌<◌, ◌≤◌, Bool, true, false, nat_lt, List, [], ◌∷◌, ◌++◌, length, Option, Some, None, refl, sym, ap, ◌∙◌, subst, arith, suc, get_or, drop, add-one, drop-cons}
+use Rattle.std.proofs.Common.{◌≡◌, ◌≢◌, ℕ, ◌+◌, ◌<◌, ◌≤◌, Bool, true, false, nat_lt, List, [], ◌∷◌, ◌++◌, length, Option, Some, None, refl, sym, ap, ◌∙◌, subst, arith, suc, get_or, drop, add-one, drop-cons, append_assoc}
+use Rattle.std.proofs.lemmas.List.{map-append, append-nil}
+use Rattle.store_model.specs.declared.event.Event.{Event}
 use Rattle.std.specs.Prelude.{IfOk, MatchBool, MatchOption, Result, Ok, Err}
 use Rattle.std.specs.declared.alloc.AllocError.{AllocError}
 use Rattle.rdf_model.specs.declared.term.Term.{Term}
@@ -23,19 +25,27 @@ use Rattle.session_model.specs.declared.command.Command.TheVariants.{Begin, Shap
 use Rattle.session_model.specs.declared.reply.SessionReply.{SessionReply}
 use Rattle.session_model.specs.declared.reply.SessionReply.TheVariants.{Begun, ShapesStaged, ShapesRefused, ShapesBroken, FullTerms, ReadOnly, Refused as RefusedBy}
 use Rattle.store_model.specs.Store.{State, RecordedStore, OpensNext, OpensNothing, Replies, CommitsByListing, CommitsWithinLimit, CommitsByRows, overtaker, TakesStep, IsOpened, HasChange, NetNamed, StagedNamed, named_with, shapes_under, version}
-use Rattle.session_model.specs.Sessions.{OpenTransaction, answers, local_answer, local_commit, up_to_event, begun, with_changes, with_shapes, parts_of, action_of, commit_action, after_reply, SessionState}
+use Rattle.session_model.specs.Sessions.{OpenTransaction, LocalAnswer, answers, local_answer, local_commit, up_to_event, begun, with_changes, with_shapes, parts_of, action_of, commit_action, after_reply, SessionState}
 use Rattle.session_player.specs.declared.transaction.ChangeKind.{ChangeKind}
 use Rattle.session_player.specs.declared.transaction.ChangeKind.TheVariants.{Addition, Removal}
 use Rattle.session_player.specs.Changes.{changes_of, command_of, reply_of, bad_command_of, refusal_of}
-use Rattle.session_player.specs.Progress.{Advances}
+use Rattle.session_player.specs.Progress.{Advances, order_of}
 use Rattle.session_player.proofs.Advancing.{Advances-then, Advances-local, Advances-event}
 use Rattle.session_model.proofs.Walking.{up_to_event-event}
-use Rattle.session_player.specs.Ready.{CommitsWith, IsReady, Performs, answer_in}
+use Rattle.session_player.specs.Ready.{CommitsWith, IsReady, Performs, answer_in, is_commit, places_with, places_of}
 use Rattle.session_player.proofs.Naming.{NetNamed-changes, NetNamed-naming, StagedNamed-naming, StagedNamed-shapes}
+
+-- a step is one place more
+pub one_place : (s n : RecordedStore) (e : Event) → TakesStep s n e → order_of n.history ≡ order_of s.history ++ e.session ∷ []
+one_place s n e a = ap order_of a.history ∙ map-append (λ (x : Event). x.session) s.history (e ∷ [])
+
+local_places : (i : ℕ) (s : RecordedStore) (w v : Option OpenTransaction) (c : Command) (t : SessionReply) → local_answer w c ≡ answers t v → order_of s.history ≡ order_of s.history ++ places_of i w c
+local_places i s w v c t l = sym (append-nil (order_of s.history)) ∙ sym (ap (λ (a : Option LocalAnswer). order_of s.history ++ places_with i (is_commit c) a) l)
 
 pub obeys_local : (i : ℕ) (s : RecordedStore) (w v : Option OpenTransaction) (c : Command) (replies more : List SessionReply) (t : SessionReply) → local_answer w c ≡ answers t v → more ≡ replies ++ t ∷ [] → IsReady s i v → Performs i s s w v c replies more
 obeys_local i s w v c replies more t l e r = record {
   ready = r;
+  order = local_places i s w v c t l;
   advances = λ cs. subst (λ (ts : List SessionReply). Advances i s s (up_to_event w (c ∷ cs) replies) (up_to_event v cs ts)) (sym e) (Advances-local i s w v c cs replies t l);
 }
 
@@ -48,6 +58,7 @@ performs_begin i s n replies more v graph g a eg em =
         opened = subst (λ (x : State). IsOpened x i) (sym same) g;
         current = record { base = subst (λ (x : State). v ≤ version x) (sym same) (omega (arith, count)); net = tt; staged = tt; verdict = refl; head_taken = refl };
       };
+      order = one_place s n (record { session = i; action = actions.Begin; reply = Version v }) a;
       advances = λ cs.
           let told_on : replies ++ Begun (version s.state) ∷ [] ≡ more = sym (em ∙ ap (λ (k : ℕ). replies ++ Begun k ∷ []) count) in
           let on : begun (version s.state) s.state.graph ≡ begun v graph = sym (ap (λ (k : ℕ). begun k graph) count ∙ ap (begun (version s.state)) eg) in
@@ -59,6 +70,13 @@ performs_begin i s n replies more v graph g a eg em =
 names_named : (s t : State) (p q : Reply) (m : State) (b : Bool) → p ≢ q → MatchBool b ((q ≡ p) × (t ≡ s)) ((q ≡ q) × (t ≡ m)) → t ≡ m
 names_named s t p q m true ne h = absurd (ne (sym h.0))
 names_named s t p q m false ne h = h.1
+
+change_places : (k : ChangeKind) (i : ℕ) (w : OpenTransaction) (ts : List Triple) → places_of i (Some w) (command_of k ts) ≡ i ∷ []
+change_places Addition i w ts = refl
+change_places Removal i w ts = refl
+
+change_order : (k : ChangeKind) (i : ℕ) (s n : RecordedStore) (w : OpenTransaction) (ts : List Triple) (r : Reply) → TakesStep s n (record { session = i; action = actions.Name (parts_of ts); reply = r }) → order_of n.history ≡ order_of s.history ++ places_of i (Some w) (command_of k ts)
+change_order k i s n w ts r a = one_place s n (record { session = i; action = actions.Name (parts_of ts); reply = r }) a ∙ sym (ap (λ (is : List ℕ). order_of s.history ++ is) (change_places k i w ts))
 
 -- the event of a block of changes, and the session afterwards
 event_of_change : (k : ChangeKind) (w : OpenTransaction) (ts : List Triple) → action_of (Some w) (command_of k ts) ≡ actions.Name (parts_of ts)
@@ -103,6 +121,7 @@ performs_change i s n k w ts replies more r a em =
           head_taken = r.current.head_taken;
         };
       };
+      order = change_order k i s n w ts Named a;
       advances = λ cs. subst (λ (x : List SessionReply). Advances i s n (up_to_event (Some w) (command_of k ts ∷ cs) replies) (up_to_event (Some (with_changes w (changes_of k ts))) cs x)) (sym em)
           (change_advances i s n k w ts Named cs replies _ r.opened a (after_change k s.state w ts cs replies));
     }
@@ -121,6 +140,7 @@ performs_stage i s n w ts replies more r a em =
           head_taken = r.current.head_taken;
         };
       };
+      order = one_place s n (record { session = i; action = actions.Name (parts_of ts); reply = Named }) a;
       advances = λ cs. subst (λ (x : List SessionReply). Advances i s n (up_to_event (Some w) (Shapes ts ∷ cs) replies) (up_to_event (Some (with_shapes w ts)) cs x)) (sym em) (Advances-event i s n (Some w) (Shapes ts) cs replies Named r.opened a);
     }
 
@@ -147,6 +167,7 @@ pub performs_full : (i : ℕ) (s n : RecordedStore) (k : ChangeKind) (w : OpenTr
     → Performs i s n (Some w) (Some w) (command_of k ts) replies more
 performs_full i s n k w ts count replies more r a em = record {
   ready = still_ready i s n w ts count r a;
+  order = change_order k i s n w ts (Full count) a;
   advances = λ cs. subst (λ (x : List SessionReply). Advances i s n (up_to_event (Some w) (command_of k ts ∷ cs) replies) (up_to_event (Some w) cs x)) (sym em)
       (change_advances i s n k w ts (Full count) cs replies _ r.opened a (after_full k s.state w ts count cs replies));
 }
@@ -154,6 +175,7 @@ performs_full i s n k w ts count replies more r a em = record {
 pub performs_full_shapes : (i : ℕ) (s n : RecordedStore) (w : OpenTransaction) (ts : List Triple) (k : ℕ) (replies more : List SessionReply) → IsReady s i (Some w) → TakesStep s n (record { session = i; action = actions.Name (parts_of ts); reply = Full k }) → more ≡ replies ++ FullTerms ∷ [] → Performs i s n (Some w) (Some w) (Shapes ts) replies more
 performs_full_shapes i s n w ts k replies more r a em = record {
   ready = still_ready i s n w ts k r a;
+  order = one_place s n (record { session = i; action = actions.Name (parts_of ts); reply = Full k }) a;
   advances = λ cs. subst (λ (x : List SessionReply). Advances i s n (up_to_event (Some w) (Shapes ts ∷ cs) replies) (up_to_event (Some w) cs x)) (sym em) (Advances-event i s n (Some w) (Shapes ts) cs replies (Full k) r.opened a);
 }
 
@@ -179,7 +201,7 @@ local-refuse_broken rule node None = refl
 local-refuse_broken rule node (Some w) = refl
 
 -- a commit that changes something or stages shapes is an event
-local-change : (w : OpenTransaction) (net : List Change) (staged : Option (List Triple)) → HasChange net staged → local_commit w net staged ≡ None
+pub local-change : (w : OpenTransaction) (net : List Change) (staged : Option (List Triple)) → HasChange net staged → local_commit w net staged ≡ None
 local-change w [] None h = absurd h
 local-change w [] (Some ts) h = refl
 local-change w (c ∷ cs) staged h = refl
@@ -217,6 +239,12 @@ given_n i s m n w v r g h a =
     let two = commit_given m.limits m.state n.state w.transaction r (overtaker m.state.commits w.transaction.base w.transaction.finds) a.step.2 in
     (g.0, subst (λ (k : ℕ). i ≤ k) (sym (two ∙ one)) g.1)
 
+commit_order : (i : ℕ) (s m n : RecordedStore) (w : OpenTransaction) (v : ℕ) (r : Reply) → HasChange w.transaction.net w.transaction.staged → TakesStep s m (record { session = i; action = actions.Head; reply = Version v })
+    → TakesStep m n (record { session = i; action = actions.Commit w.transaction; reply = r }) → order_of n.history ≡ order_of s.history ++ places_of i (Some w) Commit
+commit_order i s m n w v r some h a =
+    let both : order_of n.history ≡ (order_of s.history ++ i ∷ []) ++ i ∷ [] = one_place m n _ a ∙ ap (λ (is : List ℕ). is ++ i ∷ []) (one_place s m _ h) in
+    both ∙ (append_assoc (order_of s.history) (i ∷ []) (i ∷ []) ∙ sym (ap (λ (x : Option LocalAnswer). order_of s.history ++ places_with i true x) (local-change w w.transaction.net w.transaction.staged some)))
+
 -- the store answered the commit, after its head
 pub performs_commit : (i : ℕ) (s m n : RecordedStore) (w : OpenTransaction) (replies more : List SessionReply) (v : ℕ) (r : Reply) (t : SessionReply) → IsReady s i (Some w) → HasChange w.transaction.net w.transaction.staged
     → TakesStep s m (record { session = i; action = actions.Head; reply = Version v }) → TakesStep m n (record { session = i; action = actions.Commit w.transaction; reply = r })
@@ -224,6 +252,7 @@ pub performs_commit : (i : ℕ) (s m n : RecordedStore) (w : OpenTransaction) (r
     → Performs i s n (Some w) None Commit replies more
 performs_commit i s m n w replies more v r t ready some h a by em = record {
   ready = record { opened = given_n i s m n w v r ready.opened h a; current = tt };
+  order = commit_order i s m n w v r some h a;
   advances = λ cs.
       let u : OpenTransaction = record w { head_taken = true } in
       let head : action_of (Some w) Commit ≡ actions.Head = ap (λ b. commit_action b w.transaction) ready.current.head_taken in

@@ -6,12 +6,12 @@ use Rattle.store_model.specs.declared.event.Reply.{Reply}
 use Rattle.store_model.specs.declared.event.Reply.TheVariants as replies
 use Rattle.store_model.specs.declared.commit.Transaction.{Transaction}
 use Rattle.session_model.specs.declared.command.Command.{Command}
-use Rattle.session_model.specs.declared.command.Command.TheVariants.{Commit}
+use Rattle.session_model.specs.declared.command.Command.TheVariants.{Commit, Begin, Add, BadAdd, Remove, BadRemove, Shapes, BadShapes, BrokenShapes, Find, Abort}
 use Rattle.session_model.specs.declared.reply.SessionReply.{SessionReply}
 use Rattle.session_model.specs.declared.reply.SessionReply.TheVariants.{NoTransaction}
 use Rattle.store_model.specs.Store.{RecordedStore, TakesStep, IsOpened, NetNamed, StagedNamed, version}
-use Rattle.session_model.specs.Sessions.{OpenTransaction, after_reply, parts_of, up_to_event}
-use Rattle.session_player.specs.Progress.{Advances}
+use Rattle.session_model.specs.Sessions.{OpenTransaction, LocalAnswer, local_answer, after_reply, parts_of, up_to_event}
+use Rattle.session_player.specs.Progress.{Advances, order_of}
 
 -- the transaction began at a version of this store, its terms are named, and it has no verdict
 pub record IsCurrent (s : RecordedStore) (w : OpenTransaction) : Type 0 where
@@ -50,9 +50,33 @@ abbrev pub answer_in : Option OpenTransaction → SessionReply → SessionReply
 answer_in None reply = NoTransaction
 answer_in (Some w) reply = reply
 
+-- a command that is an event is one, but for a commit, which takes the newest version first
+abbrev pub is_commit : Command → Bool
+is_commit Commit = true
+is_commit Begin = false
+is_commit (Add ts) = false
+is_commit (BadAdd n kind) = false
+is_commit (Remove ts) = false
+is_commit (BadRemove n kind) = false
+is_commit (Shapes ts) = false
+is_commit (BadShapes n kind) = false
+is_commit (BrokenShapes rule node) = false
+is_commit (Find p) = false
+is_commit Abort = false
+
+abbrev pub places_with : ℕ → Bool → Option LocalAnswer → List ℕ
+places_with i commit (Some a) = []
+places_with i false None = i ∷ []
+places_with i true None = i ∷ i ∷ []
+
+-- the places of a command in the history
+abbrev pub places_of : ℕ → Option OpenTransaction → Command → List ℕ
+places_of i w c = places_with i (is_commit c) (local_answer w c)
+
 -- The session did the command, whatever commands follow it, and may go on.
 pub record Performs (i : ℕ) (old new : RecordedStore) (w v : Option OpenTransaction) (c : Command) (replies more : List SessionReply) : Type 0 where
   pub ready : IsReady new i v
+  pub order : order_of new.history ≡ order_of old.history ++ places_of i w c
   pub advances : (cs : List Command) → Advances i old new (up_to_event w (c ∷ cs) replies) (up_to_event v cs more)
 
 -- The session did all its commands; a transaction that is left open is dropped.

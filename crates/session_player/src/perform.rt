@@ -56,7 +56,7 @@ fn refusal(
 }
 
 // Commits the transaction, and gives the session's reply.
-fn commit_reply<L: Ledger>(
+pub fn commit_reply<L: Ledger>(
     alloc: Global,
     core: &mut Core,
     session: u32,
@@ -92,7 +92,7 @@ fn commit_reply<L: Ledger>(
 }
 
 // Takes the newest version for a commit.
-fn take_head(core: &mut Core, session: u32) -> Result<(), AllocError>
+pub fn take_head(core: &mut Core, session: u32) -> Result<(), AllocError>
     requires { IsOpened core.old.state session }
     ensures { OnOk result (TakesHead session core.old core.new) }
 {

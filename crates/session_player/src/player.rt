@@ -1,0 +1,250 @@
+// A session that is played event by event.
+ghost use Rattle.std.specs.Prelude.{◌≡◌, ◌≢◌, ◌∷◌, ◌++◌, [], List, MatchBool, MatchOption, None, Some, true, false, IfOk, OnOk};
+ghost use Rattle.store_model.specs.Store.{HasChange, IsOpened};
+ghost use Rattle.session_model.specs.declared.command.Command.{Command};
+ghost use Rattle.session_player.specs.Players;
+ghost use Rattle.session_player.specs.Players.{IsAtEvent, IsEvent, MayGoOn, Settles, TakesEvent, new_player, state_of};
+ghost use Rattle.session_player.specs.Ready;
+ghost use Rattle.session_player.specs.Ready.{Performs};
+
+use crate::perform::{commit_reply, perform, take_head};
+use crate::transaction::OpenTransaction;
+use collections::Sequence;
+use commit_core::Core;
+use session_model::{Command, SessionReply};
+use shape_eval::Steps;
+use std::alloc::{AllocError, Global};
+use std::marker::Model;
+use std::sync::ledger::Ledger;
+
+/// The commands that are left of a session's file, its open transaction, and what it was answered.
+pub struct Player<'a> {
+    commands: &'a [Command],
+    current: Option<OpenTransaction>,
+    // Whether the open transaction's commit has the newest version already.
+    head_taken: bool,
+    replies: Sequence<SessionReply>,
+}
+
+impl<'a> Model for Player<'a> {
+    ghost use Rattle.session_player.specs.Players;
+
+    ghost Value = { Players.Player };
+
+    ghost view = { λ p. record { commands = p.commands.now; current = p.current; head_taken = p.head_taken; replies = p.replies } };
+}
+
+// Written by hand, so that what owns one calls it in place of having it written out.
+impl<'a> Drop for Player<'a> {
+    fn drop(self) {
+        let Player {
+            commands: _,
+            current: _,
+            head_taken: _,
+            replies: _,
+        } = self;
+    }
+}
+
+// Whether a command of a session within a transaction is an event of the store.
+fn is_event_within(transaction: &OpenTransaction, command: &Command) -> bool
+    ensures { IsEvent result (Some transaction.now) command.now }
+{
+    match command {
+        Command::Add(_) | Command::Remove(_) | Command::Shapes(_) => true,
+        Command::Commit => !transaction.only_reads(),
+        Command::Begin
+        | Command::BadAdd { .. }
+        | Command::BadRemove { .. }
+        | Command::BadShapes { .. }
+        | Command::BrokenShapes { .. }
+        | Command::Find(_)
+        | Command::Abort => false,
+    }
+}
+
+// Whether a session's command is an event of the store.
+fn is_event(current: &Option<OpenTransaction>, command: &Command) -> bool
+    ensures { IsEvent result current.now command.now }
+{
+    match current {
+        Some(open) => is_event_within(open, command),
+        None => matches!(command, Command::Begin),
+    }
+}
+
+fn is_commit(command: &Command) -> bool
+    ensures { result ≡ Ready.is_commit command.now }
+{
+    matches!(command, Command::Commit)
+}
+
+// Does the player's first command.
+fn play_command<'a, L: Ledger>(
+    alloc: Global,
+    core: &mut Core,
+    session: u32,
+    player: &mut Player<'a>,
+    command: &'a Command,
+    rest: &'a [Command],
+    steps: &mut Steps<L>,
+) -> Result<(), AllocError>
+    requires opened { IsOpened core.old.state session }
+    requires ready { MayGoOn core.old player.old }
+    requires free { player.old.head_taken ≡ false }
+    ensures performs { OnOk result (Performs session core.old core.new player.old.current player.new.current command.now player.old.replies player.new.replies) }
+    ensures rest { OnOk result (player.new.commands ≡ rest.now) }
+    ensures free { OnOk result (player.new.head_taken ≡ false) }
+{
+    let current = player.current.take();
+    player.current = perform(
+        alloc,
+        core,
+        session,
+        current,
+        command,
+        &mut player.replies,
+        steps,
+    )?;
+    player.commands = rest;
+    Ok(())
+}
+
+// Does the commands that are no events, up to the next event or the end.
+fn settle<'a, L: Ledger>(
+    alloc: Global,
+    core: &mut Core,
+    session: u32,
+    player: &mut Player<'a>,
+    steps: &mut Steps<L>,
+) -> Result<(), AllocError>
+    requires opened { IsOpened core.old.state session }
+    requires ready { MayGoOn core.old player.old }
+    ensures same { OnOk result (core.new ≡ core.old) }
+    ensures settles { OnOk result (Settles core.old player.old player.new) }
+{
+    if player.head_taken {
+        return Ok(());
+    }
+    while let [command, rest @ ..] = player.commands {
+        if is_event(&player.current, command) {
+            return Ok(());
+        }
+        play_command(alloc, core, session, player, command, rest, steps)?;
+    }
+    Ok(())
+}
+
+// Takes the newest version for the commit of the open transaction, which is the next command.
+fn take_version(core: &mut Core, session: u32, player: &mut Player<'_>) -> Result<(), AllocError>
+    requires opened { IsOpened core.old.state session }
+    requires ready { MayGoOn core.old player.old }
+    requires free { player.old.head_taken ≡ false }
+    requires next { Players.IsCommitNext player.old.current player.old.commands }
+    ensures { OnOk result (TakesEvent session core.old core.new player.old player.new) }
+{
+    take_head(core, session)?;
+    player.head_taken = true;
+    Ok(())
+}
+
+// Commits the open transaction, whose commit has the newest version.
+fn finish_commit<'a, L: Ledger>(
+    alloc: Global,
+    core: &mut Core,
+    session: u32,
+    player: &mut Player<'a>,
+    rest: &'a [Command],
+    steps: &mut Steps<L>,
+) -> Result<(), AllocError>
+    requires opened { IsOpened core.old.state session }
+    requires ready { MayGoOn core.old player.old }
+    requires held { player.old.head_taken ≡ true }
+    requires next { (c : Command) × (player.old.commands ≡ c ∷ rest.now) }
+    ensures { OnOk result (TakesEvent session core.old core.new player.old player.new) }
+{
+    let Some(open) = player.current.take() else {
+        unreachable!()
+    };
+    let reply = commit_reply(alloc, core, session, open.into_transaction(), steps)?;
+    player.replies.push(reply)?;
+    player.head_taken = false;
+    player.commands = rest;
+    Ok(())
+}
+
+impl<'a> Player<'a> {
+    /// A session that has done nothing yet.
+    pub fn new(alloc: Global, commands: &'a [Command]) -> Player<'a>
+        ensures { result ≡ new_player commands.now }
+    {
+        Player {
+            commands,
+            current: None,
+            head_taken: false,
+            replies: Sequence::new(alloc),
+        }
+    }
+
+    /// Takes the session's next event, with the commands before it that are no events. Answers whether
+    /// one was left.
+    pub fn take_event<L: Ledger>(
+        &mut self,
+        alloc: Global,
+        core: &mut Core,
+        session: u32,
+        steps: &mut Steps<L>,
+    ) -> Result<bool, AllocError>
+        requires opened { IsOpened core.old.state session }
+        requires ready { MayGoOn core.old self.old }
+        ensures { IfOk result (λ taken. MatchBool taken (TakesEvent session core.old core.new self.old self.new) ((state_of self.old).commands ≡ [])) }
+    {
+        settle(alloc, core, session, self, steps)?;
+        let [command, rest @ ..] = self.commands else {
+            return Ok(false);
+        };
+        if !is_commit(command) {
+            play_command(alloc, core, session, self, command, rest, steps)?;
+        } else if self.head_taken {
+            finish_commit(alloc, core, session, self, rest, steps)?;
+        } else {
+            take_version(core, session, self)?;
+        }
+        Ok(true)
+    }
+
+    /// The replies of the session, with the commands after its last event, where no event is left.
+    pub fn finish<L: Ledger>(
+        self,
+        alloc: Global,
+        core: &mut Core,
+        session: u32,
+        steps: &mut Steps<L>,
+    ) -> Result<Option<Sequence<SessionReply>>, AllocError>
+        requires opened { IsOpened core.old.state session }
+        requires ready { MayGoOn core.old self }
+        ensures same { OnOk result (core.new ≡ core.old) }
+        ensures replies { IfOk result (λ all. Players.Finishes self.entry all) }
+    {
+        let mut player = self;
+        settle(alloc, core, session, &mut player, steps)?;
+        Ok(player.into_replies())
+    }
+
+    // The replies, where no command is left.
+    fn into_replies(self) -> Option<Sequence<SessionReply>>
+        ensures { MatchOption result (self.entry.commands ≢ []) (λ all. (self.entry.commands ≡ []) × (all ≡ self.entry.replies)) }
+    {
+        let Player {
+            commands,
+            current: _,
+            head_taken: _,
+            replies,
+        } = self;
+        if commands.is_empty() {
+            Some(replies)
+        } else {
+            None
+        }
+    }
+}
