@@ -271,7 +271,8 @@ fn kind_of(kind: NodeKind) -> Constraint<u32> {
     }
 }
 
-fn bound_of(is_least: bool, count: i128) -> Constraint<u32> {
+fn bound_of(is_least: bool, count: usize) -> Constraint<u32> {
+    let count = count as i128;
     if is_least {
         Constraint::MinCount {
             count,
@@ -353,7 +354,7 @@ fn expected_of(alloc: Global, bound: &str, answer: &str) -> Result<String, Alloc
     Ok(text)
 }
 
-fn count_of(digit: &str) -> i128 {
+fn count_of(digit: &str) -> usize {
     match digit {
         "0" => 0,
         "1" => 1,
@@ -532,7 +533,7 @@ fn assert_component(rt: &impl Abort, alloc: Global, line: &str) -> Result<(), Fa
         .count();
     assert_eq!(rt;
         results,
-        count_of(parts.next().unwrap_or("")) as usize,
+        count_of(parts.next().unwrap_or("")),
         "{line}"
     );
     Ok(())

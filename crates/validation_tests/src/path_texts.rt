@@ -1,8 +1,7 @@
-use crate::reports::{TOO_FEW, have_sources, rows, shape};
+use crate::reports::{TOO_FEW, printed, rows, shape};
 use crate::short_forms::term;
 use collections::Sequence;
 use rdf_model::Term;
-use report_writer::report;
 use shape_ast::{Path, Shapes};
 use std::alloc::{AllocError, Global};
 use std::process::Abort;
@@ -90,8 +89,7 @@ fn assert_path(rt: &impl Abort, alloc: Global, line: &str) -> Result<(), Fail> {
     all.push(shape(alloc, term(alloc, "e:P")?, path_of(alloc, parts)?))?;
     let shapes = Shapes { shapes: all };
     let rows = rows(alloc, &[TOO_FEW])?;
-    assert!(rt; have_sources(rows.as_slice(), &shapes));
-    let text = report(alloc, rows.as_slice(), &shapes)?;
+    let text = printed(rt, alloc, rows.as_slice(), &shapes)?;
     let wanted = format!(in alloc; "_:r1 sh:resultPath {expected} .")?;
     assert!(rt;
         text.as_str()

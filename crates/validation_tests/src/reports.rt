@@ -93,10 +93,14 @@ pub(crate) fn have_sources(rows: &[ResultRow], shapes: &Shapes) -> bool
     all_have(rows, shapes.shapes.as_slice())
 }
 
-fn printed(rt: &impl Abort, alloc: Global, rows: &[ResultRow]) -> Result<String, Fail> {
-    let shapes = shapes(alloc)?;
-    assert!(rt; have_sources(rows, &shapes));
-    Ok(report(alloc, rows, &shapes)?)
+pub(crate) fn printed(
+    rt: &impl Abort,
+    alloc: Global,
+    rows: &[ResultRow],
+    shapes: &Shapes,
+) -> Result<String, Fail> {
+    assert!(rt; have_sources(rows, shapes));
+    Ok(report(alloc, rows, shapes)?)
 }
 
 // No result (SHACL section 3.6.1.1).
@@ -159,7 +163,7 @@ fn assert_report(
     expected: &str,
 ) -> Result<(), Fail> {
     let rows = rows(alloc, table)?;
-    let text = printed(rt, alloc, rows.as_slice())?;
+    let text = printed(rt, alloc, rows.as_slice(), &shapes(alloc)?)?;
     assert_eq!(rt; text.as_str(), expected);
     Ok(())
 }
