@@ -531,11 +531,7 @@ fn assert_component(rt: &impl Abort, alloc: Global, line: &str) -> Result<(), Fa
         .lines()
         .filter(|written| written.starts_with("<e:P>"))
         .count();
-    assert_eq!(rt;
-        results,
-        count_of(parts.next().unwrap_or("")),
-        "{line}"
-    );
+    assert_eq!(rt; results, count_of(parts.next().unwrap_or("")), "{line}");
     Ok(())
 }
 
