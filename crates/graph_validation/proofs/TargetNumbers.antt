@@ -22,49 +22,7 @@ use Rattle.shape_ast.specs.declared.shape.Target.TheVariants.{Node, SubjectsOf}
 use Rattle.shape_ast.specs.Naming.{named_shape, named_shapes, named_target, target_number}
 use Rattle.shape_ast.specs.Standing.{shape_reading}
 use Rattle.component_rows.proofs.Collecting.{mapped_from, mapped_to}
-use Rattle.graph_validation.specs.Targets.{AreMembers, IsSubject, IsSubjectBelow, IsTargetOf, IsTargetOfSome}
-
-first_found : (ids : List Ids) (p k : ℕ) (found : List ℕ) → IsListing nat_cmp (IsFound (Out k p) ids) found → (found ≡ [] → ⊥) → IsSubject ids p k
-first_found ids p k [] listing some = absurd (some refl)
-first_found ids p k (x ∷ xs) listing some = (x, (listing.members x).0 (has_head x xs))
-
-none_found : (ids : List Ids) (p k : ℕ) (found : List ℕ) → IsListing nat_cmp (IsFound (Out k p) ids) found → found ≡ [] → IsSubject ids p k → ⊥
-none_found ids p k found listing none i =
-    let c : Contains [] i.0 = subst (λ (ns : List ℕ). Contains ns i.0) none ((listing.members i.0).1 i.1) in
-    absurd (omega arith)
-
-below_or : (n k : ℕ) → n < k + 1 → (n < k) ⊎ (k ≡ n)
-below_or n k lt = grind arith
-
--- a number more is a subject, or is none
-pub more_subject : (ids : List Ids) (p k : ℕ) (subjects found new : List ℕ) → IsListing nat_cmp (IsFound (Out k p) ids) found → (found ≡ [] → ⊥) → new ≡ subjects ++ k ∷ []
-    → AreMembers (IsSubjectBelow ids p k) subjects → AreMembers (IsSubjectBelow ids p (k + 1)) new
-more_subject ids p k subjects found new listing some e before n = subst (λ (ns : List ℕ). Contains ns n ↔ IsSubjectBelow ids p (k + 1) n) (sym e) (
-  λ c. elim (Contains-append_cases subjects (k ∷ []) n c) [
-    | inl d ↦ let i = (before n).0 d in (omega (arith, i.0), i.1)
-    | inr d ↦ elim (has_cases k [] n d) [
-      | inl same ↦ subst (λ (m : ℕ). IsSubjectBelow ids p (k + 1) m) same (omega arith, first_found ids p k found listing some)
-      | inr never ↦ absurd (omega arith)
-    ]
-  ],
-  λ i. elim (below_or n k i.0) [
-    | inl lt ↦ Contains-append_left subjects (k ∷ []) n ((before n).1 (lt, i.1))
-    | inr same ↦ Contains-append_right subjects (k ∷ []) n (has_equal k [] n same)
-  ],
-)
-
-pub no_subject : (ids : List Ids) (p k : ℕ) (subjects found : List ℕ) → IsListing nat_cmp (IsFound (Out k p) ids) found → found ≡ []
-    → AreMembers (IsSubjectBelow ids p k) subjects → AreMembers (IsSubjectBelow ids p (k + 1)) subjects
-no_subject ids p k subjects found listing none before n = (
-  λ c. let i = (before n).0 c in (omega (arith, i.0), i.1),
-  λ i. elim (below_or n k i.0) [
-    | inl lt ↦ (before n).1 (lt, i.1)
-    | inr same ↦ absurd (none_found ids p k found listing none (subst (λ (m : ℕ). IsSubject ids p m) (sym same) i.1))
-  ],
-)
-
-pub no_subject_yet : (ids : List Ids) (p : ℕ) → AreMembers (IsSubjectBelow ids p 0) []
-no_subject_yet ids p n = (λ c. absurd (omega arith), λ i. absurd (omega (arith, i.0)))
+use Rattle.graph_validation.specs.Targets.{AreMembers, IsSubject, IsTargetOf, IsTargetOfSome}
 
 -- an item of a list of which something holds
 of_all : {X : Type 0} → (P : X → Type 0) (xs : List X) (x : X) → AllByRecursion P xs → Contains xs x → P x
@@ -74,12 +32,6 @@ of_all P (y ∷ ys) x a c = elim (has_cases y ys x c) [ inl e ↦ subst P e a.0 
 -- the numbers of a triple that stands there
 numbers_of : (terms : List Term) (ids : List Ids) → AreNumbered terms ids → (i : Ids) → Contains ids i → (i.subject < length terms) × (i.predicate < length terms) × (i.object < length terms)
 numbers_of terms ids numbered i c = of_all (λ (j : Ids). (j.subject < length terms) × (j.predicate < length terms) × (j.object < length terms)) ids i numbered c
-
-pub all_subjects : (terms : List Term) (ids : List Ids) (p : ℕ) (subjects : List ℕ) → AreNumbered terms ids → AreMembers (IsSubjectBelow ids p (length terms)) subjects → AreMembers (IsSubject ids p) subjects
-all_subjects terms ids p subjects numbered before n = (
-  λ c. ((before n).0 c).1,
-  λ i. (before n).1 ((numbers_of terms ids numbered (record { subject = n; predicate = p; object = i.0 }) i.1).0, i),
-)
 
 -- the declarations one after another
 pub no_target : (ids : List Ids) → AreMembers (IsTargetOfSome ids []) []

@@ -13,10 +13,6 @@ AreMembers P numbers = (n : ℕ) → Contains numbers n ↔ P n
 abbrev pub IsSubject : List Ids → ℕ → ℕ → Type 0
 IsSubject ids p n = (o : ℕ) × Contains ids (record { subject = n; predicate = p; object = o })
 
--- the same of a number below another
-abbrev pub IsSubjectBelow : List Ids → ℕ → ℕ → ℕ → Type 0
-IsSubjectBelow ids p k n = (n < k) × IsSubject ids p n
-
 -- the declaration gives the target: the node itself (2.1.3.1), a subject of triples with the predicate (2.1.3.4)
 abbrev pub IsTargetOf : List Ids → Target ℕ → ℕ → Type 0
 IsTargetOf ids (Node node) n = node ≡ n

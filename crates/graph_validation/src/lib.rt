@@ -4,8 +4,8 @@
 //! graph under each well-formed shapes graph that the shapes stand for.
 #![tactic(auto)]
 
-mod target_nodes;
+mod shape_targets;
 mod whole_graph;
 
-pub use target_nodes::targets;
+pub use shape_targets::targets;
 pub use whole_graph::whole;

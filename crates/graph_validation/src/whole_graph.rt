@@ -1,10 +1,10 @@
-ghost use Rattle.std.specs.Prelude.{◌<◌, ◌^◌, IfOk, length};
+ghost use Rattle.std.specs.Prelude.{◌<◌, IfOk, length};
 ghost use Rattle.std.specs.List.{All};
 ghost use Rattle.rdf_model.specs.Numbers.{AreNumbered, IsNumbering};
 ghost use Rattle.shape_ast.specs.Naming.{AreBound};
 ghost use Rattle.graph_validation.specs.Whole.{CollectsAt, CollectsOfShape, CollectsResults, ListsGraph};
 
-use crate::target_nodes::targets;
+use crate::shape_targets::targets;
 use collections::sorted_once;
 use rdf_model::{Footprint, Names, Triples};
 use shape_ast::{Bound, ResultRow};
@@ -57,14 +57,13 @@ fn rows_of_shape<R: Triples, N: Names, L: Ledger>(
     shape: usize,
     steps: &mut Steps<L>,
 ) -> Result<Vec<ResultRow>, AllocError>
-    requires few { length (N.terms names.now) < 2 ^ 32 }
     requires numbering { IsNumbering (N.terms names.now) }
     requires graph { AreNumbered (N.terms names.now) (R.triples graph.now) }
     requires bound { AreBound (N.terms names.now) bound.now.shapes }
     requires shape { shape < length bound.now.shapes }
     ensures { IfOk result (λ rows. CollectsOfShape (N.terms names.now) (R.triples graph.now) bound.now.shapes shape rows.items) }
 {
-    let nodes = targets(alloc, graph, names, &bound.shapes.as_slice()[shape])?;
+    let nodes = targets(alloc, graph, &bound.shapes.as_slice()[shape])?;
     Ok(rows_at(alloc, graph, names, bound, shape, &nodes, steps)?)
 }
 
@@ -76,7 +75,6 @@ fn all_rows<R: Triples, N: Names, L: Ledger>(
     bound: &Bound,
     steps: &mut Steps<L>,
 ) -> Result<Vec<ResultRow>, AllocError>
-    requires few { length (N.terms names.now) < 2 ^ 32 }
     requires numbering { IsNumbering (N.terms names.now) }
     requires graph { AreNumbered (N.terms names.now) (R.triples graph.now) }
     requires bound { AreBound (N.terms names.now) bound.now.shapes }
@@ -100,7 +98,6 @@ pub fn whole<R: Triples, N: Names, L: Ledger>(
     bound: &Bound,
     steps: &mut Steps<L>,
 ) -> Result<Vec<ResultRow>, AllocError>
-    requires few { length (N.terms names.now) < 2 ^ 32 }
     requires numbering { IsNumbering (N.terms names.now) }
     requires graph { AreNumbered (N.terms names.now) (R.triples graph.now) }
     requires bound { AreBound (N.terms names.now) bound.now.shapes }

@@ -9,6 +9,6 @@ mod listing;
 mod target;
 mod testing;
 
-pub use listing::targets;
+pub use listing::{subjects_of, targets};
 pub use target::Target;
 pub use testing::is_target;

@@ -4,7 +4,7 @@ use Rattle.std.specs.List.{Contains}
 use Rattle.rdf_model.proofs.Finding.{listing_same}
 use Rattle.shape_ast.specs.declared.shape.Target.{Target}
 use Rattle.graph_validation.specs.Targets.{AreMembers, IsTargetOfSome}
-use Rattle.graph_validation.proofs.target_nodes.targets.Goals as goal
+use Rattle.graph_validation.proofs.shape_targets.targets.Goals as goal
 
 pub returns : goal.returns
 returns g c =
