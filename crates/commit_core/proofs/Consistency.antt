@@ -29,7 +29,10 @@ use Rattle.store_model.specs.declared.commit.Verdict.{Verdict}
 use Rattle.commit_core.specs.Commits.{IsWithin}
 use Rattle.commit_core.specs.Verdicts.{IsAtHead}
 use Rattle.commit_core.specs.Consistent.{IsConsistent}
-use Rattle.commit_core.proofs.NamedTerms.{first_numbering, named_after, named_under, numbered_with, triples_stay}
+use Rattle.term_dict.specs.Names.{Named as Dictionary, named_with as with_names, with_terms}
+use Rattle.term_dict.specs.Faults.{IsCause}
+use Rattle.term_dict.specs.declared.fault.NameFault.TheVariants as dictionary_faults
+use Rattle.commit_core.proofs.NamedTerms.{first_numbering, named_after, named_under, numbered_with, same_names, triples_stay}
 
 record Holds (l : Limits) (s : State) : Type 0 where
   ascending : IsAscending triple_cmp s.graph
@@ -234,6 +237,38 @@ consistent_name_full s o i ts ns n k v g e c lt = IsConsistent-step s s.state (r
 
 pub consistent_name : (s o : RecordedStore) (i : ℕ) (ts names : List Term) → IsConsistent s → s ≡ o → IsOpened o.state i → names ≡ named_with s.state.named ts → length names ≤ s.limits.terms + 2 → IsConsistent (more s (record s.state { named = names }) (record { session = i; action = Name ts; reply = Named }))
 consistent_name s o i ts ns k v g e le = IsConsistent-step s (record s.state { named = ns }) (record { session = i; action = Name ts; reply = Named }) k (name_done s.limits s.state i ts ns (opened_inside s o i v g) e le)
+
+-- a naming, by what the dictionary makes of it
+abbrev fields : Dictionary → ℕ → List Triple → List Triple → List Accepted → ℕ → List Event → RecordedStore
+fields d m g s cs n h = record { limits = record { terms = d.limit; triples = m }; state = record { graph = g; shapes = s; commits = cs; named = d.terms; opened = n }; history = h }
+
+abbrev naming : ℕ → List Term → Reply → Event
+naming i ts r = record { session = i; action = Name ts; reply = r }
+
+module _ (d e : Dictionary) (m : ℕ) (g s : List Triple) (cs : List Accepted) (n : ℕ) (h : List Event) (o : RecordedStore) (i : ℕ) (ts : List Term) (consistent : IsConsistent (fields d m g s cs n h)) (view : fields d m g s cs n h ≡ o) (given : IsOpened o.state i) where
+  pub consistent_named : e ≡ with_names d ts → length (with_terms d.terms ts) ≤ d.limit + 2 → IsConsistent (fields e m g s cs n (h ++ naming i ts Named ∷ []))
+  consistent_named is le =
+      subst (λ (x : Dictionary). IsConsistent (fields x m g s cs n (h ++ naming i ts Named ∷ []))) (sym is)
+      (consistent_name (fields d m g s cs n h) o i ts (with_terms d.terms ts) consistent view given (same_names d.terms ts) le)
+
+  pub takes_named : e ≡ with_names d ts → length (with_terms d.terms ts) ≤ d.limit + 2 → TakesStep o (fields e m g s cs n (h ++ naming i ts Named ∷ [])) (naming i ts Named)
+  takes_named is le =
+      let old = fields d m g s cs n h in
+      let done = name_done old.limits old.state i ts (with_terms d.terms ts) (opened_inside old o i view given) (same_names d.terms ts) le in
+      subst (λ (x : Dictionary). TakesStep o (fields x m g s cs n (h ++ naming i ts Named ∷ [])) (naming i ts Named)) (sym is)
+      (subst (λ (y : RecordedStore). TakesStep y (fields (with_names d ts) m g s cs n (h ++ naming i ts Named ∷ [])) (naming i ts Named)) view (record { step = done; limits = refl; history = refl }))
+
+  pub consistent_full : (count : ℕ) → e ≡ d → IsCause (dictionary_faults.Full count) d ts → IsConsistent (fields e m g s cs n (h ++ naming i ts (Full count) ∷ []))
+  consistent_full count is cause =
+      subst (λ (x : Dictionary). IsConsistent (fields x m g s cs n (h ++ naming i ts (Full count) ∷ []))) (sym is)
+      (consistent_name_full (fields d m g s cs n h) o i ts (with_terms d.terms ts) count consistent view given (same_names d.terms ts) (omega (arith, cause.1)) (omega (arith, cause.0, cause.1)))
+
+  pub takes_full : (count : ℕ) → e ≡ d → IsCause (dictionary_faults.Full count) d ts → TakesStep o (fields e m g s cs n (h ++ naming i ts (Full count) ∷ [])) (naming i ts (Full count))
+  takes_full count is cause =
+      let old = fields d m g s cs n h in
+      let none = name_full old.limits old.state i ts (with_terms d.terms ts) count (opened_inside old o i view given) (same_names d.terms ts) (omega (arith, cause.1)) (omega (arith, cause.0, cause.1)) in
+      subst (λ (x : Dictionary). TakesStep o (fields x m g s cs n (h ++ naming i ts (Full count) ∷ [])) (naming i ts (Full count))) (sym is)
+      (subst (λ (y : RecordedStore). TakesStep y (fields d m g s cs n (h ++ naming i ts (Full count) ∷ [])) (naming i ts (Full count))) view (record { step = none; limits = refl; history = refl }))
 
 -- a commit that changes nothing
 pub consistent_refusal : (s o : RecordedStore) (i : ℕ) (x : Transaction) (r : Reply) → IsConsistent s → s ≡ o → StepOf o.limits o.state i (Commit x) r o.state → IsConsistent (more s s.state (record { session = i; action = Commit x; reply = r }))

@@ -5,3 +5,4 @@ pub mod Planning
 pub mod Conditions
 pub mod Replaying
 pub mod Taking
+pub mod Sets

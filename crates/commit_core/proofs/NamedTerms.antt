@@ -1,5 +1,6 @@
 -- Each name stands once, and what is named stays named.
 use Rattle.std.proofs.Common.{get_or, ◌≡◌, ◌∙◌, ℕ, zero, suc, ◌+◌, ◌<◌, Bool, true, false, ◌||◌, cond, List, [], ◌∷◌, ◌++◌, length, Option, Some, None, refl, sym, ap, subst, arith, inl, inr, length-append}
+use Rattle.std.specs.Prelude.{MatchOption, if◌then◌else◌, is_some}
 use Rattle.std.proofs.lemmas.Bool.{cases_lt}
 use Rattle.std.proofs.Math.ListN.{get_or-append}
 use Rattle.std.proofs.Math.Seq.{get_or-append_seam}
@@ -18,7 +19,8 @@ use Rattle.rdf_model.proofs.SameTerms.{equal_same, same_equal}
 use Rattle.shape_model.specs.Vocabulary.{rdf, rdf_type, sub_class_of}
 use Rattle.collections.specs.Ordered.{has_item, with_item, without_item}
 use Rattle.collections.proofs.Members.{has_cases, has_equal, has_tail, with_cases, without_old}
-use Rattle.store_model.specs.Store.{AreNamed, NetNamed, StagedNamed, changed_triple, named_with, shapes_under, terms_of}
+use Rattle.store_model.specs.Store.{AreNamed, NetNamed, StagedNamed, changed_triple, named_with, number_of, numbers_of, shapes_under, terms_of}
+use Rattle.term_dict.specs.Names.{AreNumbersOf, first_terms, with_terms}
 use Rattle.term_validation.specs.Named.{AreNamedTriples, IsNamedTriple}
 
 -- whether a term has a name
@@ -48,6 +50,40 @@ placed : (named : List Term) (n : ℕ) (t : Term) → n < length named → term_
 placed [] n t lt e = absurd (omega arith)
 placed (x ∷ xs) zero t lt e = has_equal x xs t e
 placed (x ∷ xs) (suc n) t lt e = has_tail x xs t (placed xs n t (omega arith) e)
+
+-- whether a name has a number is whether it is there
+pub is_there : (named : List Term) (t : Term) (o : Option ℕ) → MatchOption o (Contains named t → ⊥) (λ n. (n < length named) × (term_at named n ≡ t)) → is_some o ≡ has_item term_cmp t named
+is_there named t None none = elim (has named t) as (λ b. has named t ≡ b → false ≡ b) [
+  | true ↦ λ e. absurd (none (has_name named t e))
+  | false ↦ λ e. refl
+] refl
+is_there named t (Some n) at = sym (name_has named t (placed named n t at.0 at.1))
+
+-- the place of a name is its number
+one_less : (x : Term) (xs : List Term) → IsNumbering (x ∷ xs) → IsNumbering xs
+one_less x xs k n m ln lm e = let same : suc n ≡ suc m = k (suc n) (suc m) (omega (arith, ln)) (omega (arith, lm)) e in omega (arith, same)
+
+number_at : (named : List Term) (n : ℕ) (t : Term) → IsNumbering named → n < length named → term_at named n ≡ t → number_of named t ≡ n
+number_at [] n t k lt e = absurd (omega (arith, lt))
+number_at (x ∷ xs) zero t k lt e = ap (λ b. if b then 0 else number_of xs t + 1) (equal_same x t e)
+number_at (x ∷ xs) (suc n) t k lt e = elim (same_term x t) as (λ b. same_term x t ≡ b → (if b then 0 else number_of xs t + 1) ≡ suc n) [
+  | true ↦ λ h. let never : 0 ≡ suc n = k 0 (suc n) (omega arith) lt (same_equal x t h ∙ sym e) in absurd (omega (arith, never))
+  | false ↦ λ h. let rest : number_of xs t ≡ n = number_at xs n t (one_less x xs k) (omega (arith, lt)) e in omega (arith, rest)
+] refl
+
+pub numbers_at : (named ts : List Term) (ns : List ℕ) → IsNumbering named → AreNumbersOf named ts ns → ns ≡ numbers_of named ts
+numbers_at named [] [] k a = refl
+numbers_at named [] (n ∷ ns) k a = absurd a
+numbers_at named (t ∷ ts) [] k a = absurd a
+numbers_at named (t ∷ ts) (n ∷ ns) k a =
+    let first : n ≡ number_of named t = sym (number_at named n t k a.0.within a.0.is) in
+    let rest : ns ≡ numbers_of named ts = numbers_at named ts ns k a.1 in
+    λ i. first i ∷ rest i
+
+-- a dictionary names as the store does
+pub same_names : (named ts : List Term) → with_terms named ts ≡ named_with named ts
+same_names named [] = refl
+same_names named (t ∷ ts) = same_names (cond (has named t) named (named ++ t ∷ [])) ts
 
 -- a new name at the end
 numbered_push : (named : List Term) (u : Term) → (Contains named u → ⊥) → IsNumbering named → IsNumbering (named ++ u ∷ [])
@@ -118,6 +154,11 @@ all_named named (u ∷ us) a t c = elim (has_cases u us t c) [
 pub named_under : (named : List Term) (shapes : List Triple) (staged : Option (List Triple)) → AreNamedTriples named shapes → StagedNamed named staged → AreNamedTriples named (shapes_under shapes staged)
 named_under named shapes None a n = a
 named_under named shapes (Some g) a n = all_of (IsNamedTriple named) g (all_named named g n)
+
+-- the first names of a dictionary are those of the store
+pub first_names : first_terms ≡ rdf_type ∷ sub_class_of ∷ []
+unfolding first_terms rdf rdf_type sub_class_of
+first_names = refl
 
 -- the two first names are two terms
 abbrev letter : Term → ℕ

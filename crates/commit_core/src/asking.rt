@@ -1,30 +1,38 @@
 ghost use Rattle.std.specs.Prelude.{◌≡◌};
 ghost use Rattle.std.specs.List.{list_all};
+ghost use Rattle.collections.specs.Ordered.{has_item};
+ghost use Rattle.rdf_model.specs.Terms.{term_cmp};
 ghost use Rattle.store_model.specs.Store.{changed_triple};
 ghost use Rattle.commit_core.specs.Conditions;
 ghost use Rattle.commit_core.specs.Conditions.{change_named, has_change, look_named, staged_named, triple_named, triples_named, verdict_fits};
 
-use collections::contains_item;
-use rdf_model::{Change, Look, Term, Triple};
+use rdf_model::{Change, Look, Names, Term, Triple};
 use shapes_graph::ShapesGraph;
 use store_model::{Transaction, Verdict};
+use term_dict::Dict;
 
-fn is_triple_named(named: &[Term], triple: &Triple) -> bool
-    ensures { result ≡ triple_named named.now triple.now }
+fn has_name(named: &Dict, term: &Term) -> bool
+    ensures { result ≡ has_item term_cmp term.now named.now.terms }
 {
-    contains_item(named, &triple.subject)
-        && contains_item(named, &triple.predicate)
-        && contains_item(named, &triple.object)
+    named.id(term).is_some()
 }
 
-fn are_triples_named(named: &[Term], triples: &[Triple]) -> bool
-    ensures { result ≡ triples_named named.now triples.now }
+fn is_triple_named(named: &Dict, triple: &Triple) -> bool
+    ensures { result ≡ triple_named named.now.terms triple.now }
+{
+    has_name(named, &triple.subject)
+        && has_name(named, &triple.predicate)
+        && has_name(named, &triple.object)
+}
+
+fn are_triples_named(named: &Dict, triples: &[Triple]) -> bool
+    ensures { result ≡ triples_named named.now.terms triples.now }
 {
     triples.iter().all(|triple| is_triple_named(named, triple))
 }
 
-fn is_change_named(named: &[Term], change: &Change) -> bool
-    ensures { result ≡ change_named named.now change.now }
+fn is_change_named(named: &Dict, change: &Change) -> bool
+    ensures { result ≡ change_named named.now.terms change.now }
 {
     match change {
         Change::Add(triple) => is_triple_named(named, triple),
@@ -32,8 +40,8 @@ fn is_change_named(named: &[Term], change: &Change) -> bool
     }
 }
 
-fn are_shapes_named(named: &[Term], staged: &Option<ShapesGraph>) -> bool
-    ensures { result ≡ staged_named named.now staged.now }
+fn are_shapes_named(named: &Dict, staged: &Option<ShapesGraph>) -> bool
+    ensures { result ≡ staged_named named.now.terms staged.now }
 {
     match staged {
         Some(shapes) => are_triples_named(named, shapes.triples()),
@@ -41,29 +49,25 @@ fn are_shapes_named(named: &[Term], staged: &Option<ShapesGraph>) -> bool
     }
 }
 
-fn is_look_named(named: &[Term], look: &Look<Term>) -> bool
-    ensures { result ≡ look_named named.now look.now }
+fn is_look_named(named: &Dict, look: &Look<Term>) -> bool
+    ensures { result ≡ look_named named.now.terms look.now }
 {
     match look {
-        Look::Out(subject, predicate) => {
-            contains_item(named, subject) && contains_item(named, predicate)
-        }
-        Look::In(predicate, object) => {
-            contains_item(named, predicate) && contains_item(named, object)
-        }
-        Look::OutAny(subject) => contains_item(named, subject),
+        Look::Out(subject, predicate) => { has_name(named, subject) && has_name(named, predicate) }
+        Look::In(predicate, object) => { has_name(named, predicate) && has_name(named, object) }
+        Look::OutAny(subject) => has_name(named, subject),
     }
 }
 
-fn are_looks_named(named: &[Term], looks: &[Look<Term>]) -> bool
-    ensures { result ≡ list_all (look_named named.now) looks.now }
+fn are_looks_named(named: &Dict, looks: &[Look<Term>]) -> bool
+    ensures { result ≡ list_all (look_named named.now.terms) looks.now }
 {
     looks.iter().all(|look| is_look_named(named, look))
 }
 
 // Whether the verdict, if there is one, has a head up to this version and names in its looks.
-fn does_verdict_fit(version: u64, named: &[Term], verdict: &Option<Verdict>) -> bool
-    ensures { result ≡ verdict_fits version named.now verdict.now }
+fn does_verdict_fit(version: u64, named: &Dict, verdict: &Option<Verdict>) -> bool
+    ensures { result ≡ verdict_fits version named.now.terms verdict.now }
 {
     match verdict {
         Some(verdict) => {
@@ -83,15 +87,15 @@ fn changes_something(net: &[Change], staged: &Option<ShapesGraph>) -> bool
     }
 }
 
-fn are_changes_named(named: &[Term], net: &[Change]) -> bool
-    ensures { result ≡ list_all (change_named named.now) net.now }
+fn are_changes_named(named: &Dict, net: &[Change]) -> bool
+    ensures { result ≡ list_all (change_named named.now.terms) net.now }
 {
     net.iter().all(|change| is_change_named(named, change))
 }
 
 /// Whether the transaction may be committed at this version, where these terms are named.
-pub fn may_commit(version: u64, named: &[Term], transaction: &Transaction) -> bool
-    ensures { result ≡ Conditions.may_commit version named.now transaction.now }
+pub fn may_commit(version: u64, named: &Dict, transaction: &Transaction) -> bool
+    ensures { result ≡ Conditions.may_commit version named.now.terms transaction.now }
 {
     let net = transaction.net.as_slice();
     transaction.base <= version

@@ -4,6 +4,7 @@ ghost use Rattle.store_model.specs.Store.{is_staged, shapes_under};
 
 use crate::graphs::graph_differing;
 use collections::Sequence;
+use page_index::Pages;
 use rdf_model::Triple;
 use shape_model::ResultRow;
 use shapes_graph::ShapesGraph;
@@ -137,7 +138,7 @@ impl Refusal {
 
 /// A commit whose graph has none: the next graph, the commit as it is kept, the next shapes graph.
 pub struct Acceptance {
-    pub graph: Sequence<Triple>,
+    pub graph: Pages<Triple>,
     pub accepted: Accepted,
     pub shapes: ShapesGraph,
 }
@@ -155,7 +156,7 @@ impl Drop for Acceptance {
 
 impl Acceptance {
     /// The next graph, the commit as it is kept, and the next shapes graph.
-    pub fn into_parts(self) -> (Sequence<Triple>, Accepted, ShapesGraph)
+    pub fn into_parts(self) -> (Pages<Triple>, Accepted, ShapesGraph)
         ensures { result ≡ (self.graph, self.accepted, self.shapes) }
     {
         let Acceptance {
@@ -203,16 +204,16 @@ fn stages_shapes(staged: &Option<ShapesGraph>) -> bool
 /// The plan of a commit whose graph has no result.
 pub fn accepting(
     alloc: Global,
-    graph: &[Triple],
-    next: Vec<Triple>,
+    graph: &Pages<Triple>,
+    next: Pages<Triple>,
     staged: &Option<ShapesGraph>,
     shapes: ShapesGraph,
 ) -> Result<Acceptance, AllocError>
-    ensures { IfOk result (λ plan. (plan.graph ≡ next.items) × (plan.accepted.changed ≡ differing graph.now next.items) × (plan.accepted.staged ≡ is_staged staged.now) × (plan.shapes ≡ shapes)) }
+    ensures { IfOk result (λ plan. (plan.graph ≡ next) × (plan.accepted.changed ≡ differing graph.now next) × (plan.accepted.staged ≡ is_staged staged.now) × (plan.shapes ≡ shapes)) }
 {
     let changed = graph_differing(alloc, graph, &next)?;
     Ok(Acceptance {
-        graph: Sequence::from_vec(next),
+        graph: next,
         accepted: Accepted {
             changed: Sequence::from_vec(changed),
             staged: stages_shapes(staged),

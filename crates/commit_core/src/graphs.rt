@@ -1,30 +1,30 @@
 ghost use Rattle.std.specs.Prelude.{◌≡◌, IfOk, OnOk};
-ghost use Rattle.rdf_model.specs.Graphs.{after, changed, lacking, differing};
+ghost use Rattle.rdf_model.specs.Graphs.{after, changed, differing, lacking, with_each};
 ghost use Rattle.store_model.specs.Finds.{found};
 
-use collections::{Sequence, contains_item, insert_item, remove_item};
+use page_index::Pages;
 use rdf_model::{Change, Pattern, Triple};
 use std::alloc::{AllocError, Global};
 
-fn apply_change(graph: &mut Vec<Triple>, change: &Change) -> Result<(), AllocError>
-    ensures { OnOk result (graph.new.items ≡ changed graph.old.items change.now) }
+fn apply_change(graph: &mut Pages<Triple>, change: &Change) -> Result<(), AllocError>
+    ensures { OnOk result (graph.new ≡ changed graph.old change.now) }
 {
     match change {
-        Change::Add(triple) => insert_item(graph, triple.clone()?)?,
-        Change::Remove(triple) => remove_item(graph, triple),
+        Change::Add(triple) => {
+            graph.insert(triple.clone()?)?;
+        }
+        Change::Remove(triple) => {
+            graph.remove(triple)?;
+        }
     }
     Ok(())
 }
 
-/// The graph after the changes.
-pub fn graph_after(
-    alloc: Global,
-    graph: &[Triple],
-    net: &[Change],
-) -> Result<Vec<Triple>, AllocError>
-    ensures { IfOk result (λ v. v.items ≡ after graph.now net.now) }
+/// The graph after the changes. It shares with the graph what they leave.
+pub fn graph_after(graph: &Pages<Triple>, net: &[Change]) -> Result<Pages<Triple>, AllocError>
+    ensures { IfOk result (λ next. next ≡ after graph.now net.now) }
 {
-    let mut next = Sequence::copied_from(alloc, graph)?.into_vec();
+    let mut next = graph.share()?;
     for change in net {
         apply_change(&mut next, change)?;
     }
@@ -34,14 +34,14 @@ pub fn graph_after(
 // The triples of one graph that another lacks.
 fn graph_lacking(
     alloc: Global,
-    graph: &[Triple],
-    other: &[Triple],
+    graph: &Pages<Triple>,
+    other: &Pages<Triple>,
 ) -> Result<Vec<Triple>, AllocError>
     ensures { IfOk result (λ v. v.items ≡ lacking graph.now other.now) }
 {
     let mut missing = Vec::new(alloc);
-    for triple in graph {
-        if !contains_item(other, triple) {
+    for triple in graph.iter() {
+        if !other.contains(triple) {
             missing.push(triple.clone()?)?;
         }
     }
@@ -51,13 +51,13 @@ fn graph_lacking(
 /// The triples that the pattern asks for, in their order.
 pub fn graph_matching(
     alloc: Global,
-    graph: &[Triple],
+    graph: &Pages<Triple>,
     pattern: &Pattern,
 ) -> Result<Vec<Triple>, AllocError>
     ensures { IfOk result (λ v. v.items ≡ found graph.now pattern.now) }
 {
     let mut matching = Vec::new(alloc);
-    for triple in graph {
+    for triple in graph.iter() {
         if pattern.matches(triple) {
             matching.push(triple.clone()?)?;
         }
@@ -65,18 +65,27 @@ pub fn graph_matching(
     Ok(matching)
 }
 
+// Puts each of the triples into the graph.
+fn insert_each(graph: &mut Pages<Triple>, triples: Vec<Triple>) -> Result<(), AllocError>
+    ensures { OnOk result (graph.new ≡ with_each graph.old triples.items) }
+{
+    for triple in triples {
+        graph.insert(triple)?;
+    }
+    Ok(())
+}
+
 /// The triples that are in exactly one of two graphs, ascending.
 pub fn graph_differing(
     alloc: Global,
-    graph: &[Triple],
-    other: &[Triple],
+    graph: &Pages<Triple>,
+    other: &Pages<Triple>,
 ) -> Result<Vec<Triple>, AllocError>
     ensures { IfOk result (λ v. v.items ≡ differing graph.now other.now) }
 {
-    let mut all = graph_lacking(alloc, graph, other)?;
-    let added = graph_lacking(alloc, other, graph)?;
-    for triple in &added {
-        insert_item(&mut all, triple.clone()?)?;
-    }
-    Ok(all)
+    graph.ascends();
+    let mut all = Pages::new(alloc);
+    insert_each(&mut all, graph_lacking(alloc, graph, other)?)?;
+    insert_each(&mut all, graph_lacking(alloc, other, graph)?)?;
+    Ok(all.keys()?)
 }

@@ -9,7 +9,6 @@ mod asking;
 mod commit;
 mod graphs;
 mod history;
-mod names;
 mod overtaking;
 mod reasons;
 mod replay;

@@ -4,19 +4,21 @@ ghost use Rattle.store_model.specs.Finds.{found};
 ghost use Rattle.commit_core.specs.Consistent.{IsSound};
 
 use crate::graphs::{graph_after, graph_matching};
-use collections::{Sequence, both};
-use rdf_model::{Change, Pattern, Term, Triple};
+use collections::both;
+use page_index::Pages;
+use rdf_model::{Change, Pattern, Triple};
 use shapes_graph::ShapesGraph;
 use std::alloc::{AllocError, Global};
 use std::marker::Model;
+use term_dict::Dict;
 
 /// The store as it was at one version: its number, its data graph, ascending, its shapes graph and
 /// its names. Contracts see these four; the graph has no result under the shapes.
 pub struct Snap {
     number: u64,
-    graph: Sequence<Triple>,
+    graph: Pages<Triple>,
     shapes: ShapesGraph,
-    named: Sequence<Term>,
+    named: Dict,
 }
 
 impl Model for Snap {
@@ -25,9 +27,9 @@ impl Model for Snap {
 
     ghost Value = { Snapshot };
 
-    ghost view = { λ s. record { number = s.number; graph = s.graph; shapes = s.shapes; named = s.named } };
+    ghost view = { λ s. record { number = s.number; graph = s.graph; shapes = s.shapes; named = s.named.terms } };
 
-    ghost invariant = { λ s. IsSound (record { number = s.number; graph = s.graph; shapes = s.shapes; named = s.named }) };
+    ghost invariant = { λ s. IsSound (record { number = s.number; graph = s.graph; shapes = s.shapes; named = s.named.terms }) };
 }
 
 // Written by hand, so that what owns one calls it in place of having it written out.
@@ -43,22 +45,18 @@ impl Drop for Snap {
 }
 
 impl Snap {
-    // The snapshot of these: the names are copied, as the graph is, and the shapes are shared.
-    pub(crate) fn copied_from(
-        alloc: Global,
+    // The snapshot of these, which it shares.
+    pub(crate) fn sharing(
         number: u64,
-        graph: &[Triple],
+        graph: &Pages<Triple>,
         shapes: &ShapesGraph,
-        named: &[Term],
+        named: &Dict,
     ) -> Result<Snap, AllocError>
-        requires { IsSound (record { number = number; graph = graph.now; shapes = shapes.now; named = named.now }) }
-        ensures { IfOk result (λ snap. snap ≡ record { number = number; graph = graph.now; shapes = shapes.now; named = named.now }) }
+        requires { IsSound (record { number = number; graph = graph.now; shapes = shapes.now; named = named.now.terms }) }
+        ensures { IfOk result (λ snap. snap ≡ record { number = number; graph = graph.now; shapes = shapes.now; named = named.now.terms }) }
     {
         let shapes = shapes.share()?;
-        let (graph, named) = both(
-            Sequence::copied_from(alloc, graph),
-            Sequence::copied_from(alloc, named),
-        )?;
+        let (graph, named) = both(graph.share(), named.share())?;
         Ok(Snap {
             number,
             graph,
@@ -83,7 +81,7 @@ impl Snap {
     ) -> Result<Vec<Triple>, AllocError>
         ensures { IfOk result (λ v. v.items ≡ found (after self.now.graph net.now) pattern.now) }
     {
-        let graph = graph_after(alloc, self.graph.as_slice(), net)?;
+        let graph = graph_after(&self.graph, net)?;
         graph_matching(alloc, &graph, pattern)
     }
 

@@ -14,12 +14,12 @@ use crate::commit::{
 };
 use crate::graphs::graph_after;
 use crate::history::{History, events_back, room_for, sessions_back};
-use crate::names::{first_names, naming, numbers_in};
 use crate::overtaking::find_overtaker;
 use crate::reasons::{find_reasons, has_held};
 use crate::room::Slip;
 use crate::snapshot::Snap;
 use collections::Sequence;
+use page_index::Pages;
 use rdf_model::{Term, Triple};
 use shape_eval::Steps;
 use shape_model::ResultRow;
@@ -29,6 +29,7 @@ use std::boxed::Box;
 use std::marker::Model;
 use std::sync::ledger::Ledger;
 use store_model::{Accepted, Action, Event, Limits, Overtaker, Reply, Transaction};
+use term_dict::Dict;
 use term_validation::listing;
 
 pub(crate) const MOST_SESSIONS: u32 = 64;
@@ -84,12 +85,6 @@ pub(crate) fn version_of(commits: &[Accepted]) -> u64
     commits.len() as u64
 }
 
-fn count_of(terms: &[Term]) -> usize
-    ensures { result ≡ length terms.now }
-{
-    terms.len()
-}
-
 fn add_commit(commits: &mut Vec<Accepted>, accepted: Accepted) -> Result<(), AllocError>
     ensures ok { OnOk result (commits.new.items ≡ commits.old.items ++ accepted ∷ []) }
     ensures err { OnErr result (commits.new.items ≡ commits.old.items) }
@@ -98,14 +93,15 @@ fn add_commit(commits: &mut Vec<Accepted>, accepted: Accepted) -> Result<(), All
     Ok(())
 }
 
-/// The store with its history. Contracts see its limits, its state and its events.
+/// The store with its history. Contracts see its limits, its state and its events. The limit of terms
+/// is kept by their dictionary.
 pub struct Core {
     pub(crate) alloc: Global,
-    limits: Limits,
-    graph: Vec<Triple>,
+    most_triples: usize,
+    graph: Pages<Triple>,
     shapes: ShapesGraph,
     pub(crate) commits: Vec<Accepted>,
-    pub(crate) named: Vec<Term>,
+    pub(crate) named: Dict,
     pub(crate) opened: u32,
     pub(crate) history: History,
 }
@@ -116,9 +112,9 @@ impl Model for Core {
 
     ghost Value = { RecordedStore };
 
-    ghost view = { λ c. record { limits = c.limits; state = record { graph = c.graph.items; shapes = c.shapes; commits = c.commits.items; named = c.named.items; opened = c.opened }; history = c.history } };
+    ghost view = { λ c. record { limits = record { terms = c.named.limit; triples = c.most_triples }; state = record { graph = c.graph; shapes = c.shapes; commits = c.commits.items; named = c.named.terms; opened = c.opened }; history = c.history } };
 
-    ghost invariant = { λ c. IsConsistent (record { limits = c.limits; state = record { graph = c.graph.items; shapes = c.shapes; commits = c.commits.items; named = c.named.items; opened = c.opened }; history = c.history }) };
+    ghost invariant = { λ c. IsConsistent (record { limits = record { terms = c.named.limit; triples = c.most_triples }; state = record { graph = c.graph; shapes = c.shapes; commits = c.commits.items; named = c.named.terms; opened = c.opened }; history = c.history }) };
 }
 
 // Written by hand, so that what owns a core calls it in place of having it written out.
@@ -126,7 +122,7 @@ impl Drop for Core {
     fn drop(self) {
         let Core {
             alloc: _,
-            limits: _,
+            most_triples: _,
             graph: _,
             shapes: _,
             commits: _,
@@ -143,12 +139,12 @@ impl Core {
         requires { limits.terms + 2 < 2 ^ 32 }
         ensures { IfOk result (λ core. core ≡ record { limits = limits; state = empty_store; history = [] }) }
     {
-        let named = first_names(alloc)?;
+        let named = Dict::new(alloc, limits.terms)?;
         let shapes = ShapesGraph::empty(alloc)?;
         Ok(Core {
             alloc,
-            limits,
-            graph: Vec::new(alloc),
+            most_triples: limits.triples,
+            graph: Pages::new(alloc),
             shapes,
             commits: Vec::new(alloc),
             named,
@@ -161,7 +157,7 @@ impl Core {
     pub fn is_consistent(&self)
         ensures { IsConsistent self.now }
     {
-        let _ = &self.limits;
+        let _ = &self.opened;
     }
 
     /// Gives out the next session, from 1.
@@ -199,8 +195,7 @@ impl Core {
     fn newest(&self) -> Result<Snap, AllocError>
         ensures { IfOk result (λ snap. snap ≡ snapshot_of self.now.state) }
     {
-        Snap::copied_from(
-            self.alloc,
+        Snap::sharing(
             version_of(&self.commits),
             &self.graph,
             &self.shapes,
@@ -257,37 +252,38 @@ impl Core {
         ensures numbers { IfOk result (λ numbers. numbers.items ≡ numbers_of self.new.state.named terms.now) }
     {
         let slip = slip(self.alloc)?;
-        let (named, asked) = naming(self.alloc, &self.named, terms)?;
-        let all = count_of(&named);
-        if all > self.limits.terms + 2 {
-            let count = all - 2;
-            self.history.push(
-                slip.room,
-                Event {
-                    session,
-                    action: Action::Name(asked),
-                    reply: Reply::Full(count),
-                },
-            );
-            return Err(NameFault::Full { count });
+        let asked = Sequence::copied_from(self.alloc, terms)?;
+        match self.named.name_all(terms) {
+            Ok(numbers) => {
+                self.history.push(
+                    slip.room,
+                    Event {
+                        session,
+                        action: Action::Name(asked),
+                        reply: Reply::Named,
+                    },
+                );
+                Ok(numbers)
+            }
+            Err(term_dict::NameFault::Full { count }) => {
+                self.history.push(
+                    slip.room,
+                    Event {
+                        session,
+                        action: Action::Name(asked),
+                        reply: Reply::Full(count),
+                    },
+                );
+                Err(NameFault::Full { count })
+            }
+            Err(term_dict::NameFault::Memory) => Err(NameFault::Memory),
         }
-        let numbers = numbers_in(self.alloc, &named, terms)?;
-        self.history.push(
-            slip.room,
-            Event {
-                session,
-                action: Action::Name(asked),
-                reply: Reply::Named,
-            },
-        );
-        self.named = named;
-        Ok(numbers)
     }
 
     // The results of the next graph: those that a verdict found, where it held, else by an evaluation.
     fn results<L: Ledger>(
         &self,
-        next: &[Triple],
+        next: &Pages<Triple>,
         shapes: &ShapesGraph,
         found: &Sequence<ResultRow>,
         held: bool,
@@ -301,20 +297,21 @@ impl Core {
         if held {
             return Sequence::copied_from(self.alloc, found.as_slice());
         }
-        let rows = listing(self.alloc, &self.named, next, shapes, steps)?;
+        let graph = next.keys()?;
+        let rows = listing(self.alloc, &self.named, &graph, shapes, steps)?;
         Ok(Sequence::from_vec(rows))
     }
 
     // What its listing makes of a commit that nothing overtook and whose graph is within the limit.
     fn judge<L: Ledger>(
         &self,
-        next: Vec<Triple>,
+        next: Pages<Triple>,
         checked: &CheckedTransaction,
         held: bool,
         steps: &mut Steps<L>,
     ) -> Result<Plan, AllocError>
         requires committable { IsCommittable self.now.state checked.now.transaction }
-        requires next { next.items ≡ after self.now.state.graph checked.now.transaction.net }
+        requires next { next ≡ after self.now.state.graph checked.now.transaction.net }
         requires found { MatchBool held (Listing (after self.now.state.graph checked.now.transaction.net) (shapes_under self.now.state.shapes checked.now.transaction.staged) checked.now.rows) (Unit {0}) }
         ensures { IfOk result (IsJudged self.now.state.graph self.now.state.shapes checked.now.transaction) }
     {
@@ -350,8 +347,8 @@ impl Core {
             let triple = overtaker.triple.clone()?;
             return Ok(Plan::Overtaken(overtaker, triple));
         }
-        let next = graph_after(self.alloc, &self.graph, transaction.net.as_slice())?;
-        if next.len() > self.limits.triples {
+        let next = graph_after(&self.graph, transaction.net.as_slice())?;
+        if next.len() > self.most_triples {
             return Ok(Plan::TooLarge(next.len()));
         }
         self.judge(next, checked, held, steps)
@@ -427,7 +424,7 @@ impl Core {
                 reply: Reply::Done(number, recorded),
             },
         );
-        self.graph = graph.into_vec();
+        self.graph = graph;
         self.shapes = shapes;
         Commit::Done { number, again }
     }
@@ -561,7 +558,7 @@ impl Core {
     {
         let Core {
             alloc: _,
-            limits: _,
+            most_triples: _,
             graph: _,
             shapes: _,
             commits: _,

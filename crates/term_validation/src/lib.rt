@@ -5,7 +5,6 @@
 #![tactic(auto)]
 
 mod numbering;
-mod sorted_names;
 mod validation;
 
 pub use validation::listing;

@@ -1,10 +1,9 @@
-ghost use Rattle.std.specs.Prelude.{◌≡◌, ◌↔◌, ◌<◌, ◌^◌, [], IfOk, IsTrue, length};
+ghost use Rattle.std.specs.Prelude.{◌≡◌, ◌↔◌, [], IfOk, IsTrue};
 ghost use Rattle.rdf_model.specs.Numbers.{IsNumbering};
 ghost use Rattle.shape_model.specs.Validation.{Listing};
 ghost use Rattle.term_validation.specs.Named.{AreNamedTriples};
 
 use crate::numbering::number_triples;
-use crate::sorted_names::SortedNames;
 use graph_validation::whole;
 use rdf_model::{ListGraph, Names, Term, Triple};
 use shape_ast::{ResultRow, Shape, bind};
@@ -21,7 +20,6 @@ fn listing_by_number<N: Names, L: Ledger>(
     shapes: &ShapesGraph,
     steps: &mut Steps<L>,
 ) -> Result<Vec<ResultRow>, AllocError>
-    requires few { length (N.terms names.now) < 2 ^ 32 }
     requires numbering { IsNumbering (N.terms names.now) }
     requires graph { AreNamedTriples (N.terms names.now) graph.now }
     requires shapes { AreNamedTriples (N.terms names.now) shapes.now }
@@ -41,22 +39,20 @@ fn is_nothing(shapes: &[Shape<Term>]) -> bool
 /// The results of validating the data graph by the shapes graph (SHACL section 3.6), each once, in
 /// the order of results. All terms of both are among the names. `steps` is the ledger in which the
 /// evaluations are allowed; how many they are is not promised. It fails only for want of memory.
-pub fn listing<L: Ledger>(
+pub fn listing<N: Names, L: Ledger>(
     alloc: Global,
-    names: &[Term],
+    names: &N,
     graph: &[Triple],
     shapes: &ShapesGraph,
     steps: &mut Steps<L>,
 ) -> Result<Vec<ResultRow>, AllocError>
-    requires few { length names.now < 2 ^ 32 }
-    requires numbering { IsNumbering names.now }
-    requires graph { AreNamedTriples names.now graph.now }
-    requires shapes { AreNamedTriples names.now shapes.now }
+    requires numbering { IsNumbering (N.terms names.now) }
+    requires graph { AreNamedTriples (N.terms names.now) graph.now }
+    requires shapes { AreNamedTriples (N.terms names.now) shapes.now }
     ensures { IfOk result (λ rows. Listing graph.now shapes.now rows.items) }
 {
     if is_nothing(shapes.shapes().shapes.as_slice()) {
         return Ok(Vec::new(alloc));
     }
-    let names = SortedNames::new(alloc, names)?;
-    Ok(listing_by_number(alloc, &names, graph, shapes, steps)?)
+    Ok(listing_by_number(alloc, names, graph, shapes, steps)?)
 }

@@ -13,7 +13,7 @@ use crate::names::names_of;
 use collections::Sequence;
 use ntriples_text::{ReadFault, read};
 use outside::Maker;
-use rdf_model::{Term, Triple};
+use rdf_model::{ListNames, Triple};
 use shape_eval::Steps;
 use shape_model::ResultRow;
 use shape_reader::{ShapeFault, read_shapes};
@@ -66,12 +66,11 @@ fn shapes_of<M: Maker>(
 // The results by compiled shapes, in an own ledger of evaluations.
 fn compiled_in<L: Ledger>(
     alloc: Global,
-    names: &[Term],
+    names: &ListNames,
     graph: &[Triple],
     shapes: &ShapesGraph,
     blank: Blank,
 ) -> Result<Vec<ResultRow>, AllocError>
-    requires few { length names.now < 2 ^ 32 }
     requires numbering { IsNumbering names.now }
     requires graph { AreNamedTriples names.now graph.now }
     requires shapes { AreNamedTriples names.now shapes.now }
@@ -95,6 +94,7 @@ fn compiled_listing(
     ensures { IfOk result (λ rows. Listing graph.now shapes.now rows.items) }
 {
     let names = names_of(alloc, graph, shapes.triples())?;
+    let names = ListNames::from_terms(Sequence::from_vec(names));
     compiled_in::<Brand>(alloc, &names, graph, shapes, Blank::new(1))
 }
 

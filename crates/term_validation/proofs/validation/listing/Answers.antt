@@ -5,7 +5,6 @@ use Rattle.shape_model.specs.Validation.{Listing}
 use Rattle.shape_ast.specs.declared.shape.Shape.{Shape}
 use Rattle.shape_ast.specs.Naming.{read_shapes}
 use Rattle.shape_ast.specs.Standing.{StandFor}
-use Rattle.term_validation.specs.Named.{AreNamedTriples}
 use Rattle.term_validation.proofs.NoShapes.{no_shapes}
 use Rattle.term_validation.proofs.validation.listing.Goals as goal
 
@@ -14,11 +13,3 @@ returns-then-is_nothing g c =
     let s = c.args.shapes.now in
     let stand = subst (λ (all : List (Shape Term)). StandFor (read_shapes all) s) (sym c.as_slice.ensures ∙ c.is_nothing.ensures.0 c.if-is_nothing.true) c.shapes.ensures.shapes in
     subst (λ (rows : List ResultRow). Listing c.args.graph.now s rows) (sym c.new.ensures.items) (no_shapes c.args.graph.now s stand)
-
-pub listing_by_number-requires-clause-graph : goal.listing_by_number-requires-clause-graph
-listing_by_number-requires-clause-graph g c =
-    subst (λ (names : List Term). AreNamedTriples names c.args.graph.now) (sym c.in_ok-names.ensures) c.requires.graph
-
-pub listing_by_number-requires-clause-shapes : goal.listing_by_number-requires-clause-shapes
-listing_by_number-requires-clause-shapes g c =
-    subst (λ (names : List Term). AreNamedTriples names c.args.shapes.now) (sym c.in_ok-names.ensures) c.requires.shapes

@@ -1,13 +1,13 @@
-use Rattle.std.proofs.Common.{List, sym, subst}
+use Rattle.std.proofs.Common.{◌∙◌, List, sym, subst}
 use Rattle.rdf_model.specs.declared.term.Term.{Term}
 use Rattle.rdf_model.specs.declared.triple.Triple.{Triple}
 use Rattle.term_validation.specs.Named.{AreNamedTriples}
 use Rattle.validation_rows.proofs.rows.compiled_listing.Goals as goal
 
 pub compiled_in-requires-clause-graph : goal.compiled_in-requires-clause-graph
-compiled_in-requires-clause-graph c = subst (λ (names : List Term). AreNamedTriples names c.args.graph.now) (sym c.deref.ensures.value) c.in_ok-names.ensures.graph
+compiled_in-requires-clause-graph c = subst (λ (names : List Term). AreNamedTriples names c.args.graph.now) (sym (c.from_terms-names.ensures ∙ c.from_vec.ensures)) c.in_ok-names.ensures.graph
 
 pub compiled_in-requires-clause-shapes : goal.compiled_in-requires-clause-shapes
 compiled_in-requires-clause-shapes c =
     let named = subst (λ (ts : List Triple). AreNamedTriples c.in_ok-names.names.items ts) c.triples.ensures c.in_ok-names.ensures.shapes in
-    subst (λ (names : List Term). AreNamedTriples names c.args.shapes.now) (sym c.deref.ensures.value) named
+    subst (λ (names : List Term). AreNamedTriples names c.args.shapes.now) (sym (c.from_terms-names.ensures ∙ c.from_vec.ensures)) named

@@ -11,7 +11,7 @@ use Rattle.commit_core.proofs.store.Core.judge.Goals as goal
 pub results-requires-clause-graph : goal.results-requires-clause-graph
 results-requires-clause-graph g c =
     let graph = subst (λ (s : RecordedStore). AreNamedTriples s.state.named s.state.graph) c.self.view_is c.self.invariant.sound.graph_named in
-    subst (λ (ts : List Triple). AreNamedTriples c.args.self.now.state.named ts) (sym (c.deref.ensures.value ∙ c.requires.next)) (named_after _ _ _ graph c.requires.committable.net)
+    subst (λ (ts : List Triple). AreNamedTriples c.args.self.now.state.named ts) (sym c.requires.next) (named_after _ _ _ graph c.requires.committable.net)
 
 pub results-requires-clause-shapes : goal.results-requires-clause-shapes
 results-requires-clause-shapes g c =
@@ -24,8 +24,7 @@ pub returns-then-is_empty : goal.returns-then-is_empty
 returns-then-is_empty g c =
     let e = c.in_ok-plan.ensures in
     let graph = after c.args.self.now.state.graph c.args.checked.now.transaction.net in
-    let next : c.deref.result.now ≡ graph = c.deref.ensures.value ∙ c.requires.next in
     let none : c.in_ok-rows.rows ≡ [] = c.is_empty.ensures.0 c.if-is_empty.true in
-    let listing : Listing graph c.in_ok-shapes.shapes c.in_ok-rows.rows = subst (λ (ts : List Triple). Listing ts c.in_ok-shapes.shapes c.in_ok-rows.rows) next c.in_ok-rows.ensures in
+    let listing : Listing graph c.in_ok-shapes.shapes c.in_ok-rows.rows = subst (λ (ts : List Triple). Listing ts c.in_ok-shapes.shapes c.in_ok-rows.rows) c.requires.next c.in_ok-rows.ensures in
     let empty : Listing graph c.in_ok-shapes.shapes [] = subst (λ (rows : List ResultRow). Listing graph c.in_ok-shapes.shapes rows) none listing in
     (search rules, subst (λ (ts : List Triple). Listing graph ts []) (sym e.3) empty, e.0 ∙ c.requires.next, search rules, e.2)
