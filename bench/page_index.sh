@@ -8,8 +8,6 @@ copy=$(mktemp -d)
 trap 'rm -rf "$copy"' EXIT
 mkdir -p "$copy/crates/page_bench/src"
 cp -r "$root/crates/collections" "$root/crates/page_index" "$copy/crates"
-rm "$copy/crates/page_index/src/tests.rt"
-sed -i '/cfg(test)/,/mod tests/d' "$copy/crates/page_index/src/lib.rt"
 printf 'collections:\npage_index: collections\npage_bench: page_index collections\n' > "$copy/crates.txt"
 cat > "$copy/crates/page_bench/src/main.rt" <<'PROGRAM'
 //! Times a set of pages.

@@ -1,4 +1,5 @@
 pub mod Keys
+pub mod Built
 pub mod Found
 pub mod Sides
 pub mod Edits

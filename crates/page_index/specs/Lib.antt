@@ -1,4 +1,5 @@
 pub mod Blocks
+pub mod Levels
 pub mod PageFalls
 pub mod Pages
 pub mod Root

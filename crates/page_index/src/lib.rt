@@ -9,6 +9,7 @@
 mod insertion;
 mod iter;
 mod leaf;
+mod levels;
 mod page;
 mod pages;
 mod parts;

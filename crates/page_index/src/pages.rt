@@ -8,6 +8,7 @@ ghost use Rattle.std.specs.Option.{option_map};
 ghost use Rattle.page_index.specs.Root.{root_keys};
 ghost use Rattle.page_index.specs.Blocks.{IsRemovable, most};
 
+use crate::levels::root_of;
 use crate::page::{MOST, Node, Page};
 use crate::parts::{halves, pair_entries};
 use collections::ExactClone;
@@ -119,6 +120,19 @@ impl<K: Ord> Pages<K> {
 }
 
 impl<K: Ord + ExactClone + Drop> Pages<K> {
+    /// A set with clones of these keys, which ascend strictly. Its pages are built from the leaves up, in
+    /// time that is linear in the keys.
+    pub fn from_sorted(alloc: Global, keys: &[K]) -> Result<Pages<K>, AllocError>
+        requires { IsAscending K.cmp keys.now }
+        ensures { IfOk result (λ pages. pages ≡ keys.now) }
+    {
+        Ok(Pages {
+            alloc,
+            root: Some(root_of(alloc, keys)?),
+            len: keys.len(),
+        })
+    }
+
     /// Puts a key into the set, and says whether it is new: a key that ties with one that is there
     /// changes nothing. It fails where no memory is left, and where no more keys can be counted; the set
     /// is then as it was.

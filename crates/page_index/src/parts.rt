@@ -24,7 +24,7 @@ pub(crate) fn add_clones<T: ExactClone + Drop>(
 }
 
 // A vector of clones.
-fn copied<T: ExactClone + Drop>(alloc: Global, items: &[T]) -> Result<Vec<T>, AllocError>
+pub(crate) fn copied<T: ExactClone + Drop>(alloc: Global, items: &[T]) -> Result<Vec<T>, AllocError>
     ensures { IfOk result (λ copy. copy.items ≡ items.now) }
 {
     let mut copy = Vec::with_capacity(alloc, items.len())?;
@@ -48,7 +48,10 @@ fn joined<T: ExactClone + Drop>(
 }
 
 // A leaf of its own with these keys.
-fn leaf_entry<K: Ord + ExactClone + Drop>(alloc: Global, keys: &[K]) -> Result<Entry<K>, AllocError>
+pub(crate) fn leaf_entry<K: Ord + ExactClone + Drop>(
+    alloc: Global,
+    keys: &[K],
+) -> Result<Entry<K>, AllocError>
     requires ascending { IsAscending K.cmp keys.now }
     requires size { (least ≤ length keys.now) × (length keys.now ≤ most) }
     ensures keys { IfOk result (λ entry. entry.page.keys ≡ keys.now) }
@@ -67,7 +70,7 @@ fn leaf_entry<K: Ord + ExactClone + Drop>(alloc: Global, keys: &[K]) -> Result<E
 }
 
 // A page of its own over these entries.
-fn inner_entry<K: Ord + ExactClone + Drop>(
+pub(crate) fn inner_entry<K: Ord + ExactClone + Drop>(
     alloc: Global,
     entries: &[Entry<K>],
 ) -> Result<Entry<K>, AllocError>

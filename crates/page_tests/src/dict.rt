@@ -1,3 +1,5 @@
+ghost use Rattle.std.specs.Prelude.{◌<◌};
+
 use collections::{Sequence, contains_item};
 use rdf_model::{ListNames, Names, Term, Text};
 use std::alloc::{AllocError, Global};
@@ -32,6 +34,33 @@ fn terms_get_numbers(rt: HostRuntime) -> Result<(), Fail> {
     for (named, want, too_many) in rows {
         let terms = nodes(alloc, named)?;
         match dict.name_all(&terms) {
+            Ok(numbers) => assert_eq!(rt; numbers.as_slice(), want),
+            Err(fault) => assert_eq!(rt; fault, NameFault::Full { count: too_many }),
+        }
+    }
+    Ok(())
+}
+
+// The numbers of terms that are named at once.
+fn numbers_at_once(alloc: Global, limit: usize, terms: &[Term]) -> Result<Vec<u32>, NameFault>
+    requires { limit < 1000 }
+{
+    let (_, numbers) = Dict::from_terms(alloc, limit, terms)?;
+    Ok(numbers)
+}
+
+// Each row is a list that is named at once, with the numbers that it gets, or none and the count that is too high.
+#[test]
+fn terms_get_numbers_at_once(rt: HostRuntime) -> Result<(), Fail> {
+    let rows: [(&[u32], &[u32], usize); 4] = [
+        (&[7, 5, 7, 5, 9], &[2, 3, 2, 3, 4], 0),
+        (&[], &[], 0),
+        (&[9, 8, 6, 9, 5], &[], 4),
+        (&[5, 6, 7, 8, 9], &[], 5),
+    ];
+    for (named, want, too_many) in rows {
+        let terms = nodes(rt.alloc(), named)?;
+        match numbers_at_once(rt.alloc(), 3, &terms) {
             Ok(numbers) => assert_eq!(rt; numbers.as_slice(), want),
             Err(fault) => assert_eq!(rt; fault, NameFault::Full { count: too_many }),
         }
@@ -81,7 +110,15 @@ fn same_list(rt: &impl Abort, dict: &Dict, plain: Vec<Term>) {
     }
 }
 
-// A plain list of terms answers as the dictionary does, and a share keeps the names of before.
+// A dictionary that names the terms at once.
+fn named_at_once(rt: &impl Abort, alloc: Global, terms: &[Term]) -> Dict {
+    match Dict::from_terms(alloc, 2000, terms) {
+        Ok((dict, _)) => dict,
+        Err(_) => panic!(rt; "the terms are not named"),
+    }
+}
+
+// A plain list of terms answers as the dictionary does, named one by one and at once, and a share keeps the names of before.
 #[test]
 fn a_plain_list_agrees(rt: HostRuntime) -> Result<(), Fail> {
     let mut dict = Dict::new(rt.alloc(), 2000)?;
@@ -93,6 +130,7 @@ fn a_plain_list_agrees(rt: HostRuntime) -> Result<(), Fail> {
         name_in_both(&rt, &mut dict, &mut plain, node((seed >> 8) % 400))?;
     }
     assert_eq!(rt; share.count(), 2);
+    same_list(&rt, &named_at_once(&rt, rt.alloc(), &plain), plain.clone()?);
     same_list(&rt, &dict, plain);
     Ok(())
 }

@@ -174,6 +174,20 @@ fn same_index(
     same_patterns(rt, index, plain, triple)
 }
 
+// An index that is built at once, of each triple twice, answers as a plain list does.
+fn same_at_once(
+    rt: &impl Abort,
+    alloc: Global,
+    plain: &Vec<Ids>,
+    triple: Ids,
+) -> Result<(), AllocError> {
+    let mut twice = plain.clone()?;
+    twice.extend_from_slice(plain)?;
+    let index = Index::from_triples(alloc, &twice)?;
+    assert_eq!(rt; index.len(), plain.len());
+    same_reads(rt, alloc, &index, plain, triple)
+}
+
 // A net of two changes over the index answers as a plain list after them.
 fn same_overlay(
     rt: &impl Abort,
@@ -215,6 +229,7 @@ fn a_plain_list_agrees(rt: HostRuntime) -> Result<(), Fail> {
         if round % 100 == 0 {
             let net = [change, change_of(next(seed), 4)];
             same_index(&rt, rt.alloc(), &index, &plain, triple_of(seed))?;
+            same_at_once(&rt, rt.alloc(), &plain, triple_of(seed))?;
             same_overlay(&rt, rt.alloc(), &index, &plain, net, triple_of(seed))?;
         }
         change_both(&rt, &mut index, &mut plain, change)?;

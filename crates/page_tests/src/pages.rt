@@ -65,6 +65,12 @@ fn met(alloc: Global, pages: &Pages<Number>) -> Result<Vec<Number>, AllocError>
     Ok(met)
 }
 
+// Both sets have the same keys.
+fn is_list_of(rt: &impl Abort, whole: &Pages<Number>, pages: &Pages<Number>) -> Result<(), Fail> {
+    assert_eq!(rt; whole.keys()?.as_slice(), pages.keys()?.as_slice());
+    Ok(())
+}
+
 #[test]
 fn a_loop_meets_each_key(rt: HostRuntime) -> Result<(), Fail> {
     let mut pages = Pages::new(rt.alloc());
@@ -77,4 +83,38 @@ fn a_loop_meets_each_key(rt: HostRuntime) -> Result<(), Fail> {
         assert_eq!(rt; key.0, number);
     }
     Ok(())
+}
+
+// The numbers below 5,000, inserted in no order.
+fn mixed(alloc: Global) -> Result<Pages<Number>, AllocError> {
+    let mut pages = Pages::new(alloc);
+    for number in 0..5000u32 {
+        let _ = pages.insert(Number(number * 7 % 5000))?;
+    }
+    Ok(pages)
+}
+
+// A set with the same keys, built at once.
+fn built_at_once(alloc: Global, pages: &Pages<Number>) -> Result<Pages<Number>, AllocError> {
+    let keys = pages.keys()?;
+    Pages::from_sorted(alloc, &keys)
+}
+
+// Takes one number out of a set, and puts another in.
+fn change(pages: &mut Pages<Number>, number: u32) -> Result<(bool, bool), AllocError> {
+    let removed = pages.remove(&Number(number))?;
+    let added = pages.insert(Number(number.wrapping_mul(3)))?;
+    Ok((removed, added))
+}
+
+// A set that is built at once goes on as one that grew by insertions.
+#[test]
+fn a_set_at_once_goes_on(rt: HostRuntime) -> Result<(), Fail> {
+    let mut pages = mixed(rt.alloc())?;
+    let mut whole = built_at_once(rt.alloc(), &pages)?;
+    for number in 0..4000u32 {
+        assert_eq!(rt; change(&mut whole, number)?, change(&mut pages, number)?);
+    }
+    assert_eq!(rt; whole.len(), pages.len());
+    is_list_of(&rt, &whole, &pages)
 }

@@ -16,13 +16,10 @@ use Rattle.rdf_model.specs.declared.term.Term.{Term}
 use Rattle.rdf_model.specs.Terms.{term_cmp}
 use Rattle.rdf_model.specs.Numbers.{term_at, IsNumbering}
 use Rattle.rdf_model.specs.Orders.{term_exact, term_total}
-use Rattle.term_dict.specs.Entries.{Entry, number_cmp, entry_cmp, terms_in}
+use Rattle.term_dict.specs.Entries.{Entry, number_cmp, entry, entry_cmp, terms_in}
 use Rattle.term_dict.specs.Orders.{number_total, entry_total}
 use Rattle.term_dict.specs.Tables.{AreCounted, AreOne}
 use Rattle.term_dict.specs.Names.{IsNumberOf}
-
-abbrev pub entry : ℕ → Term → Entry
-entry n t = record { number = n; term = t }
 
 -- along ascending entries, those that stand below a place come first
 module _ (R : Entry → Entry → Ordering) (total : IsTotalOrder R) (f : Entry → Ordering) (down : (a b : Entry) → R a b ≡ Less → f b ≡ Less → f a ≡ Less) where

@@ -1,5 +1,5 @@
 -- Named terms, each with its number.
-use Rattle.std.specs.Prelude.{ℕ, List, map}
+use Rattle.std.specs.Prelude.{ℕ, ◌+◌, List, [], ◌∷◌, map}
 use Rattle.std.specs.declared.cmp.Ordering.{Ordering}
 use Rattle.std.specs.Ordering.{nat_cmp}
 use Rattle.rdf_model.specs.declared.term.Term.{Term}
@@ -17,3 +17,11 @@ entry_cmp a b = term_cmp a.term b.term
 
 abbrev pub terms_in : List Entry → List Term
 terms_in entries = map (λ e. e.term) entries
+
+abbrev pub entry : ℕ → Term → Entry
+entry n t = record { number = n; term = t }
+
+-- the entries of terms, with the numbers from the one given on
+abbrev pub entries_from : ℕ → List Term → List Entry
+entries_from n [] = []
+entries_from n (t ∷ ts) = entry n t ∷ entries_from (n + 1) ts

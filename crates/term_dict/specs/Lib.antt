@@ -1,5 +1,6 @@
 pub mod Entries
 pub mod Faults
+pub mod Hashes
 pub mod Names
 pub mod Orders
 pub mod Tables

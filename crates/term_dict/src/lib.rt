@@ -8,6 +8,7 @@
 mod dict;
 mod entry;
 mod fault;
+mod met;
 mod table;
 
 pub use dict::Dict;

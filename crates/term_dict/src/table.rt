@@ -1,10 +1,14 @@
-ghost use Rattle.std.specs.Prelude.{◌≡◌, ◌<◌, ◌≤◌, [], ◌∷◌, ◌++◌, IfOk, MatchOption, length};
-ghost use Rattle.std.specs.List.{Contains};
+ghost use Rattle.std.specs.Prelude.{◌≡◌, ◌<◌, ◌≤◌, [], ◌∷◌, ◌++◌, IfOk, MatchOption, OnOk, length};
+ghost use Rattle.std.specs.List.{Contains, IsDistinct};
+ghost use Rattle.std.specs.Ordering.{eq_by_cmp};
 ghost use Rattle.rdf_model.specs.Matching.{same_term};
+ghost use Rattle.rdf_model.specs.Terms.{term_cmp};
 ghost use Rattle.rdf_model.specs.Numbers.{IsNumbering, term_at};
+ghost use Rattle.term_dict.specs.Entries.{entries_from, entry};
 ghost use Rattle.term_dict.specs.Names.{AreNumbersOf, IsNumberOf, with_term, with_terms};
 
 use crate::entry::{ByNumber, ByTerm};
+use crate::met::MetTerm;
 use page_index::Pages;
 use rdf_model::Term;
 use std::alloc::{AllocError, Global};
@@ -134,6 +138,51 @@ impl Table {
             }
         }
     }
+}
+
+// Adds the entry of a term in both orders.
+fn push_entry(
+    alloc: Global,
+    number: usize,
+    term: &Term,
+    by_number: &mut Vec<ByNumber>,
+    by_term: &mut Vec<ByTerm>,
+) -> Result<(), AllocError>
+    ensures numbers { OnOk result (by_number.new.items ≡ by_number.old.items ++ entry number term.now ∷ []) }
+    ensures terms { OnOk result (by_term.new.items ≡ by_term.old.items ++ entry number term.now ∷ []) }
+{
+    let term = Arc::new(alloc, term.clone()?)?;
+    let same = Arc::try_clone(&term)?;
+    by_number.push(ByNumber { number, term })?;
+    by_term.push(ByTerm { number, term: same })?;
+    Ok(())
+}
+
+// The entries of terms, which are numbered by their places.
+fn entries_of(alloc: Global, terms: &[MetTerm]) -> Result<(Vec<ByNumber>, Vec<ByTerm>), AllocError>
+    ensures numbers { IfOk result (λ entries. entries.0.items ≡ entries_from 0 terms.now) }
+    ensures terms { IfOk result (λ entries. entries.1.items ≡ entries_from 0 terms.now) }
+{
+    let mut by_number = Vec::with_capacity(alloc, terms.len())?;
+    let mut by_term = Vec::with_capacity(alloc, terms.len())?;
+    for (number, met) in terms.iter().enumerate() {
+        push_entry(alloc, number, met.term, &mut by_number, &mut by_term)?;
+    }
+    Ok((by_number, by_term))
+}
+
+// The table of terms, no two of which are equal.
+pub(crate) fn table_of(alloc: Global, terms: &[MetTerm]) -> Result<Table, AllocError>
+    requires { IsDistinct (eq_by_cmp term_cmp) terms.now }
+    ensures { IfOk result (λ table. table ≡ terms.now) }
+{
+    let (by_number, mut by_term) = entries_of(alloc, terms)?;
+    by_term.sort()?;
+    Ok(Table {
+        alloc,
+        by_number: Pages::from_sorted(alloc, &by_number)?,
+        by_term: Pages::from_sorted(alloc, &by_term)?,
+    })
 }
 
 // The table with each of the terms, and their numbers.

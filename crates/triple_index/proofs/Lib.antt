@@ -1,4 +1,5 @@
 pub mod Across
+pub mod Listed
 pub mod Listings
 pub mod Looked
 pub mod Matching

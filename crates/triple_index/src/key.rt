@@ -1,7 +1,7 @@
 ghost use Rattle.std.specs.Prelude.{◌≡◌};
 ghost use Rattle.triple_index.specs.Keys.{by_object, by_predicate, by_subject, from_object, from_predicate, from_subject};
 
-use collections::ExactClone;
+use collections::{ExactClone, ExactOrder};
 use rdf_model::Ids;
 use std::alloc::AllocError;
 use std::cmp::Ordering;
@@ -149,4 +149,10 @@ impl Clone for Key {
 
 impl ExactClone for Key {
     ghost clone_is_equal = { λ source copy is_copy. is_copy };
+}
+
+impl ExactOrder for Key {
+    ghost use Rattle.triple_index.specs.Orders.{key_exact};
+
+    ghost tied_is_equal = { key_exact };
 }

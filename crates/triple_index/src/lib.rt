@@ -5,6 +5,7 @@
 //! stands side by side in one of them; that the three hold the same triples is kept by its type.
 #![tactic(auto)]
 
+mod at_once;
 mod change;
 mod find;
 mod index;

@@ -3,8 +3,8 @@ use Rattle.std.specs.List.{Contains}
 use Rattle.std.specs.Arc.{arc_value}
 use Rattle.collections.specs.Ordered.{with_item}
 use Rattle.rdf_model.specs.declared.term.Term.{Term}
-use Rattle.term_dict.specs.Entries.{number_cmp, entry_cmp}
-use Rattle.term_dict.proofs.Places.{entry, one_more_as, terms_more}
+use Rattle.term_dict.specs.Entries.{entry, number_cmp, entry_cmp}
+use Rattle.term_dict.proofs.Places.{one_more_as, terms_more}
 use Rattle.term_dict.proofs.table.Table.with_new.Goals as goal
 
 pub invariant_of-result : goal.invariant_of-result

@@ -1,0 +1,132 @@
+-- A dictionary of terms that are met, each once.
+use Rattle.std.proofs.Common.{◌≡◌, ◌∙◌, ℕ, zero, suc, ◌+◌, ◌<◌, ◌≤◌, true, false, List, [], ◌∷◌, ◌++◌, length, get_or, take, refl, sym, subst, ap, arith}
+use Rattle.std.specs.Prelude.{cond, Some, slice_get, IsPermutation, IsSorted}
+use Rattle.std.specs.List.{AllByRecursion, IsDistinct, list_any, dedup, dedup_from}
+use Rattle.std.specs.List.Sorted.{IsStrictlySortedBy}
+use Rattle.std.proofs.lemmas.List.Kept.{IsStrictlySortedBy-dedup}
+use Rattle.std.proofs.lemmas.List.Sorted.{Contains-permutation, IsPermutation-sym}
+use Rattle.std.proofs.lemmas.Map.Keys.{IsDistinct-IsPermutation}
+use Rattle.std.specs.declared.cmp.Ordering.{Ordering}
+use Rattle.std.specs.declared.cmp.Ordering.TheVariants.{Less, Equal, Greater}
+use Rattle.std.specs.Ordering.{is_eq, eq_by_cmp, ordering_reverse}
+use Rattle.std.specs.Cmp.{IsTotalOrder}
+use Rattle.collections.specs.Ordered.{AllAbove, IsAscending, has_item}
+use Rattle.rdf_model.specs.declared.term.Term.{Term}
+use Rattle.rdf_model.specs.Terms.{term_cmp}
+use Rattle.rdf_model.specs.Orders.{term_exact, term_total}
+use Rattle.term_dict.specs.Entries.{Entry, entry, entry_cmp, entries_from, terms_in}
+use Rattle.term_dict.specs.Orders.{entry_total}
+use Rattle.term_dict.specs.Tables.{AreCounted, AreOne}
+use Rattle.term_dict.specs.Names.{IsNumberOf, first_terms, with_term, with_terms}
+use Rattle.term_dict.proofs.Growing.{first_named, longer, take_more, two_first}
+
+pub entries_push : (n : ℕ) (ts : List Term) (t : Term) → entries_from n (ts ++ t ∷ []) ≡ entries_from n ts ++ entry (n + length ts) t ∷ []
+entries_push n [] t = ap (λ (m : ℕ). entry m t ∷ []) (omega arith)
+entries_push n (u ∷ ts) t = ap (λ (es : List Entry). entry n u ∷ es) (entries_push (n + 1) ts t ∙ ap (λ (m : ℕ). entries_from (n + 1) ts ++ entry m t ∷ []) (let k : n + 1 + length ts ≡ n + length (u ∷ ts) = omega arith in k))
+
+-- one step along a list of terms
+pub entries_step : (ts : List Term) (i : ℕ) (t u : Term) (old new : List Entry) → i < length ts → t ≡ get_or ts i t → u ≡ t → old ≡ entries_from 0 (take i ts) → new ≡ old ++ entry i u ∷ [] → new ≡ entries_from 0 (take (i + 1) ts)
+entries_step ts i t u old new lt is same o n =
+    let k : length (take i ts) ≡ i = length-take-le i ts (omega arith) in
+    let long : 0 + length (take i ts) ≡ i = omega arith in
+    n ∙ ap (λ (w : Term). old ++ entry i w ∷ []) same ∙ ap (λ (es : List Entry). es ++ entry i t ∷ []) o
+    ∙ ap (λ (m : ℕ). entries_from 0 (take i ts) ++ entry m t ∷ []) (sym long)
+    ∙ sym (entries_push 0 (take i ts) t) ∙ ap (λ (us : List Term). entries_from 0 us) (sym (take_more ts i t lt is))
+  where
+    length-take-le : (i : ℕ) (ts : List Term) → i ≤ length ts → length (take i ts) ≡ i
+    length-take-le zero ts h = refl
+    length-take-le (suc i) [] h = absurd (omega arith)
+    length-take-le (suc i) (t ∷ ts) h = ap suc (length-take-le i ts (omega arith))
+
+pub entries_counted : (n : ℕ) (ts : List Term) → AreCounted n (entries_from n ts)
+entries_counted n [] = tt
+entries_counted n (t ∷ ts) = (refl, entries_counted (n + 1) ts)
+
+pub entries_terms : (n : ℕ) (ts : List Term) → terms_in (entries_from n ts) ≡ ts
+entries_terms n [] = refl
+entries_terms n (t ∷ ts) = ap (λ (us : List Term). t ∷ us) (entries_terms (n + 1) ts)
+
+tied : (o : Ordering) → is_eq o ≡ true → o ≡ Equal
+tied Less h = cc
+tied Equal h = refl
+tied Greater h = cc
+
+turned_eq : (o : Ordering) → is_eq (ordering_reverse o) ≡ is_eq o
+turned_eq Less = refl
+turned_eq Equal = refl
+turned_eq Greater = refl
+
+module _ {X : Type 0} (R : X → X → Ordering) (total : IsTotalOrder R) where
+  flips : (x y : X) → eq_by_cmp R x y ≡ eq_by_cmp R y x
+  flips x y = ap is_eq (total.antisymm x y) ∙ turned_eq (R y x)
+
+  any_flips : (x : X) (ys : List X) → list_any (eq_by_cmp R x) ys ≡ has_item R x ys
+  any_flips x [] = refl
+  any_flips x (y ∷ ys) = let e = flips x y in let i = any_flips x ys in cc (e, i)
+
+  -- what is sorted and apart ascends
+  from_distinct : (x : X) (ys : List X) → IsDistinct (eq_by_cmp R) (x ∷ ys) → dedup_from (eq_by_cmp R) x ys ≡ x ∷ ys
+  unfolding IsDistinct
+  from_distinct x [] d = refl
+  from_distinct x (y ∷ ys) d = ap (λ b. cond b (dedup_from (eq_by_cmp R) x ys) (x ∷ dedup_from (eq_by_cmp R) y ys)) (flips y x ∙ d.0.0) ∙ ap (λ (zs : List X). x ∷ zs) (from_distinct y ys d.1)
+
+  dedup_distinct : (xs : List X) → IsDistinct (eq_by_cmp R) xs → dedup (eq_by_cmp R) xs ≡ xs
+  dedup_distinct [] d = refl
+  dedup_distinct (x ∷ xs) d = from_distinct x xs d
+
+  above : (x : X) (ys : List X) → AllByRecursion (λ y. R x y ≡ Less) ys → AllAbove R x ys
+  above x [] a = tt
+  above x (y ∷ ys) a = (a.0, above x ys a.1)
+
+  ascending : (xs : List X) → IsStrictlySortedBy R xs → IsAscending R xs
+  unfolding IsStrictlySortedBy
+  ascending [] s = tt
+  ascending (x ∷ xs) s = (above x xs s.0, ascending xs s.1)
+
+  distinct_ascending : (xs : List X) → IsSorted R xs → IsDistinct (eq_by_cmp R) xs → IsAscending R xs
+  distinct_ascending xs s d = ascending xs (subst (λ (ys : List X). IsStrictlySortedBy R ys) (dedup_distinct xs d) (IsStrictlySortedBy-dedup total {E = eq_by_cmp R} (λ x y. refl) xs s))
+
+entries_apart : (n m : ℕ) (t : Term) (ts : List Term) → AllByRecursion (λ u. eq_by_cmp term_cmp t u ≡ false) ts → AllByRecursion (λ (e : Entry). eq_by_cmp entry_cmp (entry n t) e ≡ false) (entries_from m ts)
+entries_apart n m t [] a = tt
+entries_apart n m t (u ∷ ts) a = (a.0, entries_apart n (m + 1) t ts a.1)
+
+entries_distinct : (n : ℕ) (ts : List Term) → IsDistinct (eq_by_cmp term_cmp) ts → IsDistinct (eq_by_cmp entry_cmp) (entries_from n ts)
+unfolding IsDistinct
+entries_distinct n [] d = tt
+entries_distinct n (t ∷ ts) d = (entries_apart n (n + 1) t ts d.0, entries_distinct (n + 1) ts d.1)
+
+-- both orders of terms that are apart
+one_of_terms : (ts : List Term) (es : List Entry) → IsDistinct (eq_by_cmp term_cmp) ts → IsPermutation (entries_from 0 ts) es → IsSorted entry_cmp es → AreOne (entries_from 0 ts) es
+one_of_terms ts es d p s = record {
+  counted = entries_counted 0 ts;
+  ascending = distinct_ascending entry_cmp entry_total es s (IsDistinct-IsPermutation (eq_by_cmp entry_cmp) (flips entry_cmp entry_total) (entries_from 0 ts) es p (entries_distinct 0 ts d));
+  same = λ e. (λ c. Contains-permutation (entries_from 0 ts) es e p c, λ c. Contains-permutation es (entries_from 0 ts) e (IsPermutation-sym (entries_from 0 ts) es p) c);
+}
+
+pub one_as : (ts : List Term) (ns bs es ls : List Entry) → IsDistinct (eq_by_cmp term_cmp) ts → ns ≡ entries_from 0 ts → bs ≡ entries_from 0 ts → IsPermutation bs es → IsSorted entry_cmp es → ls ≡ es → AreOne ns ls
+one_as ts ns bs es ls d n b p s l = subst (λ (ks : List Entry). AreOne ks ls) (sym n) (subst (λ (ks : List Entry). AreOne (entries_from 0 ts) ks) (sym l) (one_of_terms ts es d (subst (λ (ks : List Entry). IsPermutation ks es) b p) s))
+
+-- a term that is met
+pub met_with : (us vs : List Term) (t : Term) → vs ≡ cond (list_any (eq_by_cmp term_cmp t) us) us (us ++ t ∷ []) → vs ≡ with_term us t
+met_with us vs t e = e ∙ ap (λ b. cond b us (us ++ t ∷ [])) (any_flips term_cmp term_total t us)
+
+pub met_number : (us : List Term) (t u : Term) (n : ℕ) → slice_get us n ≡ Some u → eq_by_cmp term_cmp t u ≡ true → IsNumberOf us t n
+met_number us t u n g e = let same : t ≡ u = term_exact t u (tied (term_cmp t u) e) in subst (λ (w : Term). IsNumberOf us w n) (sym same) (at us n g)
+  where
+    at : (us : List Term) (n : ℕ) → slice_get us n ≡ Some u → IsNumberOf us u n
+    at [] n g = cc
+    at (v ∷ us) zero g = record { within = omega arith; is = cc g }
+    at (v ∷ us) (suc n) g = let i = at us n g in record { within = (let w = i.within in omega arith); is = i.is }
+
+-- terms that are met after the first two
+pub record IsFirstNamed (ts met : List Term) : Type 0 where
+  pub is : met ≡ with_terms first_terms ts
+  pub long : 2 ≤ length met
+
+pub first_met : (ts fs met : List Term) → fs ≡ first_terms → met ≡ with_terms (with_terms [] fs) ts → IsFirstNamed ts met
+first_met ts fs met f m =
+    let is : met ≡ with_terms first_terms ts = m ∙ ap (λ (us : List Term). with_terms us ts) (ap (with_terms []) f ∙ first_named) in
+    let same : length met ≡ length (with_terms first_terms ts) = ap length is in
+    let more = longer first_terms ts in
+    let two = two_first in
+    record { is = is; long = omega arith }

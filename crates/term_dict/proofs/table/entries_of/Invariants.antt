@@ -1,0 +1,9 @@
+use Rattle.std.proofs.Common.{◌≡◌, take}
+use Rattle.term_dict.specs.Entries.{entries_from}
+use Rattle.term_dict.proofs.table.entries_of.Given as goal
+
+abbrev pub invariant-loop-number : goal.invariant-loop-number
+invariant-loop-number l = record {
+  numbers : l.by_number.items ≡ entries_from 0 (take l.number l.terms);
+  terms : l.by_term.items ≡ entries_from 0 (take l.number l.terms);
+}
