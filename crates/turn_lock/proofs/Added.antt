@@ -50,14 +50,14 @@ module _ {E : Type 0} (number : E → ℕ) where
   made_before h e n other made = (made.0, λ none. made.1 (under_other n h e other ∙ none))
 
   module _ (shared : Bool) where
-    reserved_append : (before xs ys : List E) → reserved_after number shared before (xs ++ ys) ≡ reserved_after number shared before xs ++ reserved_after number shared (before ++ xs) ys
+    pub reserved_append : (before xs ys : List E) → reserved_after number shared before (xs ++ ys) ≡ reserved_after number shared before xs ++ reserved_after number shared (before ++ xs) ys
     reserved_append before [] ys = ap (λ (z : List E). reserved_after number shared z ys) (sym (append-nil before))
     reserved_append before (x ∷ xs) ys =
         picked_append x (is_reserved number shared before x) (reserved_after number shared (before ++ x ∷ []) xs) (reserved_after number shared (before ++ x ∷ xs) ys)
         (reserved_after number shared (before ++ x ∷ []) (xs ++ ys))
         (reserved_append (before ++ x ∷ []) xs ys ∙ ap (λ (z : List E). reserved_after number shared (before ++ x ∷ []) xs ++ reserved_after number shared z ys) (append_assoc before (x ∷ []) xs))
 
-    reserved_grows : (xs ys : List E) → IsPrefix (reserved number shared xs) (reserved number shared (xs ++ ys))
+    pub reserved_grows : (xs ys : List E) → IsPrefix (reserved number shared xs) (reserved number shared (xs ++ ys))
     reserved_grows xs ys = (reserved_after number shared xs ys, sym (reserved_append [] xs ys))
 
     -- an entry that isn't reserved

@@ -1,0 +1,20 @@
+use Rattle.std.proofs.Common.{rules, ◌≡◌, None, refl}
+use Rattle.guard_store.specs.Answers.{Begins, BeginsNot}
+use Rattle.guard_store.specs.declared.faults.BeginFault.TheVariants as faults
+use Rattle.guard_store.proofs.Cases.{at_ok, at_err}
+use Rattle.guard_store.proofs.Calling.{begins_now}
+use Rattle.guard_store.proofs.Fitting.{begins_session, begins_not_session}
+use Rattle.guard_store.proofs.store.Store.begin.Goals as goal
+
+pub returns-in-Ok-clause-begins : goal.returns-in-Ok-clause-begins
+returns-in-Ok-clause-begins g c =
+    let none : c.args.session.current ≡ None = search rules in
+    begins_now c.args.self.now.limits c.args.session c.take_begin-pass.result.0 c.in-Ok.snap _ _ none (at_ok _ _ _ _ c.in-Ok.is (rw c.into_parts-pass.ensures at c.take_begin-pass.ensures)) c.number-version.ensures (rw (c.into_parts-pass.ensures, c.new.ensures) refl)
+
+pub returns-in-Ok-clause-session : goal.returns-in-Ok-clause-session
+returns-in-Ok-clause-session g c = begins_session c.args.self.now c.args.session _ c.number-version.result c.requires (returns-in-Ok-clause-begins g c)
+
+pub returns-in-Err-clause-session : goal.returns-in-Err-clause-session
+returns-in-Err-clause-session g c =
+    let none : c.args.session.current ≡ None = search rules in
+    begins_not_session c.args.self.now c.args.session _ faults.Memory c.requires (none, at_err _ _ _ _ c.in-Err.is (rw c.into_parts-pass.ensures at c.take_begin-pass.ensures), rw c.into_parts-pass.ensures refl)

@@ -1,0 +1,155 @@
+-- What each call of the store is answered, and what the session or the keeper is then.
+use Rattle.std.specs.Prelude.{◌≡◌, ℕ, ◌+◌, ◌<◌, ◌≤◌, List, [], Option, Some, None, Result, Ok, Err, ◌⊎◌}
+use Rattle.rdf_model.specs.declared.term.Term.{Term}
+use Rattle.rdf_model.specs.declared.triple.Triple.{Triple}
+use Rattle.rdf_model.specs.Graphs.{after}
+use Rattle.shape_model.specs.Validation.{Listing}
+use Rattle.turn_lock.specs.Callers.{Caller, kept_caller, new_caller}
+use Rattle.store_model.specs.declared.event.Limits.{Limits}
+use Rattle.store_model.specs.declared.event.Event.{Event}
+use Rattle.store_model.specs.declared.event.Action.{Action}
+use Rattle.store_model.specs.declared.event.Action.TheVariants as actions
+use Rattle.store_model.specs.declared.event.Reply.{Reply}
+use Rattle.store_model.specs.declared.event.Reply.TheVariants as replies
+use Rattle.store_model.specs.declared.commit.Transaction.{Transaction}
+use Rattle.store_model.specs.Snapshots.{snapshot_of}
+use Rattle.store_model.specs.Store.{HasChange, shapes_under}
+use Rattle.session_model.specs.Sessions.{parts_of}
+use Rattle.commit_core.specs.declared.store.NameFault.{NameFault}
+use Rattle.commit_core.specs.declared.store.NameFault.TheVariants as names
+use Rattle.guard_store.specs.declared.faults.OpenFault.{OpenFault}
+use Rattle.guard_store.specs.declared.faults.OpenFault.TheVariants as openings
+use Rattle.guard_store.specs.declared.faults.BeginFault.{BeginFault}
+use Rattle.guard_store.specs.declared.faults.BeginFault.TheVariants as begins
+use Rattle.guard_store.specs.declared.faults.StageFault.{StageFault}
+use Rattle.guard_store.specs.declared.faults.StageFault.TheVariants as stages
+use Rattle.guard_store.specs.declared.faults.HeadFault.{HeadFault}
+use Rattle.guard_store.specs.declared.faults.HeadFault.TheVariants as heads
+use Rattle.guard_store.specs.declared.faults.CommitFault.{CommitFault}
+use Rattle.guard_store.specs.declared.faults.CommitFault.TheVariants as commits
+use Rattle.guard_store.specs.declared.faults.FindFault.{FindFault}
+use Rattle.guard_store.specs.declared.faults.FindFault.TheVariants as finds
+use Rattle.guard_store.specs.declared.faults.Committed.{Committed}
+use Rattle.guard_store.specs.declared.faults.Committed.TheVariants.{ReadOnly, Done, Conflict, FullTriples, Refused}
+use Rattle.guard_store.specs.declared.transaction.OpenTransaction.{OpenTransaction}
+use Rattle.guard_store.specs.declared.session.Session.{Session}
+use Rattle.guard_store.specs.declared.session.Keeper.{Keeper}
+use Rattle.guard_store.specs.Fronts.{SharedStore, Turn, Fails}
+use Rattle.guard_store.specs.Transactions.{begun_at}
+use Rattle.guard_store.specs.Callers.{IsKeeper, IsSession, OnlyReads}
+
+abbrev pub event_of : ℕ → Action → Reply → Event
+event_of i a r = record { session = i; action = a; reply = r }
+
+-- a transaction is open, this one
+abbrev pub IsOpen : Session → OpenTransaction → Type 0
+IsOpen s w = s.current ≡ Some w
+
+-- The keeper opened session i, and split its caller off; both have seen the same.
+pub record Opens (l : Limits) (old kept new : Caller Event Limits) (i : ℕ) : Type 0 where
+  pub mid : Caller Event Limits
+  pub turn : Turn l old mid (event_of i actions.Open (replies.Session i))
+  pub kept_is : kept ≡ kept_caller i mid
+  pub new_is : new ≡ new_caller i mid
+  pub room : 0 < mid.spare
+
+-- Why no session was opened: 64 were given out, or memory ran out. The entry of such a turn stands under 0.
+abbrev pub OpensNot : OpenFault → Limits → Caller Event Limits → Caller Event Limits → Type 0
+OpensNot openings.SessionsFull l old new = Turn l old new (event_of 0 actions.Open replies.SessionsFull)
+OpensNot openings.Memory l old new = Fails l old new 0
+
+-- The keeper opened the next session, which has no transaction, and may go on.
+pub record OpensSession (store : SharedStore) (old new : Keeper) (s : Session) : Type 0 where
+  pub keeper : IsKeeper store new
+  pub session : IsSession store s
+  pub opens : Opens store.limits old.pass new.pass s.pass s.number
+  pub number : s.number ≡ old.opened + 1
+  pub opened : new.opened ≡ s.number
+  pub few : old.opened < 64
+  pub none : s.current ≡ None
+  pub head : s.head ≡ None
+
+-- SessionsFull comes where 64 were opened
+abbrev pub IsFull : OpenFault → ℕ → Type 0
+IsFull openings.SessionsFull n = 64 ≤ n
+IsFull openings.Memory n = Unit {0}
+
+-- The keeper opened no session, and may go on.
+pub record OpensNothing (f : OpenFault) (store : SharedStore) (old new : Keeper) : Type 0 where
+  pub keeper : IsKeeper store new
+  pub fault : OpensNot f store.limits old.pass new.pass
+  pub full : IsFull f old.opened
+  pub opened : new.opened ≡ old.opened
+
+-- why terms were not named
+abbrev pub NamesNot : NameFault → Limits → Caller Event Limits → Caller Event Limits → ℕ → List Term → Type 0
+NamesNot (names.Full count) l old new i terms = Turn l old new (event_of i (actions.Name terms) (replies.Full count))
+NamesNot names.Memory l old new i terms = Fails l old new i
+
+-- the turn of a commit; want of memory hands the transaction back
+abbrev pub TurnCommits : Limits → Caller Event Limits → Caller Event Limits → ℕ → Transaction → Committed → Type 0
+TurnCommits l old new i x (ReadOnly v) = ⊥
+TurnCommits l old new i x (Done n why) = Turn l old new (event_of i (actions.Commit x) (replies.Done n why))
+TurnCommits l old new i x (Conflict n t) = Turn l old new (event_of i (actions.Commit x) (replies.Conflict n t))
+TurnCommits l old new i x (FullTriples n) = Turn l old new (event_of i (actions.Commit x) (replies.FullTriples n))
+TurnCommits l old new i x (Refused rows why shapes) =
+    (t : Turn l old new (event_of i (actions.Commit x) (replies.Refused rows why))) × (shapes ≡ shapes_under t.before.shapes x.staged) × Listing (after t.before.graph x.net) shapes rows
+
+-- A transaction begins at the version where the history then leads; or one is open, and nothing happens.
+abbrev pub BeginsNot : BeginFault → Limits → Session → Session → Type 0
+BeginsNot begins.AlreadyOpen l old new = ((w : OpenTransaction) × IsOpen old w) × (new ≡ old)
+BeginsNot begins.Memory l old new = (old.current ≡ None) × Fails l old.pass new.pass old.number × (new ≡ record old { pass = new.pass })
+
+abbrev pub Begins : Limits → Session → Session → ℕ → Type 0
+Begins l old new v = (old.current ≡ None)
+    × ((t : Turn l old.pass new.pass (event_of old.number actions.Begin (replies.Version v))) × (new ≡ record old { pass = new.pass; current = Some (begun_at (snapshot_of t.before)); head = None }))
+
+-- The terms of a block were named; the transaction is as it was.
+abbrev pub NamesFor : Limits → Session → Session → List Triple → Type 0
+NamesFor l old new ts = ((w : OpenTransaction) × IsOpen old w) × Turn l old.pass new.pass (event_of old.number (actions.Name (parts_of ts)) replies.Named) × (new ≡ record old { pass = new.pass })
+
+-- The terms of a block were named, and it is staged: the transaction is `staged` of what it was.
+abbrev pub Stages : Limits → Session → Session → List Triple → (OpenTransaction → OpenTransaction) → Type 0
+Stages l old new ts staged = (w : OpenTransaction) × IsOpen old w × Turn l old.pass new.pass (event_of old.number (actions.Name (parts_of ts)) replies.Named)
+    × (new ≡ record old { pass = new.pass; current = Some (staged w); head = None })
+
+-- Nothing was staged. Memory may have run out once the terms were named.
+abbrev pub StagesNot : StageFault → Limits → Session → Session → List Triple → Type 0
+StagesNot stages.NoTransaction l old new ts = (old.current ≡ None) × (new ≡ old)
+StagesNot (stages.Full count) l old new ts = ((w : OpenTransaction) × IsOpen old w) × Turn l old.pass new.pass (event_of old.number (actions.Name (parts_of ts)) (replies.Full count)) × (new ≡ record old { pass = new.pass })
+StagesNot stages.Memory l old new ts = ((w : OpenTransaction) × IsOpen old w) × (Fails l old.pass new.pass old.number ⊎ Turn l old.pass new.pass (event_of old.number (actions.Name (parts_of ts)) replies.Named)) × (new ≡ record old { pass = new.pass })
+
+-- The newest version, whose snapshot the session keeps.
+abbrev pub Heads : Limits → Session → Session → ℕ → Type 0
+Heads l old new v = ((w : OpenTransaction) × IsOpen old w)
+    × ((t : Turn l old.pass new.pass (event_of old.number actions.Head (replies.Version v))) × (new ≡ record old { pass = new.pass; head = Some (snapshot_of t.before) }))
+
+abbrev pub HeadsNot : HeadFault → Limits → Session → Session → Type 0
+HeadsNot heads.NoTransaction l old new = (old.current ≡ None) × (new ≡ old)
+HeadsNot heads.Memory l old new = ((w : OpenTransaction) × IsOpen old w) × Fails l old.pass new.pass old.number × (new ≡ record old { pass = new.pass })
+
+-- The commit's answer ends the transaction. One that only reads is no event.
+abbrev pub AnswersCommit : Limits → Session → Session → OpenTransaction → Committed → Type 0
+AnswersCommit l old new w (ReadOnly v) = OnlyReads (Some w) × (v ≡ w.transaction.base) × (new.pass ≡ old.pass)
+AnswersCommit l old new w (Done n why) = HasChange w.transaction.net w.transaction.staged × TurnCommits l old.pass new.pass old.number w.transaction (Done n why)
+AnswersCommit l old new w (Conflict n t) = HasChange w.transaction.net w.transaction.staged × TurnCommits l old.pass new.pass old.number w.transaction (Conflict n t)
+AnswersCommit l old new w (FullTriples n) = HasChange w.transaction.net w.transaction.staged × TurnCommits l old.pass new.pass old.number w.transaction (FullTriples n)
+AnswersCommit l old new w (Refused rows why shapes) = HasChange w.transaction.net w.transaction.staged × TurnCommits l old.pass new.pass old.number w.transaction (Refused rows why shapes)
+
+abbrev pub Commits : Limits → Session → Session → Committed → Type 0
+Commits l old new answer = (w : OpenTransaction) × IsOpen old w × AnswersCommit l old new w answer × (new ≡ record old { pass = new.pass; current = None; head = None })
+
+-- Want of memory leaves the transaction open.
+abbrev pub CommitsNot : CommitFault → Limits → Session → Session → Type 0
+CommitsNot commits.NoTransaction l old new = (old.current ≡ None) × (new ≡ old)
+CommitsNot commits.Memory l old new = (w : OpenTransaction) × IsOpen old w × HasChange w.transaction.net w.transaction.staged × Fails l old.pass new.pass old.number × (new ≡ record old { pass = new.pass })
+
+-- the commit of a transaction that only reads, and of none
+abbrev pub EndsReading : Session → Session → Result Committed CommitFault → Type 0
+EndsReading old new (Ok answer) = (w : OpenTransaction) × IsOpen old w × (answer ≡ ReadOnly w.transaction.base) × (new ≡ record old { current = None; head = None })
+EndsReading old new (Err fault) = (old.current ≡ None) × (fault ≡ commits.NoTransaction) × (new ≡ old)
+
+-- why a find has no answer; the session is as it was
+abbrev pub FindsNot : FindFault → Session → Session → Type 0
+FindsNot finds.NoTransaction old new = (old.current ≡ None) × (new ≡ old)
+FindsNot finds.Memory old new = ((w : OpenTransaction) × IsOpen old w) × (new ≡ old)

@@ -1,0 +1,53 @@
+-- The callers of a store: its keeper, and its sessions.
+use Rattle.std.specs.Prelude.{◌≡◌, ℕ, ◌+◌, ◌≤◌, true, Option, Some, None, []}
+use Rattle.turn_lock.specs.History.{has_number}
+use Rattle.turn_lock.specs.Callers.{Caller}
+use Rattle.store_model.specs.declared.event.Limits.{Limits}
+use Rattle.store_model.specs.declared.event.Event.{Event}
+use Rattle.store_model.specs.declared.commit.Transaction.{Transaction}
+use Rattle.store_model.specs.Store.{State, IsOpened, NetNamed, StagedNamed, HasChange, version}
+use Rattle.guard_store.specs.declared.transaction.OpenTransaction.{OpenTransaction}
+use Rattle.guard_store.specs.declared.session.Keeper.{Keeper}
+use Rattle.guard_store.specs.declared.session.Session.{Session}
+use Rattle.guard_store.specs.Fronts.{SharedStore, At}
+
+-- a caller of the store, which session i is
+pub record IsCaller (store : SharedStore) (i : ℕ) (c : Caller Event Limits) : Type 0 where
+  pub lock : c.lock ≡ store.id
+  pub opening : c.opening ≡ Some store.limits
+  pub own : has_number c.known.numbers i ≡ true
+  pub opened : At store.limits c.known.front (λ s. IsOpened s i)
+
+-- the transaction began at a version of this store, its terms are named, and it has no verdict
+pub record FitsState (x : Transaction) (s : State) : Type 0 where
+  pub base : x.base ≤ version s
+  pub net : NetNamed s.named x.net
+  pub staged : StagedNamed s.named x.staged
+  pub verdict : x.verdict ≡ None
+
+abbrev pub FitsIn : Option OpenTransaction → State → Type 0
+FitsIn None s = Unit {0}
+FitsIn (Some w) s = FitsState w.transaction s
+
+-- a session of this store
+pub record IsSession (store : SharedStore) (session : Session) : Type 0 where
+  pub caller : IsCaller store session.number session.pass
+  pub fits : At store.limits session.pass.known.front (FitsIn session.current)
+
+-- the keeper of this store, which has seen all openings; it has a place for each of the 64 sessions that isn't open
+pub record IsKeeper (store : SharedStore) (keeper : Keeper) : Type 0 where
+  pub lock : keeper.pass.lock ≡ store.id
+  pub opening : keeper.pass.opening ≡ Some store.limits
+  pub first : keeper.pass.known.first ≡ true
+  pub opened : At store.limits keeper.pass.known.front (λ s. s.opened ≡ keeper.opened)
+  pub room : 64 ≤ keeper.pass.spare + keeper.opened
+
+-- a transaction is open that changes a triple or stages shapes
+abbrev pub HasWork : Option OpenTransaction → Type 0
+HasWork None = ⊥
+HasWork (Some w) = HasChange w.transaction.net w.transaction.staged
+
+-- the open transaction, if there is one, neither changes a triple nor stages shapes
+abbrev pub OnlyReads : Option OpenTransaction → Type 0
+OnlyReads None = Unit {0}
+OnlyReads (Some w) = (w.transaction.net ≡ []) × (w.transaction.staged ≡ None)

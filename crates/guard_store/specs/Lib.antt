@@ -1,0 +1,5 @@
+pub mod Transactions
+pub mod Fronts
+pub mod Callers
+pub mod Answers
+pub mod Laws

@@ -1,0 +1,92 @@
+use collections::Sequence;
+use rdf_model::Triple;
+use shape_model::ResultRow;
+use shapes_graph::ShapesGraph;
+use std::alloc::AllocError;
+use store_model::Again;
+
+/// Why no session was opened.
+#[derive(Clone, Copy, Debug, PartialEq, Eq)]
+pub enum OpenFault {
+    /// 64 sessions were given out before.
+    SessionsFull,
+    Memory,
+}
+
+/// Why no transaction began.
+#[derive(Clone, Copy, Debug, PartialEq, Eq)]
+pub enum BeginFault {
+    /// A transaction is open.
+    AlreadyOpen,
+    Memory,
+}
+
+/// Why nothing was staged.
+#[derive(Clone, Copy, Debug, PartialEq, Eq)]
+pub enum StageFault {
+    NoTransaction,
+    /// So many terms would be named, more than the limit.
+    Full { count: usize },
+    Memory,
+}
+
+/// Why the newest version wasn't taken.
+#[derive(Clone, Copy, Debug, PartialEq, Eq)]
+pub enum HeadFault {
+    NoTransaction,
+    Memory,
+}
+
+/// Why a commit has no answer.
+#[derive(Clone, Copy, Debug, PartialEq, Eq)]
+pub enum CommitFault {
+    NoTransaction,
+    Memory,
+}
+
+/// Why a find has no answer.
+#[derive(Clone, Copy, Debug, PartialEq, Eq)]
+pub enum FindFault {
+    NoTransaction,
+    Memory,
+}
+
+impl From<AllocError> for FindFault {
+    ghost use Rattle.guard_store.specs.declared.faults.FindFault.TheVariants as faults;
+    ghost use Rattle.std.specs.Prelude.{◌≡◌};
+
+    ghost from_gives = { λ _ e. e ≡ faults.Memory };
+
+    fn from(_error: AllocError) -> Self {
+        FindFault::Memory
+    }
+}
+
+/// What a commit is answered.
+#[derive(Drop)]
+pub enum Committed {
+    /// The transaction changes nothing; it stands at this version.
+    ReadOnly {
+        version: u64,
+    },
+    /// The commit's number, the version that it made, and why it was evaluated in its turn.
+    Done {
+        number: u64,
+        again: Again,
+    },
+    /// The overtaking commit, and the first triple of it that a find asked for.
+    Conflict {
+        commit: u64,
+        triple: Triple,
+    },
+    /// The graph would have so many triples, more than the limit.
+    FullTriples {
+        count: usize,
+    },
+    /// The graph would have these results, under these shapes.
+    Refused {
+        rows: Sequence<ResultRow>,
+        again: Again,
+        shapes: ShapesGraph,
+    },
+}

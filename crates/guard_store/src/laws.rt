@@ -1,0 +1,19 @@
+//! What the calls say of the one history, in its own words.
+ghost use Rattle.guard_store.specs.Laws.{MeetingsKeepFronts, OpeningsAddOne, TurnsAddOne};
+
+/// A turn adds one event of its caller to what the caller had seen and what others added: of the entries under the
+/// caller's number the new front has those of the old one and this entry.
+pub fn a_turn_adds_one_event()
+    ensures { TurnsAddOne }
+{}
+
+/// After an opening both callers have seen the same. Of the openings and the entries under 0 it has those that the keeper
+/// had seen and this one.
+pub fn an_opening_adds_one_event()
+    ensures { OpeningsAddOne }
+{}
+
+/// A meeting gives a front that begins with the keeper's and with the session's.
+pub fn a_meeting_keeps_both_fronts()
+    ensures { MeetingsKeepFronts }
+{}

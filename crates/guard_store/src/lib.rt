@@ -1,0 +1,22 @@
+//! A store that several callers share, each in its turns. Each call that waits is one event of one history.
+//!
+//! A `Keeper` opens sessions and meets them again. A `Session` has its number and its open transaction; it may go to a
+//! thread of its own. What a caller has seen is a beginning of the history, and its own events stand there as it made
+//! them: each is answered as the plain store answers it behind all that stands before it.
+#![tactic(auto)]
+
+mod calls;
+mod faults;
+mod find;
+mod laws;
+mod session;
+mod shared;
+mod store;
+mod transaction;
+mod turn;
+
+pub use faults::{BeginFault, CommitFault, Committed, FindFault, HeadFault, OpenFault, StageFault};
+pub use laws::{a_meeting_keeps_both_fronts, a_turn_adds_one_event, an_opening_adds_one_event};
+pub use session::{Keeper, Session};
+pub use store::Store;
+pub use transaction::OpenTransaction;

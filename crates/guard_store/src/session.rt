@@ -1,0 +1,186 @@
+ghost use Rattle.std.specs.Prelude.{◌≡◌, ◌≢◌, None, Some, MatchBool, MatchResult};
+ghost use Rattle.guard_store.specs.declared.transaction.OpenTransaction.{OpenTransaction};
+ghost use Rattle.guard_store.specs.Transactions;
+ghost use Rattle.guard_store.specs.Transactions.{changes_of};
+ghost use Rattle.guard_store.specs.Callers.{HasWork, OnlyReads};
+ghost use Rattle.guard_store.specs.Answers.{EndsReading};
+
+use crate::faults::{CommitFault, Committed, StageFault};
+use crate::shared::Shared;
+use crate::transaction::{ChangeKind, OpenTransaction};
+use collections::let_go;
+use commit_core::Snap;
+use rdf_model::Triple;
+use shapes_graph::ShapesGraph;
+use std::alloc::Global;
+use turn_lock::Pass;
+
+/// The first caller, which opens sessions and meets them again. It isn't to be dropped where `close` is to follow.
+#[derive(Drop)]
+pub struct Keeper {
+    pub(crate) pass: Pass<Shared>,
+    // How many sessions it opened.
+    pub(crate) opened: u32,
+}
+
+/// A caller with a number of its own, and with its open transaction. The snapshot of its last head is kept until a
+/// transaction begins or a change is staged.
+pub struct Session {
+    pub(crate) pass: Pass<Shared>,
+    pub(crate) number: u32,
+    pub(crate) current: Option<OpenTransaction>,
+    pub(crate) head: Option<Snap>,
+}
+
+// Written by hand, so that what owns one calls it in place of having it written out.
+impl Drop for Session {
+    fn drop(self) {
+        let Session {
+            pass: _,
+            number: _,
+            current: _,
+            head: _,
+        } = self;
+    }
+}
+
+impl Session {
+    /// Its number, from 1.
+    pub fn number(&self) -> u32
+        ensures { result ≡ self.now.number }
+    {
+        self.number
+    }
+
+    /// Whether a transaction is open.
+    pub fn is_open(&self) -> bool
+        ensures { MatchBool result ((w : OpenTransaction) × (self.now.current ≡ Some w)) (self.now.current ≡ None) }
+    {
+        self.current.is_some()
+    }
+
+    /// Whether a transaction is open that changes a triple or stages shapes, so that its commit is an event.
+    pub fn has_work(&self) -> bool
+        ensures { MatchBool result (HasWork self.now.current) (OnlyReads self.now.current) }
+    {
+        match &self.current {
+            Some(open) => !open.only_reads(),
+            None => false,
+        }
+    }
+
+    // Its pass, its number, its open transaction, and the snapshot of its last head.
+    pub(crate) fn into_parts(self) -> (Pass<Shared>, u32, Option<OpenTransaction>, Option<Snap>)
+        ensures { result ≡ (self.pass, self.number, self.current, self.head) }
+    {
+        let Session {
+            pass,
+            number,
+            current,
+            head,
+        } = self;
+        (pass, number, current, head)
+    }
+
+    // Its pass alone.
+    pub(crate) fn into_pass(self) -> Pass<Shared>
+        ensures { result ≡ self.pass }
+    {
+        let Session {
+            pass,
+            number: _,
+            current: _,
+            head: _,
+        } = self;
+        pass
+    }
+
+    // Stages the changes of a block in the open transaction.
+    pub(crate) fn with_changes(
+        self,
+        alloc: Global,
+        kind: ChangeKind,
+        triples: &[Triple],
+    ) -> (Session, Result<(), StageFault>)
+        requires { self.current ≢ None }
+        ensures { MatchResult result.1
+            (λ _. (w : OpenTransaction) → self.current ≡ Some w → result.0 ≡ record self { current = Some (Transactions.with_changes w (changes_of kind triples.now)); head = None })
+            (λ fault. (fault ≡ StageFault.Memory) × (result.0 ≡ self)) }
+    {
+        let Session {
+            pass,
+            number,
+            current,
+            head,
+        } = self;
+        let Some(open) = current else { unreachable!() };
+        let (open, staged) = open.with_changes(alloc, kind, triples);
+        if staged {
+            let session = Session {
+                pass,
+                number,
+                current: Some(open),
+                head: None,
+            };
+            return (session, Ok(()));
+        }
+        let session = Session {
+            pass,
+            number,
+            current: Some(open),
+            head,
+        };
+        (session, Err(StageFault::Memory))
+    }
+
+    // Stages a shapes graph in the open transaction.
+    pub(crate) fn with_shapes(self, shapes: ShapesGraph) -> Session
+        requires { self.current ≢ None }
+        ensures { (w : OpenTransaction) → self.current ≡ Some w → result ≡ record self { current = Some (Transactions.with_shapes w shapes); head = None } }
+    {
+        let Session {
+            pass,
+            number,
+            current,
+            head: _,
+        } = self;
+        let Some(open) = current else { unreachable!() };
+        Session {
+            pass,
+            number,
+            current: Some(open.with_shapes(shapes)),
+            head: None,
+        }
+    }
+
+    // Commits a transaction that changes nothing and stages no shapes, where one is open.
+    pub(crate) fn end_reading(self) -> (Session, Result<Committed, CommitFault>)
+        requires { OnlyReads self.current }
+        ensures { EndsReading self result.0 result.1 }
+    {
+        let Session {
+            pass,
+            number,
+            current,
+            head,
+        } = self;
+        let Some(open) = current else {
+            let session = Session {
+                pass,
+                number,
+                current: None,
+                head,
+            };
+            return (session, Err(CommitFault::NoTransaction));
+        };
+        let version = open.base();
+        let_go(open);
+        let session = Session {
+            pass,
+            number,
+            current: None,
+            head: None,
+        };
+        (session, Ok(Committed::ReadOnly { version }))
+    }
+}

@@ -1,0 +1,61 @@
+ghost use Rattle.std.specs.Prelude.{◌≡◌};
+ghost use Rattle.store_model.specs.Store.{Replays, empty_store};
+
+use commit_core::Core;
+use std::marker::Model;
+use store_model::{Event, Limits};
+use turn_lock::Entries;
+
+/// The core that turns pass on. It stands for its history.
+#[derive(Drop)]
+pub struct Shared {
+    core: Core,
+}
+
+impl Model for Shared {
+    ghost use Rattle.store_model.specs.Store.{RecordedStore};
+
+    ghost Value = { RecordedStore };
+
+    ghost view = { λ s. s.core };
+}
+
+impl Entries for Shared {
+    ghost use Rattle.std.specs.Prelude.{◌≡◌, false};
+    ghost use Rattle.std.proofs.Common.{refl};
+    ghost use Rattle.guard_store.specs.Fronts.{session_of};
+
+    type Entry = Event;
+
+    type Plain = Limits;
+
+    ghost entries = { λ s. s.history };
+
+    ghost number = { session_of };
+
+    ghost is_zero_shared = { false };
+
+    ghost plain = { λ s. s.limits };
+
+    ghost comes = { λ old new. new ≡ old };
+
+    ghost comes_from_itself = { λ _ _. refl };
+}
+
+impl Shared {
+    pub(crate) fn new(core: Core) -> Shared
+        ensures { result ≡ core }
+    {
+        Shared { core }
+    }
+
+    /// The core, whose history leads to its state.
+    pub(crate) fn into_core(self) -> Core
+        ensures same { result ≡ self }
+        ensures replays { Replays self.limits empty_store self.history self.state }
+    {
+        let Shared { core } = self;
+        core.is_consistent();
+        core
+    }
+}

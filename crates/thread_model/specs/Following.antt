@@ -1,0 +1,54 @@
+-- A session's own events in the one history of all sessions.
+use Rattle.std.specs.Prelude.{◌≡◌, ℕ, ◌+◌, ◌<◌, Bool, true, false, List, [], ◌∷◌, length, map, get_or, Option, None, nat_eq, MatchBool}
+use Rattle.std.specs.List.{AllByRecursion}
+use Rattle.store_model.specs.declared.event.Limits.{Limits}
+use Rattle.store_model.specs.declared.event.Event.{Event}
+use Rattle.store_model.specs.declared.event.Action.{Action}
+use Rattle.store_model.specs.declared.event.Action.TheVariants.{Open, Begin, Name, Head, Commit, Void}
+use Rattle.store_model.specs.declared.event.Reply.{Reply}
+use Rattle.store_model.specs.Store.{State, Step, Replays, empty_store}
+use Rattle.session_model.specs.declared.command.Command.{Command}
+use Rattle.session_model.specs.declared.reply.SessionReply.{SessionReply}
+use Rattle.session_model.specs.Sessions.{OpenTransaction, SessionState, up_to_event, action_of, after_reply, no_session, HasReplies}
+
+abbrev pub is_opening : Action → Bool
+is_opening Open = true
+is_opening Begin = false
+is_opening (Name terms) = false
+is_opening Head = false
+is_opening (Commit x) = false
+is_opening Void = false
+
+-- the event is that of the session's next command, and `more` holds of the session after its reply
+abbrev pub OwnCommand : Action → State → Reply → Option OpenTransaction → List Command → List SessionReply → (SessionState → Type 0) → Type 0
+OwnCommand a s r w [] replies more = ⊥
+OwnCommand a s r w (c ∷ cs) replies more = (a ≡ action_of w c) × more (after_reply s w c cs replies r)
+
+-- an own event: the opening, which moves nothing, or that of the next command
+abbrev pub OwnEvent : Action → State → Reply → SessionState → (SessionState → Type 0) → Type 0
+OwnEvent a s r p more = MatchBool (is_opening a) (more p) (OwnCommand a s r p.current p.commands p.replies more)
+
+-- Through these events, which begin at s, session i goes from p to q.
+abbrev pub Follows : Limits → ℕ → State → List Event → SessionState → SessionState → Type 0
+Follows l i s [] p q = q ≡ p
+Follows l i s (e ∷ es) p q = (t : State) → Step l s e t → MatchBool (nat_eq e.session i) (OwnEvent e.action s e.reply p (λ k. Follows l i t es k q)) (Follows l i t es p q)
+
+-- before its first event, with the commands done that need none
+abbrev pub first_state : List Command → SessionState
+first_state cs = up_to_event None cs []
+
+-- The history is one of these files: each session was opened, its events are those of its file, and none is left.
+pub record Follow (files : List (List Command)) (l : Limits) (history : List Event) (all : List (List SessionReply)) : Type 0 where
+  pub state : State
+  pub last : List SessionState
+  pub replays : Replays l empty_store history state
+  pub opened : state.opened ≡ length files
+  pub count : length last ≡ length files
+  pub numbered : AllByRecursion (λ e. 0 < e.session) history
+  pub each : (k : ℕ) → k < length files → Follows l (k + 1) empty_store history (first_state (get_or files k [])) (get_or last k no_session)
+  pub left : AllByRecursion (λ s. s.commands ≡ []) last
+  pub replies : all ≡ map (λ s. s.replies) last
+
+-- A law: such a history is a run of the files in its own order.
+abbrev pub FollowingRuns : Type 0
+FollowingRuns = (files : List (List Command)) (l : Limits) (history : List Event) (all : List (List SessionReply)) → Follow files l history all → HasReplies files l (map (λ e. e.session) history) all
