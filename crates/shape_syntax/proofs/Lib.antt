@@ -1,0 +1,6 @@
+pub mod Ranges
+pub mod Places
+pub mod Loops
+pub mod PathSteps
+pub mod Keys
+pub mod Asked

@@ -1,0 +1,4 @@
+pub mod Gathering
+pub mod Subjects
+pub mod PathNodes
+pub mod PathSteps
