@@ -4,3 +4,5 @@ pub mod Loops
 pub mod PathSteps
 pub mod Keys
 pub mod Asked
+pub mod PathWays
+pub mod PathParts

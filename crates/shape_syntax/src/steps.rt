@@ -36,8 +36,8 @@ fn is_more_said(found: &[Triple], first: &Triple) -> bool
     false
 }
 
-// The triple of which the node is the subject, if there is one alone.
-fn only_triple<'a>(graph: &'a [Triple], node: &Term) -> Option<&'a Triple>
+/// The triple of which the node is the subject, if there is one alone.
+pub(crate) fn only_triple<'a>(graph: &'a [Triple], node: &Term) -> Option<&'a Triple>
     requires { IsAscending triple_cmp graph.now }
     ensures { MatchOption result ((p v : TermData) → IsAlone graph.now node.now p v → ⊥)
         (λ t. IsAlone graph.now node.now t.now.predicate t.now.object) }

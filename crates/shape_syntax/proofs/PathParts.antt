@@ -1,0 +1,68 @@
+-- The paths that are put together from those that were read.
+use Rattle.std.proofs.Common.{◌≡◌, ◌∙◌, ℕ, suc, ◌+◌, ◌<◌, ◌≤◌, List, [], ◌∷◌, ◌++◌, Vec, Box, Global, length, take, drop, get_or, map, refl, sym, ap, subst, arith}
+use Rattle.std.proofs.lemmas.List.{length-map, map-append, take_more, take_all}
+use Rattle.rdf_model.specs.declared.term.Term.{Term}
+use Rattle.rdf_model.specs.declared.triple.Triple.{Triple}
+use Rattle.shape_model.specs.Vocabulary.{sh}
+use Rattle.shape_model.specs.Triples.{IsBlank, IsMember}
+use Rattle.shape_model.specs.ShapeSyntax.{ListOf}
+use Rattle.shape_model.specs.Paths as defined
+use Rattle.shape_ast.specs.declared.path.Path.{Path, Sequence, Alternative}
+use Rattle.shape_ast.specs.PathReadings.{defined_path, members}
+use Rattle.shape_ast.proofs.Rows.{sequence_read, alternative_read}
+use Rattle.shape_syntax.specs.declared.way.Turn.{Turn}
+use Rattle.shape_syntax.specs.PathNodes.{IsPath}
+use Rattle.shape_syntax.specs.PathSteps.{IsAlone}
+use Rattle.shape_syntax.specs.PathDepth.{IsRead}
+use Rattle.shape_syntax.specs.PathWays.{turn_name, AreRead, AreReadPaths, IsPathList}
+use Rattle.shape_reader.proofs.Lists.{one_list}
+use Rattle.shape_syntax.proofs.PathWays.{listed_read, offered_read, read_push, path_nodes_of}
+
+pub sequence_made : (s : List Triple) (n : Term) (levels : ℕ) → IsBlank n → (first : Path Term) (box : Box (Path Term) Global) (others : Vec (Path Term) Global) → box.value ≡ first
+    → AreReadPaths s n levels (members (defined_path first) (map defined_path others.items))
+    → IsRead s n (levels + 1) (defined_path (Sequence box others))
+sequence_made s n levels blank first box others e h =
+    let r = listed_read s n levels blank (members (defined_path box.value) (map defined_path others.items)) (subst (λ (p : Path Term). AreReadPaths s n levels (members (defined_path p) (map defined_path others.items))) (sym e) h) in
+    subst (λ (q : defined.Path). IsRead s n (levels + 1) q) (sym (sequence_read box others (λ t. t))) r
+
+pub alternative_made : (s : List Triple) (n p m : Term) → IsAlone s n p m → IsBlank n → (levels : ℕ) → ((turn : Turn) → p ≡ sh (turn_name turn) → ⊥) → IsPath s n → (first : Path Term) (box : Box (Path Term) Global) (others : Vec (Path Term) Global) → box.value ≡ first
+    → AreReadPaths s m levels (members (defined_path first) (map defined_path others.items))
+    → IsRead s n (levels + 1) (defined_path (Alternative box others))
+alternative_made s n p m alone blank levels never path first box others e h =
+    let r = offered_read s n p m alone blank levels never path (members (defined_path box.value) (map defined_path others.items)) (subst (λ (q : Path Term). AreReadPaths s m levels (members (defined_path q) (map defined_path others.items))) (sym e) h) in
+    subst (λ (q : defined.Path). IsRead s n (levels + 1) q) (sym (alternative_read box others (λ t. t))) r
+
+pub each_more : (s : List Triple) (ns : List Term) (i : ℕ) (n : Term) (levels : ℕ) (ps : List (Path Term)) (p : Path Term) → i < length ns → n ≡ get_or ns i n → AreRead s (take i ns) levels (map defined_path ps) → IsRead s n levels (defined_path p) → AreRead s (take (i + 1) ns) levels (map defined_path (ps ++ p ∷ []))
+each_more s ns i n levels ps p l e before h =
+    let more : take (i + 1) ns ≡ take i ns ++ n ∷ [] = take_more ns i n l ∙ ap (λ (x : Term). take i ns ++ x ∷ []) (sym e) in
+    subst (λ (qs : List defined.Path). AreRead s (take (i + 1) ns) levels qs) (sym (map-append defined_path ps (p ∷ [])))
+    (subst (λ (xs : List Term). AreRead s xs levels (map defined_path ps ++ defined_path p ∷ [])) (sym more) (read_push s (take i ns) levels (map defined_path ps) n (defined_path p) before h))
+
+pub each_all : (s : List Triple) (ns : List Term) (i : ℕ) (levels : ℕ) (ps : List defined.Path) → length ns ≤ i → AreRead s (take i ns) levels ps → AreRead s ns levels ps
+each_all s ns i levels ps l h = subst (λ (xs : List Term). AreRead s xs levels ps) (take_all i ns l) h
+
+-- the members of the list that was found
+pub found_nodes : (s : List Triple) (n : Term) (ms : List Term) → IsPathList s n → ListOf s n ms → ((m : Term) → IsMember ms m → IsPath s m) × (2 ≤ length ms)
+found_nodes s n ms h l =
+    let k = path_nodes_of s n h in
+    let same : k.0 ≡ ms = one_list s n k.0 ms k.1 l in
+    (subst (λ (xs : List Term). (m : Term) → IsMember xs m → IsPath s m) same k.2, subst (λ (xs : List Term). 2 ≤ length xs) same k.3)
+
+pub read_length : (s : List Triple) (ns : List Term) (levels : ℕ) (ps : List defined.Path) → AreRead s ns levels ps → length ps ≡ length ns
+read_length s [] levels [] a = refl
+read_length s [] levels (p ∷ ps) a = absurd a
+read_length s (n ∷ ns) levels [] a = absurd a
+read_length s (n ∷ ns) levels (p ∷ ps) a = ap suc (read_length s ns levels ps a.1)
+
+pub some_read : (s : List Triple) (ns : List Term) (levels : ℕ) (ps : List (Path Term)) → 2 ≤ length ns → AreRead s ns levels (map defined_path ps) → length ps ≡ 0 → ⊥
+some_read s ns levels ps long a none =
+    let same : length (map defined_path ps) ≡ length ns = read_length s ns levels (map defined_path ps) a in
+    let e : length (map defined_path ps) ≡ length ps = length-map ps defined_path in
+    omega arith
+
+-- the first that was read, and the others
+pub first_read : (s : List Triple) (ns : List Term) (levels : ℕ) (ps : List (Path Term)) (first : Path Term) (others : List (Path Term)) → 2 ≤ length ns → AreRead s ns levels (map defined_path ps) → first ≡ get_or ps 0 first → others ≡ drop 1 ps → AreRead s ns levels (defined_path first ∷ map defined_path others)
+first_read s ns levels [] first others long a e f = absurd (some_read s ns levels [] long a refl)
+first_read s ns levels (p ∷ ps) first others long a e f =
+    subst (λ (q : Path Term). AreRead s ns levels (defined_path q ∷ map defined_path others)) (sym e)
+    (subst (λ (qs : List (Path Term)). AreRead s ns levels (defined_path p ∷ map defined_path qs)) (sym f) a)
