@@ -18,19 +18,17 @@ use Rattle.shape_syntax.specs.PathWays.{turn_name, AreRead, AreReadPaths, IsPath
 use Rattle.shape_reader.proofs.Lists.{one_list}
 use Rattle.shape_syntax.proofs.PathWays.{listed_read, offered_read, read_push, path_nodes_of}
 
-pub sequence_made : (s : List Triple) (n : Term) (levels : ℕ) → IsBlank n → (first : Path Term) (box : Box (Path Term) Global) (others : Vec (Path Term) Global) → box.value ≡ first
-    → AreReadPaths s n levels (members (defined_path first) (map defined_path others.items))
-    → IsRead s n (levels + 1) (defined_path (Sequence box others))
-sequence_made s n levels blank first box others e h =
-    let r = listed_read s n levels blank (members (defined_path box.value) (map defined_path others.items)) (subst (λ (p : Path Term). AreReadPaths s n levels (members (defined_path p) (map defined_path others.items))) (sym e) h) in
-    subst (λ (q : defined.Path). IsRead s n (levels + 1) q) (sym (sequence_read box others (λ t. t))) r
+pub sequence_made : (s : List Triple) (n : Term) (levels : ℕ) → IsBlank n → (first : Box (Path Term) Global) (others : Vec (Path Term) Global)
+    → AreReadPaths s n levels (members (defined_path first.value) (map defined_path others.items))
+    → IsRead s n (levels + 1) (defined_path (Sequence first others))
+sequence_made s n levels blank first others h =
+    subst (λ (q : defined.Path). IsRead s n (levels + 1) q) (sym (sequence_read first others (λ t. t))) (listed_read s n levels blank (members (defined_path first.value) (map defined_path others.items)) h)
 
-pub alternative_made : (s : List Triple) (n p m : Term) → IsAlone s n p m → IsBlank n → (levels : ℕ) → ((turn : Turn) → p ≡ sh (turn_name turn) → ⊥) → IsPath s n → (first : Path Term) (box : Box (Path Term) Global) (others : Vec (Path Term) Global) → box.value ≡ first
-    → AreReadPaths s m levels (members (defined_path first) (map defined_path others.items))
-    → IsRead s n (levels + 1) (defined_path (Alternative box others))
-alternative_made s n p m alone blank levels never path first box others e h =
-    let r = offered_read s n p m alone blank levels never path (members (defined_path box.value) (map defined_path others.items)) (subst (λ (q : Path Term). AreReadPaths s m levels (members (defined_path q) (map defined_path others.items))) (sym e) h) in
-    subst (λ (q : defined.Path). IsRead s n (levels + 1) q) (sym (alternative_read box others (λ t. t))) r
+pub alternative_made : (s : List Triple) (n p m : Term) → IsAlone s n p m → IsBlank n → (levels : ℕ) → ((turn : Turn) → p ≡ sh (turn_name turn) → ⊥) → IsPath s n → (first : Box (Path Term) Global) (others : Vec (Path Term) Global)
+    → AreReadPaths s m levels (members (defined_path first.value) (map defined_path others.items))
+    → IsRead s n (levels + 1) (defined_path (Alternative first others))
+alternative_made s n p m alone blank levels never path first others h =
+    subst (λ (q : defined.Path). IsRead s n (levels + 1) q) (sym (alternative_read first others (λ t. t))) (offered_read s n p m alone blank levels never path (members (defined_path first.value) (map defined_path others.items)) h)
 
 pub each_more : (s : List Triple) (ns : List Term) (i : ℕ) (n : Term) (levels : ℕ) (ps : List (Path Term)) (p : Path Term) → i < length ns → n ≡ get_or ns i n → AreRead s (take i ns) levels (map defined_path ps) → IsRead s n levels (defined_path p) → AreRead s (take (i + 1) ns) levels (map defined_path (ps ++ p ∷ []))
 each_more s ns i n levels ps p l e before h =

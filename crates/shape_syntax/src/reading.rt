@@ -83,13 +83,13 @@ fn read_below(
 {
     let Some(triple) = only_triple(graph, node) else {
         return match read_list(alloc, graph, node, levels)? {
-            Some((first, others)) => Ok(Some(Path::Sequence(Box::new(alloc, first)?, others))),
+            Some((first, others)) => Ok(Some(Path::Sequence(first, others))),
             None => Ok(None),
         };
     };
     let Some(turn) = turn_of(&triple.predicate) else {
         return match read_list(alloc, graph, &triple.object, levels)? {
-            Some((first, others)) => Ok(Some(Path::Alternative(Box::new(alloc, first)?, others))),
+            Some((first, others)) => Ok(Some(Path::Alternative(first, others))),
             None => Ok(None),
         };
     };
@@ -106,11 +106,11 @@ fn read_list(
     graph: &[Triple],
     head: &Term,
     levels: usize,
-) -> Result<Option<(Path<Term>, Vec<Path<Term>>)>, AllocError>
+) -> Result<Option<(Box<Path<Term>>, Vec<Path<Term>>)>, AllocError>
     requires graph { IsAscending triple_cmp graph.now }
     requires list { IsPathList graph.now head.now }
     ensures { IfOk result (λ found. MatchOption found (AreDeep graph.now head.now levels)
-        (λ paths. AreReadPaths graph.now head.now levels (members (defined_path paths.0) (map defined_path paths.1.items)))) }
+        (λ paths. AreReadPaths graph.now head.now levels (members (defined_path paths.0.value) (map defined_path paths.1.items)))) }
 {
     let Some(nodes) = list_members(alloc, graph, head)? else {
         return Ok(None);
@@ -121,7 +121,7 @@ fn read_list(
     if paths.is_empty() {
         return Ok(None);
     }
-    let first = paths.remove(0);
+    let first = Box::new(alloc, paths.remove(0))?;
     Ok(Some((first, paths)))
 }
 

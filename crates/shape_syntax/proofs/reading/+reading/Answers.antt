@@ -24,9 +24,9 @@ read_below-read_list-requires t c =
     let less : 4 * c.args.levels + 2 < 4 * c.args.levels + 3 = omega arith in
     (subst (λ (n : ℕ). 4 * c.args.levels + 2 < n) c.decreases less, (c.requires.graph, listed_inner c.args.graph.now c.args.node.now c.requires.blank c.in_default.ensures c.requires.path))
 
-pub read_below-returns-in_ok-new-in-Some-2 : goal.read_below-returns-in_ok-new-in-Some-2
-read_below-returns-in_ok-new-in-Some-2 t c =
-    sequence_made c.args.graph.now c.args.node.now c.args.levels c.requires.blank c.in-Some-2.first c.in_ok-new-in-Some-2.field-0 c.in-Some-2.others c.in_ok-new-in-Some-2.ensures.ok (rw c.in-Some-2.is at c.in_ok-first.ensures)
+pub read_below-returns-in-Some-2 : goal.read_below-returns-in-Some-2
+read_below-returns-in-Some-2 t c =
+    sequence_made c.args.graph.now c.args.node.now c.args.levels c.requires.blank c.in-Some-2.first c.in-Some-2.others (rw c.in-Some-2.is at c.in_ok-first.ensures)
 
 pub read_below-returns-in-None : goal.read_below-returns-in-None
 read_below-returns-in-None t c = listed_deep c.args.graph.now c.args.node.now c.args.levels c.requires.blank (rw c.in-None.is at c.in_ok-first.ensures)
@@ -36,9 +36,9 @@ read_below-read_list-requires-in_default-turn_of t c =
     let less : 4 * c.args.levels + 2 < 4 * c.args.levels + 3 = omega arith in
     (subst (λ (n : ℕ). 4 * c.args.levels + 2 < n) c.decreases less, (c.requires.graph, offered_inner c.args.graph.now c.args.node.now c.in-Some.triple.now.predicate c.in-Some.triple.now.object c.in-Some.ensures c.requires.blank c.in_default-turn_of.ensures c.requires.path))
 
-pub read_below-returns-in_ok-new-in-Some-3 : goal.read_below-returns-in_ok-new-in-Some-3
-read_below-returns-in_ok-new-in-Some-3 t c =
-    alternative_made c.args.graph.now c.args.node.now c.in-Some.triple.now.predicate c.in-Some.triple.now.object c.in-Some.ensures c.requires.blank c.args.levels c.in_default-turn_of.ensures c.requires.path c.in-Some-3.first c.in_ok-new-in-Some-3.field-0 c.in-Some-3.others c.in_ok-new-in-Some-3.ensures.ok (rw c.in-Some-3.is at c.in_ok-first-2.ensures)
+pub read_below-returns-in-Some-3 : goal.read_below-returns-in-Some-3
+read_below-returns-in-Some-3 t c =
+    alternative_made c.args.graph.now c.args.node.now c.in-Some.triple.now.predicate c.in-Some.triple.now.object c.in-Some.ensures c.requires.blank c.args.levels c.in_default-turn_of.ensures c.requires.path c.in-Some-3.first c.in-Some-3.others (rw c.in-Some-3.is at c.in_ok-first-2.ensures)
 
 pub read_below-returns-in-None-2 : goal.read_below-returns-in-None-2
 read_below-returns-in-None-2 t c = offered_deep c.args.graph.now c.args.node.now c.in-Some.triple.now.predicate c.in-Some.triple.now.object c.in-Some.ensures c.requires.blank c.args.levels c.in_default-turn_of.ensures c.requires.path (rw c.in-None-2.is at c.in_ok-first-2.ensures)
@@ -91,5 +91,5 @@ read_list-returns t c =
     let list = rw c.in-Some.is at c.in_ok-nodes.ensures in
     let found = found_nodes c.args.graph.now c.args.head.now c.in-Some.nodes c.requires.list list in
     let read = rw c.as_slice.ensures at (rw c.in-Some-2.is at c.in_ok-paths.ensures) in
-    list_read c.args.graph.now c.args.head.now c.in-Some.nodes c.args.levels (defined_path c.remove-first.result) (map defined_path c.remove-first.new.self.items) found.1 list
-    (first_read c.args.graph.now c.in-Some.nodes c.args.levels c.in-Some-2.paths.items c.remove-first.result c.remove-first.new.self.items found.1 read c.remove-first.ensures.value c.remove-first.ensures.items)
+    rw c.in_ok-first.ensures.ok (list_read c.args.graph.now c.args.head.now c.in-Some.nodes c.args.levels (defined_path c.remove.result) (map defined_path c.remove.new.self.items) found.1 list
+    (first_read c.args.graph.now c.in-Some.nodes c.args.levels c.in-Some-2.paths.items c.remove.result c.remove.new.self.items found.1 read c.remove.ensures.value c.remove.ensures.items))
