@@ -1,5 +1,6 @@
 -- The paths that are put together from those that were read.
-use Rattle.std.proofs.Common.{◌≡◌, ◌∙◌, ℕ, suc, ◌+◌, ◌<◌, ◌≤◌, List, [], ◌∷◌, ◌++◌, Vec, Box, Global, length, take, drop, get_or, map, refl, sym, ap, subst, arith}
+use Rattle.std.proofs.Common.{◌≡◌, ◌∙◌, ℕ, suc, ◌+◌, ◌<◌, ◌≤◌, List, [], ◌∷◌, ◌++◌, Vec, Box, Global, length, take, drop, get_or, map, Option, Some, None, refl, sym, ap, subst, arith}
+use Rattle.std.specs.Prelude.{MatchOption}
 use Rattle.std.proofs.lemmas.List.{length-map, map-append, take_more, take_all}
 use Rattle.rdf_model.specs.declared.term.Term.{Term}
 use Rattle.rdf_model.specs.declared.triple.Triple.{Triple}
@@ -13,10 +14,10 @@ use Rattle.shape_ast.proofs.Rows.{sequence_read, alternative_read}
 use Rattle.shape_syntax.specs.declared.way.Turn.{Turn}
 use Rattle.shape_syntax.specs.PathNodes.{IsPath}
 use Rattle.shape_syntax.specs.PathSteps.{IsAlone}
-use Rattle.shape_syntax.specs.PathDepth.{IsRead}
-use Rattle.shape_syntax.specs.PathWays.{turn_name, AreRead, AreReadPaths, IsPathList}
+use Rattle.shape_syntax.specs.PathDepth.{IsRead, IsDeep}
+use Rattle.shape_syntax.specs.PathWays.{turn_name, turned, AreRead, AreReadPaths, IsPathList}
 use Rattle.shape_reader.proofs.Lists.{one_list}
-use Rattle.shape_syntax.proofs.PathWays.{listed_read, offered_read, read_push, path_nodes_of}
+use Rattle.shape_syntax.proofs.PathWays.{listed_read, offered_read, read_push, path_nodes_of, turned_read, turned_deep}
 
 pub sequence_made : (s : List Triple) (n : Term) (levels : ℕ) → IsBlank n → (first : Box (Path Term) Global) (others : Vec (Path Term) Global)
     → AreReadPaths s n levels (members (defined_path first.value) (map defined_path others.items))
@@ -29,6 +30,13 @@ pub alternative_made : (s : List Triple) (n p m : Term) → IsAlone s n p m → 
     → IsRead s n (levels + 1) (defined_path (Alternative first others))
 alternative_made s n p m alone blank levels never path first others h =
     subst (λ (q : defined.Path). IsRead s n (levels + 1) q) (sym (alternative_read first others (λ t. t))) (offered_read s n p m alone blank levels never path (members (defined_path first.value) (map defined_path others.items)) h)
+
+-- what is read of a turned path is read of the node
+pub turned_found : (s : List Triple) (n p m : Term) → IsAlone s n p m → IsBlank n → (levels : ℕ) (turn : Turn) → p ≡ sh (turn_name turn) → (found : Option (Path Term))
+    → MatchOption found (IsDeep s m levels) (λ path. (q : defined.Path) × IsRead s m levels q × (defined_path path ≡ turned turn q))
+    → MatchOption found (IsDeep s n (levels + 1)) (λ path. IsRead s n (levels + 1) (defined_path path))
+turned_found s n p m alone blank levels turn e None h = turned_deep s n p m alone blank levels turn e h
+turned_found s n p m alone blank levels turn e (Some path) h = subst (λ (q : defined.Path). IsRead s n (levels + 1) q) (sym h.2) (turned_read s n p m alone blank levels turn e h.0 h.1)
 
 pub each_more : (s : List Triple) (ns : List Term) (i : ℕ) (n : Term) (levels : ℕ) (ps : List (Path Term)) (p : Path Term) → i < length ns → n ≡ get_or ns i n → AreRead s (take i ns) levels (map defined_path ps) → IsRead s n levels (defined_path p) → AreRead s (take (i + 1) ns) levels (map defined_path (ps ++ p ∷ []))
 each_more s ns i n levels ps p l e before h =

@@ -4,17 +4,18 @@ ghost use Rattle.std.specs.List.{Contains};
 ghost use Rattle.collections.specs.Ordered.{IsAscending};
 ghost use Rattle.rdf_model.specs.declared.term.Term.{Term as TermData};
 ghost use Rattle.rdf_model.specs.Terms.{triple_cmp};
+ghost use Rattle.shape_model.specs.Paths.{Path as DefinedPath};
 ghost use Rattle.shape_model.specs.Triples.{IsBlank};
 ghost use Rattle.shape_ast.specs.PathReadings.{defined_path, members};
 ghost use Rattle.shape_syntax.specs.PathNodes.{ArePathNodes, IsPath};
 ghost use Rattle.shape_syntax.specs.PathDepth.{IsDeep, IsRead};
-ghost use Rattle.shape_syntax.specs.PathWays.{AreDeep, AreRead, AreReadPaths, IsPathList};
+ghost use Rattle.shape_syntax.specs.PathWays.{AreDeep, AreRead, AreReadPaths, IsPathList, turned};
 
 use crate::list::list_members;
 use crate::paths::is_path;
 use crate::steps::only_triple;
 use crate::terms::is_iri;
-use crate::way::{turn_of, turned_path};
+use crate::way::{Turn, turn_of, turned_path};
 use rdf_model::{Term, Triple};
 use shape_ast::Path;
 use std::alloc::{AllocError, Global};
@@ -93,7 +94,24 @@ fn read_below(
             None => Ok(None),
         };
     };
-    match read_at(alloc, graph, &triple.object, levels)? {
+    read_turned(alloc, graph, turn, &triple.object, levels)
+}
+
+// What the property makes of the path of its value.
+#[cycle(reading)]
+fn read_turned(
+    alloc: Global,
+    graph: &[Triple],
+    turn: Turn,
+    inner: &Term,
+    levels: usize,
+) -> Result<Option<Path<Term>>, AllocError>
+    requires graph { IsAscending triple_cmp graph.now }
+    requires path { IsPath graph.now inner.now }
+    ensures { IfOk result (λ found. MatchOption found (IsDeep graph.now inner.now levels)
+        (λ path. (p : DefinedPath) × IsRead graph.now inner.now levels p × (defined_path path ≡ turned turn p))) }
+{
+    match read_at(alloc, graph, inner, levels)? {
         Some(path) => Ok(Some(turned_path(alloc, turn, path)?)),
         None => Ok(None),
     }

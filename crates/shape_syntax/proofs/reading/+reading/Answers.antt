@@ -1,14 +1,17 @@
 use Rattle.std.proofs.Common.{◌≡◌, ◌+◌, ◌-◌, ◌*◌, ◌<◌, ℕ, List, map, sym, subst, arith}
 use borrow.Author.Tests.{eqb-true}
 use Rattle.std.specs.Vec.{vec_len}
+use Rattle.std.specs.Prelude.{MatchOption}
+use Rattle.std.proofs.lemmas.Result.{IfOk-weaker}
 use Rattle.std.specs.List.{Contains}
 use Rattle.rdf_model.specs.declared.term.Term.{Term}
 use Rattle.shape_reader.proofs.Scans.{contains_member}
 use Rattle.shape_model.specs.Paths as defined
 use Rattle.shape_ast.specs.PathReadings.{defined_path}
-use Rattle.shape_syntax.specs.PathDepth.{IsRead}
-use Rattle.shape_syntax.proofs.PathWays.{blank_path, deep_at_none, listed_inner, listed_deep, offered_inner, offered_deep, turned_inner, turned_read, turned_deep, path_nodes_of, list_deep, list_read}
-use Rattle.shape_syntax.proofs.PathParts.{sequence_made, alternative_made, each_more, found_nodes, some_read, first_read}
+use Rattle.shape_syntax.specs.PathDepth.{IsRead, IsDeep}
+use Rattle.shape_syntax.specs.PathWays.{turned}
+use Rattle.shape_syntax.proofs.PathWays.{blank_path, deep_at_none, listed_inner, listed_deep, offered_inner, offered_deep, turned_inner, path_nodes_of, list_deep, list_read}
+use Rattle.shape_syntax.proofs.PathParts.{sequence_made, alternative_made, turned_found, each_more, found_nodes, some_read, first_read}
 use Rattle.shape_syntax.proofs.reading.+reading.Goals as goal
 
 pub read_at-returns-then-levels-eq0 : goal.read_at-returns-then-levels-eq0
@@ -16,13 +19,13 @@ read_at-returns-then-levels-eq0 t c = deep_at_none c.args.graph.now c.args.node.
 
 pub read_at-read_below-requires : goal.read_at-read_below-requires
 read_at-read_below-requires t c =
-    let less : 4 * (c.args.levels - 1) + 3 < 4 * c.args.levels = omega (arith, c.if-levels-eq0.false) in
-    (subst (λ (n : ℕ). 4 * (c.args.levels - 1) + 3 < n) c.decreases less, (c.requires.graph, (blank_path c.args.graph.now c.args.node.now (λ i. let k = c.is_iri.ensures.1 i in cc) c.requires.path, c.requires.path)))
+    let less : 5 * (c.args.levels - 1) + 4 < 5 * c.args.levels = omega (arith, c.if-levels-eq0.false) in
+    (subst (λ (n : ℕ). 5 * (c.args.levels - 1) + 4 < n) c.decreases less, (c.requires.graph, (blank_path c.args.graph.now c.args.node.now (λ i. let k = c.is_iri.ensures.1 i in cc) c.requires.path, c.requires.path)))
 
 pub read_below-read_list-requires : goal.read_below-read_list-requires
 read_below-read_list-requires t c =
-    let less : 4 * c.args.levels + 2 < 4 * c.args.levels + 3 = omega arith in
-    (subst (λ (n : ℕ). 4 * c.args.levels + 2 < n) c.decreases less, (c.requires.graph, listed_inner c.args.graph.now c.args.node.now c.requires.blank c.in_default.ensures c.requires.path))
+    let less : 5 * c.args.levels + 2 < 5 * c.args.levels + 4 = omega arith in
+    (subst (λ (n : ℕ). 5 * c.args.levels + 2 < n) c.decreases less, (c.requires.graph, listed_inner c.args.graph.now c.args.node.now c.requires.blank c.in_default.ensures c.requires.path))
 
 pub read_below-returns-in-Some-2 : goal.read_below-returns-in-Some-2
 read_below-returns-in-Some-2 t c =
@@ -33,8 +36,8 @@ read_below-returns-in-None t c = listed_deep c.args.graph.now c.args.node.now c.
 
 pub read_below-read_list-requires-in_default-turn_of : goal.read_below-read_list-requires-in_default-turn_of
 read_below-read_list-requires-in_default-turn_of t c =
-    let less : 4 * c.args.levels + 2 < 4 * c.args.levels + 3 = omega arith in
-    (subst (λ (n : ℕ). 4 * c.args.levels + 2 < n) c.decreases less, (c.requires.graph, offered_inner c.args.graph.now c.args.node.now c.in-Some.triple.now.predicate c.in-Some.triple.now.object c.in-Some.ensures c.requires.blank c.in_default-turn_of.ensures c.requires.path))
+    let less : 5 * c.args.levels + 2 < 5 * c.args.levels + 4 = omega arith in
+    (subst (λ (n : ℕ). 5 * c.args.levels + 2 < n) c.decreases less, (c.requires.graph, offered_inner c.args.graph.now c.args.node.now c.in-Some.triple.now.predicate c.in-Some.triple.now.object c.in-Some.ensures c.requires.blank c.in_default-turn_of.ensures c.requires.path))
 
 pub read_below-returns-in-Some-3 : goal.read_below-returns-in-Some-3
 read_below-returns-in-Some-3 t c =
@@ -43,18 +46,25 @@ read_below-returns-in-Some-3 t c =
 pub read_below-returns-in-None-2 : goal.read_below-returns-in-None-2
 read_below-returns-in-None-2 t c = offered_deep c.args.graph.now c.args.node.now c.in-Some.triple.now.predicate c.in-Some.triple.now.object c.in-Some.ensures c.requires.blank c.args.levels c.in_default-turn_of.ensures c.requires.path (rw c.in-None-2.is at c.in_ok-first-2.ensures)
 
-pub read_below-read_at-requires : goal.read_below-read_at-requires
-read_below-read_at-requires t c =
-    let less : 4 * c.args.levels < 4 * c.args.levels + 3 = omega arith in
-    (subst (λ (n : ℕ). 4 * c.args.levels < n) c.decreases less, (c.requires.graph, turned_inner c.args.graph.now c.args.node.now c.in-Some.triple.now.predicate c.in-Some.triple.now.object c.in-Some.ensures c.requires.blank c.in-Some-turn_of.turn c.in-Some-turn_of.ensures c.requires.path))
+pub read_below-read_turned-requires : goal.read_below-read_turned-requires
+read_below-read_turned-requires t c =
+    let less : 5 * c.args.levels + 3 < 5 * c.args.levels + 4 = omega arith in
+    (subst (λ (n : ℕ). 5 * c.args.levels + 3 < n) c.decreases less, (c.requires.graph, turned_inner c.args.graph.now c.args.node.now c.in-Some.triple.now.predicate c.in-Some.triple.now.object c.in-Some.ensures c.requires.blank c.in-Some-turn_of.turn c.in-Some-turn_of.ensures c.requires.path))
 
-pub read_below-returns-in_ok-turned_path-in-Some-4 : goal.read_below-returns-in_ok-turned_path-in-Some-4
-read_below-returns-in_ok-turned_path-in-Some-4 t c =
-    subst (λ (q : defined.Path). IsRead c.args.graph.now c.args.node.now (c.args.levels + 1) q) (sym c.in_ok-turned_path-in-Some-4.ensures)
-    (turned_read c.args.graph.now c.args.node.now c.in-Some.triple.now.predicate c.in-Some.triple.now.object c.in-Some.ensures c.requires.blank c.args.levels c.in-Some-turn_of.turn c.in-Some-turn_of.ensures (defined_path c.in-Some-4.path) (rw c.in-Some-4.is at c.in_ok-path.ensures))
+pub read_below-returns : goal.read_below-returns
+read_below-returns t c =
+    let s = c.args.graph.now in
+    let n = c.args.node.now in
+    let p = c.in-Some.triple.now.predicate in
+    let m = c.in-Some.triple.now.object in
+    let turn = c.in-Some-turn_of.turn in
+    IfOk-weaker c.read_turned.result (λ found. MatchOption found (IsDeep s m c.args.levels) (λ path. (q : defined.Path) × IsRead s m c.args.levels q × (defined_path path ≡ turned turn q)))
+    (λ found. MatchOption found (IsDeep s n (c.args.levels + 1)) (λ path. IsRead s n (c.args.levels + 1) (defined_path path)))
+    (λ found h. turned_found s n p m c.in-Some.ensures c.requires.blank c.args.levels turn c.in-Some-turn_of.ensures found h)
+    c.read_turned.ensures
 
-pub read_below-returns-in-None-3 : goal.read_below-returns-in-None-3
-read_below-returns-in-None-3 t c = turned_deep c.args.graph.now c.args.node.now c.in-Some.triple.now.predicate c.in-Some.triple.now.object c.in-Some.ensures c.requires.blank c.args.levels c.in-Some-turn_of.turn c.in-Some-turn_of.ensures (rw c.in-None-3.is at c.in_ok-path.ensures)
+pub read_turned-returns-in_ok-turned_path-in-Some : goal.read_turned-returns-in_ok-turned_path-in-Some
+read_turned-returns-in_ok-turned_path-in-Some t c = (defined_path c.in-Some.path, rw c.in-Some.is at c.in_ok-path.ensures, c.in_ok-turned_path-in-Some.ensures)
 
 pub read_each-loop-node-preserved : goal.read_each-loop-node-preserved
 read_each-loop-node-preserved t c =
@@ -68,9 +78,9 @@ read_list-returns-in_default t c =
 
 pub read_list-read_each-requires : goal.read_list-read_each-requires
 read_list-read_each-requires t c =
-    let less : 4 * c.args.levels + 1 < 4 * c.args.levels + 2 = omega arith in
+    let less : 5 * c.args.levels + 1 < 5 * c.args.levels + 2 = omega arith in
     let found = found_nodes c.args.graph.now c.args.head.now c.in-Some.nodes c.requires.list (rw c.in-Some.is at c.in_ok-nodes.ensures) in
-    (subst (λ (n : ℕ). 4 * c.args.levels + 1 < n) c.decreases less, (c.requires.graph, λ n there. found.0 n (contains_member c.in-Some.nodes n (subst (λ (xs : List Term). Contains xs n) c.as_slice.ensures there))))
+    (subst (λ (n : ℕ). 5 * c.args.levels + 1 < n) c.decreases less, (c.requires.graph, λ n there. found.0 n (contains_member c.in-Some.nodes n (subst (λ (xs : List Term). Contains xs n) c.as_slice.ensures there))))
 
 pub read_list-returns-in_default-2 : goal.read_list-returns-in_default-2
 read_list-returns-in_default-2 t c =
