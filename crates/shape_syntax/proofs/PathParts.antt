@@ -15,21 +15,29 @@ use Rattle.shape_syntax.specs.declared.way.Turn.{Turn}
 use Rattle.shape_syntax.specs.PathNodes.{IsPath}
 use Rattle.shape_syntax.specs.PathSteps.{IsAlone}
 use Rattle.shape_syntax.specs.PathDepth.{IsRead, IsDeep}
-use Rattle.shape_syntax.specs.PathWays.{turn_name, turned, AreRead, AreReadPaths, IsPathList}
+use Rattle.shape_syntax.specs.declared.way.Join.TheVariants as joins
+use Rattle.shape_syntax.specs.PathWays.{turn_name, turned, joined, AreDeep, AreRead, AreReadPaths, IsPathList}
 use Rattle.shape_reader.proofs.Lists.{one_list}
-use Rattle.shape_syntax.proofs.PathWays.{listed_read, offered_read, read_push, path_nodes_of, turned_read, turned_deep}
+use Rattle.shape_syntax.proofs.PathWays.{listed_read, offered_read, read_push, path_nodes_of, turned_read, turned_deep, listed_deep, offered_deep}
 
-pub sequence_made : (s : List Triple) (n : Term) (levels : ℕ) → IsBlank n → (first : Box (Path Term) Global) (others : Vec (Path Term) Global)
-    → AreReadPaths s n levels (members (defined_path first.value) (map defined_path others.items))
-    → IsRead s n (levels + 1) (defined_path (Sequence first others))
-sequence_made s n levels blank first others h =
-    subst (λ (q : defined.Path). IsRead s n (levels + 1) q) (sym (sequence_read first others (λ t. t))) (listed_read s n levels blank (members (defined_path first.value) (map defined_path others.items)) h)
+pub sequence_made : (box : Box (Path Term) Global) (first : Path Term) (others : Vec (Path Term) Global) → box.value ≡ first → defined_path (Sequence box others) ≡ defined.Sequence (members (defined_path first) (map defined_path others.items))
+sequence_made box first others e = sequence_read box others (λ t. t) ∙ ap (λ (p : Path Term). defined.Sequence (members (defined_path p) (map defined_path others.items))) e
 
-pub alternative_made : (s : List Triple) (n p m : Term) → IsAlone s n p m → IsBlank n → (levels : ℕ) → ((turn : Turn) → p ≡ sh (turn_name turn) → ⊥) → IsPath s n → (first : Box (Path Term) Global) (others : Vec (Path Term) Global)
-    → AreReadPaths s m levels (members (defined_path first.value) (map defined_path others.items))
-    → IsRead s n (levels + 1) (defined_path (Alternative first others))
-alternative_made s n p m alone blank levels never path first others h =
-    subst (λ (q : defined.Path). IsRead s n (levels + 1) q) (sym (alternative_read first others (λ t. t))) (offered_read s n p m alone blank levels never path (members (defined_path first.value) (map defined_path others.items)) h)
+pub alternative_made : (box : Box (Path Term) Global) (first : Path Term) (others : Vec (Path Term) Global) → box.value ≡ first → defined_path (Alternative box others) ≡ defined.Alternative (members (defined_path first) (map defined_path others.items))
+alternative_made box first others e = alternative_read box others (λ t. t) ∙ ap (λ (p : Path Term). defined.Alternative (members (defined_path p) (map defined_path others.items))) e
+
+-- what is read of a list is read of the node that it makes a path
+pub sequence_found : (s : List Triple) (n : Term) (levels : ℕ) → IsBlank n → (found : Option (Path Term))
+    → MatchOption found (AreDeep s n levels) (λ path. (ps : defined.Paths) × AreReadPaths s n levels ps × (defined_path path ≡ joined joins.Sequence ps))
+    → MatchOption found (IsDeep s n (levels + 1)) (λ path. IsRead s n (levels + 1) (defined_path path))
+sequence_found s n levels blank None h = listed_deep s n levels blank h
+sequence_found s n levels blank (Some path) h = subst (λ (q : defined.Path). IsRead s n (levels + 1) q) (sym h.2) (listed_read s n levels blank h.0 h.1)
+
+pub alternative_found : (s : List Triple) (n p m : Term) → IsAlone s n p m → IsBlank n → (levels : ℕ) → ((turn : Turn) → p ≡ sh (turn_name turn) → ⊥) → IsPath s n → (found : Option (Path Term))
+    → MatchOption found (AreDeep s m levels) (λ path. (ps : defined.Paths) × AreReadPaths s m levels ps × (defined_path path ≡ joined joins.Alternative ps))
+    → MatchOption found (IsDeep s n (levels + 1)) (λ path. IsRead s n (levels + 1) (defined_path path))
+alternative_found s n p m alone blank levels never path None h = offered_deep s n p m alone blank levels never path h
+alternative_found s n p m alone blank levels never path (Some made) h = subst (λ (q : defined.Path). IsRead s n (levels + 1) q) (sym h.2) (offered_read s n p m alone blank levels never path h.0 h.1)
 
 -- what is read of a turned path is read of the node
 pub turned_found : (s : List Triple) (n p m : Term) → IsAlone s n p m → IsBlank n → (levels : ℕ) (turn : Turn) → p ≡ sh (turn_name turn) → (found : Option (Path Term))

@@ -2,11 +2,12 @@
 use Rattle.std.specs.Prelude.{◌<◌, ◌≤◌, ℕ, List, [], ◌∷◌, codes}
 use Rattle.rdf_model.specs.declared.term.Term.{Term}
 use Rattle.rdf_model.specs.declared.triple.Triple.{Triple}
-use Rattle.shape_model.specs.Paths.{Path, Inverse, ZeroOrMore, OneOrMore, ZeroOrOne, Paths, AreSeveral}
-use Rattle.shape_model.specs.ShapeSyntax.{HasAlone, PathsOf}
+use Rattle.shape_model.specs.Paths.{Path, Inverse, Sequence, Alternative, ZeroOrMore, OneOrMore, ZeroOrOne, Paths, AreSeveral}
+use Rattle.shape_model.specs.ShapeSyntax.{PathsOf}
+use Rattle.shape_syntax.specs.declared.way.Join.{Join}
+use Rattle.shape_syntax.specs.declared.way.Join.TheVariants as joins
 use Rattle.shape_syntax.specs.declared.way.Turn.{Turn}
 use Rattle.shape_syntax.specs.declared.way.Turn.TheVariants as turns
-use Rattle.shape_syntax.specs.PathNodes.{IsPath}
 use Rattle.shape_syntax.specs.PathDepth.{IsRead, deepest_of}
 
 -- the property of SHACL that turns a path (SHACL 2.3.1.4 to 2.3.1.7), and the path that it makes
@@ -22,15 +23,13 @@ turned turns.ZeroOrMore p = ZeroOrMore p
 turned turns.OneOrMore p = OneOrMore p
 turned turns.ZeroOrOne p = ZeroOrOne p
 
-abbrev pub IsTurned : List Triple → Term → Turn → Term → Type 0
-IsTurned s n turn m = HasAlone s n (turn_name turn) m × IsPath s m
+abbrev pub joined : Join → Paths → Path
+joined joins.Sequence ps = Sequence ps
+joined joins.Alternative ps = Alternative ps
 
 -- the node is the head of a list of at least two paths
 abbrev pub IsPathList : List Triple → Term → Type 0
 IsPathList s n = (ps : Paths) × AreSeveral ps × PathsOf s n ps
-
-abbrev pub IsOffered : List Triple → Term → Term → Type 0
-IsOffered s n m = HasAlone s n (codes "alternativePath") m × IsPathList s m
 
 -- no member of the list is deeper than this, or one is
 abbrev pub AreReadPaths : List Triple → Term → ℕ → Paths → Type 0

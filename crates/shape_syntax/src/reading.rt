@@ -4,18 +4,18 @@ ghost use Rattle.std.specs.List.{Contains};
 ghost use Rattle.collections.specs.Ordered.{IsAscending};
 ghost use Rattle.rdf_model.specs.declared.term.Term.{Term as TermData};
 ghost use Rattle.rdf_model.specs.Terms.{triple_cmp};
-ghost use Rattle.shape_model.specs.Paths.{Path as DefinedPath};
+ghost use Rattle.shape_model.specs.Paths.{Path as DefinedPath, Paths as DefinedPaths};
 ghost use Rattle.shape_model.specs.Triples.{IsBlank};
-ghost use Rattle.shape_ast.specs.PathReadings.{defined_path, members};
+ghost use Rattle.shape_ast.specs.PathReadings.{defined_path};
 ghost use Rattle.shape_syntax.specs.PathNodes.{ArePathNodes, IsPath};
 ghost use Rattle.shape_syntax.specs.PathDepth.{IsDeep, IsRead};
-ghost use Rattle.shape_syntax.specs.PathWays.{AreDeep, AreRead, AreReadPaths, IsPathList, turned};
+ghost use Rattle.shape_syntax.specs.PathWays.{AreDeep, AreRead, AreReadPaths, IsPathList, joined, turned};
 
 use crate::list::list_members;
 use crate::paths::is_path;
 use crate::steps::only_triple;
 use crate::terms::is_iri;
-use crate::way::{Turn, turn_of, turned_path};
+use crate::way::{Join, Turn, joined_path, turn_of, turned_path};
 use rdf_model::{Term, Triple};
 use shape_ast::Path;
 use std::alloc::{AllocError, Global};
@@ -83,16 +83,10 @@ fn read_below(
         (λ path. IsRead graph.now node.now (levels + 1) (defined_path path))) }
 {
     let Some(triple) = only_triple(graph, node) else {
-        return match read_list(alloc, graph, node, levels)? {
-            Some((first, others)) => Ok(Some(Path::Sequence(first, others))),
-            None => Ok(None),
-        };
+        return read_list(alloc, graph, Join::Sequence, node, levels);
     };
     let Some(turn) = turn_of(&triple.predicate) else {
-        return match read_list(alloc, graph, &triple.object, levels)? {
-            Some((first, others)) => Ok(Some(Path::Alternative(first, others))),
-            None => Ok(None),
-        };
+        return read_list(alloc, graph, Join::Alternative, &triple.object, levels);
     };
     read_turned(alloc, graph, turn, &triple.object, levels)
 }
@@ -117,18 +111,19 @@ fn read_turned(
     }
 }
 
-// The paths that the members of a list stand for, of which there are two at least.
+// The path of the paths that the members of a list stand for, of which there are two at least.
 #[cycle(reading)]
 fn read_list(
     alloc: Global,
     graph: &[Triple],
+    join: Join,
     head: &Term,
     levels: usize,
-) -> Result<Option<(Box<Path<Term>>, Vec<Path<Term>>)>, AllocError>
+) -> Result<Option<Path<Term>>, AllocError>
     requires graph { IsAscending triple_cmp graph.now }
     requires list { IsPathList graph.now head.now }
     ensures { IfOk result (λ found. MatchOption found (AreDeep graph.now head.now levels)
-        (λ paths. AreReadPaths graph.now head.now levels (members (defined_path paths.0.value) (map defined_path paths.1.items)))) }
+        (λ path. (ps : DefinedPaths) × AreReadPaths graph.now head.now levels ps × (defined_path path ≡ joined join ps))) }
 {
     let Some(nodes) = list_members(alloc, graph, head)? else {
         return Ok(None);
@@ -139,8 +134,8 @@ fn read_list(
     if paths.is_empty() {
         return Ok(None);
     }
-    let first = Box::new(alloc, paths.remove(0))?;
-    Ok(Some((first, paths)))
+    let first = paths.remove(0);
+    Ok(Some(joined_path(alloc, join, first, paths)?))
 }
 
 #[cycle(reading)]

@@ -1,9 +1,9 @@
-ghost use Rattle.std.specs.Prelude.{◌≡◌, IfOk, MatchOption};
+ghost use Rattle.std.specs.Prelude.{◌≡◌, IfOk, MatchOption, map};
 ghost use Rattle.rdf_model.specs.declared.term.Term.{Term as TermData};
 ghost use Rattle.shape_model.specs.Vocabulary.{sh};
-ghost use Rattle.shape_ast.specs.PathReadings.{defined_path};
+ghost use Rattle.shape_ast.specs.PathReadings.{defined_path, members};
 ghost use Rattle.shape_syntax.specs.declared.way.Turn.{Turn as TurnData};
-ghost use Rattle.shape_syntax.specs.PathWays.{turn_name, turned};
+ghost use Rattle.shape_syntax.specs.PathWays.{joined, turn_name, turned};
 
 use crate::terms::is_named;
 use rdf_model::Term;
@@ -17,6 +17,13 @@ pub(crate) enum Turn {
     ZeroOrMore,
     OneOrMore,
     ZeroOrOne,
+}
+
+/// How the paths of a list stand for one.
+#[derive(Debug, Clone, Copy)]
+pub(crate) enum Join {
+    Sequence,
+    Alternative,
 }
 
 /// What the predicate makes of a path, if it is one of the four.
@@ -54,5 +61,22 @@ pub(crate) fn turned_path(
         Turn::ZeroOrMore => Ok(Path::ZeroOrMore(inner)),
         Turn::OneOrMore => Ok(Path::OneOrMore(inner)),
         Turn::ZeroOrOne => Ok(Path::ZeroOrOne(inner)),
+    }
+}
+
+/// The path of the paths.
+pub(crate) fn joined_path(
+    alloc: Global,
+    join: Join,
+    first: Path<Term>,
+    others: Vec<Path<Term>>,
+) -> Result<Path<Term>, AllocError>
+    ensures { IfOk result (λ made. defined_path made
+        ≡ joined join (members (defined_path first) (map defined_path others.items))) }
+{
+    let first = Box::new(alloc, first)?;
+    match join {
+        Join::Sequence => Ok(Path::Sequence(first, others)),
+        Join::Alternative => Ok(Path::Alternative(first, others)),
     }
 }

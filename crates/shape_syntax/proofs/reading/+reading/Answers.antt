@@ -7,11 +7,12 @@ use Rattle.std.specs.List.{Contains}
 use Rattle.rdf_model.specs.declared.term.Term.{Term}
 use Rattle.shape_reader.proofs.Scans.{contains_member}
 use Rattle.shape_model.specs.Paths as defined
-use Rattle.shape_ast.specs.PathReadings.{defined_path}
+use Rattle.shape_ast.specs.PathReadings.{defined_path, members}
 use Rattle.shape_syntax.specs.PathDepth.{IsRead, IsDeep}
-use Rattle.shape_syntax.specs.PathWays.{turned}
-use Rattle.shape_syntax.proofs.PathWays.{blank_path, deep_at_none, listed_inner, listed_deep, offered_inner, offered_deep, turned_inner, path_nodes_of, list_deep, list_read}
-use Rattle.shape_syntax.proofs.PathParts.{sequence_made, alternative_made, turned_found, each_more, found_nodes, some_read, first_read}
+use Rattle.shape_syntax.specs.PathWays.{turned, joined, AreDeep, AreReadPaths}
+use Rattle.shape_syntax.specs.declared.way.Join.TheVariants as joins
+use Rattle.shape_syntax.proofs.PathWays.{blank_path, deep_at_none, listed_inner, offered_inner, turned_inner, path_nodes_of, list_deep, list_read}
+use Rattle.shape_syntax.proofs.PathParts.{sequence_found, alternative_found, turned_found, each_more, found_nodes, some_read, first_read}
 use Rattle.shape_syntax.proofs.reading.+reading.Goals as goal
 
 pub read_at-returns-then-levels-eq0 : goal.read_at-returns-then-levels-eq0
@@ -27,24 +28,30 @@ read_below-read_list-requires t c =
     let less : 5 * c.args.levels + 2 < 5 * c.args.levels + 4 = omega arith in
     (subst (λ (n : ℕ). 5 * c.args.levels + 2 < n) c.decreases less, (c.requires.graph, listed_inner c.args.graph.now c.args.node.now c.requires.blank c.in_default.ensures c.requires.path))
 
-pub read_below-returns-in-Some-2 : goal.read_below-returns-in-Some-2
-read_below-returns-in-Some-2 t c =
-    sequence_made c.args.graph.now c.args.node.now c.args.levels c.requires.blank c.in-Some-2.first c.in-Some-2.others (rw c.in-Some-2.is at c.in_ok-first.ensures)
-
-pub read_below-returns-in-None : goal.read_below-returns-in-None
-read_below-returns-in-None t c = listed_deep c.args.graph.now c.args.node.now c.args.levels c.requires.blank (rw c.in-None.is at c.in_ok-first.ensures)
-
 pub read_below-read_list-requires-in_default-turn_of : goal.read_below-read_list-requires-in_default-turn_of
 read_below-read_list-requires-in_default-turn_of t c =
     let less : 5 * c.args.levels + 2 < 5 * c.args.levels + 4 = omega arith in
     (subst (λ (n : ℕ). 5 * c.args.levels + 2 < n) c.decreases less, (c.requires.graph, offered_inner c.args.graph.now c.args.node.now c.in-Some.triple.now.predicate c.in-Some.triple.now.object c.in-Some.ensures c.requires.blank c.in_default-turn_of.ensures c.requires.path))
 
-pub read_below-returns-in-Some-3 : goal.read_below-returns-in-Some-3
-read_below-returns-in-Some-3 t c =
-    alternative_made c.args.graph.now c.args.node.now c.in-Some.triple.now.predicate c.in-Some.triple.now.object c.in-Some.ensures c.requires.blank c.args.levels c.in_default-turn_of.ensures c.requires.path c.in-Some-3.first c.in-Some-3.others (rw c.in-Some-3.is at c.in_ok-first-2.ensures)
+pub read_below-returns-in_default : goal.read_below-returns-in_default
+read_below-returns-in_default t c =
+    let s = c.args.graph.now in
+    let n = c.args.node.now in
+    IfOk-weaker c.read_list.result (λ found. MatchOption found (AreDeep s n c.args.levels) (λ path. (ps : defined.Paths) × AreReadPaths s n c.args.levels ps × (defined_path path ≡ joined joins.Sequence ps)))
+    (λ found. MatchOption found (IsDeep s n (c.args.levels + 1)) (λ path. IsRead s n (c.args.levels + 1) (defined_path path)))
+    (λ found h. sequence_found s n c.args.levels c.requires.blank found h)
+    c.read_list.ensures
 
-pub read_below-returns-in-None-2 : goal.read_below-returns-in-None-2
-read_below-returns-in-None-2 t c = offered_deep c.args.graph.now c.args.node.now c.in-Some.triple.now.predicate c.in-Some.triple.now.object c.in-Some.ensures c.requires.blank c.args.levels c.in_default-turn_of.ensures c.requires.path (rw c.in-None-2.is at c.in_ok-first-2.ensures)
+pub read_below-returns-in_default-turn_of : goal.read_below-returns-in_default-turn_of
+read_below-returns-in_default-turn_of t c =
+    let s = c.args.graph.now in
+    let n = c.args.node.now in
+    let p = c.in-Some.triple.now.predicate in
+    let m = c.in-Some.triple.now.object in
+    IfOk-weaker c.read_list-in_default-turn_of.result (λ found. MatchOption found (AreDeep s m c.args.levels) (λ path. (ps : defined.Paths) × AreReadPaths s m c.args.levels ps × (defined_path path ≡ joined joins.Alternative ps)))
+    (λ found. MatchOption found (IsDeep s n (c.args.levels + 1)) (λ path. IsRead s n (c.args.levels + 1) (defined_path path)))
+    (λ found h. alternative_found s n p m c.in-Some.ensures c.requires.blank c.args.levels c.in_default-turn_of.ensures c.requires.path found h)
+    c.read_list-in_default-turn_of.ensures
 
 pub read_below-read_turned-requires : goal.read_below-read_turned-requires
 read_below-read_turned-requires t c =
@@ -101,5 +108,7 @@ read_list-returns t c =
     let list = rw c.in-Some.is at c.in_ok-nodes.ensures in
     let found = found_nodes c.args.graph.now c.args.head.now c.in-Some.nodes c.requires.list list in
     let read = rw c.as_slice.ensures at (rw c.in-Some-2.is at c.in_ok-paths.ensures) in
-    rw c.in_ok-first.ensures.ok (list_read c.args.graph.now c.args.head.now c.in-Some.nodes c.args.levels (defined_path c.remove.result) (map defined_path c.remove.new.self.items) found.1 list
-    (first_read c.args.graph.now c.in-Some.nodes c.args.levels c.in-Some-2.paths.items c.remove.result c.remove.new.self.items found.1 read c.remove.ensures.value c.remove.ensures.items))
+    let first = defined_path c.remove-first.result in
+    let others = map defined_path c.remove-first.new.self.items in
+    let a = first_read c.args.graph.now c.in-Some.nodes c.args.levels c.in-Some-2.paths.items c.remove-first.result c.remove-first.new.self.items found.1 read c.remove-first.ensures.value c.remove-first.ensures.items in
+    (members first others, list_read c.args.graph.now c.args.head.now c.in-Some.nodes c.args.levels first others found.1 list a, c.in_ok-joined_path.ensures)
