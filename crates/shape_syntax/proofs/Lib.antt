@@ -6,3 +6,4 @@ pub mod Keys
 pub mod Asked
 pub mod PathWays
 pub mod PathParts
+pub mod OnePath

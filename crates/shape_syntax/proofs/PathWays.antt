@@ -21,7 +21,7 @@ append_left : (xs ys zs : List ℕ) → xs ++ ys ≡ xs ++ zs → ys ≡ zs
 append_left [] ys zs e = e
 append_left (x ∷ xs) ys zs e = let d : xs ++ ys ≡ xs ++ zs = cc in append_left xs ys zs d
 
-sh_exact : (a b : List ℕ) → sh a ≡ sh b → a ≡ b
+pub sh_exact : (a b : List ℕ) → sh a ≡ sh b → a ≡ b
 unfolding sh
 sh_exact a b e = let d : codes "http://www.w3.org/ns/shacl#" ++ a ≡ codes "http://www.w3.org/ns/shacl#" ++ b = cc in append_left (codes "http://www.w3.org/ns/shacl#") a b d
 
@@ -34,13 +34,13 @@ first_not_rest e =
     let g : true ≡ false = ap (λ (x : List ℕ). bytes_eq (codes "first") x) f in
     cc
 
-turns_no_alternative : (turn : Turn) → codes "alternativePath" ≡ turn_name turn → ⊥
+pub turns_no_alternative : (turn : Turn) → codes "alternativePath" ≡ turn_name turn → ⊥
 turns_no_alternative turns.Inverse e = let g : true ≡ false = ap (λ (x : List ℕ). bytes_eq (codes "alternativePath") x) e in cc
 turns_no_alternative turns.ZeroOrMore e = let g : true ≡ false = ap (λ (x : List ℕ). bytes_eq (codes "alternativePath") x) e in cc
 turns_no_alternative turns.OneOrMore e = let g : true ≡ false = ap (λ (x : List ℕ). bytes_eq (codes "alternativePath") x) e in cc
 turns_no_alternative turns.ZeroOrOne e = let g : true ≡ false = ap (λ (x : List ℕ). bytes_eq (codes "alternativePath") x) e in cc
 
-no_blank_iri : (t : Term) → IsBlank t → IsIri t → ⊥
+pub no_blank_iri : (t : Term) → IsBlank t → IsIri t → ⊥
 no_blank_iri (Blank session number) b i = i
 no_blank_iri (Iri text) b i = b
 no_blank_iri (Literal text datatype language) b i = b
@@ -48,7 +48,7 @@ no_blank_iri (Literal text datatype language) b i = b
 no_list_alone : (s : List Triple) (n p m : Term) → IsAlone s n p m → (a b : Term) → IsCell s n a b → ⊥
 no_list_alone s n p m alone a b cell = first_not_rest ((alone.1 rdf_first a cell.0.0).0 ∙ sym (alone.1 rdf_rest b cell.1.0).0)
 
-no_paths_alone : (s : List Triple) (n p m : Term) → IsAlone s n p m → (ps : Paths) → PathsOf s n ps → ⊥
+pub no_paths_alone : (s : List Triple) (n p m : Term) → IsAlone s n p m → (ps : Paths) → PathsOf s n ps → ⊥
 no_paths_alone s n p m alone (Last q) h = no_list_alone s n p m alone h.0 h.1 h.2
 no_paths_alone s n p m alone (Also q qs) h = no_list_alone s n p m alone h.0 h.1 h.2
 

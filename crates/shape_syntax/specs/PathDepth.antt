@@ -4,6 +4,7 @@ use Rattle.rdf_model.specs.declared.term.Term.{Term}
 use Rattle.rdf_model.specs.declared.triple.Triple.{Triple}
 use Rattle.shape_model.specs.Paths.{Path, Predicate, Inverse, Sequence, Alternative, ZeroOrMore, OneOrMore, ZeroOrOne, Paths, Last, Also}
 use Rattle.shape_model.specs.ShapeSyntax.{PathOf}
+use Rattle.shape_syntax.specs.PathNodes.{IsPath}
 
 -- a predicate is at depth 0, any other path one deeper than its deepest member
 abbrev mutual
@@ -26,3 +27,7 @@ IsRead s n levels p = PathOf s n p × (depth_of p ≤ levels)
 
 abbrev pub IsDeep : List Triple → Term → ℕ → Type 0
 IsDeep s n levels = (p : Path) × PathOf s n p × (levels < depth_of p)
+
+-- it stands for a path, and for none that is not deeper
+abbrev pub IsTooDeep : List Triple → Term → ℕ → Type 0
+IsTooDeep s n levels = IsPath s n × ((p : Path) → PathOf s n p → levels < depth_of p)

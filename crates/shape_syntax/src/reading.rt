@@ -8,7 +8,7 @@ ghost use Rattle.shape_model.specs.Paths.{Path as DefinedPath, Paths as DefinedP
 ghost use Rattle.shape_model.specs.Triples.{IsBlank};
 ghost use Rattle.shape_ast.specs.PathReadings.{defined_path};
 ghost use Rattle.shape_syntax.specs.PathNodes.{ArePathNodes, IsPath};
-ghost use Rattle.shape_syntax.specs.PathDepth.{IsDeep, IsRead};
+ghost use Rattle.shape_syntax.specs.PathDepth.{IsDeep, IsRead, IsTooDeep};
 ghost use Rattle.shape_syntax.specs.PathWays.{AreDeep, AreRead, AreReadPaths, IsPathList, joined, turned};
 
 use crate::list::list_members;
@@ -173,7 +173,7 @@ pub fn read_path(
     requires graph { IsAscending triple_cmp graph.now }
     requires nodes { ArePathNodes graph.now nodes.now.keys }
     ensures { MatchResult result (λ path. IsRead graph.now node.now 256 (defined_path path))
-        (λ fault. ((fault ≡ PathFault.NotPath) → IsPath graph.now node.now → ⊥) × ((fault ≡ PathFault.TooDeep) → IsDeep graph.now node.now 256)) }
+        (λ fault. ((fault ≡ PathFault.NotPath) → IsPath graph.now node.now → ⊥) × ((fault ≡ PathFault.TooDeep) → IsTooDeep graph.now node.now 256)) }
 {
     if !is_path(graph, nodes, node) {
         return Err(PathFault::NotPath);
