@@ -31,12 +31,13 @@ fn chain(alloc: Global, length: u32, end: &str) -> Result<Vec<Triple>, AllocErro
 // What is read at the first node of a graph.
 fn outcome(alloc: Global, graph: Vec<Triple>) -> Result<&'static str, AllocError> {
     let sorted = sorted_once(graph)?;
-    let nodes = path_nodes(alloc, sorted.as_slice())?;
+    let triples = sorted.as_slice();
+    let nodes = path_nodes(alloc, triples)?;
     let first = Term::Blank {
         session: 1,
         number: 1,
     };
-    match read_path(alloc, sorted.as_slice(), &nodes, &first) {
+    match read_path(alloc, triples, &nodes, &first) {
         Ok(_) => Ok("read"),
         Err(PathFault::NotPath) => Ok("no path"),
         Err(PathFault::TooDeep) => Ok("too deep"),
