@@ -1,4 +1,3 @@
-pub mod Gathering
 pub mod Properties
 pub mod Table
 pub mod Rows

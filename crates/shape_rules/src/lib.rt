@@ -2,14 +2,10 @@
 //!
 //! `least_broken` ensures exactly the least broken rule, or that none is broken; `broken_rows` has all of
 //! them. What a property asks of a shape stands in one table, in `table`. Lists, instances and shapes are
-//! found by binary search in a graph that ascends. So far a sh:path is an IRI, and rules 38 and 40 aren't
-//! asked.
+//! found by binary search in a graph that ascends. Rules 38 and 40 aren't asked so far.
 #![tactic(auto)]
 
-pub mod instance;
 mod least;
-pub mod list;
-pub mod lookup;
 mod passes;
 mod property;
 mod rows;

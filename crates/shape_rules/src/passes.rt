@@ -5,21 +5,24 @@ ghost use Rattle.collections.specs.Ordered.{IsAscending};
 ghost use Rattle.rdf_model.specs.declared.term.Term.{Term as TermData};
 ghost use Rattle.rdf_model.specs.declared.triple.Triple.{Triple as TripleData};
 ghost use Rattle.rdf_model.specs.Terms.{triple_cmp};
+ghost use Rattle.shape_syntax.specs.PathNodes.{ArePathNodes};
 ghost use Rattle.shape_model.specs.Triples.{IsIri, IsMember, IsLiteral};
 ghost use Rattle.shape_model.specs.ShapeSyntax.{ListOf};
 ghost use Rattle.shape_rules.specs.Properties.{property_iri};
 ghost use Rattle.shape_rules.specs.Syntax.{HasPath, HasProperty};
 ghost use Rattle.shape_rules.specs.Broken.{AreIris, IsLong, Passes};
 
-use crate::list::list_members;
-use crate::lookup::values;
 use crate::terms::{
-    is_blank, is_boolean, is_flags, is_integer, is_iri, is_literal, is_message, is_node_kind,
-    is_same, is_text, is_true_or_false, text_len,
+    is_boolean, is_flags, is_integer, is_message, is_node_kind, is_text, is_true_or_false, text_len,
 };
 use crate::{ShapeProperty, Test};
 use rdf_model::{Term, Triple};
+use shape_syntax::list::list_members;
+use shape_syntax::lookup::values;
+use shape_syntax::paths::is_path;
+use shape_syntax::terms::{is_blank, is_iri, is_literal, is_same};
 use std::alloc::{AllocError, Global};
+use std::collections::BTreeSet;
 
 /// The triples with a value of the property at the node.
 pub fn property_values<'a>(
@@ -121,10 +124,12 @@ fn is_property_shape(graph: &[Triple], node: &Term) -> bool
 pub(crate) fn passes(
     alloc: Global,
     graph: &[Triple],
+    paths: &BTreeSet<Term>,
     test: Test,
     term: &Term,
 ) -> Result<bool, AllocError>
-    requires { IsAscending triple_cmp graph.now }
+    requires graph { IsAscending triple_cmp graph.now }
+    requires paths { ArePathNodes graph.now paths.now.keys }
     ensures { IfOk result (λ passed. IsTrue passed ↔ Passes graph.now test term.now) }
 {
     match test {
@@ -140,7 +145,7 @@ pub(crate) fn passes(
         Test::Message => Ok(is_message(term)),
         Test::TrueOrFalse => Ok(is_true_or_false(term)),
         Test::NodeKind => Ok(is_node_kind(term)),
-        Test::Path => Ok(is_iri(term)),
+        Test::Path => Ok(is_path(graph, paths, term)),
         Test::PropertyShape => Ok(is_property_shape(graph, term)),
         Test::List => is_list(alloc, graph, term),
         Test::ListOfIris => are_iris(alloc, graph, term),

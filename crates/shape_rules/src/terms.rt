@@ -2,47 +2,14 @@
 ghost use Rattle.std.specs.Prelude.{◌≡◌, ◌⊎◌, ◌↔◌, IsTrue, Option, None, codes, length};
 ghost use Rattle.std.specs.List.{list_all};
 ghost use Rattle.rdf_model.specs.declared.term.Term.TheVariants as data_terms;
-ghost use Rattle.shape_model.specs.Triples.{IsBlank, IsIri, IsLiteral, IsMember};
+ghost use Rattle.shape_model.specs.Triples.{IsMember};
 ghost use Rattle.shape_model.specs.WellFormed.{IsNodeKind};
 ghost use Rattle.shape_rules.specs.Tests;
 ghost use Rattle.shape_rules.specs.Tests.{xsd_boolean, xsd_integer, xsd_string};
 
 use literal_order::Lexical;
 use rdf_model::Term;
-
-pub(crate) fn is_same(term: &Term, other: &Term) -> bool
-    ensures { IsTrue result ↔ (term.now ≡ other.now) }
-{
-    term == other
-}
-
-pub(crate) fn is_blank(term: &Term) -> bool
-    ensures { IsTrue result ↔ IsBlank term.now }
-{
-    matches!(term, Term::Blank { .. })
-}
-
-pub(crate) fn is_iri(term: &Term) -> bool
-    ensures { IsTrue result ↔ IsIri term.now }
-{
-    matches!(term, Term::Iri(_))
-}
-
-pub(crate) fn is_literal(term: &Term) -> bool
-    ensures { IsTrue result ↔ IsLiteral term.now }
-{
-    matches!(term, Term::Literal { .. })
-}
-
-// Whether the term is the IRI.
-pub(crate) fn is_named(term: &Term, iri: &str) -> bool
-    ensures { IsTrue result ↔ (term.now ≡ data_terms.Iri iri.now) }
-{
-    match term {
-        Term::Iri(text) => text.as_str() == iri,
-        _ => false,
-    }
-}
+use shape_syntax::terms::is_named;
 
 // Whether the term is one of the six node kinds.
 #[tactic(auto, unfolding(shape_model::specs::Vocabulary::sh))]

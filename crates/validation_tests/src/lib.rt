@@ -7,6 +7,8 @@ mod definitions;
 #[cfg(test)]
 mod evaluations;
 #[cfg(test)]
+mod graph_paths;
+#[cfg(test)]
 mod listings;
 #[cfg(test)]
 mod path_texts;

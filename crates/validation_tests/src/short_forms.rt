@@ -36,10 +36,10 @@ fn iri(alloc: Global, short: &str) -> Result<Term, AllocError> {
     Ok(Term::Iri(text))
 }
 
-// A term by its short form: `_1` and `_2` are blank nodes, `'5` is an integer, `%true` a boolean,
+// A term by its short form: `_1` to `_5` are blank nodes, `'5` is an integer, `%true` a boolean,
 // `"x` a string, and all else is an IRI.
 pub(crate) fn term(alloc: Global, short: &str) -> Result<Term, AllocError> {
-    for (name, number) in [("_1", 1), ("_2", 2)] {
+    for (name, number) in [("_1", 1), ("_2", 2), ("_3", 3), ("_4", 4), ("_5", 5)] {
         if short == name {
             return Ok(Term::Blank { session: 1, number });
         }

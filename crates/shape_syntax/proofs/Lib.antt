@@ -1,0 +1,9 @@
+pub mod Ranges
+pub mod Places
+pub mod Loops
+pub mod PathSteps
+pub mod Keys
+pub mod Asked
+pub mod PathWays
+pub mod PathParts
+pub mod OnePath

@@ -1,0 +1,109 @@
+// The nodes of a graph in an order in which those that a node leads to come before it, where they don't lead back.
+ghost use Rattle.std.specs.Prelude.{◌≡◌, ◌⊎◌, IfOk, OnOk};
+ghost use Rattle.std.specs.List.{Contains};
+ghost use Rattle.collections.specs.Ordered.{IsAscending};
+ghost use Rattle.rdf_model.specs.declared.term.Term.{Term as TermData};
+ghost use Rattle.rdf_model.specs.Terms.{triple_cmp};
+ghost use Rattle.shape_syntax.specs.Subjects.{IsSubject};
+
+use crate::lookup::triples_of;
+use crate::subjects::push_unless_last;
+use crate::terms::is_blank;
+use collections::Sequence;
+use rdf_model::{Term, Triple};
+use std::alloc::{AllocError, Global};
+use std::collections::BTreeSet;
+
+#[derive(Drop)]
+enum Visit {
+    // A node that may not have been entered.
+    Enter(Term),
+    // One whose values have been left.
+    Leave(Term),
+}
+
+// The blank nodes that the node leads to are next, and then the node itself.
+fn push_visits(graph: &[Triple], node: Term, stack: &mut Vec<Visit>) -> Result<(), AllocError>
+    requires { IsAscending triple_cmp graph.now }
+{
+    let own = triples_of(graph, &node);
+    stack.push(Visit::Leave(node))?;
+    for triple in own {
+        if is_blank(&triple.object) {
+            stack.push(Visit::Enter(triple.object.clone()?))?;
+        }
+    }
+    Ok(())
+}
+
+fn enter(
+    graph: &[Triple],
+    node: Term,
+    entered: &mut BTreeSet<Term>,
+    stack: &mut Vec<Visit>,
+) -> Result<(), AllocError>
+    requires { IsAscending triple_cmp graph.now }
+{
+    if entered.insert(node.clone()?)? {
+        return push_visits(graph, node, stack);
+    }
+    Ok(())
+}
+
+fn perform(
+    graph: &[Triple],
+    visit: Visit,
+    entered: &mut BTreeSet<Term>,
+    stack: &mut Vec<Visit>,
+    nodes: &mut Sequence<Term>,
+) -> Result<(), AllocError>
+    requires { IsAscending triple_cmp graph.now }
+    ensures { OnOk result ((n : TermData) → Contains nodes.old n → Contains nodes.new n) }
+{
+    match visit {
+        Visit::Enter(node) => {
+            enter(graph, node, entered, stack)?;
+            Ok(())
+        }
+        Visit::Leave(node) => {
+            nodes.push(node)?;
+            Ok(())
+        }
+    }
+}
+
+// Adds what the node leads to, as far as it hasn't been entered, and the node.
+fn descend(
+    alloc: Global,
+    graph: &[Triple],
+    start: &Term,
+    entered: &mut BTreeSet<Term>,
+    nodes: &mut Sequence<Term>,
+) -> Result<(), AllocError>
+    requires { IsAscending triple_cmp graph.now }
+    ensures { OnOk result ((n : TermData) → Contains nodes.old n ⊎ (start.now ≡ n) → Contains nodes.new n) }
+{
+    let mut stack = Vec::new(alloc);
+    stack.push(Visit::Enter(start.clone()?))?;
+    for _ in 0..u64::MAX {
+        let Some(visit) = stack.pop() else {
+            break;
+        };
+        perform(graph, visit, entered, &mut stack, nodes)?;
+    }
+    push_unless_last(start, nodes)?;
+    Ok(())
+}
+
+/// The nodes of the graph, some of them more than once; each subject is among them.
+pub(crate) fn from_below(alloc: Global, graph: &[Triple]) -> Result<Sequence<Term>, AllocError>
+    requires { IsAscending triple_cmp graph.now }
+    ensures { IfOk result (λ nodes. (n : TermData) → IsSubject graph.now n → Contains nodes n) }
+{
+    let mut entered = BTreeSet::new(alloc);
+    let mut nodes = Sequence::new(alloc);
+    for triple in graph {
+        descend(alloc, graph, &triple.subject, &mut entered, &mut nodes)?;
+    }
+    Ok(nodes)
+}

@@ -1,0 +1,118 @@
+//! The nodes that stand for paths (SHACL section 2.3.1).
+//!
+//! They are gathered from below: a node is asked again until what is known of the others shows that it stands
+//! for a path, or until nothing more is shown of any. So a path that leads back to itself is never gathered.
+ghost use Rattle.std.specs.Prelude.{◌≡◌, ◌⊎◌, ◌↔◌, IsTrue, IfOk, OnOk, length};
+ghost use Rattle.std.specs.List.{Contains};
+ghost use Rattle.collections.specs.Ordered.{IsAscending};
+ghost use Rattle.rdf_model.specs.declared.term.Term.{Term as TermData};
+ghost use Rattle.rdf_model.specs.Terms.{triple_cmp};
+ghost use Rattle.shape_syntax.specs.declared.claim.Claim.{Claim as ClaimData};
+ghost use Rattle.shape_syntax.specs.Subjects.{IsSubject};
+ghost use Rattle.shape_syntax.specs.PathNodes.{ArePathNodes, IsPath};
+ghost use Rattle.shape_syntax.specs.PathSteps.{WasAsked, WereAsked, node_of};
+
+use crate::below::from_below;
+use crate::claim::Claim;
+use crate::known::{Known, is_known};
+use crate::steps::is_shown;
+use collections::Sequence;
+use rdf_model::{Term, Triple};
+use std::alloc::{AllocError, Global};
+use std::collections::BTreeSet;
+
+fn push_claims(node: &Term, claims: &mut Sequence<Claim>) -> Result<(), AllocError>
+    ensures { OnOk result ((c : ClaimData) → Contains claims.new c ↔ (Contains claims.old c ⊎ (node.now ≡ node_of c))) }
+{
+    claims.push(Claim::List(node.clone()?))?;
+    claims.push(Claim::Path(node.clone()?))?;
+    Ok(())
+}
+
+// What is asked of the nodes.
+fn claims_of(alloc: Global, nodes: &[Term]) -> Result<Sequence<Claim>, AllocError>
+    ensures { IfOk result (λ claims. (c : ClaimData) → Contains nodes.now (node_of c) → Contains claims c) }
+{
+    let mut claims = Sequence::new(alloc);
+    for node in nodes {
+        push_claims(node, &mut claims)?;
+    }
+    Ok(claims)
+}
+
+// Notes the claim where it is shown, and else leaves it.
+fn ask(
+    graph: &[Triple],
+    claim: &Claim,
+    known: &mut Known,
+    left: &mut Sequence<Claim>,
+) -> Result<(), AllocError>
+    requires { IsAscending triple_cmp graph.now }
+    ensures { OnOk result (WasAsked graph.now claim.now known.old.paths.keys known.old.lists.keys
+        known.new.paths.keys known.new.lists.keys left.old left.new) }
+{
+    if is_shown(graph, known, claim) {
+        known.note(claim)?;
+        return Ok(());
+    }
+    left.push(claim.copied()?)?;
+    Ok(())
+}
+
+// Asks each of the claims, and gives those that are left.
+fn ask_each(
+    alloc: Global,
+    graph: &[Triple],
+    waiting: &[Claim],
+    known: &mut Known,
+) -> Result<Sequence<Claim>, AllocError>
+    requires { IsAscending triple_cmp graph.now }
+    ensures { IfOk result (λ left. WereAsked graph.now (length waiting.now) waiting.now known.old.paths.keys
+        known.old.lists.keys known.new.paths.keys known.new.lists.keys left) }
+{
+    let mut left = Sequence::new(alloc);
+    for claim in waiting {
+        ask(graph, claim, known, &mut left)?;
+    }
+    Ok(left)
+}
+
+// Asks the claims again until nothing more is shown.
+fn ask_all(
+    alloc: Global,
+    graph: &[Triple],
+    claims: Sequence<Claim>,
+) -> Result<BTreeSet<Term>, AllocError>
+    requires graph { IsAscending triple_cmp graph.now }
+    requires claims { (c : ClaimData) → IsSubject graph.now (node_of c) → Contains claims c }
+    ensures { IfOk result (λ nodes. ArePathNodes graph.now nodes.keys) }
+{
+    let mut known = Known::new(alloc);
+    let mut waiting = claims;
+    loop {
+        let left = ask_each(alloc, graph, waiting.as_slice(), &mut known)?;
+        if left.len() == waiting.len() {
+            return Ok(known.into_paths());
+        }
+        waiting = left;
+    }
+}
+
+/// The blank nodes that stand for a path. Nodes are asked from below, so that one round shows them all and a second
+/// shows no more, unless paths go through lists whose cells are IRIs.
+pub fn path_nodes(alloc: Global, graph: &[Triple]) -> Result<BTreeSet<Term>, AllocError>
+    requires { IsAscending triple_cmp graph.now }
+    ensures { IfOk result (λ nodes. ArePathNodes graph.now nodes.keys) }
+{
+    let nodes = from_below(alloc, graph)?;
+    let claims = claims_of(alloc, nodes.as_slice())?;
+    ask_all(alloc, graph, claims)
+}
+
+/// Whether the node stands for a path: it is an IRI, or one of the graph's `path_nodes`.
+pub fn is_path(graph: &[Triple], nodes: &BTreeSet<Term>, node: &Term) -> bool
+    requires { ArePathNodes graph.now nodes.now.keys }
+    ensures { IsTrue result ↔ IsPath graph.now node.now }
+{
+    is_known(nodes, node)
+}

@@ -1,0 +1,41 @@
+//! The subjects of a graph (RDF 1.1 Concepts, section 3.1).
+ghost use Rattle.std.specs.Prelude.{◌≡◌, ◌⊎◌, ◌↔◌, IsTrue, IfOk, OnOk};
+ghost use Rattle.std.specs.List.{Contains};
+ghost use Rattle.rdf_model.specs.declared.term.Term.{Term as TermData};
+ghost use Rattle.shape_syntax.specs.Subjects.{IsSubject};
+
+use crate::terms::is_same;
+use collections::Sequence;
+use rdf_model::{Term, Triple};
+use std::alloc::{AllocError, Global};
+
+fn is_last(nodes: &[Term], node: &Term) -> bool
+    ensures { IsTrue result → Contains nodes.now node.now }
+{
+    match nodes.last() {
+        Some(last) => is_same(last, node),
+        None => false,
+    }
+}
+
+/// Adds the node, unless it was added last.
+pub(crate) fn push_unless_last(node: &Term, nodes: &mut Sequence<Term>) -> Result<(), AllocError>
+    ensures { OnOk result ((n : TermData) → Contains nodes.new n ↔ (Contains nodes.old n ⊎ (node.now ≡ n))) }
+{
+    if is_last(nodes.as_slice(), node) {
+        return Ok(());
+    }
+    nodes.push(node.clone()?)?;
+    Ok(())
+}
+
+/// The subjects of the graph, in its order; each stands once where the graph ascends.
+pub fn subjects(alloc: Global, graph: &[Triple]) -> Result<Sequence<Term>, AllocError>
+    ensures { IfOk result (λ nodes. (n : TermData) → Contains nodes n ↔ IsSubject graph.now n) }
+{
+    let mut nodes = Sequence::new(alloc);
+    for triple in graph {
+        push_unless_last(&triple.subject, &mut nodes)?;
+    }
+    Ok(nodes)
+}
