@@ -56,3 +56,25 @@ call_in_bound (Some p) l fs e = run_bound_in p.1 (bytes_eq p.0 (codes "run")) l 
 
 pub run_bound : (words : List Text) (l : Limits) (fs : List (List ℕ)) → call_of words ≡ Some (Run l fs) → l.terms ≤ 2000000
 run_bound words l fs e = call_in_bound (subcommand_of command_line words) l fs (given _ _ _ e).1
+
+limits_of_replay : (o : Option Limits) (h : Option (List ℕ)) (f : Option (List (List ℕ))) (l : Limits) (n : List ℕ) (fs : List (List ℕ)) → replay_of o h f ≡ Some (Replay l n fs) → o ≡ Some l
+limits_of_replay (Some m) (Some g) (Some gs) l n fs e = let same : Replay m g gs ≡ Replay l n fs = cc in let one : m ≡ l = cc in ap Some one
+limits_of_replay (Some m) (Some g) None l n fs e = cc
+limits_of_replay (Some m) None f l n fs e = cc
+limits_of_replay None h f l n fs e = cc
+
+never_a_replay : (o : Option Limits) (f : Option (List (List ℕ))) (l : Limits) (n : List ℕ) (fs : List (List ℕ)) → run_of o f ≡ Some (Replay l n fs) → ⊥
+never_a_replay (Some m) (Some gs) l n fs e = let no : Run m gs ≡ Replay l n fs = cc in cc
+never_a_replay (Some m) None l n fs e = cc
+never_a_replay None f l n fs e = cc
+
+replay_bound_in : (rows : List Row) (b : Bool) (l : Limits) (n : List ℕ) (fs : List (List ℕ)) → (if b then run_of (limits_in rows) (files_in rows) else replay_of (limits_in rows) (history_in rows) (files_in rows)) ≡ Some (Replay l n fs) → l.terms ≤ 2000000
+replay_bound_in rows true l n fs e = absurd (never_a_replay (limits_in rows) (files_in rows) l n fs e)
+replay_bound_in rows false l n fs e = rows_bound rows l (limits_of_replay (limits_in rows) (history_in rows) (files_in rows) l n fs e)
+
+call_in_replay : (o : Option (Text × List Row)) (l : Limits) (n : List ℕ) (fs : List (List ℕ)) → call_in o ≡ Some (Replay l n fs) → l.terms ≤ 2000000
+call_in_replay None l n fs e = cc
+call_in_replay (Some p) l n fs e = replay_bound_in p.1 (bytes_eq p.0 (codes "run")) l n fs e
+
+pub replay_bound : (words : List Text) (l : Limits) (n : List ℕ) (fs : List (List ℕ)) → call_of words ≡ Some (Replay l n fs) → l.terms ≤ 2000000
+replay_bound words l n fs e = call_in_replay (subcommand_of command_line words) l n fs (given _ _ _ e).1

@@ -1,15 +1,16 @@
--- Where the words name session files that are there, nothing but their run is due.
-use Rattle.std.proofs.Common.{◌≡◌, ℕ, zero, suc, ◌+◌, ◌<◌, List, [], ◌∷◌, length, take, get_or, Option, Some, None, Ok, Err, sym, ap, subst, ◌∙◌, arith}
+-- Where the words name session files that are there, nothing but their run is due, or the first bad place of their history.
+use Rattle.std.proofs.Common.{◌≡◌, ◌≢◌, ℕ, zero, suc, ◌+◌, ◌<◌, ◌≤◌, List, [], ◌∷◌, length, take, get_or, Option, Some, None, Ok, Err, inl, inr, sym, ap, subst, ◌∙◌, arith}
 use Rattle.std.proofs.lemmas.List.{take_all}
+use Rattle.store_model.specs.declared.event.Limits.{Limits}
 use Rattle.session_reader.specs.declared.read_command.ReadCommand.{ReadCommand}
 use Rattle.session_reader.specs.SessionFile.{session_of}
 use Rattle.outside.specs.Files.{Contents, Loads}
 use Rattle.shacl_guard.specs.declared.status.Status.{Status}
-use Rattle.shacl_guard.specs.declared.status.Status.TheVariants.{Done, Usage, ReadFault, WriteFault, BadSession, Memory, TooLong, TooManyFiles}
+use Rattle.shacl_guard.specs.declared.status.Status.TheVariants.{Done, Usage, ReadFault, WriteFault, BadSession, Memory, TooLong, TooManyFiles, BadHistory}
 use Rattle.shacl_guard.specs.Requests.{Request, request_of}
-use Rattle.shacl_guard.specs.Loading.{HasBadLine, IsTooLong, room}
-use Rattle.shacl_guard.specs.Due.{IsDue}
-use Rattle.shacl_guard.specs.Outcome.{AreThere, HasSessions, IsDoneOrMemory}
+use Rattle.shacl_guard.specs.Loading.{FirstAt, HasBadLine, IsFirstLong, IsTooLong, room}
+use Rattle.shacl_guard.specs.Due.{IsBadHistory, IsDue, IsRefused, IsRefusedRequest}
+use Rattle.shacl_guard.specs.Outcome.{AreThere, AskReplay, HasSessions, IsHistoryThere, IsRunOrMemory}
 
 -- a file that is there and holds session i
 abbrev IsThere : (List ℕ → Option (List ℕ)) → ℕ → List ℕ → Type 0
@@ -21,40 +22,61 @@ there_at held i (name ∷ names) zero h lt = subst (λ (j : ℕ). IsThere held j
 there_at held i (name ∷ names) (suc k) h lt = subst (λ (j : ℕ). IsThere held j (get_or names k [])) (omega arith) (there_at held (i + 1) names k h.1 (omega (arith, lt)))
 
 -- what was loaded is the whole file
-whole : (held : List ℕ → Option (List ℕ)) (i : ℕ) (name loaded : List ℕ) (h : IsThere held i name) → Loads (Some held) name room loaded → loaded ≡ h.0
-whole held i name loaded h l =
-    let contents : Some l.0 ≡ Some h.0 = sym l.1 ∙ h.2 in
-    let all : l.0 ≡ h.0 = cc in
-    l.2 ∙ (ap (take room) all ∙ take_all room h.0 (omega (arith, h.3)))
+whole : (held : List ℕ → Option (List ℕ)) (name loaded bytes : List ℕ) → held name ≡ Some bytes → length bytes < room → Loads (Some held) name room loaded → loaded ≡ bytes
+whole held name loaded bytes e short l =
+    let contents : Some l.0 ≡ Some bytes = sym l.1 ∙ e in
+    let all : l.0 ≡ bytes = cc in
+    l.2 ∙ (ap (take room) all ∙ take_all room bytes (omega (arith, short)))
 
-never_long : (held : List ℕ → Option (List ℕ)) (i : ℕ) (name : List ℕ) → IsThere held i name → IsTooLong (Some held) name → ⊥
-never_long held i name h t = let e = ap length (whole held i name t.0 h t.1) in omega (arith, e, t.2, h.3)
+short_enough : (held : List ℕ → Option (List ℕ)) (name bytes : List ℕ) → held name ≡ Some bytes → length bytes < room → IsTooLong (Some held) name → ⊥
+short_enough held name bytes e short t = let same = ap length (whole held name t.0 bytes e short t.1) in omega (arith, same, t.2, short)
 
 never_bad : (held : List ℕ → Option (List ℕ)) (i n : ℕ) (name : List ℕ) → IsThere held i name → HasBadLine (Some held) i n name → ⊥
 never_bad held i n name h b =
-    let e = whole held i name b.0 h b.1 in
+    let e = whole held name b.0 h.0 h.2 h.3 b.1 in
     let no : Err n ≡ Ok h.1 = sym b.2.1 ∙ (ap (session_of i) e ∙ h.4) in cc
+
+-- no session file is too long
+never_long : (held : List ℕ → Option (List ℕ)) (names : List (List ℕ)) (i : ℕ) → AreThere held 1 names → FirstAt (Some held) names i (IsTooLong (Some held)) → ⊥
+never_long held names i there f =
+    let one = there_at held 1 names f.0 there f.2 in
+    short_enough held (get_or names f.0 []) one.0 one.2 one.3 f.4
+
+-- nor is any file
+never_first_long : (held : List ℕ → Option (List ℕ)) (history : Option (List ℕ)) (names : List (List ℕ)) (i : ℕ) → IsHistoryThere held history → AreThere held 1 names → IsFirstLong (Some held) history names i → ⊥
+never_first_long held None names i h there f = never_long held names i there f
+never_first_long held (Some name) names i h there (inl f) = short_enough held name h.0 h.1 h.2 f.1
+never_first_long held (Some name) names i h there (inr f) = never_long held names f.0 there f.3
 
 same_request : (words : List (List ℕ)) (r q : Request) → request_of words ≡ Some r → request_of words ≡ Some q → q ≡ r
 same_request words r q a b = let e : Some q ≡ Some r = sym b ∙ a in cc
 
-pub complete : (words : List (List ℕ)) (held : Option Contents) (s : Status) (text : List ℕ) → IsDue words held s text → HasSessions words held → IsDoneOrMemory s
+-- why such a request isn't refused, but for its history
+never_many : (held : List ℕ → Option (List ℕ)) (r : Request) → length r.files ≤ 64 → IsRefused (Some held) r TooManyFiles → ⊥
+never_many held r few h = omega (arith, few, h)
+
+never_bad_session : (held : List ℕ → Option (List ℕ)) (r : Request) (i n : ℕ) → AreThere held 1 r.files → IsRefused (Some held) r (BadSession i n) → ⊥
+never_bad_session held r i n there h =
+    let f = h.2 in
+    let one = there_at held 1 r.files f.0 there f.2 in
+    never_bad held i n (get_or r.files f.0 []) (subst (λ (j : ℕ). IsThere held j (get_or r.files f.0 [])) (omega (arith, f.1)) one) f.4
+
+-- what is refused is the request of the words
+refused_request : (words : List (List ℕ)) (held : List ℕ → Option (List ℕ)) (s : Status) (r : Request) → request_of words ≡ Some r → IsRefusedRequest words (Some held) s → IsRefused (Some held) r s
+refused_request words held s r e d = subst (λ (q : Request). IsRefused (Some held) q s) (same_request words r d.0 e d.1) d.2
+
+has_history : (held : Option Contents) (l : Limits) (history : Option (List ℕ)) (names : List (List ℕ)) (k : ℕ) → IsBadHistory held l history names k → history ≢ None
+has_history held l None names k h = absurd h
+has_history held l (Some name) names k h = λ no. cc
+
+pub complete : (words : List (List ℕ)) (held : Option Contents) (s : Status) (text : List ℕ) → IsDue words held s text → HasSessions words held → IsRunOrMemory words s
 complete words None s text d h = absurd h
 complete words (Some held) Done text d h = tt
 complete words (Some held) Memory text d h = tt
 complete words (Some held) Usage text d h = let no : None ≡ Some h.0 = sym d.0 ∙ h.1 in cc
 complete words (Some held) ReadFault text d h = absurd d
 complete words (Some held) WriteFault text d h = absurd d
-complete words (Some held) TooManyFiles text d h =
-    let e = ap (λ (r : Request). length r.files) (same_request words h.0 d.0.0 h.1 d.0.1) in
-    absurd (omega (arith, e, d.0.2, h.2))
-complete words (Some held) (BadSession i n) text d h =
-    let f = d.0.2.1 in
-    let e = ap (λ (r : Request). r.files) (same_request words h.0 d.0.0 h.1 d.0.1) in
-    let there = there_at held 1 d.0.0.files f.0 (subst (λ (names : List (List ℕ)). AreThere held 1 names) (sym e) h.3) f.2 in
-    absurd (never_bad held i n (get_or d.0.0.files f.0 []) (subst (λ (j : ℕ). IsThere held j (get_or d.0.0.files f.0 [])) (omega (arith, f.1)) there) f.4)
-complete words (Some held) (TooLong i) text d h =
-    let f = d.0.2.1 in
-    let e = ap (λ (r : Request). r.files) (same_request words h.0 d.0.0 h.1 d.0.1) in
-    let there = there_at held 1 d.0.0.files f.0 (subst (λ (names : List (List ℕ)). AreThere held 1 names) (sym e) h.3) f.2 in
-    absurd (never_long held (1 + f.0) (get_or d.0.0.files f.0 []) there f.4)
+complete words (Some held) TooManyFiles text d h = never_many held h.0 h.3 (refused_request words held TooManyFiles h.0 h.1 d.0)
+complete words (Some held) (BadSession i n) text d h = never_bad_session held h.0 i n h.4 (refused_request words held (BadSession i n) h.0 h.1 d.0)
+complete words (Some held) (TooLong i) text d h = never_first_long held h.0.history h.0.files i h.2 h.4 (refused_request words held (TooLong i) h.0 h.1 d.0).1
+complete words (Some held) (BadHistory k) text d h = (h.0, h.1, has_history (Some held) h.0.limits h.0.history h.0.files k (refused_request words held (BadHistory k) h.0 h.1 d.0).1)

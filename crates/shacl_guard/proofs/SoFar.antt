@@ -5,7 +5,7 @@ use Rattle.std.proofs.Math.Seq.{take-suc}
 use Rattle.session_model.specs.declared.command.Command.{Command}
 use Rattle.outside.specs.Files.{Contents, Loads as Gives}
 use Rattle.shacl_guard.specs.declared.status.Status.{Status}
-use Rattle.shacl_guard.specs.declared.status.Status.TheVariants.{Done, Usage, ReadFault, WriteFault, BadSession, Memory, TooLong, TooManyFiles}
+use Rattle.shacl_guard.specs.declared.status.Status.TheVariants.{Done, Usage, ReadFault, WriteFault, BadSession, Memory, TooLong, TooManyFiles, BadHistory}
 use Rattle.std.specs.Prelude.{MatchResult, Result, Ok, Err}
 use Rattle.shacl_guard.specs.Loading.{AreSession, HoldsSession, HoldSessions, room, FirstAt, HasBadLine, IsTooLong}
 use Rattle.shacl_guard.specs.World.{Loads, LoadsOne, LoadsSome, NoneFailed}
@@ -71,12 +71,14 @@ pub SoFar-stops : (s : Status) (held : Option Contents) (names : List (List ℕ)
 SoFar-stops ReadFault held names k before mid after name all few lt is so u =
     (k + 1, few, first_at held names k (k + 1) before mid name all (λ x. after.failed ≡ before.failed ++ x ∷ []) refl lt is so (u.0 ∙ ap (λ xs. xs ++ name ∷ []) so.failed), loaded-next names k name before.loaded mid.loaded after.loaded lt is so.loaded u.1)
 SoFar-stops (BadSession j n) held names k before mid after name all few lt is so u = (
-  (few, first_at held names k j before mid name all (HasBadLine held j n) u.0 lt is so (subst (λ (i : ℕ). HasBadLine held i n name) (sym u.0) u.1)),
+  few,
+  first_at held names k j before mid name all (HasBadLine held j n) u.0 lt is so (subst (λ (i : ℕ). HasBadLine held i n name) (sym u.0) u.1),
   subst (λ (i : ℕ). LoadsSome i names before after) (sym u.0) (loaded-next names k name before.loaded mid.loaded after.loaded lt is so.loaded u.2),
   u.3 ∙ so.failed,
 )
 SoFar-stops (TooLong j) held names k before mid after name all few lt is so u = (
-  (few, first_at held names k j before mid name all (IsTooLong held) u.0 lt is so u.1),
+  few,
+  first_at held names k j before mid name all (IsTooLong held) u.0 lt is so u.1,
   subst (λ (i : ℕ). LoadsSome i names before after) (sym u.0) (loaded-next names k name before.loaded mid.loaded after.loaded lt is so.loaded u.2),
   u.3 ∙ so.failed,
 )
@@ -85,6 +87,7 @@ SoFar-stops Done held names k before mid after name all few lt is so u = absurd 
 SoFar-stops Usage held names k before mid after name all few lt is so u = absurd u
 SoFar-stops WriteFault held names k before mid after name all few lt is so u = absurd u
 SoFar-stops TooManyFiles held names k before mid after name all few lt is so u = absurd u
+SoFar-stops (BadHistory j) held names k before mid after name all few lt is so u = absurd u
 
 -- memory ran out in the loop itself
 pub SoFar-memory : (held : Option Contents) (names : List (List ℕ)) (k : ℕ) (before after : Loads) (all : List (List Command)) → LoadedSoFar held names k before after all → Stops Memory held names before after
@@ -100,6 +103,7 @@ unloaded Done held i name bytes before after l one none u = absurd u
 unloaded Usage held i name bytes before after l one none u = absurd u
 unloaded WriteFault held i name bytes before after l one none u = absurd u
 unloaded TooManyFiles held i name bytes before after l one none u = absurd u
+unloaded (BadHistory j) held i name bytes before after l one none u = absurd u
 
 pub loaded_session : (held : Option Contents) (i : ℕ) (name bytes : List ℕ) (before after : Loads) (r : Result (List Command) Status) → Gives held name room bytes → LoadsOne name before after → NoneFailed before after → MatchResult r (λ commands. AreSession i bytes commands) (λ s. Unread s i bytes)
     → MatchResult r (λ commands. HoldsSession held i name commands × LoadsOne name before after × NoneFailed before after) (λ s. Unloaded s held i name before after)

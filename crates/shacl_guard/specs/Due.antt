@@ -1,17 +1,34 @@
 -- What the program has to print, and with which status.
-use Rattle.std.specs.Prelude.{◌≡◌, ℕ, ◌<◌, ◌≤◌, List, ◌++◌, length, Option, Some, None, codes}
+use Rattle.std.specs.Prelude.{◌≡◌, ℕ, ◌<◌, ◌≤◌, List, ◌++◌, length, map, Option, Some, None, codes}
 use Rattle.std.specs.Fmt.{decimal}
+use Rattle.store_model.specs.declared.event.Limits.{Limits}
 use Rattle.session_model.specs.declared.command.Command.{Command}
 use Rattle.session_model.specs.Print.{IsPrint, line}
+use Rattle.session_player.specs.Histories.{IsFirstBad}
+use Rattle.history_reader.specs.History.{history_of}
 use Rattle.outside.specs.Files.{Contents}
 use Rattle.shacl_guard.specs.declared.status.Status.{Status}
-use Rattle.shacl_guard.specs.declared.status.Status.TheVariants.{Done, Usage, ReadFault, WriteFault, BadSession, Memory, TooLong, TooManyFiles}
+use Rattle.shacl_guard.specs.declared.status.Status.TheVariants.{Done, Usage, ReadFault, WriteFault, BadSession, Memory, TooLong, TooManyFiles, BadHistory}
 use Rattle.shacl_guard.specs.Requests.{Request, request_of}
-use Rattle.shacl_guard.specs.Loading.{HoldSessions, FirstAt, HasBadLine, IsTooLong}
+use Rattle.shacl_guard.specs.Loading.{HoldsText, HoldsHistory, HoldSessions, FirstAt, HasBadLine, IsFirstLong}
+
+-- the order is that of the history, where one is handed in
+abbrev pub IsOrderOf : Option Contents → Option (List ℕ) → List ℕ → Type 0
+IsOrderOf held None order = Unit {0}
+IsOrderOf held (Some name) order = (bytes : List ℕ) × HoldsText held name bytes × (history_of bytes ≡ Some (map Some order))
 
 -- the text is what a run of the files prints, within the limits, in an order that is valid for them
 abbrev pub IsRun : Option Contents → Request → List ℕ → Type 0
-IsRun held r text = (all : List (List Command)) × (order : List ℕ) × HoldSessions held 1 r.files all × IsPrint all r.limits order text
+IsRun held r text = (all : List (List Command)) × (order : List ℕ) × HoldSessions held 1 r.files all × IsOrderOf held r.history order × IsPrint all r.limits order text
+
+-- place k of a history is the first that isn't valid; 0 where its text doesn't begin as one
+abbrev pub IsBadPlace : List (List Command) → Limits → Option (List (Option ℕ)) → ℕ → Type 0
+IsBadPlace all l None k = k ≡ 0
+IsBadPlace all l (Some places) k = IsFirstBad all l places k
+
+abbrev pub IsBadHistory : Option Contents → Limits → Option (List ℕ) → List (List ℕ) → ℕ → Type 0
+IsBadHistory held l None names k = ⊥
+IsBadHistory held l (Some name) names k = (bytes : List ℕ) × (all : List (List Command)) × HoldsText held name bytes × HoldSessions held 1 names all × IsBadPlace all l (history_of bytes) k
 
 -- the line of a status that is an error with a line
 abbrev pub error_line : Status → Option (List ℕ)
@@ -19,27 +36,33 @@ error_line Usage = Some (line (codes "error usage"))
 error_line (BadSession i n) = Some (line (codes "error session " ++ decimal i ++ codes " line " ++ decimal n))
 error_line (TooLong i) = Some (line (codes "error file " ++ decimal i ++ codes " too long"))
 error_line TooManyFiles = Some (line (codes "error too many files"))
+error_line (BadHistory k) = Some (line (codes "error history " ++ decimal k))
 error_line Done = None
 error_line ReadFault = None
 error_line WriteFault = None
 error_line Memory = None
 
 -- why the files of a request aren't run
-abbrev pub IsRefused : Option Contents → List (List ℕ) → Status → Type 0
-IsRefused held names TooManyFiles = 64 < length names
-IsRefused held names (BadSession i n) = (length names ≤ 64) × FirstAt held names i (HasBadLine held i n)
-IsRefused held names (TooLong i) = (length names ≤ 64) × FirstAt held names i (IsTooLong held)
-IsRefused held names Done = ⊥
-IsRefused held names Usage = ⊥
-IsRefused held names ReadFault = ⊥
-IsRefused held names WriteFault = ⊥
-IsRefused held names Memory = ⊥
+abbrev pub IsRefused : Option Contents → Request → Status → Type 0
+IsRefused held r TooManyFiles = 64 < length r.files
+IsRefused held r (BadSession i n) = (length r.files ≤ 64) × HoldsHistory held r.history × FirstAt held r.files i (HasBadLine held i n)
+IsRefused held r (TooLong f) = (length r.files ≤ 64) × IsFirstLong held r.history r.files f
+IsRefused held r (BadHistory k) = (length r.files ≤ 64) × IsBadHistory held r.limits r.history r.files k
+IsRefused held r Done = ⊥
+IsRefused held r Usage = ⊥
+IsRefused held r ReadFault = ⊥
+IsRefused held r WriteFault = ⊥
+IsRefused held r Memory = ⊥
+
+abbrev pub IsRefusedRequest : List (List ℕ) → Option Contents → Status → Type 0
+IsRefusedRequest words held s = (r : Request) × (request_of words ≡ Some r) × IsRefused held r s
 
 abbrev pub IsCause : List (List ℕ) → Option Contents → Status → Type 0
 IsCause words held Usage = request_of words ≡ None
-IsCause words held TooManyFiles = (r : Request) × (request_of words ≡ Some r) × IsRefused held r.files TooManyFiles
-IsCause words held (BadSession i n) = (r : Request) × (request_of words ≡ Some r) × IsRefused held r.files (BadSession i n)
-IsCause words held (TooLong i) = (r : Request) × (request_of words ≡ Some r) × IsRefused held r.files (TooLong i)
+IsCause words held TooManyFiles = IsRefusedRequest words held TooManyFiles
+IsCause words held (BadSession i n) = IsRefusedRequest words held (BadSession i n)
+IsCause words held (TooLong f) = IsRefusedRequest words held (TooLong f)
+IsCause words held (BadHistory k) = IsRefusedRequest words held (BadHistory k)
 IsCause words held Done = ⊥
 IsCause words held ReadFault = ⊥
 IsCause words held WriteFault = ⊥
@@ -56,8 +79,9 @@ abbrev pub IsDue : List (List ℕ) → Option Contents → Status → List ℕ �
 IsDue words held Done text = IsRunDue words held text
 IsDue words held Usage text = IsErrorDue words held Usage text
 IsDue words held (BadSession i n) text = IsErrorDue words held (BadSession i n) text
-IsDue words held (TooLong i) text = IsErrorDue words held (TooLong i) text
+IsDue words held (TooLong f) text = IsErrorDue words held (TooLong f) text
 IsDue words held TooManyFiles text = IsErrorDue words held TooManyFiles text
+IsDue words held (BadHistory k) text = IsErrorDue words held (BadHistory k) text
 IsDue words held ReadFault text = ⊥
 IsDue words held WriteFault text = ⊥
 IsDue words held Memory text = ⊥

@@ -1,26 +1,42 @@
 -- Why nothing is due, or no run.
-use Rattle.std.specs.Prelude.{◌≡◌, ◌⊎◌, ℕ, ◌≤◌, List, [], ◌∷◌, ◌++◌, length, Option, None}
+use Rattle.std.specs.Prelude.{◌≡◌, ◌⊎◌, ℕ, ◌+◌, ◌<◌, ◌≤◌, List, [], ◌∷◌, ◌++◌, length, Option, Some, None}
 use Rattle.outside.specs.Files.{Contents}
 use Rattle.shacl_guard.specs.declared.status.Status.{Status}
-use Rattle.shacl_guard.specs.declared.status.Status.TheVariants.{Done, Usage, ReadFault, WriteFault, BadSession, Memory, TooLong, TooManyFiles}
-use Rattle.shacl_guard.specs.Requests.{request_of, files_of}
-use Rattle.shacl_guard.specs.Loading.{FirstAt, HasBadLine, IsBadLine, IsTooLong, room}
-use Rattle.shacl_guard.specs.Due.{IsCause, IsRefused}
-use Rattle.shacl_guard.specs.World.{Loads, LoadsOne, LoadsSome, LoadsFirst, NoneFailed}
+use Rattle.shacl_guard.specs.declared.status.Status.TheVariants.{Done, Usage, ReadFault, WriteFault, BadSession, Memory, TooLong, TooManyFiles, BadHistory}
+use Rattle.shacl_guard.specs.Requests.{Request, all_files, request_of, files_of}
+use Rattle.shacl_guard.specs.Loading.{FirstAt, HasBadLine, HoldsHistory, IsBadLine, IsTooLong, room}
+use Rattle.shacl_guard.specs.Due.{IsRefused, IsRefusedRequest}
+use Rattle.shacl_guard.specs.World.{Loads, LoadsOne, LoadsSome, LoadsFirst, LoadsUpTo, NoneFailed, count_loaded}
 
--- the load of one of the files failed, after those before it, which hold sessions
+-- the load of one of the session files failed, after those before it, which hold sessions
 abbrev pub OneFailed : Option Contents → List (List ℕ) → Loads → Loads → Type 0
 OneFailed held names before after = (i : ℕ) × (length names ≤ 64) × FirstAt held names i (λ name. after.failed ≡ before.failed ++ name ∷ []) × LoadsSome i names before after
 
+-- the load of the history failed, or of one of the session files after it
+abbrev pub HistoryFailed : List ℕ → List (List ℕ) → Loads → Loads → Type 0
+HistoryFailed history names before after = (length names ≤ 64) × (after.failed ≡ before.failed ++ history ∷ []) × LoadsSome 1 (history ∷ names) before after
+
+abbrev pub SessionFailed : Option Contents → List ℕ → List (List ℕ) → Loads → Loads → Type 0
+SessionFailed held history names before after =
+    (i : ℕ) × (length names ≤ 64) × HoldsHistory held (Some history) × FirstAt held names i (λ name. after.failed ≡ before.failed ++ name ∷ []) × LoadsSome (i + 1) (history ∷ names) before after
+
+abbrev pub SomeFailed : Option Contents → Option (List ℕ) → List (List ℕ) → Loads → Loads → Type 0
+SomeFailed held None names before after = OneFailed held names before after
+SomeFailed held (Some history) names before after = HistoryFailed history names before after ⊎ SessionFailed held history names before after
+
+abbrev pub FailsRequest : Option Contents → List (List ℕ) → Loads → Loads → Type 0
+FailsRequest held words before after = (r : Request) × (request_of words ≡ Some r) × SomeFailed held r.history r.files before after
+
 abbrev pub Fails : Status → Option Contents → List (List ℕ) → Loads → Loads → Type 0
-Fails ReadFault held names before after = OneFailed held names before after
-Fails Memory held names before after = LoadsFirst names before after × NoneFailed before after
-Fails Done held names before after = ⊥
-Fails Usage held names before after = ⊥
-Fails WriteFault held names before after = ⊥
-Fails (BadSession i n) held names before after = ⊥
-Fails (TooLong i) held names before after = ⊥
-Fails TooManyFiles held names before after = ⊥
+Fails ReadFault held words before after = FailsRequest held words before after
+Fails Memory held words before after = LoadsFirst (files_of words) before after × NoneFailed before after
+Fails Done held words before after = ⊥
+Fails Usage held words before after = ⊥
+Fails WriteFault held words before after = ⊥
+Fails (BadSession i n) held words before after = ⊥
+Fails (TooLong i) held words before after = ⊥
+Fails TooManyFiles held words before after = ⊥
+Fails (BadHistory k) held words before after = ⊥
 
 -- why bytes are no file of session i
 abbrev pub Unread : Status → ℕ → List ℕ → Type 0
@@ -32,6 +48,7 @@ Unread Done i bytes = ⊥
 Unread Usage i bytes = ⊥
 Unread WriteFault i bytes = ⊥
 Unread TooManyFiles i bytes = ⊥
+Unread (BadHistory k) i bytes = ⊥
 
 -- why a load gave no session i
 abbrev pub Unloaded : Status → Option Contents → ℕ → List ℕ → Loads → Loads → Type 0
@@ -43,32 +60,79 @@ Unloaded Done held i name before after = ⊥
 Unloaded Usage held i name before after = ⊥
 Unloaded WriteFault held i name before after = ⊥
 Unloaded TooManyFiles held i name before after = ⊥
+Unloaded (BadHistory k) held i name before after = ⊥
 
 -- all files were loaded, each once, in order, and no other
 abbrev pub LoadsAll : List (List ℕ) → Loads → Loads → Type 0
 LoadsAll names before after = LoadsSome (length names) names before after × NoneFailed before after
 
-abbrev pub Stopped : Status → ℕ → Option Contents → List (List ℕ) → Loads → Loads → Type 0
-Stopped s n held names before after = IsRefused held names s × LoadsSome n names before after × NoneFailed before after
+-- why a load gave no history
+abbrev pub NoHistory : Status → Option Contents → List ℕ → Loads → Loads → Type 0
+NoHistory ReadFault held name before after = (after.failed ≡ before.failed ++ name ∷ []) × LoadsOne name before after
+NoHistory (TooLong f) held name before after = (f ≡ 1) × IsTooLong held name × LoadsOne name before after × NoneFailed before after
+NoHistory Memory held name before after = ((after.loaded ≡ before.loaded) ⊎ LoadsOne name before after) × NoneFailed before after
+NoHistory (BadSession j n) held name before after = ⊥
+NoHistory Done held name before after = ⊥
+NoHistory Usage held name before after = ⊥
+NoHistory WriteFault held name before after = ⊥
+NoHistory TooManyFiles held name before after = ⊥
+NoHistory (BadHistory k) held name before after = ⊥
 
--- why the files of a request gave no run
+-- why the session files gave no sessions
 abbrev pub Stops : Status → Option Contents → List (List ℕ) → Loads → Loads → Type 0
 Stops ReadFault held names before after = OneFailed held names before after
 Stops Memory held names before after = LoadsFirst names before after × NoneFailed before after
-Stops (BadSession i n) held names before after = Stopped (BadSession i n) i held names before after
-Stops (TooLong i) held names before after = Stopped (TooLong i) i held names before after
-Stops TooManyFiles held names before after = Stopped TooManyFiles 0 held names before after
+Stops (BadSession i n) held names before after = (length names ≤ 64) × FirstAt held names i (HasBadLine held i n) × LoadsSome i names before after × NoneFailed before after
+Stops (TooLong i) held names before after = (length names ≤ 64) × FirstAt held names i (IsTooLong held) × LoadsSome i names before after × NoneFailed before after
+Stops TooManyFiles held names before after = ⊥
 Stops Done held names before after = ⊥
 Stops Usage held names before after = ⊥
 Stops WriteFault held names before after = ⊥
+Stops (BadHistory k) held names before after = ⊥
+
+-- why a request gave no run
+abbrev pub IsStopped : Status → Option Contents → Request → Loads → Loads → Type 0
+IsStopped s held r before after = IsRefused held r s × LoadsSome (count_loaded s r) (all_files r.history r.files) before after × NoneFailed before after
+
+abbrev pub StopsRequest : Status → Option Contents → Request → Loads → Loads → Type 0
+StopsRequest ReadFault held r before after = SomeFailed held r.history r.files before after
+StopsRequest Memory held r before after = LoadsFirst (all_files r.history r.files) before after × NoneFailed before after
+StopsRequest (BadSession i n) held r before after = IsStopped (BadSession i n) held r before after
+StopsRequest (TooLong f) held r before after = IsStopped (TooLong f) held r before after
+StopsRequest TooManyFiles held r before after = IsStopped TooManyFiles held r before after
+StopsRequest (BadHistory k) held r before after = IsStopped (BadHistory k) held r before after
+StopsRequest Done held r before after = ⊥
+StopsRequest Usage held r before after = ⊥
+StopsRequest WriteFault held r before after = ⊥
 
 -- why words gave no run: they are no request, or it gave none
+abbrev pub StopsWith : Status → List (List ℕ) → Option Contents → Loads → Loads → Type 0
+StopsWith s words held before after = IsRefusedRequest words held s × LoadsUpTo s words before after × NoneFailed before after
+
 abbrev pub StopsCall : Status → List (List ℕ) → Option Contents → Loads → Loads → Type 0
-StopsCall Usage words held before after = (request_of words ≡ None) × LoadsSome 0 (files_of words) before after × NoneFailed before after
+StopsCall Usage words held before after = (request_of words ≡ None) × LoadsUpTo Usage words before after × NoneFailed before after
 StopsCall Memory words held before after = LoadsFirst (files_of words) before after × NoneFailed before after
-StopsCall ReadFault words held before after = OneFailed held (files_of words) before after
-StopsCall (BadSession i n) words held before after = IsCause words held (BadSession i n) × LoadsSome i (files_of words) before after × NoneFailed before after
-StopsCall (TooLong i) words held before after = IsCause words held (TooLong i) × LoadsSome i (files_of words) before after × NoneFailed before after
-StopsCall TooManyFiles words held before after = IsCause words held TooManyFiles × LoadsSome 0 (files_of words) before after × NoneFailed before after
+StopsCall ReadFault words held before after = FailsRequest held words before after
+StopsCall (BadSession i n) words held before after = StopsWith (BadSession i n) words held before after
+StopsCall (TooLong f) words held before after = StopsWith (TooLong f) words held before after
+StopsCall TooManyFiles words held before after = StopsWith TooManyFiles words held before after
+StopsCall (BadHistory k) words held before after = StopsWith (BadHistory k) words held before after
 StopsCall Done words held before after = ⊥
 StopsCall WriteFault words held before after = ⊥
+
+-- the status of a session file that comes behind a history, which is file 1
+abbrev pub behind_history : Status → Status
+behind_history (TooLong i) = TooLong (i + 1)
+behind_history s = s
+
+-- why the session files in the order of a history's text gave no run
+abbrev pub Unplayed : Status → (ℕ → Type 0) → Type 0
+Unplayed (BadHistory k) IsBad = IsBad k
+Unplayed Memory IsBad = Unit {0}
+Unplayed Done IsBad = ⊥
+Unplayed Usage IsBad = ⊥
+Unplayed ReadFault IsBad = ⊥
+Unplayed WriteFault IsBad = ⊥
+Unplayed (BadSession i n) IsBad = ⊥
+Unplayed (TooLong f) IsBad = ⊥
+Unplayed TooManyFiles IsBad = ⊥

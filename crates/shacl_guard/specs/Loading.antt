@@ -1,5 +1,5 @@
 -- What files hold, as far as it is told: sessions, or what is wrong with them.
-use Rattle.std.specs.Prelude.{◌≡◌, ℕ, ◌+◌, ◌<◌, List, [], ◌∷◌, length, take, get_or, Option, Err}
+use Rattle.std.specs.Prelude.{◌≡◌, ◌⊎◌, ℕ, ◌+◌, ◌<◌, List, [], ◌∷◌, length, take, get_or, Option, Some, None, Err}
 use Rattle.session_model.specs.declared.command.Command.{Command}
 use Rattle.session_reader.specs.SessionFile.{IsSession, session_of}
 use Rattle.outside.specs.Files.{Contents, Loads}
@@ -36,3 +36,22 @@ IsTooLong held name = (bytes : List ℕ) × Loads held name room bytes × (lengt
 -- the i-th of the files is so, and those before it hold sessions
 abbrev pub FirstAt : Option Contents → List (List ℕ) → ℕ → (List ℕ → Type 0) → Type 0
 FirstAt held names i P = (k : ℕ) × (i ≡ k + 1) × (k < length names) × ((all : List (List Command)) × HoldSessions held 1 (take k names) all) × P (get_or names k [])
+
+-- the file holds this text, within its length
+abbrev pub HoldsText : Option Contents → List ℕ → List ℕ → Type 0
+HoldsText held name bytes = Loads held name room bytes × (length bytes < room)
+
+-- the file of a history that is handed in holds some text
+abbrev pub HoldsHistory : Option Contents → Option (List ℕ) → Type 0
+HoldsHistory held None = Unit {0}
+HoldsHistory held (Some name) = (bytes : List ℕ) × HoldsText held name bytes
+
+-- file f is the first that is too long; the history's file is file 1
+abbrev pub IsFirstLong : Option Contents → Option (List ℕ) → List (List ℕ) → ℕ → Type 0
+IsFirstLong held None names f = FirstAt held names f (IsTooLong held)
+IsFirstLong held (Some name) names f = ((f ≡ 1) × IsTooLong held name) ⊎ ((i : ℕ) × (f ≡ i + 1) × HoldsHistory held (Some name) × FirstAt held names i (IsTooLong held))
+
+-- how many files are loaded up to that of session i
+abbrev pub loaded_up_to : Option (List ℕ) → ℕ → ℕ
+loaded_up_to None i = i
+loaded_up_to (Some name) i = i + 1

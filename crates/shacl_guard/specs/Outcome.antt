@@ -1,14 +1,14 @@
 -- What a status says of the words, the files and the sink.
-use Rattle.std.specs.Prelude.{◌≡◌, ℕ, ◌+◌, ◌<◌, ◌≤◌, List, [], ◌∷◌, length, take, Option, Some, None, Ok}
+use Rattle.std.specs.Prelude.{◌≡◌, ◌≢◌, ℕ, ◌+◌, ◌<◌, ◌≤◌, List, [], ◌∷◌, length, take, Option, Some, None, Ok}
 use Rattle.session_reader.specs.declared.read_command.ReadCommand.{ReadCommand}
 use Rattle.session_reader.specs.SessionFile.{session_of}
 use Rattle.outside.specs.Files.{Contents, grown}
 use Rattle.shacl_guard.specs.declared.status.Status.{Status}
-use Rattle.shacl_guard.specs.declared.status.Status.TheVariants.{Done, Usage, ReadFault, WriteFault, BadSession, Memory, TooLong, TooManyFiles}
+use Rattle.shacl_guard.specs.declared.status.Status.TheVariants.{Done, Usage, ReadFault, WriteFault, BadSession, Memory, TooLong, TooManyFiles, BadHistory}
 use Rattle.shacl_guard.specs.Requests.{Request, request_of, files_of}
 use Rattle.shacl_guard.specs.Loading.{room}
 use Rattle.shacl_guard.specs.Due.{IsDue}
-use Rattle.shacl_guard.specs.Faults.{OneFailed}
+use Rattle.shacl_guard.specs.Faults.{FailsRequest}
 use Rattle.shacl_guard.specs.World.{Call, LoadsUpTo, LoadsFirst, NoneFailed}
 
 -- the whole text that is due with the status was taken, the files were loaded as far as it took them, and no load failed
@@ -28,7 +28,8 @@ IsOutcome Usage c = PrintsAll Usage c
 IsOutcome (BadSession i n) c = PrintsAll (BadSession i n) c
 IsOutcome (TooLong i) c = PrintsAll (TooLong i) c
 IsOutcome TooManyFiles c = PrintsAll TooManyFiles c
-IsOutcome ReadFault c = OneFailed c.held (files_of c.words) c.before.loads c.after.loads × (c.after.taken ≡ c.before.taken)
+IsOutcome (BadHistory k) c = PrintsAll (BadHistory k) c
+IsOutcome ReadFault c = FailsRequest c.held c.words c.before.loads c.after.loads × (c.after.taken ≡ c.before.taken)
 IsOutcome WriteFault c = PrintsPart c
 IsOutcome Memory c = LoadsFirst (files_of c.words) c.before.loads c.after.loads × NoneFailed c.before.loads c.after.loads × (c.after.taken ≡ c.before.taken)
 
@@ -37,17 +38,28 @@ abbrev pub AreThere : (List ℕ → Option (List ℕ)) → ℕ → List (List �
 AreThere held i [] = Unit {0}
 AreThere held i (name ∷ names) = ((bytes : List ℕ) × (commands : List ReadCommand) × (held name ≡ Some bytes) × (length bytes < room) × (session_of i bytes ≡ Ok commands)) × AreThere held (i + 1) names
 
--- the words name up to 64 such files
+-- the file of a history is there, within its length, where one is handed in
+abbrev pub IsHistoryThere : (List ℕ → Option (List ℕ)) → Option (List ℕ) → Type 0
+IsHistoryThere held None = Unit {0}
+IsHistoryThere held (Some name) = (bytes : List ℕ) × (held name ≡ Some bytes) × (length bytes < room)
+
+-- the words ask for a run of up to 64 such files, or for a replay of them
 abbrev pub HasSessions : List (List ℕ) → Option Contents → Type 0
 HasSessions words None = ⊥
-HasSessions words (Some held) = (r : Request) × (request_of words ≡ Some r) × (length r.files ≤ 64) × AreThere held 1 r.files
+HasSessions words (Some held) = (r : Request) × (request_of words ≡ Some r) × IsHistoryThere held r.history × (length r.files ≤ 64) × AreThere held 1 r.files
 
-abbrev pub IsDoneOrMemory : Status → Type 0
-IsDoneOrMemory Done = Unit {0}
-IsDoneOrMemory Memory = Unit {0}
-IsDoneOrMemory Usage = ⊥
-IsDoneOrMemory ReadFault = ⊥
-IsDoneOrMemory WriteFault = ⊥
-IsDoneOrMemory (BadSession i n) = ⊥
-IsDoneOrMemory (TooLong i) = ⊥
-IsDoneOrMemory TooManyFiles = ⊥
+-- the words hand in a history
+abbrev pub AskReplay : List (List ℕ) → Type 0
+AskReplay words = (r : Request) × (request_of words ≡ Some r) × (r.history ≢ None)
+
+-- the sessions were run, or memory ran out, or the history that was handed in isn't valid for them
+abbrev pub IsRunOrMemory : List (List ℕ) → Status → Type 0
+IsRunOrMemory words Done = Unit {0}
+IsRunOrMemory words Memory = Unit {0}
+IsRunOrMemory words (BadHistory k) = AskReplay words
+IsRunOrMemory words Usage = ⊥
+IsRunOrMemory words ReadFault = ⊥
+IsRunOrMemory words WriteFault = ⊥
+IsRunOrMemory words (BadSession i n) = ⊥
+IsRunOrMemory words (TooLong i) = ⊥
+IsRunOrMemory words TooManyFiles = ⊥

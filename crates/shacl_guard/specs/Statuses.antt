@@ -1,7 +1,7 @@
 -- The numbers of the statuses.
 use Rattle.std.specs.Prelude.{ℕ}
 use Rattle.shacl_guard.specs.declared.status.Status.{Status}
-use Rattle.shacl_guard.specs.declared.status.Status.TheVariants.{Done, Usage, ReadFault, WriteFault, BadSession, Memory, TooLong, TooManyFiles}
+use Rattle.shacl_guard.specs.declared.status.Status.TheVariants.{Done, Usage, ReadFault, WriteFault, BadSession, Memory, TooLong, TooManyFiles, BadHistory}
 
 abbrev pub code_of : Status → ℕ
 code_of Done = 0
@@ -12,3 +12,4 @@ code_of (BadSession session line) = 5
 code_of Memory = 6
 code_of (TooLong file) = 7
 code_of TooManyFiles = 8
+code_of (BadHistory place) = 9

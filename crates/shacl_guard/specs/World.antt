@@ -1,9 +1,10 @@
 -- What a call of the program tells of the files and the sink.
-use Rattle.std.specs.Prelude.{◌≡◌, ℕ, List, [], ◌∷◌, ◌++◌, length, take, Option}
+use Rattle.std.specs.Prelude.{◌≡◌, ℕ, List, [], ◌∷◌, ◌++◌, length, take, Option, Some, None}
 use Rattle.outside.specs.Files.{Contents}
 use Rattle.shacl_guard.specs.declared.status.Status.{Status}
-use Rattle.shacl_guard.specs.declared.status.Status.TheVariants.{Done, Usage, ReadFault, WriteFault, BadSession, Memory, TooLong, TooManyFiles}
-use Rattle.shacl_guard.specs.Requests.{files_of}
+use Rattle.shacl_guard.specs.declared.status.Status.TheVariants.{Done, Usage, ReadFault, WriteFault, BadSession, Memory, TooLong, TooManyFiles, BadHistory}
+use Rattle.shacl_guard.specs.Requests.{Request, all_files, files_of, request_of}
+use Rattle.shacl_guard.specs.Loading.{loaded_up_to}
 
 -- the names that were loaded so far, and those whose loads failed
 pub record Loads : Type 0 where
@@ -22,16 +23,21 @@ pub record Call : Type 0 where
   pub before : Outside
   pub after : Outside
 
--- how many of its files a call loads that ends so
-abbrev pub count_loaded : Status → List (List ℕ) → ℕ
-count_loaded Done names = length names
-count_loaded (BadSession i n) names = i
-count_loaded (TooLong i) names = i
-count_loaded Usage names = 0
-count_loaded TooManyFiles names = 0
-count_loaded ReadFault names = 0
-count_loaded WriteFault names = 0
-count_loaded Memory names = 0
+-- how many of its files a request loads that ends so
+abbrev pub count_loaded : Status → Request → ℕ
+count_loaded Done r = length (all_files r.history r.files)
+count_loaded (BadHistory k) r = length (all_files r.history r.files)
+count_loaded (BadSession i n) r = loaded_up_to r.history i
+count_loaded (TooLong f) r = f
+count_loaded Usage r = 0
+count_loaded TooManyFiles r = 0
+count_loaded ReadFault r = 0
+count_loaded WriteFault r = 0
+count_loaded Memory r = 0
+
+abbrev pub count_in : Status → Option Request → ℕ
+count_in s None = 0
+count_in s (Some r) = count_loaded s r
 
 -- the first n of these names were loaded, each once, in order, and no other
 abbrev pub LoadsSome : ℕ → List (List ℕ) → Loads → Loads → Type 0
@@ -42,7 +48,7 @@ LoadsOne name before after = after.loaded ≡ before.loaded ++ name ∷ []
 
 -- of the files of the words, those up to the one that decided the status were loaded
 abbrev pub LoadsUpTo : Status → List (List ℕ) → Loads → Loads → Type 0
-LoadsUpTo s words before after = LoadsSome (count_loaded s (files_of words)) (files_of words) before after
+LoadsUpTo s words before after = LoadsSome (count_in s (request_of words)) (files_of words) before after
 
 -- the first of them, each once, in order
 abbrev pub LoadsFirst : List (List ℕ) → Loads → Loads → Type 0

@@ -1,8 +1,8 @@
-ghost use Rattle.std.specs.Prelude.{◌≡◌, ◌≤◌, [], ◌∷◌, ◌++◌, List, MatchResult, length};
+ghost use Rattle.std.specs.Prelude.{◌≡◌, ◌<◌, ◌≤◌, [], ◌∷◌, ◌++◌, List, MatchResult, length};
 ghost use Rattle.session_model.specs.declared.command.Command.{Command};
-ghost use Rattle.shacl_guard.specs.Faults.{LoadsAll, Stops, Unloaded, Unread};
+ghost use Rattle.shacl_guard.specs.Faults.{LoadsAll, NoHistory, Stops, Unloaded, Unread};
 ghost use Rattle.shacl_guard.specs.Loading;
-ghost use Rattle.shacl_guard.specs.Loading.{HoldsSession, HoldSessions};
+ghost use Rattle.shacl_guard.specs.Loading.{HoldsSession, HoldSessions, HoldsText};
 ghost use Rattle.shacl_guard.specs.World.{Loads, LoadsOne, NoneFailed};
 
 use crate::Status;
@@ -35,6 +35,32 @@ fn session_in<M: Maker>(
         Ok(commands) => Ok(commands),
         Err(PrepareFault::Line(line)) => Err(Status::BadSession { session, line }),
         Err(PrepareFault::Memory) => Err(Status::Memory),
+    }
+}
+
+// A text that is as long as a file may be.
+fn within_length(bytes: Vec<u8>) -> Result<Vec<u8>, Status>
+    requires { length bytes.items ≤ Loading.room }
+    ensures { MatchResult result (λ text. (text.items ≡ bytes.items) × (length bytes.items < Loading.room)) (λ s. (s ≡ Status.TooLong 1) × (length bytes.items ≡ Loading.room)) }
+{
+    if bytes.len() == ROOM {
+        return Err(Status::TooLong { file: 1 });
+    }
+    Ok(bytes)
+}
+
+/// The text of a history's file.
+pub fn load_history<F: Files>(alloc: Global, files: &mut F, name: &str) -> Result<Vec<u8>, Status>
+    ensures answer { let before : Loads = record { loaded = F.loaded files.old; failed = F.failed files.old } in
+        let after : Loads = record { loaded = F.loaded files.new; failed = F.failed files.new } in
+        MatchResult result (λ text. HoldsText (F.holds files.old) name.now text.items × LoadsOne name.now before after × NoneFailed before after)
+        (λ s. NoHistory s (F.holds files.old) name.now before after) }
+    ensures holds { F.holds files.new ≡ F.holds files.old }
+{
+    match files.load(alloc, name, ROOM) {
+        Ok(bytes) => within_length(bytes),
+        Err(LoadFault::Failed) => Err(Status::ReadFault),
+        Err(LoadFault::Memory) => Err(Status::Memory),
     }
 }
 

@@ -1,6 +1,6 @@
 ghost use Rattle.std.specs.Prelude.{◌≡◌, map};
 ghost use Rattle.outside.specs.Counts.{Rose};
-ghost use Rattle.shacl_guard.specs.Outcome.{IsOutcome, HasSessions, IsDoneOrMemory};
+ghost use Rattle.shacl_guard.specs.Outcome.{IsOutcome, HasSessions, IsRunOrMemory};
 
 use crate::Status;
 use crate::answer::answer_to;
@@ -11,7 +11,7 @@ use std::alloc::Global;
 ///
 /// `run FILES..` runs up to 64 session files beside each other: the sink takes what a plain store gives,
 /// asked one step at a time in the history that is printed, which holds the steps of each session once
-/// and in its file's order.
+/// and in its file's order. `replay HISTORY FILES..` does the same in the history that is handed in.
 pub fn run_command<R, F: Files, K: Sink, M: Maker, G: Gate>(
     _rt: &R,
     alloc: Global,
@@ -30,9 +30,10 @@ pub fn run_command<R, F: Files, K: Sink, M: Maker, G: Gate>(
     }) }
     ensures write_fault { result ≡ Status.WriteFault → Rose (K.faults out.old) (K.faults out.new) }
 
-    // Up to 64 session files within their length are run, unless a load or a write failed or memory ran out.
+    // Up to 64 session files within their length are run, unless a load or a write failed or memory ran out, or the history that
+    // was handed in isn't valid for them.
     ensures complete { HasSessions (map (λ w. w.now) words.now) (F.holds files.old) → F.failed files.new ≡ F.failed files.old
-        → (Rose (K.faults out.old) (K.faults out.new) → ⊥) → IsDoneOrMemory result }
+        → (Rose (K.faults out.old) (K.faults out.new) → ⊥) → IsRunOrMemory (map (λ w. w.now) words.now) result }
 
     // No pattern is made so far.
     ensures maker { maker.new ≡ maker.old }

@@ -23,6 +23,8 @@ pub enum Status {
     TooLong { file: u32 },
     /// More than 64 session files are named.
     TooManyFiles,
+    /// The first place of a history that isn't valid, from 1; 0 where its text doesn't begin as one.
+    BadHistory { place: u64 },
 }
 
 impl From<AllocError> for Status {
@@ -51,6 +53,7 @@ impl Status {
             Status::Memory => 6,
             Status::TooLong { .. } => 7,
             Status::TooManyFiles => 8,
+            Status::BadHistory { .. } => 9,
         }
     }
 

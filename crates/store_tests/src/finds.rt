@@ -9,7 +9,7 @@ use std::test::Fail;
 
 // A command; a find asks for all triples of a predicate.
 #[derive(Clone, Copy)]
-enum Row {
+pub enum Row {
     Begin,
     // Adds the triple of this subject, predicate and object.
     Add(&'static str, &'static str, &'static str),
@@ -49,7 +49,7 @@ fn command_of(alloc: Global, row: Row) -> Result<Command, AllocError> {
     }
 }
 
-fn commands_of(alloc: Global, rows: &[Row]) -> Result<Sequence<Command>, AllocError> {
+pub fn commands_of(alloc: Global, rows: &[Row]) -> Result<Sequence<Command>, AllocError> {
     let mut commands = Sequence::new(alloc);
     for row in rows {
         commands.push(command_of(alloc, *row)?)?;

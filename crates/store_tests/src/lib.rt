@@ -4,4 +4,6 @@
 #[cfg(test)]
 mod finds;
 #[cfg(test)]
+mod orders;
+#[cfg(test)]
 mod replay;

@@ -1,5 +1,5 @@
 // Histories, replayed. `0` stands for one whose events all are steps, else the first that is none.
-ghost use Rattle.std.specs.Prelude.{◌≡◌, ◌<◌};
+ghost use Rattle.std.specs.Prelude.{◌≡◌, ◌<◌, ◌≤◌};
 
 use collections::Sequence;
 use commit_core::{Again, Core, Event, Limits, ReplayFault, Transaction};
@@ -18,10 +18,10 @@ const LIMITS: Limits = Limits {
 
 // The IRIs of a triple.
 #[derive(Clone, Copy)]
-struct Iris {
-    subject: &'static str,
-    predicate: &'static str,
-    object: &'static str,
+pub struct Iris {
+    pub subject: &'static str,
+    pub predicate: &'static str,
+    pub object: &'static str,
 }
 
 // The IRIs of a triple with this subject, predicate and object.
@@ -35,7 +35,7 @@ fn three(subject: &'static str, predicate: &'static str, object: &'static str) -
 
 // What a session does.
 #[derive(Clone, Copy)]
-enum Ask {
+pub enum Ask {
     Open,
     Begin,
     Name(Iris),
@@ -47,7 +47,7 @@ enum Ask {
 
 // What it is answered.
 #[derive(Clone, Copy)]
-enum Answer {
+pub enum Answer {
     Session(u32),
     SessionsFull,
     Version(u64),
@@ -128,7 +128,7 @@ fn reply_of(alloc: Global, answer: Answer) -> Result<Reply, AllocError> {
     }
 }
 
-fn event_of(alloc: Global, row: (u32, Ask, Answer)) -> Result<Event, AllocError> {
+pub fn event_of(alloc: Global, row: (u32, Ask, Answer)) -> Result<Event, AllocError> {
     let (session, ask, answer) = row;
     let action = action_of(alloc, ask)?;
     Ok(Event {
@@ -154,13 +154,19 @@ fn events_of(
     Ok(events)
 }
 
-fn replayed<L: Ledger>(alloc: Global, events: Vec<Event>, blank: Blank) -> Result<usize, AllocError>
+fn replayed<L: Ledger>(
+    alloc: Global,
+    limits: Limits,
+    events: Vec<Event>,
+    blank: Blank,
+) -> Result<usize, AllocError>
+    requires limits { limits.terms ≤ 2000000 }
     requires name { blank.name ≡ L.name }
     requires parts { blank.parts ≡ L.parts }
     requires some { 0 < L.parts }
 {
     let mut steps = Steps::<L>::begin(blank);
-    match Core::replay(alloc, LIMITS, events, &mut steps) {
+    match Core::replay(alloc, limits, events, &mut steps) {
         Ok(core) => {
             let _ = core;
             Ok(0)
@@ -170,22 +176,28 @@ fn replayed<L: Ledger>(alloc: Global, events: Vec<Event>, blank: Blank) -> Resul
     }
 }
 
+/// The first of the events that is no step within these limits, from 1; 0 where all are.
+pub fn first_no_step(alloc: Global, limits: Limits, events: Vec<Event>) -> Result<usize, AllocError>
+    requires { limits.terms ≤ 2000000 }
+{
+    replayed::<Brand>(alloc, limits, events, Blank::new(1))
+}
+
 fn first_wrong(
     alloc: Global,
     opened: u32,
     rows: &[(u32, Ask, Answer)],
 ) -> Result<usize, AllocError> {
-    let events = events_of(alloc, opened, rows)?;
-    replayed::<Brand>(alloc, events, Blank::new(1))
+    first_no_step(alloc, LIMITS, events_of(alloc, opened, rows)?)
 }
 
-const FIRST: Iris = Iris {
+pub const FIRST: Iris = Iris {
     subject: "e:x",
     predicate: "e:r",
     object: "e:y",
 };
 
-const SECOND: Iris = Iris {
+pub const SECOND: Iris = Iris {
     subject: "e:x",
     predicate: "e:p",
     object: "e:y",

@@ -1,8 +1,8 @@
-use Rattle.std.proofs.Common.{◌≡◌, length, ap, arith}
-use Rattle.shacl_guard.proofs.SoFar.{count_sessions}
+use Rattle.std.proofs.Common.{arith, string_bytes}
+use Rattle.shacl_guard.proofs.Answering.{run_behind}
 use Rattle.shacl_guard.proofs.answer.run_files.Goals as goal
 
-pub print_sessions-requires-clause-few : goal.print_sessions-requires-clause-few
-print_sessions-requires-clause-few g c =
-    let n : length c.in_ok-all.all ≡ length c.as_slice.result.now = count_sessions _ _ _ _ c.in_ok-all.ensures.answer.0 in
-    rw c.as_slice-2.ensures (omega (arith, n, ap length c.as_slice.ensures, c.len.ensures, c.if-len-gt-MOST_FILES.false))
+pub returns-in-Some-clause-answer : goal.returns-in-Some-clause-answer
+returns-in-Some-clause-answer g c =
+    run_behind string_bytes (g.F.Files.holds c.args.files.now) c.args.request.now.limits c.args.request.now.history c.in-Some.history c.args.request.now.files _ _ c.replay_sessions.result
+    c.in-Some.is (omega (arith, c.len.ensures, c.if-len-gt-MOST_FILES.false)) (rw c.as_str.ensures at rw c.as_slice-names.ensures at c.replay_sessions.ensures.answer)
