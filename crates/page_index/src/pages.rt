@@ -20,11 +20,21 @@ use std::sync::Arc;
 /// A sorted set of keys, in pages that other sets may share.
 ///
 /// Contracts see it as the list of its keys, which ascends strictly in their order.
-#[derive(Drop)]
 pub struct Pages<K: Ord> {
     alloc: Global,
     root: Option<Arc<Page<K>>>,
     len: usize,
+}
+
+// Written by hand, so that what owns one calls it in place of having it written out.
+impl<K: Ord + Drop> Drop for Pages<K> {
+    fn drop(self) {
+        let Pages {
+            alloc: _,
+            root: _,
+            len: _,
+        } = self;
+    }
 }
 
 impl<K: Ord> Model for Pages<K> {

@@ -18,11 +18,21 @@ const RDFS_SUB_CLASS_OF: &str = "http://www.w3.org/2000/01/rdf-schema#subClassOf
 /// Terms and their numbers.
 ///
 /// Contracts see the list of its terms, by their numbers, and its limit.
-#[derive(Drop)]
 pub struct Dict {
     alloc: Global,
     limit: usize,
     table: Table,
+}
+
+// Written by hand, so that what owns one calls it in place of having it written out.
+impl Drop for Dict {
+    fn drop(self) {
+        let Dict {
+            alloc: _,
+            limit: _,
+            table: _,
+        } = self;
+    }
 }
 
 impl Model for Dict {
