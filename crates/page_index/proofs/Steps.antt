@@ -20,8 +20,8 @@ pub record IsStep {K : Type 0} (R : K → K → Ordering) (self : Image K) (keys
   pub image : IsAs keys fewer self (record { keys = keys_of new; height = height_of new; width = length new })
 
 -- an entry whose page is as it was
-pub same-entry : {K : Type 0} (e : Block K) (low : K) (p q : Image K) → p ≡ q → record { low = low; page = q } ≡ e → record { low = low; page = p } ≡ e
-same-entry e low p q h v = ap (λ (d : Image _). record { low = low; page = d }) h ∙ v
+pub entry-same : {K : Type 0} (e : Block K) (low : K) (p q : Image K) → p ≡ q → record { low = low; page = q } ≡ e → record { low = low; page = p } ≡ e
+entry-same e low p q h v = ap (λ (d : Image _). record { low = low; page = d }) h ∙ v
 
 set-own : {X : Type 0} (xs : List X) (i : ℕ) (a : X) → i < length xs → a ≡ get_or xs i a → set xs i a ≡ xs
 set-own [] i a lt is = absurd (omega arith)

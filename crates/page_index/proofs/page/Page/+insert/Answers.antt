@@ -5,7 +5,7 @@ use Rattle.page_index.specs.Blocks.{Block, most, least}
 use Rattle.page_index.proofs.Opened.{opened, opened-leaf}
 use Rattle.std.specs.Prelude.{not}
 use Rattle.std.proofs.lemmas.Result.{err_from_is_err_and}
-use Rattle.page_index.proofs.Steps.{step-none, step-same, same-entry, step-kept, step-added, step-found, step-lower, step-width, step-wide, leaf-answer}
+use Rattle.page_index.proofs.Steps.{step-none, step-same, entry-same, step-kept, step-added, step-found, step-lower, step-width, step-wide, leaf-answer}
 use Rattle.page_index.proofs.page.Page.+insert.Goals as goal
 
 pub invariant_of-self : goal.invariant_of-self
@@ -86,12 +86,12 @@ pub invariant_of-self-in_err-make_mut-in-Inner : goal.invariant_of-self-in_err-m
 invariant_of-self-in_err-make_mut-in-Inner g t c =
     let over = opened g.K.Ord.cmp c.self.inside.node c.in-Inner.entries c.args.self.now c.self.invariant c.in-Inner.is c.self.view_is in
     let was : arc_value c.make_mut.follows.lender-at-none ≡ arc_value c.entry.inside.page = elim (subst (λ r. OnErr r ((arc_value c.make_mut.follows.lender-at-none ≡ arc_value c.entry.inside.page) ⊎ (arc_value c.make_mut.follows.lender-at-none ≡ arc_value c.entry.inside.page))) c.in_err-make_mut-in-Inner.was c.make_mut.follows.holds-at-none) [ inl e ↦ e | inr e ↦ e ] in
-    let same = same-entry c.index_mut-entry.result.now c.entry.inside.low (arc_value c.make_mut.follows.lender-at-none) (arc_value c.entry.inside.page) was c.entry.view_is in
+    let same = entry-same c.index_mut-entry.result.now c.entry.inside.low (arc_value c.make_mut.follows.lender-at-none) (arc_value c.entry.inside.page) was c.entry.view_is in
     (step-same g.K.Ord.cmp g.met.K.Ord.total c.args.key c.args.self.now c.in-Inner.entries.items over 0 (over.some) c.room_for.new.entries.items c.room_for.ensures.kept c.in_ok-at-in-Inner.at c.in_ok-at-in-Inner.ensures.place.0.within c.index_mut-entry.result.now (record { low = c.entry.inside.low; page = arc_value c.make_mut.follows.lender-at-none }) c.index_mut-entry.ensures.value same).page
 
 pub returns-in_err-make_mut-in-Inner : goal.returns-in_err-make_mut-in-Inner
 returns-in_err-make_mut-in-Inner g t c =
     let over = opened g.K.Ord.cmp c.self.inside.node c.in-Inner.entries c.args.self.now c.self.invariant c.in-Inner.is c.self.view_is in
     let was : arc_value c.make_mut.follows.lender-at-none ≡ arc_value c.entry.inside.page = elim (subst (λ r. OnErr r ((arc_value c.make_mut.follows.lender-at-none ≡ arc_value c.entry.inside.page) ⊎ (arc_value c.make_mut.follows.lender-at-none ≡ arc_value c.entry.inside.page))) c.in_err-make_mut-in-Inner.was c.make_mut.follows.holds-at-none) [ inl e ↦ e | inr e ↦ e ] in
-    let same = same-entry c.index_mut-entry.result.now c.entry.inside.low (arc_value c.make_mut.follows.lender-at-none) (arc_value c.entry.inside.page) was c.entry.view_is in
+    let same = entry-same c.index_mut-entry.result.now c.entry.inside.low (arc_value c.make_mut.follows.lender-at-none) (arc_value c.entry.inside.page) was c.entry.view_is in
     let p = err_from_is_err_and c.from_residual-in_err-make_mut-in-Inner.result c.from_residual-in_err-make_mut-in-Inner.ensures.1 in rw p.1 (step-same g.K.Ord.cmp g.met.K.Ord.total c.args.key c.args.self.now c.in-Inner.entries.items over 0 (over.some) c.room_for.new.entries.items c.room_for.ensures.kept c.in_ok-at-in-Inner.at c.in_ok-at-in-Inner.ensures.place.0.within c.index_mut-entry.result.now (record { low = c.entry.inside.low; page = arc_value c.make_mut.follows.lender-at-none }) c.index_mut-entry.ensures.value same).image

@@ -6,7 +6,7 @@ use Rattle.collections.specs.Ordered.{has_item}
 use Rattle.page_index.specs.Blocks.{Block, least}
 use Rattle.page_index.proofs.Opened.{opened, opened-leaf, two-below}
 use Rattle.page_index.proofs.Swaps.{width-get}
-use Rattle.page_index.proofs.Steps.{step-none, step-same, same-entry, step-kept, step-removed, step-found, step-lower, step-width, leaf-removed}
+use Rattle.page_index.proofs.Steps.{step-none, step-same, entry-same, step-kept, step-removed, step-found, step-lower, step-width, leaf-removed}
 use Rattle.page_index.proofs.page.Page.+remove.Goals as goal
 
 pub invariant_of-self : goal.invariant_of-self
@@ -110,7 +110,7 @@ invariant_of-self-in_err-make_mut-in-Inner g t c =
     let over = opened g.K.Ord.cmp c.self.inside.node c.in-Inner.entries c.args.self.now c.self.invariant c.in-Inner.is c.self.view_is in
     let two : 1 < length c.in-Inner.entries.items = two-below c.args.self.now c.in-Inner.entries.items over c.requires in
     let was : arc_value c.make_mut.follows.lender-at-none ≡ arc_value c.entry.inside.page = elim (subst (λ r. OnErr r ((arc_value c.make_mut.follows.lender-at-none ≡ arc_value c.entry.inside.page) ⊎ (arc_value c.make_mut.follows.lender-at-none ≡ arc_value c.entry.inside.page))) c.in_err-make_mut-in-Inner.was c.make_mut.follows.holds-at-none) [ inl e ↦ e | inr e ↦ e ] in
-    let same = same-entry c.index_mut-entry.result.now c.entry.inside.low (arc_value c.make_mut.follows.lender-at-none) (arc_value c.entry.inside.page) was c.entry.view_is in
+    let same = entry-same c.index_mut-entry.result.now c.entry.inside.low (arc_value c.make_mut.follows.lender-at-none) (arc_value c.entry.inside.page) was c.entry.view_is in
     (step-same g.K.Ord.cmp g.met.K.Ord.total c.args.key.now c.args.self.now c.in-Inner.entries.items over 1 two c.spare_for.new.entries.items c.spare_for.ensures.kept c.in_ok-at-in-Inner.at c.in_ok-at-in-Inner.ensures.place.0.within c.index_mut-entry.result.now (record { low = c.entry.inside.low; page = arc_value c.make_mut.follows.lender-at-none }) c.index_mut-entry.ensures.value same).page
 
 pub returns-in_err-make_mut-in-Inner : goal.returns-in_err-make_mut-in-Inner
@@ -118,5 +118,5 @@ returns-in_err-make_mut-in-Inner g t c =
     let over = opened g.K.Ord.cmp c.self.inside.node c.in-Inner.entries c.args.self.now c.self.invariant c.in-Inner.is c.self.view_is in
     let two : 1 < length c.in-Inner.entries.items = two-below c.args.self.now c.in-Inner.entries.items over c.requires in
     let was : arc_value c.make_mut.follows.lender-at-none ≡ arc_value c.entry.inside.page = elim (subst (λ r. OnErr r ((arc_value c.make_mut.follows.lender-at-none ≡ arc_value c.entry.inside.page) ⊎ (arc_value c.make_mut.follows.lender-at-none ≡ arc_value c.entry.inside.page))) c.in_err-make_mut-in-Inner.was c.make_mut.follows.holds-at-none) [ inl e ↦ e | inr e ↦ e ] in
-    let same = same-entry c.index_mut-entry.result.now c.entry.inside.low (arc_value c.make_mut.follows.lender-at-none) (arc_value c.entry.inside.page) was c.entry.view_is in
+    let same = entry-same c.index_mut-entry.result.now c.entry.inside.low (arc_value c.make_mut.follows.lender-at-none) (arc_value c.entry.inside.page) was c.entry.view_is in
     let p = err_from_is_err_and c.from_residual-in_err-make_mut-in-Inner.result c.from_residual-in_err-make_mut-in-Inner.ensures.1 in rw p.1 (step-same g.K.Ord.cmp g.met.K.Ord.total c.args.key.now c.args.self.now c.in-Inner.entries.items over 1 two c.spare_for.new.entries.items c.spare_for.ensures.kept c.in_ok-at-in-Inner.at c.in_ok-at-in-Inner.ensures.place.0.within c.index_mut-entry.result.now (record { low = c.entry.inside.low; page = arc_value c.make_mut.follows.lender-at-none }) c.index_mut-entry.ensures.value same).image
