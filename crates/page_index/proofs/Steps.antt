@@ -1,5 +1,5 @@
 -- A page over others of which one was changed, as its parent sees it.
-use Rattle.std.proofs.Common.{◌≡◌, ◌∙◌, ℕ, ◌+◌, ◌<◌, ◌≤◌, Bool, List, [], ◌∷◌, length, get_or, refl, sym, subst, ap, arith}
+use Rattle.std.proofs.Common.{◌≡◌, ◌∙◌, ℕ, zero, suc, ◌+◌, ◌<◌, ◌≤◌, Bool, List, [], ◌∷◌, length, get_or, refl, sym, subst, ap, arith}
 use Rattle.std.proofs.Math.ListN.{set, length-set}
 use Rattle.std.specs.Prelude.{Option, Result, Ok, Err, MatchResult, not}
 use Rattle.std.specs.declared.cmp.Ordering.{Ordering}
@@ -19,6 +19,15 @@ pub record IsStep {K : Type 0} (R : K → K → Ordering) (self : Image K) (keys
   pub page : (length new ≤ most) × (0 < length new) × AreSound R (height_of new) new
   pub image : IsAs keys fewer self (record { keys = keys_of new; height = height_of new; width = length new })
 
+-- an entry whose page is as it was
+pub entry-same : {K : Type 0} (e : Block K) (low : K) (p q : Image K) → p ≡ q → record { low = low; page = q } ≡ e → record { low = low; page = p } ≡ e
+entry-same e low p q h v = ap (λ (d : Image _). record { low = low; page = d }) h ∙ v
+
+set-own : {X : Type 0} (xs : List X) (i : ℕ) (a : X) → i < length xs → a ≡ get_or xs i a → set xs i a ≡ xs
+set-own [] i a lt is = absurd (omega arith)
+set-own (x ∷ xs) zero a lt is = ap (λ b. b ∷ xs) is
+set-own (x ∷ xs) (suc i) a lt is = ap (λ (t : List _). x ∷ t) (set-own xs i a (omega arith) is)
+
 module _ {K : Type 0} (R : K → K → Ordering) (o : IsTotalOrder R) (x : K) (self : Image K) (old : List (Block K)) (over : IsOver R self old) (fewer : ℕ) (enough : fewer < length old) (bs : List (Block K)) (stay : AreAs R fewer old bs) where
   made : (ks : List K) (new : List (Block K)) → length new ≡ length bs → IsChanged R (height_of old) ks new → IsStep R self ks fewer new
   made ks new len c =
@@ -35,6 +44,10 @@ module _ {K : Type 0} (R : K → K → Ordering) (o : IsTotalOrder R) (x : K) (s
   -- nothing is changed below
   pub step-none : IsStep R self self.keys fewer bs
   step-none = made self.keys bs refl (record { keys_are = keys-same; sound = stay.sound })
+
+  -- what is put back is what was there
+  pub step-same : (i : ℕ) → i < length bs → (e b : Block K) → e ≡ get_or bs i e → b ≡ e → IsStep R self self.keys fewer (set bs i b)
+  step-same i lt e b is t = subst (λ (ns : List (Block K)). IsStep R self self.keys fewer ns) (sym (ap (set bs i) t ∙ set-own bs i e lt is)) step-none
 
   module _ (i : ℕ) (place : IsPlace R x bs i) (e : Block K) (is : e ≡ get_or bs i e) (m : Image K) (was : m ≡ e.page) where
     finish : (ks : List K) (b : Block K) → IsChanged R (height_of old) ks (set bs i b) → IsStep R self ks fewer (set bs i b)

@@ -11,6 +11,34 @@ use collections::ExactClone;
 use std::alloc::{AllocError, Global};
 use std::sync::Arc;
 
+// Adds one leaf with these keys.
+fn add_leaf<K: Ord + ExactClone + Drop>(
+    alloc: Global,
+    keys: &[K],
+    into: &mut Vec<Entry<K>>,
+) -> Result<(), AllocError>
+    requires ascending { IsAscending K.cmp keys.now }
+    requires size { (least ≤ length keys.now) × (length keys.now ≤ most) }
+    ensures { OnOk result (AddsPages 1 keys.now (length keys.now) into.old.items into.new.items) }
+{
+    into.push(leaf_entry(alloc, keys)?)?;
+    Ok(())
+}
+
+// Adds one page over these entries.
+fn add_inner_page<K: Ord + ExactClone + Drop>(
+    alloc: Global,
+    entries: &[Entry<K>],
+    into: &mut Vec<Entry<K>>,
+) -> Result<(), AllocError>
+    requires sound { AreSound K.cmp (height_of entries.now) entries.now }
+    requires size { (least ≤ length entries.now) × (length entries.now ≤ most) }
+    ensures { OnOk result (AddsPages (height_of entries.now + 1) (keys_of entries.now) (length entries.now) into.old.items into.new.items) }
+{
+    into.push(inner_entry(alloc, entries)?)?;
+    Ok(())
+}
+
 // Adds leaves with these keys, each about as wide as the others.
 fn add_leaves<K: Ord + ExactClone + Drop>(
     alloc: Global,
@@ -22,8 +50,7 @@ fn add_leaves<K: Ord + ExactClone + Drop>(
     ensures { OnOk result (AddsPages 1 keys.now (length keys.now) into.old.items into.new.items) }
 {
     if keys.len() <= MOST {
-        into.push(leaf_entry(alloc, keys)?)?;
-        return Ok(());
+        return add_leaf(alloc, keys, into);
     }
     let (front, back) = keys.split_at(keys.len() / 2);
     add_leaves(alloc, front, into)?;
@@ -41,8 +68,7 @@ fn add_inner_pages<K: Ord + ExactClone + Drop>(
     ensures { OnOk result (AddsPages (height_of entries.now + 1) (keys_of entries.now) (length entries.now) into.old.items into.new.items) }
 {
     if entries.len() <= MOST {
-        into.push(inner_entry(alloc, entries)?)?;
-        return Ok(());
+        return add_inner_page(alloc, entries, into);
     }
     let (front, back) = entries.split_at(entries.len() / 2);
     add_inner_pages(alloc, front, into)?;

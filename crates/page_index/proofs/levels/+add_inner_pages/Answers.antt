@@ -1,11 +1,7 @@
-use Rattle.std.proofs.Common.{◌<◌, ◌+◌, length, ◌/◌, arith}
+use Rattle.std.proofs.Common.{◌<◌, length, ◌/◌, arith}
 use Rattle.std.proofs.lemmas.Result.{on_ok_weaker}
-use Rattle.page_index.specs.Blocks.{keys_of, height_of}
-use Rattle.page_index.proofs.Built.{adds_one, adds_inner, front_sound, back_sound}
+use Rattle.page_index.proofs.Built.{adds_inner, front_sound, back_sound}
 use Rattle.page_index.proofs.levels.+add_inner_pages.Goals as goal
-
-pub returns-then-entries-le-MOST : goal.returns-then-entries-le-MOST
-returns-then-entries-le-MOST g t c = adds_one (height_of c.args.entries.now + 1) (length c.args.entries.now) (keys_of c.args.entries.now) c.args.into.now.items c.push.new.self.items c.in_ok-inner_entry.field-0 c.in_ok-push.ensures.items c.in_ok-inner_entry.ensures.keys c.in_ok-inner_entry.ensures.below (let m = c.requires.many in omega arith)
 
 pub add_inner_pages-requires : goal.add_inner_pages-requires
 add_inner_pages-requires g t c κs within =

@@ -1,10 +1,7 @@
 use Rattle.std.proofs.Common.{length, ◌/◌, arith}
 use Rattle.std.proofs.lemmas.Result.{on_ok_weaker}
-use Rattle.page_index.proofs.Built.{adds_one, adds_leaves, front_ascending, back_ascending}
+use Rattle.page_index.proofs.Built.{adds_leaves, front_ascending, back_ascending}
 use Rattle.page_index.proofs.levels.+add_leaves.Goals as goal
-
-pub returns-then-keys-le-MOST : goal.returns-then-keys-le-MOST
-returns-then-keys-le-MOST g t c = adds_one 1 (length c.args.keys.now) c.args.keys.now c.args.into.now.items c.push.new.self.items c.in_ok-leaf_entry.field-0 c.in_ok-push.ensures.items c.in_ok-leaf_entry.ensures.keys c.in_ok-leaf_entry.ensures.below (let m = c.requires.many in omega arith)
 
 pub add_leaves-requires : goal.add_leaves-requires
 add_leaves-requires g t c κs within =

@@ -1,10 +1,11 @@
 use Rattle.std.proofs.Common.{◌≡◌, ◌∙◌, ◌+◌, ◌<◌, ◌≤◌, ℕ, ap, sym, subst, refl, arith, inl, inr, IsOk}
+use Rattle.std.specs.Prelude.{◌⊎◌, OnErr}
 use Rattle.std.specs.Arc.{arc_value}
 use Rattle.page_index.specs.Blocks.{Block, most, least}
 use Rattle.page_index.proofs.Opened.{opened, opened-leaf}
 use Rattle.std.specs.Prelude.{not}
 use Rattle.std.proofs.lemmas.Result.{err_from_is_err_and}
-use Rattle.page_index.proofs.Steps.{step-none, step-kept, step-added, step-found, step-lower, step-width, step-wide, leaf-answer}
+use Rattle.page_index.proofs.Steps.{step-none, step-same, entry-same, step-kept, step-added, step-found, step-lower, step-width, step-wide, leaf-answer}
 use Rattle.page_index.proofs.page.Page.+insert.Goals as goal
 
 pub invariant_of-self : goal.invariant_of-self
@@ -70,3 +71,27 @@ returns-in-Inner g t c =
     let wide : least + 0 ≤ c.in_ok-make_mut-in-Inner.field-0.now.width = let w = step-wide g.K.Ord.cmp g.met.K.Ord.total c.args.key c.args.self.now c.in-Inner.entries.items over 0 (over.some) c.room_for.new.entries.items c.room_for.ensures.kept c.in_ok-at-in-Inner.at c.in_ok-at-in-Inner.ensures.place.0 c.index_mut-entry.result.now c.index_mut-entry.ensures.value c.in_ok-make_mut-in-Inner.field-0.now was in omega arith in
     let step = step-added g.K.Ord.cmp g.met.K.Ord.total c.args.key c.args.self.now c.in-Inner.entries.items over 0 (over.some) c.room_for.new.entries.items c.room_for.ensures.kept c.in_ok-at-in-Inner.at c.in_ok-at-in-Inner.ensures.place.0 c.index_mut-entry.result.now c.index_mut-entry.ensures.value c.in_ok-make_mut-in-Inner.field-0.now was wide c.entry.inside.low (arc_value (c.make_mut.follows.lender c.insert.new.self)) c.insert.new.self (ap (λ (b : Block g.row.K.Denot). b.low) c.entry.view_is) new c.in_ok-low-in-Inner.low c.set_low.new.entry c.set_low.ensures c.in_ok-low-in-Inner.ensures c.in_ok-added-in-Inner.ensures.0 in
     (step.image, c.in_ok-added-in-Inner.ensures.1 ∙ ap not (step-found g.K.Ord.cmp g.met.K.Ord.total c.args.key c.args.self.now c.in-Inner.entries.items over 0 (over.some) c.room_for.new.entries.items c.room_for.ensures.kept c.in_ok-at-in-Inner.at c.in_ok-at-in-Inner.ensures.place.0 c.index_mut-entry.result.now c.index_mut-entry.ensures.value c.in_ok-make_mut-in-Inner.field-0.now was))
+
+pub invariant_of-self-in_err-low-in-Inner : goal.invariant_of-self-in_err-low-in-Inner
+invariant_of-self-in_err-low-in-Inner g t c =
+    let over = opened g.K.Ord.cmp c.self.inside.node c.in-Inner.entries c.args.self.now c.self.invariant c.in-Inner.is c.self.view_is in
+    (step-same g.K.Ord.cmp g.met.K.Ord.total c.args.key c.args.self.now c.in-Inner.entries.items over 0 (over.some) c.room_for.new.entries.items c.room_for.ensures.kept c.in_ok-at-in-Inner.at c.in_ok-at-in-Inner.ensures.place.0.within c.index_mut-entry.result.now c.index_mut-entry.result.now c.index_mut-entry.ensures.value refl).page
+
+pub returns-in_err-low-in-Inner : goal.returns-in_err-low-in-Inner
+returns-in_err-low-in-Inner g t c =
+    let over = opened g.K.Ord.cmp c.self.inside.node c.in-Inner.entries c.args.self.now c.self.invariant c.in-Inner.is c.self.view_is in
+    let p = err_from_is_err_and c.from_residual-in_err-low-in-Inner.result c.from_residual-in_err-low-in-Inner.ensures.1 in rw p.1 (step-same g.K.Ord.cmp g.met.K.Ord.total c.args.key c.args.self.now c.in-Inner.entries.items over 0 (over.some) c.room_for.new.entries.items c.room_for.ensures.kept c.in_ok-at-in-Inner.at c.in_ok-at-in-Inner.ensures.place.0.within c.index_mut-entry.result.now c.index_mut-entry.result.now c.index_mut-entry.ensures.value refl).image
+
+pub invariant_of-self-in_err-make_mut-in-Inner : goal.invariant_of-self-in_err-make_mut-in-Inner
+invariant_of-self-in_err-make_mut-in-Inner g t c =
+    let over = opened g.K.Ord.cmp c.self.inside.node c.in-Inner.entries c.args.self.now c.self.invariant c.in-Inner.is c.self.view_is in
+    let was : arc_value c.make_mut.follows.lender-at-none ≡ arc_value c.entry.inside.page = elim (subst (λ r. OnErr r ((arc_value c.make_mut.follows.lender-at-none ≡ arc_value c.entry.inside.page) ⊎ (arc_value c.make_mut.follows.lender-at-none ≡ arc_value c.entry.inside.page))) c.in_err-make_mut-in-Inner.was c.make_mut.follows.holds-at-none) [ inl e ↦ e | inr e ↦ e ] in
+    let same = entry-same c.index_mut-entry.result.now c.entry.inside.low (arc_value c.make_mut.follows.lender-at-none) (arc_value c.entry.inside.page) was c.entry.view_is in
+    (step-same g.K.Ord.cmp g.met.K.Ord.total c.args.key c.args.self.now c.in-Inner.entries.items over 0 (over.some) c.room_for.new.entries.items c.room_for.ensures.kept c.in_ok-at-in-Inner.at c.in_ok-at-in-Inner.ensures.place.0.within c.index_mut-entry.result.now (record { low = c.entry.inside.low; page = arc_value c.make_mut.follows.lender-at-none }) c.index_mut-entry.ensures.value same).page
+
+pub returns-in_err-make_mut-in-Inner : goal.returns-in_err-make_mut-in-Inner
+returns-in_err-make_mut-in-Inner g t c =
+    let over = opened g.K.Ord.cmp c.self.inside.node c.in-Inner.entries c.args.self.now c.self.invariant c.in-Inner.is c.self.view_is in
+    let was : arc_value c.make_mut.follows.lender-at-none ≡ arc_value c.entry.inside.page = elim (subst (λ r. OnErr r ((arc_value c.make_mut.follows.lender-at-none ≡ arc_value c.entry.inside.page) ⊎ (arc_value c.make_mut.follows.lender-at-none ≡ arc_value c.entry.inside.page))) c.in_err-make_mut-in-Inner.was c.make_mut.follows.holds-at-none) [ inl e ↦ e | inr e ↦ e ] in
+    let same = entry-same c.index_mut-entry.result.now c.entry.inside.low (arc_value c.make_mut.follows.lender-at-none) (arc_value c.entry.inside.page) was c.entry.view_is in
+    let p = err_from_is_err_and c.from_residual-in_err-make_mut-in-Inner.result c.from_residual-in_err-make_mut-in-Inner.ensures.1 in rw p.1 (step-same g.K.Ord.cmp g.met.K.Ord.total c.args.key c.args.self.now c.in-Inner.entries.items over 0 (over.some) c.room_for.new.entries.items c.room_for.ensures.kept c.in_ok-at-in-Inner.at c.in_ok-at-in-Inner.ensures.place.0.within c.index_mut-entry.result.now (record { low = c.entry.inside.low; page = arc_value c.make_mut.follows.lender-at-none }) c.index_mut-entry.ensures.value same).image

@@ -1,11 +1,12 @@
 use Rattle.std.proofs.Common.{◌≡◌, ◌∙◌, ◌+◌, ◌<◌, ◌≤◌, ℕ, length, ap, sym, subst, refl, arith, inl, inr, IsOk}
 use Rattle.std.proofs.lemmas.Result.{err_from_is_err_and}
+use Rattle.std.specs.Prelude.{◌⊎◌, OnErr}
 use Rattle.std.specs.Arc.{arc_value}
 use Rattle.collections.specs.Ordered.{has_item}
 use Rattle.page_index.specs.Blocks.{Block, least}
 use Rattle.page_index.proofs.Opened.{opened, opened-leaf, two-below}
 use Rattle.page_index.proofs.Swaps.{width-get}
-use Rattle.page_index.proofs.Steps.{step-none, step-kept, step-removed, step-found, step-lower, step-width, leaf-removed}
+use Rattle.page_index.proofs.Steps.{step-none, step-same, entry-same, step-kept, step-removed, step-found, step-lower, step-width, leaf-removed}
 use Rattle.page_index.proofs.page.Page.+remove.Goals as goal
 
 pub invariant_of-self : goal.invariant_of-self
@@ -91,3 +92,31 @@ next_low-requires g t c =
     let wide = width-get c.spare_for.new.entries.items c.in_ok-at-in-Inner.at c.index_mut-entry.result.now place.within ∙ ap (λ (b : Block g.row.K.Denot). b.page.width) (sym c.index_mut-entry.ensures.value) in
     let spare = c.in_ok-at-in-Inner.ensures.place.1 in
     omega arith
+
+pub invariant_of-self-in_err-low-in-Inner : goal.invariant_of-self-in_err-low-in-Inner
+invariant_of-self-in_err-low-in-Inner g t c =
+    let over = opened g.K.Ord.cmp c.self.inside.node c.in-Inner.entries c.args.self.now c.self.invariant c.in-Inner.is c.self.view_is in
+    let two : 1 < length c.in-Inner.entries.items = two-below c.args.self.now c.in-Inner.entries.items over c.requires in
+    (step-same g.K.Ord.cmp g.met.K.Ord.total c.args.key.now c.args.self.now c.in-Inner.entries.items over 1 two c.spare_for.new.entries.items c.spare_for.ensures.kept c.in_ok-at-in-Inner.at c.in_ok-at-in-Inner.ensures.place.0.within c.index_mut-entry.result.now c.index_mut-entry.result.now c.index_mut-entry.ensures.value refl).page
+
+pub returns-in_err-low-in-Inner : goal.returns-in_err-low-in-Inner
+returns-in_err-low-in-Inner g t c =
+    let over = opened g.K.Ord.cmp c.self.inside.node c.in-Inner.entries c.args.self.now c.self.invariant c.in-Inner.is c.self.view_is in
+    let two : 1 < length c.in-Inner.entries.items = two-below c.args.self.now c.in-Inner.entries.items over c.requires in
+    let p = err_from_is_err_and c.from_residual-in_err-low-in-Inner.result c.from_residual-in_err-low-in-Inner.ensures.1 in rw p.1 (step-same g.K.Ord.cmp g.met.K.Ord.total c.args.key.now c.args.self.now c.in-Inner.entries.items over 1 two c.spare_for.new.entries.items c.spare_for.ensures.kept c.in_ok-at-in-Inner.at c.in_ok-at-in-Inner.ensures.place.0.within c.index_mut-entry.result.now c.index_mut-entry.result.now c.index_mut-entry.ensures.value refl).image
+
+pub invariant_of-self-in_err-make_mut-in-Inner : goal.invariant_of-self-in_err-make_mut-in-Inner
+invariant_of-self-in_err-make_mut-in-Inner g t c =
+    let over = opened g.K.Ord.cmp c.self.inside.node c.in-Inner.entries c.args.self.now c.self.invariant c.in-Inner.is c.self.view_is in
+    let two : 1 < length c.in-Inner.entries.items = two-below c.args.self.now c.in-Inner.entries.items over c.requires in
+    let was : arc_value c.make_mut.follows.lender-at-none ≡ arc_value c.entry.inside.page = elim (subst (λ r. OnErr r ((arc_value c.make_mut.follows.lender-at-none ≡ arc_value c.entry.inside.page) ⊎ (arc_value c.make_mut.follows.lender-at-none ≡ arc_value c.entry.inside.page))) c.in_err-make_mut-in-Inner.was c.make_mut.follows.holds-at-none) [ inl e ↦ e | inr e ↦ e ] in
+    let same = entry-same c.index_mut-entry.result.now c.entry.inside.low (arc_value c.make_mut.follows.lender-at-none) (arc_value c.entry.inside.page) was c.entry.view_is in
+    (step-same g.K.Ord.cmp g.met.K.Ord.total c.args.key.now c.args.self.now c.in-Inner.entries.items over 1 two c.spare_for.new.entries.items c.spare_for.ensures.kept c.in_ok-at-in-Inner.at c.in_ok-at-in-Inner.ensures.place.0.within c.index_mut-entry.result.now (record { low = c.entry.inside.low; page = arc_value c.make_mut.follows.lender-at-none }) c.index_mut-entry.ensures.value same).page
+
+pub returns-in_err-make_mut-in-Inner : goal.returns-in_err-make_mut-in-Inner
+returns-in_err-make_mut-in-Inner g t c =
+    let over = opened g.K.Ord.cmp c.self.inside.node c.in-Inner.entries c.args.self.now c.self.invariant c.in-Inner.is c.self.view_is in
+    let two : 1 < length c.in-Inner.entries.items = two-below c.args.self.now c.in-Inner.entries.items over c.requires in
+    let was : arc_value c.make_mut.follows.lender-at-none ≡ arc_value c.entry.inside.page = elim (subst (λ r. OnErr r ((arc_value c.make_mut.follows.lender-at-none ≡ arc_value c.entry.inside.page) ⊎ (arc_value c.make_mut.follows.lender-at-none ≡ arc_value c.entry.inside.page))) c.in_err-make_mut-in-Inner.was c.make_mut.follows.holds-at-none) [ inl e ↦ e | inr e ↦ e ] in
+    let same = entry-same c.index_mut-entry.result.now c.entry.inside.low (arc_value c.make_mut.follows.lender-at-none) (arc_value c.entry.inside.page) was c.entry.view_is in
+    let p = err_from_is_err_and c.from_residual-in_err-make_mut-in-Inner.result c.from_residual-in_err-make_mut-in-Inner.ensures.1 in rw p.1 (step-same g.K.Ord.cmp g.met.K.Ord.total c.args.key.now c.args.self.now c.in-Inner.entries.items over 1 two c.spare_for.new.entries.items c.spare_for.ensures.kept c.in_ok-at-in-Inner.at c.in_ok-at-in-Inner.ensures.place.0.within c.index_mut-entry.result.now (record { low = c.entry.inside.low; page = arc_value c.make_mut.follows.lender-at-none }) c.index_mut-entry.ensures.value same).image
