@@ -1,4 +1,5 @@
-// The nodes of a graph in an order in which those that a node leads to come before it, where they don't lead back.
+// The nodes of a graph in an order in which those that a node needs to stand for a path come before it, where they don't
+// need it in turn.
 ghost use Rattle.std.specs.Prelude.{◌≡◌, ◌⊎◌, IfOk, OnOk};
 ghost use Rattle.std.specs.List.{Contains};
 ghost use Rattle.collections.specs.Ordered.{IsAscending};
@@ -6,9 +7,9 @@ ghost use Rattle.rdf_model.specs.declared.term.Term.{Term as TermData};
 ghost use Rattle.rdf_model.specs.Terms.{triple_cmp};
 ghost use Rattle.shape_syntax.specs.Subjects.{IsSubject};
 
-use crate::lookup::triples_of;
+use crate::list::cell;
+use crate::steps::only_triple;
 use crate::subjects::push_unless_last;
-use crate::terms::is_blank;
 use collections::Sequence;
 use rdf_model::{Term, Triple};
 use std::alloc::{AllocError, Global};
@@ -18,22 +19,36 @@ use std::collections::BTreeSet;
 enum Visit {
     // A node that may not have been entered.
     Enter(Term),
-    // One whose values have been left.
+    // One of which what it needs has been left.
     Leave(Term),
 }
 
-// The blank nodes that the node leads to are next, and then the node itself.
-fn push_visits(graph: &[Triple], node: Term, stack: &mut Vec<Visit>) -> Result<(), AllocError>
+// What the node's one triple leads to is next.
+fn push_value(graph: &[Triple], node: &Term, stack: &mut Vec<Visit>) -> Result<(), AllocError>
     requires { IsAscending triple_cmp graph.now }
 {
-    let own = triples_of(graph, &node);
-    stack.push(Visit::Leave(node))?;
-    for triple in own {
-        if is_blank(&triple.object) {
+    match only_triple(graph, node) {
+        Some(triple) => {
             stack.push(Visit::Enter(triple.object.clone()?))?;
+            Ok(())
         }
+        None => Ok(()),
     }
-    Ok(())
+}
+
+// What it needs to stand for a path or a list of paths is next, and then the node itself.
+fn push_visits(graph: &[Triple], node: &Term, stack: &mut Vec<Visit>) -> Result<(), AllocError>
+    requires { IsAscending triple_cmp graph.now }
+{
+    stack.push(Visit::Leave(node.clone()?))?;
+    match cell(graph, node) {
+        Some((first, rest)) => {
+            stack.push(Visit::Enter(first.clone()?))?;
+            stack.push(Visit::Enter(rest.clone()?))?;
+            Ok(())
+        }
+        None => push_value(graph, node, stack),
+    }
 }
 
 fn enter(
@@ -45,7 +60,7 @@ fn enter(
     requires { IsAscending triple_cmp graph.now }
 {
     if entered.insert(node.clone()?)? {
-        return push_visits(graph, node, stack);
+        return push_visits(graph, &node, stack);
     }
     Ok(())
 }
@@ -72,7 +87,7 @@ fn perform(
     }
 }
 
-// Adds what the node leads to, as far as it hasn't been entered, and the node.
+// Adds what the node needs, as far as it hasn't been entered, and the node.
 fn descend(
     alloc: Global,
     graph: &[Triple],

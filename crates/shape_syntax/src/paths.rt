@@ -98,8 +98,8 @@ fn ask_all(
     }
 }
 
-/// The blank nodes that stand for a path. Nodes are asked from below, so that one round shows them all and a second
-/// shows no more, unless paths go through lists whose cells are IRIs.
+/// The blank nodes that stand for a path. Each node is asked behind those that it needs, so that one round shows all
+/// that are paths, and a second shows no more.
 pub fn path_nodes(alloc: Global, graph: &[Triple]) -> Result<BTreeSet<Term>, AllocError>
     requires { IsAscending triple_cmp graph.now }
     ensures { IfOk result (λ nodes. ArePathNodes graph.now nodes.keys) }
