@@ -1,19 +1,19 @@
 -- What is due for the words, from what their request gives.
-use Rattle.std.proofs.Common.{◌≡◌, ℕ, suc, ◌+◌, ◌≤◌, ◌<◌, List, [], ◌∷◌, ◌++◌, length, take, map, get_or, Option, Some, None, refl, sym, ap, ◌∙◌, subst, inl, inr, arith, add-one, append_assoc}
+use Rattle.std.proofs.Common.{◌≡◌, ℕ, ◌+◌, ◌≤◌, ◌<◌, List, [], ◌∷◌, ◌++◌, length, take, map, get_or, Option, Some, None, refl, sym, ap, ◌∙◌, subst, inl, inr, add-one, append_assoc}
 use Rattle.std.proofs.lemmas.List.{append-nil}
 use Rattle.std.specs.Prelude.{◌≢◌, MatchResult, Result, Ok, Err}
 use Rattle.store_model.specs.declared.event.Limits.{Limits}
 use Rattle.session_model.specs.declared.command.Command.{Command}
 use Rattle.session_model.specs.Print.{IsPrint}
 use Rattle.history_reader.specs.History.{history_of}
-use Rattle.outside.specs.Files.{Contents, Loads as Gives}
+use Rattle.outside.specs.Files.{Contents}
 use Rattle.shacl_guard.specs.declared.status.Status.{Status}
 use Rattle.shacl_guard.specs.declared.status.Status.TheVariants.{Done, Usage, ReadFault, WriteFault, BadSession, Memory, TooLong, TooManyFiles, BadHistory}
 use Rattle.shacl_guard.specs.Requests.{Request, request_of, all_files, files_in, files_of}
-use Rattle.shacl_guard.specs.Loading.{FirstAt, HasBadLine, HoldSessions, HoldsText, IsTooLong, room}
-use Rattle.shacl_guard.specs.Due.{IsBadPlace, IsDue, IsRefused, IsRun, error_line}
+use Rattle.shacl_guard.specs.Loading.{FirstAt, HoldSessions, HoldsText}
+use Rattle.shacl_guard.specs.Due.{IsBadPlace, IsDue, IsRun, error_line}
 use Rattle.shacl_guard.specs.World.{Loads, LoadsFirst, LoadsOne, LoadsSome, LoadsUpTo, NoneFailed, count_in, count_loaded}
-use Rattle.shacl_guard.specs.Faults.{IsStopped, LoadsAll, NoHistory, OneFailed, SomeFailed, Stops, StopsCall, StopsRequest, StopsWith, Unplayed, behind_history}
+use Rattle.shacl_guard.specs.Faults.{IsStopped, LoadsAll, NoHistory, Stops, StopsCall, StopsRequest, StopsWith, Unplayed, behind_history}
 use Rattle.shacl_guard.specs.Refused.{Unasked}
 
 -- the files of the words are those of their request, and as many of them are loaded

@@ -10,7 +10,7 @@ use Rattle.shacl_guard.specs.declared.status.Status.TheVariants.{Done, Usage, Re
 use Rattle.shacl_guard.specs.Requests.{Request, request_of}
 use Rattle.shacl_guard.specs.Loading.{FirstAt, HasBadLine, IsFirstLong, IsTooLong, room}
 use Rattle.shacl_guard.specs.Due.{IsBadHistory, IsDue, IsRefused, IsRefusedRequest}
-use Rattle.shacl_guard.specs.Outcome.{AreThere, AskReplay, HasSessions, IsHistoryThere, IsRunOrMemory}
+use Rattle.shacl_guard.specs.Outcome.{AreThere, HasSessions, IsHistoryThere, IsRunOrMemory}
 
 -- a file that is there and holds session i
 abbrev IsThere : (List ℕ → Option (List ℕ)) → ℕ → List ℕ → Type 0
