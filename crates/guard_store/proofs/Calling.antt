@@ -1,5 +1,5 @@
 -- What a call of a session is answered, by what its turn gave.
-use Rattle.std.proofs.Common.{◌≡◌, ◌≢◌, ℕ, Result, Ok, Err, MatchResult, List, Option, Some, None, sym, ap, ◌∙◌, subst, ◌⊎◌, inr}
+use Rattle.std.proofs.Common.{◌≡◌, ◌≢◌, ℕ, Result, Ok, Err, MatchResult, List, Some, None, sym, ap, ◌∙◌, subst, inr}
 use Rattle.turn_lock.specs.Callers.{Caller}
 use Rattle.rdf_model.specs.declared.term.Term.{Term}
 use Rattle.rdf_model.specs.declared.triple.Triple.{Triple}
@@ -7,7 +7,6 @@ use Rattle.store_model.specs.declared.event.Limits.{Limits}
 use Rattle.store_model.specs.declared.event.Event.{Event}
 use Rattle.store_model.specs.declared.event.Action.TheVariants as actions
 use Rattle.store_model.specs.declared.event.Reply.TheVariants as replies
-use Rattle.store_model.specs.declared.commit.Transaction.{Transaction}
 use Rattle.store_model.specs.Snapshots.{Snapshot, snapshot_of}
 use Rattle.store_model.specs.Store.{HasChange}
 use Rattle.session_model.specs.Sessions.{parts_of}

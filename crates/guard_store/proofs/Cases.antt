@@ -1,5 +1,5 @@
 -- What a clause on a result says in one of its cases.
-use Rattle.std.proofs.Common.{◌≡◌, Result, Ok, Err, MatchResult, Option, Some, subst}
+use Rattle.std.proofs.Common.{◌≡◌, Result, Ok, Err, MatchResult, subst}
 
 pub at_ok : {A B : Type 0} (P : A → Type 0) (Q : B → Type 0) (r : Result A B) (x : A) → r ≡ Ok x → MatchResult r P Q → P x
 at_ok {A} {B} P Q r x e h = subst (λ (y : Result A B). MatchResult y P Q) e h

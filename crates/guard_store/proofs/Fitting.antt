@@ -1,5 +1,5 @@
 -- A session stays one of its store: its transaction fits each state to which what it has seen leads.
-use Rattle.std.proofs.Common.{◌≡◌, ◌≢◌, ℕ, ◌+◌, ◌≤◌, Bool, true, false, List, [], ◌∷◌, ◌++◌, length, Option, Some, None, refl, sym, ap, ◌∙◌, subst, ◌⊎◌, ⊎_elim, arith}
+use Rattle.std.proofs.Common.{◌≡◌, ◌≢◌, ℕ, ◌≤◌, Bool, true, false, List, [], ◌∷◌, ◌++◌, Option, Some, None, refl, sym, ap, subst, ⊎_elim, arith}
 use Rattle.std.specs.Prelude.{MatchBool}
 use Rattle.turn_lock.specs.Callers.{Caller}
 use Rattle.rdf_model.specs.declared.triple.Triple.{Triple}
@@ -32,7 +32,7 @@ use Rattle.guard_store.specs.declared.session.Session.{Session}
 use Rattle.guard_store.specs.Fronts.{SharedStore, Turn, Fails, At, Entered, void_of}
 use Rattle.guard_store.specs.Callers.{IsCaller, IsSession, FitsState, FitsIn}
 use Rattle.guard_store.specs.Transactions.{begun_at, changes_of, with_changes, with_shapes}
-use Rattle.guard_store.specs.Answers.{Begins, BeginsNot, Stages, StagesNot, Heads, HeadsNot, Commits, CommitsNot, AnswersCommit, TurnCommits, event_of}
+use Rattle.guard_store.specs.Answers.{Begins, BeginsNot, Stages, StagesNot, Heads, HeadsNot, Commits, CommitsNot, AnswersCommit, event_of}
 use Rattle.guard_store.proofs.Growing.{More, at_this, still_at}
 use Rattle.guard_store.proofs.Turning.{front_is, turned_at, caller_turned, now_at}
 

@@ -1,5 +1,5 @@
 -- What stays of a store when it takes steps.
-use Rattle.std.proofs.Common.{◌≡◌, ℕ, ◌+◌, ◌<◌, ◌≤◌, Bool, true, false, nat_lt, List, [], ◌∷◌, ◌++◌, length, Option, Some, None, ◌-◌, refl, sym, ap, ◌∙◌, subst, arith, length-append}
+use Rattle.std.proofs.Common.{◌≡◌, ℕ, ◌+◌, ◌≤◌, Bool, true, false, nat_lt, List, [], ◌∷◌, ◌++◌, length, Option, Some, None, ◌-◌, refl, sym, ◌∙◌, subst, arith, length-append}
 use Rattle.std.specs.Prelude.{MatchBool, MatchOption}
 use Rattle.rdf_model.specs.declared.term.Term.{Term}
 use Rattle.rdf_model.specs.Graphs.{after}
@@ -12,7 +12,7 @@ use Rattle.store_model.specs.declared.event.Action.{Action}
 use Rattle.store_model.specs.declared.event.Action.TheVariants.{Open, Begin, Name, Head, Commit, Void}
 use Rattle.store_model.specs.declared.event.Reply.{Reply}
 use Rattle.store_model.specs.declared.event.Reply.TheVariants.{Named, Full, Conflict, FullTriples}
-use Rattle.store_model.specs.Store.{State, Step, StepOf, Replays, OpensNext, OpensNothing, Replies, CommitsByRows, CommitsByListing, CommitsWithinLimit, overtaker, named_with, version, committed, empty_store}
+use Rattle.store_model.specs.Store.{State, StepOf, Replays, OpensNext, OpensNothing, Replies, CommitsByRows, CommitsByListing, CommitsWithinLimit, overtaker, named_with, version, committed, empty_store}
 use Rattle.store_model.proofs.Steps.{StepIsDeterministic-holds}
 use Rattle.guard_store.specs.Fronts.{At}
 use Rattle.session_model.proofs.Naming.{IsMore, IsMore-named_with}

@@ -1,10 +1,9 @@
 -- What the keeper and the new session have once it was opened.
-use Rattle.std.proofs.Common.{◌≡◌, ◌≢◌, ℕ, ◌+◌, ◌-◌, ◌<◌, ◌≤◌, ◌==◌, Bool, true, false, cond, List, [], ◌∷◌, ◌++◌, length, Option, Some, None, refl, sym, ap, ◌∙◌, subst, ◌⊎◌, inl, inr, ⊎_elim, ne_eqb, nat_lt, ltb-true, arith}
+use Rattle.std.proofs.Common.{◌≡◌, ◌≢◌, ℕ, ◌+◌, ◌-◌, ◌<◌, ◌≤◌, ◌==◌, Bool, true, false, cond, List, [], ◌∷◌, ◌++◌, None, refl, sym, ap, ◌∙◌, subst, ⊎_elim, ne_eqb, nat_lt, ltb-true, arith}
 use Rattle.std.specs.Prelude.{MatchBool}
 use Rattle.std.proofs.lemmas.Bool.Decides.{nat_tests}
 use Rattle.turn_lock.specs.History.{reserved, OthersAdded, has_number}
 use Rattle.turn_lock.specs.Callers.{Caller, kept_caller, new_caller, met_caller}
-use Rattle.turn_lock.proofs.Added.{reserved_own}
 use Rattle.turn_lock.proofs.Numbers.{has_here, has_among}
 use Rattle.store_model.specs.declared.event.Limits.{Limits}
 use Rattle.store_model.specs.declared.event.Event.{Event}
@@ -18,11 +17,11 @@ use Rattle.guard_store.specs.declared.faults.OpenFault.{OpenFault}
 use Rattle.guard_store.specs.declared.faults.OpenFault.TheVariants.{SessionsFull, Memory}
 use Rattle.guard_store.specs.declared.session.Keeper.{Keeper}
 use Rattle.guard_store.specs.declared.session.Session.{Session}
-use Rattle.guard_store.specs.Fronts.{SharedStore, session_of, Turn, Fails, At}
+use Rattle.guard_store.specs.Fronts.{SharedStore, session_of, Turn, At}
 use Rattle.guard_store.specs.Callers.{IsCaller, IsKeeper, IsSession}
 use Rattle.guard_store.specs.Answers.{Opens, OpensNot, OpensSession, IsFull, event_of}
 use Rattle.guard_store.proofs.Growing.{replays_split, at_this}
-use Rattle.guard_store.proofs.Turning.{opening_reserved, opened_stays, front_is}
+use Rattle.guard_store.proofs.Turning.{opened_stays, front_is}
 
 abbrev pub open_event : ℕ → Event
 open_event i = event_of i actions.Open (replies.Session i)

@@ -1,15 +1,14 @@
 -- What turns, openings and meetings tell of the one history.
-use Rattle.std.proofs.Common.{◌≡◌, ℕ, true, false, List, [], ◌∷◌, ◌++◌, refl, sym, ap, ◌∙◌, subst}
-use Rattle.turn_lock.specs.History.{OthersAdded, has_number, reserved, under}
+use Rattle.std.proofs.Common.{◌≡◌, true, false, List, [], ◌∷◌, ◌++◌, refl, sym, ap, ◌∙◌, subst}
+use Rattle.turn_lock.specs.History.{has_number, reserved, under}
 use Rattle.turn_lock.specs.Callers.{Caller}
-use Rattle.turn_lock.proofs.Added.{reserved_own, under_append, under_own}
+use Rattle.turn_lock.proofs.Added.{reserved_own, under_own}
 use Rattle.turn_lock.proofs.Numbers.{has_among}
 use Rattle.store_model.specs.declared.event.Limits.{Limits}
 use Rattle.store_model.specs.declared.event.Event.{Event}
 use Rattle.store_model.specs.Store.{Replays, empty_store}
-use Rattle.guard_store.specs.Fronts.{Turn, session_of}
-use Rattle.guard_store.specs.Answers.{Opens}
-use Rattle.guard_store.specs.Laws.{AddsOne, TurnsAddOne, OpensOne, OpeningsAddOne, MeetsBoth, MeetingsKeepFronts}
+use Rattle.guard_store.specs.Fronts.{session_of}
+use Rattle.guard_store.specs.Laws.{AddsOne, TurnsAddOne, OpeningsAddOne, MeetingsKeepFronts}
 use Rattle.guard_store.proofs.Turning.{front_is, opening_reserved}
 use Rattle.guard_store.proofs.Opening.{open_event, number_made}
 

@@ -1,13 +1,9 @@
 -- What a turn tells the caller, and what the keeper has at the end.
-use Rattle.std.proofs.Common.{◌≡◌, ◌≢◌, ℕ, ◌+◌, ◌<◌, ◌≤◌, ◌==◌, Bool, true, false, not, cond, List, [], ◌∷◌, ◌++◌, length, Option, Some, None, refl, sym, ap, ◌∙◌, subst, ◌⊎◌, inl, inr, ⊎_elim, eq-eqb, ne_eqb, append_assoc, length-append, arith}
-use Rattle.std.specs.List.{AllByRecursion}
-use mathlib.Core.Logic.{dite}
+use Rattle.std.proofs.Common.{◌≡◌, ◌≢◌, ℕ, ◌+◌, ◌<◌, ◌==◌, Bool, true, false, cond, List, [], ◌∷◌, ◌++◌, length, Option, Some, None, refl, sym, ap, ◌∙◌, subst, inl, inr, ⊎_elim, eq-eqb, ne_eqb, append_assoc, length-append, arith}
 use mathlib.Core.List.{IsPrefix}
-use native.Mathlib.Decide.{ℕ_discrete}
-use Rattle.turn_lock.specs.History.{under, is_empty, is_reserved, reserved, OthersAdded, MayAdd, known_after, has_number}
+use Rattle.turn_lock.specs.History.{under, is_empty, is_reserved, reserved, MayAdd, known_after, has_number}
 use Rattle.turn_lock.specs.Meaning.{ComesFrom}
 use Rattle.turn_lock.specs.Callers.{Caller}
-use Rattle.turn_lock.specs.declared.view.Known.{Known}
 use Rattle.turn_lock.proofs.Added.{reserved_own, reserved_other, reserved_grows}
 use Rattle.turn_lock.proofs.Prefixes.{prefix_length}
 use Rattle.turn_lock.proofs.Numbers.{has_later}
@@ -27,7 +23,7 @@ use Rattle.thread_model.specs.Following.{is_opening}
 use Rattle.thread_model.proofs.Placing.{within, opening, grows, grows_all}
 use Rattle.guard_store.specs.Fronts.{SharedStore, session_of, turned_pass, Turn, At, Entered, MayLeave}
 use Rattle.guard_store.specs.Callers.{IsCaller}
-use Rattle.guard_store.proofs.Growing.{More, replays_split, still_at, at_this}
+use Rattle.guard_store.proofs.Growing.{More, still_at}
 
 -- a session that wasn't opened has no event
 pub fresh : (l : Limits) (s t : State) (es : List Event) (j : ℕ) → Replays l s es t → t.opened < j → under session_of j es ≡ []

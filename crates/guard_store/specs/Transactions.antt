@@ -1,5 +1,5 @@
 -- A session's open transaction, as its caller keeps it.
-use Rattle.std.specs.Prelude.{◌≡◌, ℕ, List, [], ◌∷◌, ◌++◌, Option, Some, None, false}
+use Rattle.std.specs.Prelude.{List, [], ◌∷◌, ◌++◌, Option, Some, None, false}
 use Rattle.rdf_model.specs.declared.triple.Triple.{Triple}
 use Rattle.rdf_model.specs.declared.pattern.Pattern.{Pattern}
 use Rattle.rdf_model.specs.declared.change.Change.{Change}

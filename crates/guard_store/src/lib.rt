@@ -1,7 +1,7 @@
 //! A store that several callers share, each in its turns. Each call that waits is one event of one history.
 //!
-//! A `Keeper` opens sessions and meets them again. A `Session` has its number and its open transaction; it may go to a
-//! thread of its own. What a caller has seen is a beginning of the history, and its own events stand there as it made
+//! A `Keeper` opens sessions and meets them again. A `Session` has its number and its open
+//! transaction. What a caller has seen is a beginning of the history, and its own events stand there as it made
 //! them: each is answered as the plain store answers it behind all that stands before it.
 #![tactic(auto)]
 

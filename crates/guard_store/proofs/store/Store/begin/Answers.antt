@@ -1,5 +1,4 @@
 use Rattle.std.proofs.Common.{rules, ◌≡◌, None, refl}
-use Rattle.guard_store.specs.Answers.{Begins, BeginsNot}
 use Rattle.guard_store.specs.declared.faults.BeginFault.TheVariants as faults
 use Rattle.guard_store.proofs.Cases.{at_ok, at_err}
 use Rattle.guard_store.proofs.Calling.{begins_now}

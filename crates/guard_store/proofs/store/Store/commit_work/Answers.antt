@@ -1,4 +1,4 @@
-use Rattle.std.proofs.Common.{◌≡◌, refl, subst}
+use Rattle.std.proofs.Common.{refl, subst}
 use Rattle.guard_store.specs.Callers.{HasWork}
 use Rattle.guard_store.specs.Answers.{IsOpen}
 use Rattle.guard_store.specs.declared.faults.CommitFault.TheVariants as faults

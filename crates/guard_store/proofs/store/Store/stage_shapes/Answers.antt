@@ -1,6 +1,6 @@
 use Rattle.guard_store.specs.Transactions.{with_shapes}
 use Rattle.guard_store.proofs.Cases.{at_ok, at_err}
-use Rattle.guard_store.proofs.Calling.{named_open, stages_now}
+use Rattle.guard_store.proofs.Calling.{stages_now}
 use Rattle.guard_store.proofs.Fitting.{stages_shapes_session, stages_not_session}
 use Rattle.guard_store.proofs.store.Store.stage_shapes.Goals as goal
 

@@ -1,4 +1,4 @@
-use Rattle.std.proofs.Common.{◌≡◌, ◌≤◌, [], Some, Option, inr, refl, sym, subst}
+use Rattle.std.proofs.Common.{◌≡◌, ◌≤◌, [], Option, inr, refl, sym, subst}
 use Rattle.store_model.specs.declared.commit.Verdict.{Verdict}
 use Rattle.store_model.specs.Store.{State, RecordedStore, TakesStep, shapes_under}
 use Rattle.rdf_model.specs.Graphs.{after}

@@ -1,0 +1,351 @@
+-- One command more, by a call of the store.
+use Rattle.std.proofs.Common.{◌≡◌, ◌≢◌, suc, drop, drop-cons, get_or, add-one, Result, Ok, Err, IfOk, MatchResult, ℕ, ◌+◌, ◌<◌, Bool, true, false, List, [], ◌∷◌, ◌++◌, length, Option, Some, None, refl, sym, ap, ◌∙◌, subst, ◌≤◌, zero, arith}
+use Rattle.std.specs.Prelude.{MatchBool}
+use Rattle.turn_lock.specs.Callers.{Caller}
+use Rattle.rdf_model.specs.declared.triple.Triple.{Triple}
+use Rattle.rdf_model.specs.declared.change.Change.{Change}
+use Rattle.rdf_model.specs.declared.pattern.Pattern.{Pattern}
+use Rattle.store_model.specs.declared.event.Limits.{Limits}
+use Rattle.store_model.specs.declared.event.Event.{Event}
+use Rattle.store_model.specs.declared.event.Action.{Action}
+use Rattle.store_model.specs.declared.event.Action.TheVariants as actions
+use Rattle.store_model.specs.declared.event.Reply.{Reply}
+use Rattle.store_model.specs.declared.event.Reply.TheVariants as replies
+use Rattle.store_model.specs.Snapshots.{snapshot_of}
+use Rattle.store_model.specs.Store.{version, HasChange}
+use Rattle.session_model.specs.declared.command.Command.{Command}
+use Rattle.session_model.specs.declared.command.Command.TheVariants.{Begin, Add, Remove, Shapes, BadAdd, BadRemove, BadShapes, BrokenShapes, Commit, Find, Abort}
+use Rattle.session_model.specs.declared.reply.SessionReply.{SessionReply}
+use Rattle.session_model.specs.declared.reply.SessionReply.TheVariants as said
+use Rattle.session_model.specs.Sessions as Sessions
+use Rattle.session_model.specs.Sessions.{SessionState, local_answer, local_commit, answers, action_of, after_reply, up_to_event, begun, additions, removals, parts_of, found_by}
+use Rattle.session_model.proofs.Walking.{up_to_event-local, up_to_event-event}
+use Rattle.report_writer.specs.Report.{report_text}
+use Rattle.session_player.specs.Ready.{answer_in}
+use Rattle.session_player.proofs.Playing.{local-none, local-change}
+use Rattle.thread_model.specs.Following.{is_opening, first_state}
+use Rattle.guard_store.specs.declared.faults.BeginFault.{BeginFault}
+use Rattle.guard_store.specs.declared.faults.BeginFault.TheVariants as begins
+use Rattle.guard_store.specs.declared.faults.StageFault.{StageFault}
+use Rattle.guard_store.specs.declared.faults.StageFault.TheVariants as stages
+use Rattle.guard_store.specs.declared.faults.FindFault.{FindFault}
+use Rattle.guard_store.specs.declared.faults.FindFault.TheVariants as finds
+use Rattle.guard_store.specs.declared.faults.HeadFault.{HeadFault}
+use Rattle.guard_store.specs.declared.faults.CommitFault.{CommitFault}
+use Rattle.guard_store.specs.declared.faults.CommitFault.TheVariants as commits
+use Rattle.guard_store.specs.declared.faults.Committed.{Committed}
+use Rattle.guard_store.specs.declared.faults.Committed.TheVariants.{ReadOnly, Done, Conflict, FullTriples, Refused}
+use Rattle.guard_store.specs.declared.transaction.OpenTransaction.{OpenTransaction}
+use Rattle.guard_store.specs.declared.session.Session.{Session}
+use Rattle.guard_store.specs.Fronts.{SharedStore, Turn}
+use Rattle.guard_store.specs.Callers.{IsCaller, IsSession, FitsIn, HasWork, OnlyReads}
+use Rattle.guard_store.specs.Transactions.{plain, plain_in, begun_at, with_changes, with_shapes, with_find}
+use Rattle.guard_store.specs.Answers.{Begins, BeginsNot, Stages, StagesNot, Heads, HeadsNot, Commits, CommitsNot, AnswersCommit, FindsNot, IsOpen, event_of}
+use Rattle.guard_store.proofs.Turning.{front_is}
+use Rattle.guard_store.proofs.Fitting.{session_ended}
+use Rattle.session_threads.specs.Replies.{IsBeginReply, IsStageReply, IsFindRefusal, IsAbortReply, IsCommitReply, IsListed, IsRefused}
+use Rattle.session_threads.specs.Playing.{HasPlayed, Plays, PlaysAll}
+use Rattle.session_threads.proofs.Keeping.{played_still, played_on}
+
+-- a command that is no event; v is the transaction after it
+plays_local : (store : SharedStore) (old new : Session) (w v : Option Sessions.OpenTransaction) (c : Command) (rs more : List SessionReply) (t : SessionReply) → IsSession store new → new.number ≡ old.number → new.pass ≡ old.pass
+    → plain_in old.current ≡ w → plain_in new.current ≡ v → local_answer w c ≡ answers t v → more ≡ rs ++ t ∷ [] → Plays store old new c rs more
+plays_local store old new w v c rs more t is n p ow nv e em = record {
+  session = is;
+  number = n;
+  goes = λ file cs h.
+      let one : HasPlayed store.limits old.number old.pass.known.front file (up_to_event w (c ∷ cs) rs) = subst (λ (x : Option Sessions.OpenTransaction). HasPlayed store.limits old.number old.pass.known.front file (up_to_event x (c ∷ cs) rs)) ow h in
+      let two : HasPlayed store.limits old.number old.pass.known.front file (up_to_event v cs (rs ++ t ∷ [])) = subst (HasPlayed store.limits old.number old.pass.known.front file) (up_to_event-local w v c cs rs t e) one in
+      let three : HasPlayed store.limits old.number old.pass.known.front file (up_to_event (plain_in new.current) cs more) =
+      subst (λ (x : Option Sessions.OpenTransaction). HasPlayed store.limits old.number old.pass.known.front file (up_to_event x cs more)) (sym nv) (subst (λ (ts : List SessionReply). HasPlayed store.limits old.number old.pass.known.front file (up_to_event v cs ts)) (sym em) two) in
+      subst (λ (i : ℕ). HasPlayed store.limits i new.pass.known.front file (up_to_event (plain_in new.current) cs more)) (sym n)
+      (subst (λ (x : Caller Event Limits). HasPlayed store.limits old.number x.known.front file (up_to_event (plain_in new.current) cs more)) (sym p) three);
+}
+
+-- a turn of the session's own, with the event of the next command
+played_turn : (store : SharedStore) (i : ℕ) (old new : Caller Event Limits) (file : List Command) (w : Option Sessions.OpenTransaction) (c : Command) (cs : List Command) (rs : List SessionReply) (r : Reply)
+    → is_opening (action_of w c) ≡ false → IsCaller store i old → (t : Turn store.limits old new (event_of i (action_of w c) r))
+    → HasPlayed store.limits i old.known.front file (record { current = w; commands = c ∷ cs; replies = rs }) → HasPlayed store.limits i new.known.front file (after_reply t.before w c cs rs r)
+played_turn store i old new file w c cs rs r e is t p =
+    let l = store.limits in
+    let event : Event = event_of i (action_of w c) r in
+    subst (λ (x : List Event). HasPlayed l i x file (after_reply t.before w c cs rs r)) (sym (front_is l old new event t))
+    (played_on l i t.seen (first_state file) w c cs rs r t.before e t.replays (played_still l i old.known t.seen (first_state file) (record { current = w; commands = c ∷ cs; replies = rs }) is.own t.others p))
+
+-- a command that is an event; w is the transaction before it, v the one after it
+plays_event : (store : SharedStore) (old new : Session) (w v : Option Sessions.OpenTransaction) (c : Command) (r : Reply) (rs more : List SessionReply) (x : SessionReply) → IsSession store old → IsSession store new → new.number ≡ old.number
+    → plain_in old.current ≡ w → plain_in new.current ≡ v → local_answer w c ≡ None → is_opening (action_of w c) ≡ false → (t : Turn store.limits old.pass new.pass (event_of old.number (action_of w c) r))
+    → ((cs : List Command) → after_reply t.before w c cs rs r ≡ up_to_event v cs (rs ++ x ∷ [])) → more ≡ rs ++ x ∷ [] → Plays store old new c rs more
+plays_event store old new w v c r rs more x was is n ow nv e o t by em = record {
+  session = is;
+  number = n;
+  goes = λ file cs h.
+      let l = store.limits in
+      let i = old.number in
+      let one : HasPlayed l i old.pass.known.front file (up_to_event w (c ∷ cs) rs) = subst (λ (y : Option Sessions.OpenTransaction). HasPlayed l i old.pass.known.front file (up_to_event y (c ∷ cs) rs)) ow h in
+      let two : HasPlayed l i old.pass.known.front file (record { current = w; commands = c ∷ cs; replies = rs }) = subst (HasPlayed l i old.pass.known.front file) (up_to_event-event w c cs rs e) one in
+      let three : HasPlayed l i new.pass.known.front file (after_reply t.before w c cs rs r) = played_turn store i old.pass new.pass file w c cs rs r o was.caller t two in
+      let four : HasPlayed l i new.pass.known.front file (up_to_event v cs (rs ++ x ∷ [])) = subst (HasPlayed l i new.pass.known.front file) (by cs) three in
+      let five : HasPlayed l i new.pass.known.front file (up_to_event (plain_in new.current) cs more) =
+      subst (λ (y : Option Sessions.OpenTransaction). HasPlayed l i new.pass.known.front file (up_to_event y cs more)) (sym nv) (subst (λ (ts : List SessionReply). HasPlayed l i new.pass.known.front file (up_to_event v cs ts)) (sym em) four) in
+      subst (λ (k : ℕ). HasPlayed l k new.pass.known.front file (up_to_event (plain_in new.current) cs more)) (sym n) five;
+}
+
+plain_none : (s : Session) → s.current ≡ None → plain_in s.current ≡ None
+plain_none s e = ap plain_in e
+
+plain_open : (s : Session) (w : OpenTransaction) → s.current ≡ Some w → plain_in s.current ≡ Some (plain w)
+plain_open s w e = ap plain_in e
+
+pub plays_begin : (store : SharedStore) (old new : Session) (a : Result ℕ BeginFault) (r : SessionReply) (rs more : List SessionReply) → IsSession store old → IsSession store new
+    → MatchResult a (λ v. Begins store.limits old new v) (λ f. BeginsNot f store.limits old new) → IsBeginReply a r → more ≡ rs ++ r ∷ [] → Plays store old new Begin rs more
+plays_begin store old new (Ok v) r rs more was is b told em =
+    let t = b.1.0 in
+    let h = b.1.1 in
+    let count : v ≡ version t.before = cc (t.step.1.0) in
+    let on : more ≡ rs ++ said.Begun (version t.before) ∷ [] = em ∙ (ap (λ x. rs ++ x ∷ []) told ∙ ap (λ (k : ℕ). rs ++ said.Begun k ∷ []) count) in
+    plays_event store old new None (Some (begun (version t.before) t.before.graph)) Begin (replies.Version v) rs more (said.Begun (version t.before)) was is (ap (λ s. s.number) h) (plain_none old b.0)
+    (plain_open new (begun_at (snapshot_of t.before)) (ap (λ s. s.current) h)) refl refl t (λ cs. refl) on
+plays_begin store old new (Err begins.AlreadyOpen) r rs more was is b told em =
+    plays_local store old new (Some (plain b.0.0)) (Some (plain b.0.0)) Begin rs more said.AlreadyOpen is (ap (λ s. s.number) b.1) (ap (λ s. s.pass) b.1) (plain_open old b.0.0 b.0.1) (plain_open new b.0.0 (ap (λ s. s.current) b.1 ∙ b.0.1)) refl
+    (em ∙ ap (λ x. rs ++ x ∷ []) told)
+plays_begin store old new (Err begins.Memory) r rs more was is b told em = absurd told
+
+-- what a block of the file is to the store: its action, its reply, and what it makes of the transaction
+pub record IsBlock (c : Command) (ts : List Triple) (staged : OpenTransaction → OpenTransaction) (done : SessionReply) : Type 0 where
+  pub free : local_answer None c ≡ answers said.NoTransaction None
+  pub event : (w : Sessions.OpenTransaction) → local_answer (Some w) c ≡ None
+  pub action : (w : Sessions.OpenTransaction) → action_of (Some w) c ≡ actions.Name (parts_of ts)
+  pub named : (s : _) (w : OpenTransaction) (cs : List Command) (rs : List SessionReply) → after_reply s (Some (plain w)) c cs rs replies.Named ≡ up_to_event (Some (plain (staged w))) cs (rs ++ done ∷ [])
+  pub full : (s : _) (w : OpenTransaction) (n : ℕ) (cs : List Command) (rs : List SessionReply) → after_reply s (Some (plain w)) c cs rs (replies.Full n) ≡ up_to_event (Some (plain w)) cs (rs ++ said.FullTerms ∷ [])
+
+pub block_add : (ts : List Triple) → IsBlock (Add ts) ts (λ w. with_changes w (additions ts)) (said.Added (length ts))
+block_add ts = record { free = refl; event = λ w. refl; action = λ w. refl; named = λ s w cs rs. refl; full = λ s w n cs rs. refl }
+
+pub block_remove : (ts : List Triple) → IsBlock (Remove ts) ts (λ w. with_changes w (removals ts)) (said.Removed (length ts))
+block_remove ts = record { free = refl; event = λ w. refl; action = λ w. refl; named = λ s w cs rs. refl; full = λ s w n cs rs. refl }
+
+pub block_shapes : (ts : List Triple) → IsBlock (Shapes ts) ts (λ w. with_shapes w ts) (said.ShapesStaged (length ts))
+block_shapes ts = record { free = refl; event = λ w. refl; action = λ w. refl; named = λ s w cs rs. refl; full = λ s w n cs rs. refl }
+
+pub plays_stage : {U : Type 0} (store : SharedStore) (old new : Session) (c : Command) (ts : List Triple) (staged : OpenTransaction → OpenTransaction) (done : SessionReply) → IsBlock c ts staged done
+    → (a : Result U StageFault) (r : SessionReply) (rs more : List SessionReply) → IsSession store old → IsSession store new
+    → MatchResult a (λ _. Stages store.limits old new ts staged) (λ f. StagesNot f store.limits old new ts) → IsStageReply a done r → more ≡ rs ++ r ∷ [] → Plays store old new c rs more
+plays_stage {U} store old new c ts staged done k (Ok u) r rs more was is b told em =
+    let w = b.0 in
+    let a = k.action (plain w) in
+    let t : Turn store.limits old.pass new.pass (event_of old.number (action_of (Some (plain w)) c) replies.Named) = subst (λ (x : Action). Turn store.limits old.pass new.pass (event_of old.number x replies.Named)) (sym a) b.2 in
+    plays_event store old new (Some (plain w)) (Some (plain (staged w))) c replies.Named rs more done was is (ap (λ s. s.number) b.3) (plain_open old w b.1) (plain_open new (staged w) (ap (λ s. s.current) b.3)) (k.event (plain w)) (ap is_opening a)
+    t (λ cs. k.named t.before w cs rs) (em ∙ ap (λ x. rs ++ x ∷ []) told)
+plays_stage {U} store old new c ts staged done k (Err stages.NoTransaction) r rs more was is b told em =
+    plays_local store old new None None c rs more said.NoTransaction is (ap (λ s. s.number) b.1) (ap (λ s. s.pass) b.1) (plain_none old b.0) (plain_none new (ap (λ s. s.current) b.1 ∙ b.0)) k.free (em ∙ ap (λ x. rs ++ x ∷ []) told)
+plays_stage {U} store old new c ts staged done k (Err (stages.Full n)) r rs more was is b told em =
+    let w = b.0.0 in
+    let a = k.action (plain w) in
+    let t : Turn store.limits old.pass new.pass (event_of old.number (action_of (Some (plain w)) c) (replies.Full n)) = subst (λ (x : Action). Turn store.limits old.pass new.pass (event_of old.number x (replies.Full n))) (sym a) b.1 in
+    plays_event store old new (Some (plain w)) (Some (plain w)) c (replies.Full n) rs more said.FullTerms was is (ap (λ s. s.number) b.2) (plain_open old w b.0.1) (plain_open new w (ap (λ s. s.current) b.2 ∙ b.0.1)) (k.event (plain w)) (ap is_opening a)
+    t (λ cs. k.full t.before w n cs rs) (em ∙ ap (λ x. rs ++ x ∷ []) told)
+plays_stage {U} store old new c ts staged done k (Err stages.Memory) r rs more was is b told em = absurd told
+
+-- a command that changes nothing
+refused_none : (c : Command) (r : SessionReply) → IsRefused c r → local_answer None c ≡ answers said.NoTransaction None
+refused_none Begin r h = absurd h
+refused_none (Add ts) r h = absurd h
+refused_none (BadAdd n k) r h = refl
+refused_none (Remove ts) r h = absurd h
+refused_none (BadRemove n k) r h = refl
+refused_none (Shapes ts) r h = absurd h
+refused_none (BadShapes n k) r h = refl
+refused_none (BrokenShapes rule node) r h = refl
+refused_none Commit r h = absurd h
+refused_none (Find p) r h = absurd h
+refused_none Abort r h = absurd h
+
+refused_some : (c : Command) (r : SessionReply) (w : Sessions.OpenTransaction) → IsRefused c r → local_answer (Some w) c ≡ answers r (Some w)
+refused_some Begin r w h = absurd h
+refused_some (Add ts) r w h = absurd h
+refused_some (BadAdd n k) r w h = ap (λ x. answers x (Some w)) (sym h)
+refused_some (Remove ts) r w h = absurd h
+refused_some (BadRemove n k) r w h = ap (λ x. answers x (Some w)) (sym h)
+refused_some (Shapes ts) r w h = absurd h
+refused_some (BadShapes n k) r w h = ap (λ x. answers x (Some w)) (sym h)
+refused_some (BrokenShapes rule node) r w h = ap (λ x. answers x (Some w)) (sym h)
+refused_some Commit r w h = absurd h
+refused_some (Find p) r w h = absurd h
+refused_some Abort r w h = absurd h
+
+refused_by : (c : Command) (r : SessionReply) (u : Option Sessions.OpenTransaction) → IsRefused c r → local_answer u c ≡ answers (answer_in u r) u
+refused_by c r None h = refused_none c r h
+refused_by c r (Some w) h = refused_some c r w h
+
+pub plays_refused : (store : SharedStore) (s : Session) (c : Command) (r : SessionReply) (rs more : List SessionReply) → IsSession store s → IsRefused c r → more ≡ rs ++ answer_in (plain_in s.current) r ∷ [] → Plays store s s c rs more
+plays_refused store s c r rs more is h em = plays_local store s s (plain_in s.current) (plain_in s.current) c rs more (answer_in (plain_in s.current) r) is refl refl refl refl (refused_by c r (plain_in s.current) h) em
+
+-- finds and aborts
+pub plays_found : (store : SharedStore) (old new : Session) (p : Pattern) (w : OpenTransaction) (r : SessionReply) (rs more : List SessionReply) (ts : List Triple) → IsSession store new → IsOpen old w → ts ≡ found_by (plain w) p
+    → new ≡ record old { current = Some (with_find w p) } → r ≡ Sessions.find_reply ts → more ≡ rs ++ r ∷ [] → Plays store old new (Find p) rs more
+plays_found store old new p w r rs more ts is o found e told em =
+    plays_local store old new (Some (plain w)) (Some (plain (with_find w p))) (Find p) rs more (Sessions.find_reply (found_by (plain w) p)) is (ap (λ s. s.number) e) (ap (λ s. s.pass) e) (plain_open old w o) (plain_open new (with_find w p) (ap (λ s. s.current) e)) refl
+    (em ∙ (ap (λ x. rs ++ x ∷ []) told ∙ ap (λ (us : List Triple). rs ++ Sessions.find_reply us ∷ []) found))
+
+pub plays_not_found : (store : SharedStore) (old new : Session) (p : Pattern) (f : FindFault) (r : SessionReply) (rs more : List SessionReply) → IsSession store old → FindsNot f old new → IsFindRefusal f r → more ≡ rs ++ r ∷ [] → Plays store old new (Find p) rs more
+plays_not_found store old new p finds.NoTransaction r rs more is b told em =
+    let new_is : IsSession store new = subst (IsSession store) (sym b.1) is in
+    plays_local store old new None None (Find p) rs more said.NoTransaction new_is (ap (λ s. s.number) b.1) (ap (λ s. s.pass) b.1) (plain_none old b.0) (plain_none new (ap (λ s. s.current) b.1 ∙ b.0)) refl (em ∙ ap (λ x. rs ++ x ∷ []) told)
+plays_not_found store old new p finds.Memory r rs more is b told em = absurd told
+
+pub plays_abort : (store : SharedStore) (old new : Session) (b : Bool) (r : SessionReply) (rs more : List SessionReply) → IsSession store old
+    → MatchBool b (((w : OpenTransaction) × IsOpen old w) × (new ≡ record old { current = None; head = None })) ((old.current ≡ None) × (new ≡ old)) → IsAbortReply b r → more ≡ rs ++ r ∷ [] → Plays store old new Abort rs more
+plays_abort store old new true r rs more is b told em =
+    let new_is : IsSession store new = session_ended store old new is (ap (λ s. s.pass) b.1) (ap (λ s. s.number) b.1) (ap (λ s. s.current) b.1) in
+    plays_local store old new (Some (plain b.0.0)) None Abort rs more said.Aborted new_is (ap (λ s. s.number) b.1) (ap (λ s. s.pass) b.1) (plain_open old b.0.0 b.0.1) (plain_none new (ap (λ s. s.current) b.1)) refl (em ∙ ap (λ x. rs ++ x ∷ []) told)
+plays_abort store old new false r rs more is b told em =
+    let new_is : IsSession store new = subst (IsSession store) (sym b.1) is in
+    plays_local store old new None None Abort rs more said.NoTransaction new_is (ap (λ s. s.number) b.1) (ap (λ s. s.pass) b.1) (plain_none old b.0) (plain_none new (ap (λ s. s.current) b.1 ∙ b.0)) refl (em ∙ ap (λ x. rs ++ x ∷ []) told)
+
+-- a commit that is no event
+no_change : (w : OpenTransaction) → OnlyReads (Some w) → HasChange w.transaction.net w.transaction.staged → ⊥
+no_change w o h = subst (λ (x : Option (List Triple)). HasChange [] x → ⊥) (sym o.1) (λ y. y) (subst (λ (x : List Change). HasChange x w.transaction.staged) o.0 h)
+
+no_work : (s : Session) (w : OpenTransaction) → IsOpen s w → OnlyReads s.current → HasChange w.transaction.net w.transaction.staged → ⊥
+no_work s w o reads h = no_change w (subst OnlyReads o reads) h
+
+pub plays_reading : (store : SharedStore) (old new : Session) (a : Result Committed CommitFault) (r : SessionReply) (rs more : List SessionReply) → IsSession store old → IsSession store new → OnlyReads old.current
+    → MatchResult a (Commits store.limits old new) (λ f. CommitsNot f store.limits old new) → MatchResult a (λ c. IsCommitReply c r) (λ f. (f ≡ commits.NoTransaction) × (r ≡ said.NoTransaction)) → more ≡ rs ++ r ∷ []
+    → Plays store old new Commit rs more
+plays_reading store old new (Ok (ReadOnly v)) r rs more was is reads b told em =
+    let w = b.0 in
+    let only : OnlyReads (Some w) = b.2.0 in
+    let e : local_answer (Some (plain w)) Commit ≡ answers (said.ReadOnly w.transaction.base) None = local-none (plain w) w.transaction.net w.transaction.staged only.0 only.1 in
+    plays_local store old new (Some (plain w)) None Commit rs more (said.ReadOnly w.transaction.base) is (ap (λ s. s.number) b.3) b.2.2 (plain_open old w b.1) (plain_none new (ap (λ s. s.current) b.3)) e
+    (em ∙ (ap (λ x. rs ++ x ∷ []) told ∙ ap (λ (k : ℕ). rs ++ said.ReadOnly k ∷ []) b.2.1))
+plays_reading store old new (Ok (Done n why)) r rs more was is reads b told em = absurd (no_work old b.0 b.1 reads b.2.0)
+plays_reading store old new (Ok (Conflict n t)) r rs more was is reads b told em = absurd (no_work old b.0 b.1 reads b.2.0)
+plays_reading store old new (Ok (FullTriples n)) r rs more was is reads b told em = absurd (no_work old b.0 b.1 reads b.2.0)
+plays_reading store old new (Ok (Refused rows why shapes)) r rs more was is reads b told em = absurd (no_work old b.0 b.1 reads b.2.0)
+plays_reading store old new (Err commits.NoTransaction) r rs more was is reads b told em =
+    plays_local store old new None None Commit rs more said.NoTransaction is (ap (λ s. s.number) b.1) (ap (λ s. s.pass) b.1) (plain_none old b.0) (plain_none new (ap (λ s. s.current) b.1 ∙ b.0)) refl (em ∙ ap (λ x. rs ++ x ∷ []) told.1)
+plays_reading store old new (Err commits.Memory) r rs more was is reads b told em = absurd (let z : commits.Memory ≡ commits.NoTransaction = told.0 in cc)
+
+-- the turn of a commit
+committed_turn : (store : SharedStore) (i : ℕ) (mid new : Session) (file : List Command) (w : OpenTransaction) (cs : List Command) (rs : List SessionReply) (r : Reply) (x : SessionReply) → IsCaller store i mid.pass
+    → (t : Turn store.limits mid.pass new.pass (event_of mid.number (actions.Commit w.transaction) r)) → mid.number ≡ i
+    → ((cs : List Command) → after_reply t.before (Some (record { transaction = w.transaction; graph = w.snap.graph; head_taken = true })) Commit cs rs r ≡ up_to_event None cs (rs ++ x ∷ []))
+    → HasPlayed store.limits i mid.pass.known.front file (record { current = Some (record { transaction = w.transaction; graph = w.snap.graph; head_taken = true }); commands = Commit ∷ cs; replies = rs })
+    → HasPlayed store.limits i new.pass.known.front file (up_to_event None cs (rs ++ x ∷ []))
+committed_turn store i mid new file w cs rs r x caller t same by p =
+    let u : Sessions.OpenTransaction = record { transaction = w.transaction; graph = w.snap.graph; head_taken = true } in
+    let l = store.limits in
+    let event : Event = event_of i (actions.Commit w.transaction) r in
+    let seen : new.pass.known.front ≡ t.seen ++ event ∷ [] = front_is l mid.pass new.pass (event_of mid.number (actions.Commit w.transaction) r) t ∙ ap (λ (k : ℕ). t.seen ++ event_of k (actions.Commit w.transaction) r ∷ []) same in
+    let start : SessionState = record { current = Some u; commands = Commit ∷ cs; replies = rs } in
+    subst (HasPlayed l i new.pass.known.front file) (by cs)
+    (subst (λ (y : List Event). HasPlayed l i y file (after_reply t.before (Some u) Commit cs rs r)) (sym seen)
+    (played_on l i t.seen (first_state file) (Some u) Commit cs rs r t.before refl t.replays (played_still l i mid.pass.known t.seen (first_state file) start caller.own t.others p)))
+
+-- a commit that is one, after its head
+plays_committed : (store : SharedStore) (old mid new : Session) (w : OpenTransaction) (v : ℕ) (r : Reply) (x : SessionReply) (rs more : List SessionReply) → IsSession store old → IsSession store mid → IsSession store new → IsOpen old w
+    → HasChange w.transaction.net w.transaction.staged → Heads store.limits old mid v → (t : Turn store.limits mid.pass new.pass (event_of mid.number (actions.Commit w.transaction) r))
+    → ((cs : List Command) → after_reply t.before (Some (record { transaction = w.transaction; graph = w.snap.graph; head_taken = true })) Commit cs rs r ≡ up_to_event None cs (rs ++ x ∷ [])) → new.number ≡ mid.number → new.current ≡ None → more ≡ rs ++ x ∷ []
+    → Plays store old new Commit rs more
+plays_committed store old mid new w v r x rs more was mid_is is o change h t by n none em =
+    let l = store.limits in
+    let i = old.number in
+    let same : mid.number ≡ old.number = ap (λ s. s.number) h.1.1 in
+    let u : Sessions.OpenTransaction = record { transaction = w.transaction; graph = w.snap.graph; head_taken = true } in
+    let caller : IsCaller store i mid.pass = subst (λ (k : ℕ). IsCaller store k mid.pass) same mid_is.caller in record {
+      session = is;
+      number = n ∙ same;
+      goes = λ file cs p.
+          let one : HasPlayed l i old.pass.known.front file (up_to_event (Some (plain w)) (Commit ∷ cs) rs) = subst (λ (y : Option Sessions.OpenTransaction). HasPlayed l i old.pass.known.front file (up_to_event y (Commit ∷ cs) rs)) (plain_open old w o) p in
+          let two : HasPlayed l i old.pass.known.front file (record { current = Some (plain w); commands = Commit ∷ cs; replies = rs }) =
+          subst (HasPlayed l i old.pass.known.front file) (up_to_event-event (Some (plain w)) Commit cs rs (local-change (plain w) w.transaction.net w.transaction.staged change)) one in
+          let three : HasPlayed l i mid.pass.known.front file (record { current = Some u; commands = Commit ∷ cs; replies = rs }) = played_turn store i old.pass mid.pass file (Some (plain w)) Commit cs rs (replies.Version v) refl was.caller h.1.0 two in
+          let four : HasPlayed l i new.pass.known.front file (up_to_event None cs (rs ++ x ∷ [])) = committed_turn store i mid new file w cs rs r x caller t same by three in
+          let five : HasPlayed l i new.pass.known.front file (up_to_event (plain_in new.current) cs more) =
+          subst (λ (y : Option Sessions.OpenTransaction). HasPlayed l i new.pass.known.front file (up_to_event y cs more)) (sym (plain_none new none)) (subst (λ (ts : List SessionReply). HasPlayed l i new.pass.known.front file (up_to_event None cs ts)) (sym em) four) in
+          subst (λ (k : ℕ). HasPlayed l k new.pass.known.front file (up_to_event (plain_in new.current) cs more)) (sym (n ∙ same)) five;
+    }
+
+told_refused : (rows : List _) (shapes : List Triple) (under : List Triple) → shapes ≡ under → said.Refused (length rows) (report_text under rows) ≡ said.Refused (length rows) (report_text shapes rows)
+told_refused rows shapes under e = ap (λ (s : List Triple). said.Refused (length rows) (report_text s rows)) (sym e)
+
+-- the open transaction is the same after a head
+still_open : (l : Limits) (old mid : Session) (v : ℕ) (w : OpenTransaction) → Heads l old mid v → IsOpen mid w → IsOpen old w
+still_open l old mid v w h o = sym (ap (λ s. s.current) h.1.1) ∙ o
+
+work_of : (s : Session) (w : OpenTransaction) → HasWork s.current → IsOpen s w → HasChange w.transaction.net w.transaction.staged
+work_of s w h o = subst HasWork o h
+
+pub plays_work : (store : SharedStore) (old mid new : Session) (v : ℕ) (a : Result Committed CommitFault) (r : SessionReply) (rs more : List SessionReply) → IsSession store old → IsSession store mid → IsSession store new → HasWork old.current → Heads store.limits old mid v
+    → MatchResult a (Commits store.limits mid new) (λ f. CommitsNot f store.limits mid new) → MatchResult a (λ c. IsCommitReply c r) (λ f. (f ≡ commits.NoTransaction) × (r ≡ said.NoTransaction)) → more ≡ rs ++ r ∷ []
+    → Plays store old new Commit rs more
+plays_work store old mid new v (Ok (ReadOnly n)) r rs more was mid_is is work h b told em = absurd (no_change b.0 b.2.0 (work_of old b.0 work (still_open store.limits old mid v b.0 h b.1)))
+plays_work store old mid new v (Ok (Done n why)) r rs more was mid_is is work h b told em =
+    plays_committed store old mid new b.0 v (replies.Done n why) (said.Committed n) rs more was mid_is is (still_open store.limits old mid v b.0 h b.1) b.2.0 h b.2.1 (λ cs. refl) (ap (λ s. s.number) b.3) (ap (λ s. s.current) b.3) (em ∙ ap (λ x. rs ++ x ∷ []) told)
+plays_work store old mid new v (Ok (Conflict n t)) r rs more was mid_is is work h b told em =
+    plays_committed store old mid new b.0 v (replies.Conflict n t) (said.Overtaken n t) rs more was mid_is is (still_open store.limits old mid v b.0 h b.1) b.2.0 h b.2.1 (λ cs. refl) (ap (λ s. s.number) b.3) (ap (λ s. s.current) b.3) (em ∙ ap (λ x. rs ++ x ∷ []) told)
+plays_work store old mid new v (Ok (FullTriples n)) r rs more was mid_is is work h b told em =
+    plays_committed store old mid new b.0 v (replies.FullTriples n) said.FullGraph rs more was mid_is is (still_open store.limits old mid v b.0 h b.1) b.2.0 h b.2.1 (λ cs. refl) (ap (λ s. s.number) b.3) (ap (λ s. s.current) b.3) (em ∙ ap (λ x. rs ++ x ∷ []) told)
+plays_work store old mid new v (Ok (Refused rows why shapes)) r rs more was mid_is is work h b told em =
+    plays_committed store old mid new b.0 v (replies.Refused rows why) (said.Refused (length rows) (report_text shapes rows)) rs more was mid_is is (still_open store.limits old mid v b.0 h b.1) b.2.0 h b.2.1.0
+    (λ cs. ap (λ (x : SessionReply). up_to_event None cs (rs ++ x ∷ [])) (told_refused rows shapes _ b.2.1.1)) (ap (λ s. s.number) b.3) (ap (λ s. s.current) b.3) (em ∙ ap (λ x. rs ++ x ∷ []) told)
+plays_work store old mid new v (Err commits.NoTransaction) r rs more was mid_is is work h b told em =
+    let none : old.current ≡ None = sym (ap (λ s. s.current) h.1.1) ∙ b.0 in
+    absurd (subst HasWork none work)
+plays_work store old mid new v (Err commits.Memory) r rs more was mid_is is work h b told em = absurd (let z : commits.Memory ≡ commits.NoTransaction = told.0 in cc)
+
+-- the results of a refusal are a listing
+listed_by : (l : Limits) (old new : Session) (w : OpenTransaction) (a : Committed) → AnswersCommit l old new w a → IsListed a
+listed_by l old new w (ReadOnly v) b = tt
+listed_by l old new w (Done n why) b = tt
+listed_by l old new w (Conflict n t) b = tt
+listed_by l old new w (FullTriples n) b = tt
+listed_by l old new w (Refused rows why shapes) b = (_, b.1.2)
+
+pub listed : (l : Limits) (old new : Session) (a : Result Committed CommitFault) → MatchResult a (Commits l old new) (λ f. CommitsNot f l old new) → IfOk a IsListed
+listed l old new (Ok a) b = listed_by l old new b.0 a b.2
+listed l old new (Err f) b = tt
+
+-- the next command of the file
+pub play_step : (store : SharedStore) (start mid new : Session) (file : List Command) (c : Command) (k : ℕ) (rs more : List SessionReply) → k < length file → c ≡ get_or file k c
+    → (HasPlayed store.limits start.number start.pass.known.front file (first_state file) → HasPlayed store.limits mid.number mid.pass.known.front file (up_to_event (plain_in mid.current) (drop k file) rs)) → Plays store mid new c rs more
+    → HasPlayed store.limits start.number start.pass.known.front file (first_state file) → HasPlayed store.limits new.number new.pass.known.front file (up_to_event (plain_in new.current) (drop (k + 1) file) more)
+play_step store start mid new file c k rs more lt is g o h =
+    let e : drop k file ≡ c ∷ drop (k + 1) file = rw add-one (drop-cons file k c lt ∙ ap (λ z. z ∷ drop (suc k) file) (sym is)) in
+    o.goes file (drop (k + 1) file) (subst (λ (ds : List Command). HasPlayed store.limits mid.number mid.pass.known.front file (up_to_event (plain_in mid.current) ds rs)) e (g h))
+
+-- the answer of a head
+pub head_taken : (l : Limits) (old new : Session) (a : Result ℕ HeadFault) (v : ℕ) → a ≡ Ok v → MatchResult a (λ v. Heads l old new v) (λ f. HeadsNot f l old new) → Heads l old new v
+head_taken l old new a v e h = subst (λ x. MatchResult x (λ v. Heads l old new v) (λ f. HeadsNot f l old new)) e h
+
+-- a find changes nothing that the store asks of the transaction
+found_session : (store : SharedStore) (old new : Session) (w : OpenTransaction) (p : Pattern) → IsSession store old → IsOpen old w → new ≡ record old { current = Some (with_find w p) } → IsSession store new
+found_session store old new w p is o e = subst (IsSession store) (sym e) (record {
+  caller = is.caller;
+  fits = λ s r.
+      let f : FitsIn (Some w) s = subst (λ (x : Option OpenTransaction). FitsIn x s) o (is.fits s r) in
+      record { base = f.base; net = f.net; staged = f.staged; verdict = f.verdict };
+})
+
+pub plays_find : {V : Type 0} (items : V → List Triple) (store : SharedStore) (old new : Session) (p : Pattern) (a : Result V FindFault) (r : SessionReply) (rs more : List SessionReply) → IsSession store old
+    → MatchResult a (λ v. (w : OpenTransaction) × IsOpen old w × (items v ≡ found_by (plain w) p) × (new ≡ record old { current = Some (with_find w p) })) (λ f. FindsNot f old new)
+    → MatchResult a (λ v. r ≡ Sessions.find_reply (items v)) (λ f. IsFindRefusal f r) → more ≡ rs ++ r ∷ [] → Plays store old new (Find p) rs more
+plays_find {V} items store old new p (Ok v) r rs more is h reply em = plays_found store old new p h.0 r rs more (items v) (found_session store old new h.0 p is h.1 h.3) h.1 h.2 h.3 reply em
+plays_find {V} items store old new p (Err f) r rs more is h reply em = plays_not_found store old new p f r rs more is h reply em
+
+drop_none : {X : Type 0} (xs : List X) (k : ℕ) → length xs ≤ k → drop k xs ≡ []
+drop_none [] zero h = refl
+drop_none [] (suc k) h = refl
+drop_none (x ∷ xs) zero h = absurd (omega (arith, h))
+drop_none (x ∷ xs) (suc k) h = drop_none xs k (omega (arith, h))
+
+-- all commands were done
+pub plays_all : (store : SharedStore) (old new : Session) (file : List Command) (k : ℕ) (rs : List SessionReply) → length file ≤ k → IsSession store new → new.number ≡ old.number
+    → (HasPlayed store.limits old.number old.pass.known.front file (first_state file) → HasPlayed store.limits new.number new.pass.known.front file (up_to_event (plain_in new.current) (drop k file) rs)) → PlaysAll store old new file rs
+plays_all store old new file k rs lt is n g = record {
+  current = plain_in new.current;
+  session = is;
+  number = n;
+  goes = λ h. subst (λ (cs : List Command). HasPlayed store.limits new.number new.pass.known.front file (up_to_event (plain_in new.current) cs rs)) (drop_none file k lt) (g h);
+}

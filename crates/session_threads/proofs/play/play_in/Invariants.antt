@@ -1,0 +1,15 @@
+use Rattle.std.proofs.Common.{◌≡◌, drop}
+use Rattle.session_model.specs.Sessions.{up_to_event}
+use Rattle.thread_model.specs.Following.{first_state}
+use Rattle.guard_store.specs.Callers.{IsSession}
+use Rattle.guard_store.specs.Transactions.{plain_in}
+use Rattle.session_threads.specs.Playing.{HasPlayed}
+use Rattle.session_threads.proofs.play.play_in.Given as goal
+
+abbrev pub invariant-loop-command : goal.invariant-loop-command
+invariant-loop-command g l = record {
+  session : IsSession l.store l.session;
+  number : l.session.number ≡ l.fn.session.number;
+  goes : HasPlayed l.store.limits l.fn.session.number l.fn.session.pass.known.front l.commands (first_state l.commands)
+      → HasPlayed l.store.limits l.session.number l.session.pass.known.front l.commands (up_to_event (plain_in l.session.current) (drop l.command-index l.commands) l.replies);
+}
