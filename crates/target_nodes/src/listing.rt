@@ -26,7 +26,11 @@ fn seconds(alloc: Global, pairs: &[(u32, u32)]) -> Result<Vec<u32>, AllocError>
 }
 
 /// The subjects of the triples with a predicate, in any order, each once or more.
-pub fn subjects_of<R: Triples>(alloc: Global, graph: &R, predicate: u32) -> Result<Vec<u32>, AllocError>
+pub fn subjects_of<R: Triples>(
+    alloc: Global,
+    graph: &R,
+    predicate: u32,
+) -> Result<Vec<u32>, AllocError>
     ensures { IfOk result (λ found. (n : _) → Contains found.items n ↔ ((o : _) × Contains (R.triples graph.now) (record { subject = n; predicate = predicate; object = o }))) }
 {
     let pairs = graph.with_predicate(alloc, predicate)?;
