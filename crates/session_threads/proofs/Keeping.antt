@@ -2,7 +2,6 @@
 use Rattle.std.proofs.Common.{◌≡◌, ℕ, ◌==◌, nat_eq, Bool, true, false, cond, List, [], ◌∷◌, ◌++◌, Option, refl, sym, ◌∙◌, subst, eq-eqb}
 use Rattle.std.specs.Prelude.{MatchBool}
 use Rattle.std.proofs.lemmas.List.{append-nil, append_cancel_left}
-use mathlib.Core.List.{IsPrefix}
 use Rattle.turn_lock.specs.History.{under, OthersAdded, has_number}
 use Rattle.turn_lock.specs.declared.view.Known.{Known}
 use Rattle.turn_lock.proofs.Added.{under_append}

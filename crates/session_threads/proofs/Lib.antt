@@ -1,2 +1,5 @@
 pub mod Keeping
 pub mod Playing
+pub mod Closing
+pub mod Gathering
+pub mod Sending

@@ -1,5 +1,5 @@
 -- One command more, by a call of the store.
-use Rattle.std.proofs.Common.{◌≡◌, ◌≢◌, suc, drop, drop-cons, get_or, add-one, Result, Ok, Err, IfOk, MatchResult, ℕ, ◌+◌, ◌<◌, Bool, true, false, List, [], ◌∷◌, ◌++◌, length, Option, Some, None, refl, sym, ap, ◌∙◌, subst, ◌≤◌, zero, arith}
+use Rattle.std.proofs.Common.{◌≡◌, suc, drop, drop-cons, get_or, add-one, Result, Ok, Err, IfOk, MatchResult, ℕ, ◌+◌, ◌<◌, Bool, true, false, List, [], ◌∷◌, ◌++◌, length, Option, Some, None, refl, sym, ap, ◌∙◌, subst, ◌≤◌, zero, arith}
 use Rattle.std.specs.Prelude.{MatchBool}
 use Rattle.turn_lock.specs.Callers.{Caller}
 use Rattle.rdf_model.specs.declared.triple.Triple.{Triple}

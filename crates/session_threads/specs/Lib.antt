@@ -1,2 +1,3 @@
 pub mod Replies
 pub mod Playing
+pub mod Team

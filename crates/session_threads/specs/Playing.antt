@@ -1,5 +1,5 @@
 -- How far a session has played its file, in what its caller has seen.
-use Rattle.std.specs.Prelude.{◌≡◌, ℕ, Option, None, List, [], ◌∷◌}
+use Rattle.std.specs.Prelude.{◌≡◌, ℕ, Option, List, [], ◌∷◌}
 use Rattle.store_model.specs.declared.event.Limits.{Limits}
 use Rattle.store_model.specs.declared.event.Event.{Event}
 use Rattle.store_model.specs.Store.{empty_store}

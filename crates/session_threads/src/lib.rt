@@ -1,12 +1,14 @@
-//! Session files that are played over a store that they share.
+//! Session files that are played beside each other, each in a thread of its own, over one store.
 //!
-//! `play_file` does the commands of a file by a session's calls of the store. What it gives is the session after its last
-//! command: in what it has seen then, its own events are those of its file, in the file's order, and none is left, whatever
-//! other sessions do beside it.
+//! `run_all` opens a session for each file, in the files' order, plays the files beside each other, meets the sessions and
+//! closes the store. What it gives is a run of those files in the order of the turns that the threads took: each
+//! session's events once, in the file's order, and none left over.
 #![tactic(auto)]
 
 mod perform;
 mod play;
 mod replies;
+mod team;
 
 pub use play::play_file;
+pub use team::run_all;

@@ -1,0 +1,158 @@
+-- A player may go to another thread, and threads may share the store and the files.
+use Rattle.std.proofs.Crossing as crossing
+use Rattle.std.proofs.Crossing.{crosses, Box-send, Box-sync, Vec-send, Vec-sync}
+use denote.Param.Send.{IsSend, IsSync, sendable, shr_sync, shr_slice_sync}
+use denote.Param.SendFields.{as_row_send, as_row_sync, declared_sync}
+use denote.RattleType.{RattleType}
+use denote.Exit.{no}
+use denote.Param.{arg, param}
+use denote.Ref.{NamedLft, ShrRef}
+use denote.Slice.{ShrSlice}
+use denote.Struct.Field.{row_field}
+use denote.Struct.Tuple.{TupleAt, type_at}
+use mir.Syntax.{Sym, Ty}
+use mathlib.Core.List.{[], ◌∷◌}
+use Rattle.std.specs.contracts.alloc.Global as heap
+use Rattle.collections.specs.contracts.sequence.Sequence as sequence
+use Rattle.commit_core.proofs.history.History.TheLaws.TheKnot as history_knot
+use Rattle.shape_ast.proofs.path.Path.TheLaws.TheKnot as path_knot
+use Rattle.page_index.proofs.page.Entry.TheLaws.TheKnot as page_knot
+use Rattle.shape_ast.specs.contracts.path.Path as path
+use Rattle.page_index.specs.contracts.pages.Pages as pages
+use Rattle.shape_ast.proofs.shape.Target.TheSendSync as target_sent
+use Rattle.shape_ast.proofs.constraint.Constraint.TheSendSync as constraint_sent
+use Rattle.rdf_model.proofs.term.Term.TheSendSync as term_sent
+use Rattle.rdf_model.proofs.triple.Triple.TheSendSync as triple_sent
+use Rattle.rdf_model.proofs.change.Change.TheSendSync as change_sent
+use Rattle.rdf_model.proofs.pattern.Pattern.TheSendSync as pattern_sent
+use Rattle.rdf_model.proofs.look.Look.TheSendSync as look_sent
+use Rattle.rdf_model.specs.contracts.triple.Triple as triple
+use Rattle.rdf_model.specs.contracts.triple.TripleOrd.TheImpl as triple_order
+use Rattle.rdf_model.specs.contracts.triple.TriplePartialEq.TheImpl as triple_equality
+use Rattle.rdf_model.specs.contracts.triple.TriplePartialOrd.TheImpl as triple_comparison
+use Rattle.term_dict.proofs.entry.ByNumber.TheSendSync as by_number_sent
+use Rattle.term_dict.proofs.entry.ByTerm.TheSendSync as by_term_sent
+use Rattle.term_dict.specs.contracts.entry.ByNumber as by_number
+use Rattle.term_dict.specs.contracts.entry.ByNumberOrd.TheImpl as by_number_order
+use Rattle.term_dict.specs.contracts.entry.ByNumberPartialEq.TheImpl as by_number_equality
+use Rattle.term_dict.specs.contracts.entry.ByNumberPartialOrd.TheImpl as by_number_comparison
+use Rattle.term_dict.specs.contracts.entry.ByTerm as by_term
+use Rattle.term_dict.specs.contracts.entry.ByTermOrd.TheImpl as by_term_order
+use Rattle.term_dict.specs.contracts.entry.ByTermPartialEq.TheImpl as by_term_equality
+use Rattle.term_dict.specs.contracts.entry.ByTermPartialOrd.TheImpl as by_term_comparison
+use Rattle.term_dict.specs.contracts.dict.Dict as dict
+use Rattle.shapes_graph.specs.contracts.graph.Content as content
+use Rattle.shapes_graph.specs.contracts.graph.ShapesGraph as shapes
+use Rattle.store_model.specs.contracts.event.Reply as answer
+use Rattle.store_model.specs.contracts.commit.Again as again
+use Rattle.shape_model.proofs.result_row.ResultRow.TheSendSync as row_sent
+use Rattle.store_model.specs.contracts.commit.Verdict as verdict
+use Rattle.store_model.specs.contracts.commit.Transaction as transaction
+use Rattle.store_model.specs.contracts.event.Action as action
+use Rattle.store_model.specs.contracts.event.Event as event
+use Rattle.store_model.proofs.commit.Accepted.TheSendSync as accepted_sent
+use Rattle.turn_lock.proofs.turns.Pass.TheSendSync as pass_sent
+use Rattle.turn_lock.proofs.turns.Turns.TheSendSync as turns_sent
+use Rattle.session_model.proofs.reply.SessionReply.TheSendSync as reply_sent
+use Rattle.session_model.specs.contracts.command.Command as command
+use Rattle.collections.proofs.sequence.Sequence.TheSendSync as sequence_sent
+use Rattle.commit_core.specs.contracts.history.History as history
+use Rattle.commit_core.specs.contracts.snapshot.Snap as snap
+use Rattle.commit_core.specs.contracts.store.Core as core
+use Rattle.guard_store.specs.contracts.shared.Shared as shared
+use Rattle.guard_store.specs.contracts.transaction.OpenTransaction as open_transaction
+use Rattle.guard_store.specs.contracts.session.Session as session
+use Rattle.guard_store.specs.contracts.store.Store as store
+use Rattle.session_threads.specs.contracts.team.Player as player
+
+path_send : (P : RattleType) → IsSend P → IsSend (path.the_row P)
+path_send P sent = as_row_send (path.the_field P) (path_knot.send-Path P sent Box-send Vec-send)
+
+path_sync : (P : RattleType) → IsSync P → IsSync (path.the_row P)
+path_sync P sent = as_row_sync (path.the_field P) (path_knot.sync-Path P sent Box-sync Vec-sync)
+
+content_send : IsSend content.the_row
+content_send = search (path_send, term_sent.the_send, triple_sent.the_send, target_sent.the_send, constraint_sent.the_send, sequence_sent.the_send, crosses, sendable) depth 60 fits 20000
+
+content_sync : IsSync content.the_row
+content_sync = search (path_sync, term_sent.the_sync, triple_sent.the_sync, target_sent.the_sync, constraint_sent.the_sync, sequence_sent.the_sync, crosses, sendable) depth 60 fits 20000
+
+shapes_send : IsSend shapes.the_row
+shapes_send = search (content_send, content_sync, crosses, sendable) depth 60 fits 20000
+
+shapes_sync : IsSync shapes.the_row
+shapes_sync = search (content_send, content_sync, crosses, sendable) depth 60 fits 20000
+
+triples_send : IsSend (pages.the_row triple.the_row triple_order.ghosts triple_equality.ghosts triple_comparison.ghosts)
+triples_send = search (page_knot.crosses, triple_sent.the_send, triple_sent.the_sync, crosses, sendable) depth 60 fits 20000
+
+by_number_send : IsSend (pages.the_row by_number.the_row by_number_order.ghosts by_number_equality.ghosts by_number_comparison.ghosts)
+by_number_send = search (page_knot.crosses, by_number_sent.the_send, by_number_sent.the_sync, crosses, sendable) depth 60 fits 20000
+
+by_term_send : IsSend (pages.the_row by_term.the_row by_term_order.ghosts by_term_equality.ghosts by_term_comparison.ghosts)
+by_term_send = search (page_knot.crosses, by_term_sent.the_send, by_term_sent.the_sync, crosses, sendable) depth 60 fits 20000
+
+dict_send : IsSend dict.the_row
+dict_send = search (by_number_send, by_term_send, crosses, sendable) depth 60 fits 20000
+
+verdict_send : IsSend verdict.the_row
+verdict_send = search (look_sent.the_send, term_sent.the_send, sequence_sent.the_send, crosses, sendable) depth 60 fits 20000
+
+transaction_send : IsSend (transaction.the_field).row
+transaction_send = search (change_sent.the_send, shapes_send, pattern_sent.the_send, verdict_send, sequence_sent.the_send, crosses, sendable) depth 60 fits 20000
+
+action_send : IsSend (action.the_field).row
+action_send = search (term_sent.the_send, transaction_send, sequence_sent.the_send, crosses, sendable) depth 60 fits 20000
+
+triple_send : IsSend (triple.the_field).row
+triple_send = search (crosses, sendable) depth 60 fits 20000
+
+again_send : IsSend (again.the_field).row
+again_send = search (crosses, sendable) depth 60 fits 20000
+
+answer_send : IsSend (answer.the_field).row
+answer_send = search (triple_send, again_send, row_sent.the_send, sequence_sent.the_send, crosses, sendable) depth 60 fits 20000
+
+event_send : IsSend (event.the_field).row
+event_send = search (action_send, answer_send, crosses, sendable) depth 60 fits 20000
+
+history_send : IsSend history.the_row
+history_send = search (event_send, history_knot.crosses, crosses, sendable) depth 60 fits 20000
+
+core_send : IsSend core.the_row
+core_send = search (triples_send, shapes_send, accepted_sent.the_send, dict_send, history_send, crosses, sendable) depth 60 fits 20000
+
+shared_send : IsSend shared.the_row
+shared_send = search (core_send, crosses, sendable) depth 60 fits 20000
+
+snap_send : IsSend snap.the_row
+snap_send = search (triples_send, shapes_send, dict_send, crosses, sendable) depth 60 fits 20000
+
+open_send : IsSend open_transaction.the_row
+open_send = search (transaction_send, snap_send, crosses, sendable) depth 60 fits 20000
+
+session_send : IsSend session.the_row
+session_send = search (shared_send, pass_sent.the_send, open_send, snap_send, crosses, sendable) depth 60 fits 20000
+
+pub player_send : IsSend player.the_row
+player_send = search (session_send, reply_sent.the_send, sequence_sent.the_send, crosses, sendable) depth 60 fits 20000
+
+command_sync : IsSync command.the_row
+command_sync = search (triple_sent.the_sync, shapes_sync, term_sent.the_sync, sequence_sent.the_sync, crosses, sendable) depth 60 fits 20000
+
+store_sync : IsSync store.the_row
+store_sync = search (turns_sent.the_sync, shared_send, crosses, sendable) depth 60 fits 20000
+
+four_sync : (ν : Sym) (A B C D : RattleType) → IsSync A → IsSync B → IsSync C → IsSync D → IsSync (TupleAt ν (A ∷ B ∷ C ∷ D ∷ []))
+four_sync ν A B C D a b c d = declared_sync (type_at ν (A ∷ B ∷ C ∷ D ∷ [])) (as_row_sync (row_field A) a, (as_row_sync (row_field B) b, (as_row_sync (row_field C) c, (as_row_sync (row_field D) d, tt))))
+
+-- what all threads see: the runtime, the allocator, the store and the files
+held_sync : (ν : Sym) (α β γ δ : NamedLft) (R : RattleType) → IsSync R
+    → IsSync (TupleAt ν (ShrRef α.mir α.lft R ∷ ShrRef β.mir β.lft heap.the_row ∷ ShrRef γ.mir γ.lft store.the_row ∷ ShrSlice δ.mir δ.lft (sequence.the_row command.the_row) ∷ []))
+held_sync ν α β γ δ R sent = four_sync ν (ShrRef α.mir α.lft R) (ShrRef β.mir β.lft heap.the_row) (ShrRef γ.mir γ.lft store.the_row) (ShrSlice δ.mir δ.lft (sequence.the_row command.the_row))
+    (shr_sync α.mir α.lft R sent) (shr_sync β.mir β.lft heap.the_row crossing.sync) (shr_sync γ.mir γ.lft store.the_row store_sync)
+    (shr_slice_sync δ.mir δ.lft (sequence.the_row command.the_row) (sequence_sent.the_sync command.the_row command_sync))
+
+pub closure_sync : (σ : Ty) (ν : Sym) (α β γ δ : NamedLft) (R : RattleType) → IsSync R
+    → IsSync (param 2 (arg σ no (TupleAt ν (ShrRef α.mir α.lft R ∷ ShrRef β.mir β.lft heap.the_row ∷ ShrRef γ.mir γ.lft store.the_row ∷ ShrSlice δ.mir δ.lft (sequence.the_row command.the_row) ∷ []))))
+closure_sync σ ν α β γ δ R sent = record { shared = (held_sync ν α β γ δ R sent).shared }
