@@ -17,8 +17,11 @@ use history_reader::read_history;
 use outside::{Files, Maker};
 use rdf_text::Text;
 use session_model::Command;
-use session_player::{ReplayFault, replay_all, run_all, text_of};
+use session_player::{ReplayFault, replay_all, text_of};
+use session_threads::run_all;
 use std::alloc::{AllocError, Global};
+use std::sync::Wait;
+use std::thread::Threads;
 use store_model::Limits;
 
 // So many sessions may run.
@@ -32,7 +35,8 @@ pub struct Answer {
 }
 
 // All that the sessions print.
-fn print_sessions(
+fn print_sessions<R: Threads + Wait + Sync>(
+    rt: &R,
     alloc: Global,
     limits: Limits,
     all: &[Sequence<Command>],
@@ -41,12 +45,13 @@ fn print_sessions(
     requires few { length all.now ≤ 64 }
     ensures { IfOk result (λ text. (order : List ℕ) × IsPrint all.now limits order (string_bytes text)) }
 {
-    let run = run_all(alloc, limits, all)?;
+    let run = run_all(rt, alloc, limits, all)?;
     text_of(alloc, &run)
 }
 
 // What a run of the session files prints.
-fn run_sessions<F: Files, M: Maker>(
+fn run_sessions<R: Threads + Wait + Sync, F: Files, M: Maker>(
+    rt: &R,
     alloc: Global,
     limits: Limits,
     names: &[Text],
@@ -62,7 +67,7 @@ fn run_sessions<F: Files, M: Maker>(
     ensures maker { maker.new ≡ maker.old }
 {
     let all = load_all(alloc, files, maker, names)?;
-    match print_sessions(alloc, limits, all.as_slice()) {
+    match print_sessions(rt, alloc, limits, all.as_slice()) {
         Ok(text) => Ok(text),
         Err(_) => Err(Status::Memory),
     }
@@ -158,7 +163,8 @@ fn replay_sessions<F: Files, M: Maker>(
 }
 
 // What a run of the files prints.
-fn run_files<F: Files, M: Maker>(
+fn run_files<R: Threads + Wait + Sync, F: Files, M: Maker>(
+    rt: &R,
     alloc: Global,
     request: &Request,
     files: &mut F,
@@ -177,7 +183,7 @@ fn run_files<F: Files, M: Maker>(
     }
     let names = request.files.as_slice();
     match &request.history {
-        None => run_sessions(alloc, request.limits, names, files, maker),
+        None => run_sessions(rt, alloc, request.limits, names, files, maker),
         Some(history) => replay_sessions(
             alloc,
             request.limits,
@@ -223,7 +229,8 @@ fn error_text(alloc: Global, status: Status) -> Result<Option<String>, AllocErro
 }
 
 // The text of a run, or why there is none.
-fn run_text<F: Files, M: Maker>(
+fn run_text<R: Threads + Wait + Sync, F: Files, M: Maker>(
+    rt: &R,
     alloc: Global,
     words: &[&str],
     files: &mut F,
@@ -240,11 +247,12 @@ fn run_text<F: Files, M: Maker>(
         Ok(request) => request,
         Err(status) => return Err(status),
     };
-    run_files(alloc, &request, files, maker)
+    run_files(rt, alloc, &request, files, maker)
 }
 
 /// What is due for the words, or why nothing is.
-pub fn answer_to<F: Files, M: Maker>(
+pub fn answer_to<R: Threads + Wait + Sync, F: Files, M: Maker>(
+    rt: &R,
     alloc: Global,
     words: &[&str],
     files: &mut F,
@@ -257,7 +265,7 @@ pub fn answer_to<F: Files, M: Maker>(
         (λ s. Fails s (F.holds files.old) given before after) }
     ensures maker { maker.new ≡ maker.old }
 {
-    let status = match run_text(alloc, words, files, maker) {
+    let status = match run_text(rt, alloc, words, files, maker) {
         Ok(text) => return Ok(Answer {
             status: Status::Done,
             text,

@@ -6,14 +6,16 @@ use crate::Status;
 use crate::answer::answer_to;
 use outside::{Files, Gate, Maker, Sink, write_all};
 use std::alloc::Global;
+use std::sync::Wait;
+use std::thread::Threads;
 
 /// Runs the command of the words, the first of which is the program's name.
 ///
 /// `run FILES..` runs up to 64 session files beside each other: the sink takes what a plain store gives,
 /// asked one step at a time in the history that is printed, which holds the steps of each session once
 /// and in its file's order. `replay HISTORY FILES..` does the same in the history that is handed in.
-pub fn run_command<R, F: Files, K: Sink, M: Maker, G: Gate>(
-    _rt: &R,
+pub fn run_command<R: Threads + Wait + Sync, F: Files, K: Sink, M: Maker, G: Gate>(
+    rt: &R,
     alloc: Global,
     words: &[&str],
     files: &mut F,
@@ -38,7 +40,7 @@ pub fn run_command<R, F: Files, K: Sink, M: Maker, G: Gate>(
     // No pattern is made so far.
     ensures maker { maker.new ≡ maker.old }
 {
-    match answer_to(alloc, words, files, maker) {
+    match answer_to(rt, alloc, words, files, maker) {
         Ok(answer) => match write_all(out, answer.text.as_bytes()) {
             Ok(()) => answer.status,
             Err(_) => Status::WriteFault,
