@@ -20,30 +20,34 @@ use std::alloc::{AllocError, Global};
 use std::env;
 use std::process::ExitCode;
 
-// Runs the program on its words; words that can't be had as text are no words.
-fn run_words(rt: &HostRuntime, alloc: Global) -> Result<Status, AllocError> {
+// The words of the program; words that can't be had as text are none.
+fn words_of(rt: &HostRuntime, alloc: Global) -> Result<Vec<String>, AllocError> {
     let mut words = Vec::new(alloc);
     if let Ok(args) = env::args(rt) {
         for arg in args {
             words.push(arg)?;
         }
     }
-    let mut texts = Vec::with_capacity(alloc, words.len())?;
-    for word in &words {
-        texts.push(word.as_str())?;
-    }
-    let mut files = HostFiles::new(alloc, rt);
-    let mut out = HostSink::new(rt);
-    let mut maker = RegexMaker::new(alloc);
-    Ok(run(
-        rt, alloc, &texts, &mut files, &mut out, &mut maker, &OpenGate,
-    ))
+    Ok(words)
+}
+
+fn texts_of(alloc: Global, words: &[String]) -> Result<Vec<&str>, AllocError> {
+    words.iter().map(|word| word.as_str()).collect(alloc)
 }
 
 fn main(rt: HostRuntime) -> ExitCode {
-    let status = match run_words(&rt, rt.alloc()) {
-        Ok(status) => status,
-        Err(_) => Status::Memory,
+    let alloc = rt.alloc();
+    let Ok(words) = words_of(&rt, alloc) else {
+        return Status::Memory.exit_code();
     };
+    let Ok(texts) = texts_of(alloc, &words) else {
+        return Status::Memory.exit_code();
+    };
+    let mut files = HostFiles::new(alloc, &rt);
+    let mut out = HostSink::new(&rt);
+    let mut maker = RegexMaker::new(alloc);
+    let status = run(
+        &rt, alloc, &texts, &mut files, &mut out, &mut maker, &OpenGate,
+    );
     status.exit_code()
 }

@@ -5,7 +5,9 @@ ghost use Rattle.std.specs.Prelude.{◌<◌};
 use crate::{Status, run};
 use outside::{MemFile, MemFiles, MemSink, OpenGate, RegexMaker};
 use std::alloc::{AllocError, Global};
+use std::sync::Wait;
 use std::test::Fail;
+use std::thread::Threads;
 
 const FIRST_RUN: &[u8] = b"begin\nadd ntriples\n<e:a> <e:p> <e:b> .\n%%\ncommit\n";
 
@@ -19,15 +21,15 @@ fn file_of(alloc: Global, name: &str, bytes: &[u8]) -> Result<MemFile, AllocErro
 }
 
 // Runs the first session and an empty one, where these loads fail, and these calls of a sink that takes so many bytes a call.
-fn run_two(
-    rt: &HostRuntime,
+fn run_two<R: Threads + Wait + Sync>(
+    rt: &R,
+    alloc: Global,
     loads: Vec<u64>,
     most: usize,
     writes: Vec<u64>,
 ) -> Result<(Status, MemSink), Fail>
     requires { 0 < most }
 {
-    let alloc = rt.alloc();
     let held = vec![in alloc;
         file_of(alloc, "f", FIRST_RUN)?,
         file_of(alloc, "g", b"".as_slice())?,
@@ -55,7 +57,7 @@ fn prints_what_the_devices_allow(rt: HostRuntime) -> Result<(), Fail> {
     for (load, write, status, taken, calls) in rows {
         let loads = vec![in rt.alloc(); load]?;
         let writes = vec![in rt.alloc(); write]?;
-        let (ended, out) = run_two(&rt, loads, 8, writes)?;
+        let (ended, out) = run_two(&rt, rt.alloc(), loads, 8, writes)?;
         assert_eq!(rt; ended, status, "load {load}, write {write}");
         assert_eq!(rt;
             out.taken(),
