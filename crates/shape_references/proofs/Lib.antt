@@ -1,0 +1,3 @@
+pub mod FinishedNodes
+pub mod Asked
+pub mod LeastLoop
