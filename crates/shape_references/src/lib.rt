@@ -1,7 +1,9 @@
-//! Chains of references in an ascending graph whose triples are references (SHACL section 3.4.3).
+//! What references between shapes rest on: chains of them, and the siblings of property shapes (SHACL sections 3.4.3
+//! and 4.7.3).
 //!
-//! `least_on_loop` ensures exactly the least node from which a chain leads to itself, or that there is none. Nodes
-//! from which all chains end are gathered from below first, so that a graph without such a chain takes one pass.
+//! `least_on_loop` takes an ascending graph whose triples are references, and ensures exactly the least node from
+//! which a chain leads to itself, or that there is none. Nodes from which all chains end are gathered from below
+//! first, so that a graph without such a chain takes one pass. `push_siblings` ensures exactly a shape's siblings.
 #![tactic(auto)]
 
 mod below;
@@ -9,5 +11,7 @@ mod finished;
 mod leading;
 mod loops;
 mod nodes;
+mod siblings;
 
 pub use loops::least_on_loop;
+pub use siblings::{push_siblings, turned_properties};
