@@ -10,8 +10,7 @@ use Rattle.shape_reader.proofs.Scans.{cases_more}
 use Rattle.shape_syntax.specs.PathSteps.{Adds}
 use Rattle.shape_syntax.specs.Subjects.{IsSubject}
 use Rattle.shape_references.specs.Chains.{Chain, LeadsTo, HasLoopAt, IsJoined}
-use Rattle.shape_references.specs.Asking.{AreFinished, AreLeading, ArePending, Shows, WasAsked, WereAsked}
-use Rattle.shape_references.proofs.FinishedNodes.{stays}
+use Rattle.shape_references.specs.Asking.{AreLeading, ArePending, Shows, WasAsked, WereAsked}
 
 pub joined_subject : (g : List Triple) (a b : Term) → IsJoined g a b → IsSubject g a
 joined_subject g a b j = (record { subject = a; predicate = j.0; object = b }, j.1, refl)
@@ -104,49 +103,36 @@ asked_all g goal ns i known new left l m h =
     let e : i ≡ length ns = omega arith in
     subst (λ (k : ℕ). WereAsked g goal k ns known new left) e (subst (λ (xs : List Term). WereAsked g goal i xs known new left) (take_all i ns l) h)
 
--- What holds between the rounds: from what is known a chain leads to the goal, and each subject is known, finished or
--- still to be asked.
-pub record AreWaiting (g : List Triple) (goal : Term) (finished known waiting : List Term) : Type 0 where
+-- What holds between the rounds: from what is known a chain leads to the goal, and each subject is known or still to be
+-- asked.
+pub record AreWaiting (g : List Triple) (goal : Term) (known waiting : List Term) : Type 0 where
   pub sound : AreLeading g goal known
-  pub each : (a : Term) → IsSubject g a → Contains known a ⊎ (Contains finished a ⊎ Contains waiting a)
+  pub each : (a : Term) → IsSubject g a → Contains known a ⊎ Contains waiting a
 
-pub all_waiting : (g : List Triple) (goal : Term) (finished known pending waiting : List Term) → known ≡ [] → waiting ≡ pending → ArePending g finished pending → AreWaiting g goal finished known waiting
-all_waiting g goal finished known pending waiting e f all = record {
+pub all_waiting : (g : List Triple) (goal : Term) (known pending waiting : List Term) → known ≡ [] → waiting ≡ pending → ArePending g pending → AreWaiting g goal known waiting
+all_waiting g goal known pending waiting e f all = record {
   sound = λ a c. absurd (let none = subst (λ (xs : List Term). Contains xs a) e c in omega arith);
-  each = λ a i. inr (subst (λ (xs : List Term). Contains finished a ⊎ Contains xs a) (sym f) (all a i));
+  each = λ a i. inr (subst (λ (xs : List Term). Contains xs a) (sym f) (all a i));
 }
 
-pub waiting_next : (g : List Triple) (goal : Term) (finished known new waiting left : List Term) → AreWaiting g goal finished known waiting → WereAsked g goal (length waiting) waiting known new left → AreWaiting g goal finished new left
-waiting_next g goal finished known new waiting left before asked = record {
+pub waiting_next : (g : List Triple) (goal : Term) (known new waiting left : List Term) → AreWaiting g goal known waiting → WereAsked g goal (length waiting) waiting known new left → AreWaiting g goal new left
+waiting_next g goal known new waiting left before asked = record {
   sound = asked.sound before.sound;
-  each = λ a i. elim (before.each a i) [
-    | inl k ↦ inl (asked.kept a k)
-    | inr (inl f) ↦ inr (inl f)
-    | inr (inr w) ↦ elim (asked.each a w) [ inl k ↦ inl k | inr v ↦ inr (inr v) ]
-  ];
+  each = λ a i. elim (before.each a i) [ inl k ↦ inl (asked.kept a k) | inr w ↦ asked.each a w ];
 }
 
--- Where nothing more is shown, all nodes from which a chain leads to the goal are known, if one leads from the goal itself.
-module _ (g : List Triple) (goal : Term) (finished known : List Term) (done : AreFinished g finished) (loop : HasLoopAt g goal)
-    (all : (a : Term) → IsSubject g a → Shows g goal known a → Contains known a ⊎ Contains finished a) where
-  known_at : (a b : Term) → IsJoined g a b → ((b ≡ goal) ⊎ Contains known b) → (Contains finished a → Contains finished goal) → Contains known a
-  known_at a b j h out = elim (all a (joined_subject g a b j) (b, j, h)) [
-    | inl k ↦ k
-    | inr f ↦ absurd (done.apart goal (out f) loop)
-  ]
+-- where nothing more is shown, all nodes from which a chain leads to the goal are known
+all_known : (g : List Triple) (goal : Term) (known : List Term) → ((a : Term) → IsSubject g a → Shows g goal known a → Contains known a) → (a : Term) (ms : List Term) → Chain (IsJoined g) a ms goal → Contains known a
+all_known g goal known all a [] h = all a (joined_subject g a goal h) (goal, h, inl refl)
+all_known g goal known all a (m ∷ ms) h = all a (joined_subject g a m h.0) (m, h.0, inr (all_known g goal known all m ms h.1))
 
-  pub all_known : (a : Term) (ms : List Term) → Chain (IsJoined g) a ms goal → Contains known a
-  all_known a [] h = known_at a goal h (inl refl) (λ f. done.closed a goal f h)
-  all_known a (m ∷ ms) h = known_at a m h.0 (inr (all_known m ms h.1)) (λ f. stays g finished done a (m ∷ ms) goal f h)
-
-pub waiting_done : (g : List Triple) (goal : Term) (finished known new waiting left : List Term) → AreFinished g finished → AreWaiting g goal finished known waiting → WereAsked g goal (length waiting) waiting known new left → length left ≡ length waiting → Contains new goal ↔ HasLoopAt g goal
-waiting_done g goal finished known new waiting left done before asked all =
+pub waiting_done : (g : List Triple) (goal : Term) (known new waiting left : List Term) → AreWaiting g goal known waiting → WereAsked g goal (length waiting) waiting known new left → length left ≡ length waiting → Contains new goal ↔ HasLoopAt g goal
+waiting_done g goal known new waiting left before asked all =
     let same = asked.still all in
     subst (λ (ks : List Term). Contains ks goal ↔ HasLoopAt g goal) (sym same.0) (
       λ c. before.sound goal c,
-      λ loop. all_known g goal finished known done loop (λ a i h. elim (before.each a i) [
-        | inl k ↦ inl k
-        | inr (inl f) ↦ inr f
-        | inr (inr w) ↦ absurd (same.1 a w h)
+      λ loop. all_known g goal known (λ a i h. elim (before.each a i) [
+        | inl k ↦ k
+        | inr w ↦ absurd (same.1 a w h)
       ]) goal loop.0 loop.1,
     )

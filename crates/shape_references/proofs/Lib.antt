@@ -1,4 +1,4 @@
-pub mod FinishedNodes
 pub mod Asked
 pub mod LeastLoop
+pub mod RankedNodes
 pub mod SiblingValues

@@ -6,7 +6,6 @@ use Rattle.collections.specs.Listings.{IsListing}
 use Rattle.rdf_model.specs.declared.term.Term.{Term}
 use Rattle.rdf_model.specs.declared.triple.Triple.{Triple}
 use Rattle.rdf_model.specs.Terms.{triple_cmp}
-use Rattle.shape_model.specs.Triples.{Has}
 use Rattle.shape_model.specs.Vocabulary.{ShapeProperty, ShProperty, property_iri}
 use Rattle.shape_model.specs.ShapeSyntax.{HasProperty}
 use Rattle.shape_model.specs.Readings.{Sibling}

@@ -5,20 +5,11 @@ use Rattle.rdf_model.specs.declared.term.Term.{Term}
 use Rattle.rdf_model.specs.declared.triple.Triple.{Triple}
 use Rattle.shape_syntax.specs.PathSteps.{Adds}
 use Rattle.shape_syntax.specs.Subjects.{IsSubject}
-use Rattle.shape_references.specs.Chains.{IsJoined, HasLoopAt, LeadsTo}
+use Rattle.shape_references.specs.Chains.{IsJoined, LeadsTo}
 
--- Finished nodes: all that they refer to is finished, and none is on a chain to itself.
-pub record AreFinished (g : List Triple) (nodes : List Term) : Type 0 where
-  pub closed : (a b : Term) → Contains nodes a → IsJoined g a b → Contains nodes b
-  pub apart : (a : Term) → Contains nodes a → HasLoopAt g a → ⊥
-
--- the node is finished or pending
-abbrev pub IsCovered : List Term → List Term → Term → Type 0
-IsCovered finished pending n = Contains finished n ⊎ Contains pending n
-
--- each subject of a triple is
-abbrev pub ArePending : List Triple → List Term → List Term → Type 0
-ArePending g finished pending = (n : Term) → IsSubject g n → IsCovered finished pending n
+-- each subject of a triple is among the nodes
+abbrev pub ArePending : List Triple → List Term → Type 0
+ArePending g nodes = (n : Term) → IsSubject g n → Contains nodes n
 
 -- from each of the nodes a chain leads to the goal
 abbrev pub AreLeading : List Triple → Term → List Term → Type 0

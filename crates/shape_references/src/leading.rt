@@ -6,7 +6,7 @@ ghost use Rattle.rdf_model.specs.declared.term.Term.{Term as TermData};
 ghost use Rattle.rdf_model.specs.declared.triple.Triple.{Triple as TripleData};
 ghost use Rattle.rdf_model.specs.Terms.{triple_cmp};
 ghost use Rattle.shape_references.specs.Chains.{HasLoopAt};
-ghost use Rattle.shape_references.specs.Asking.{AreFinished, ArePending, Shows, WasAsked, WereAsked};
+ghost use Rattle.shape_references.specs.Asking.{ArePending, Shows, WasAsked, WereAsked};
 
 use crate::nodes::{is_in, put};
 use collections::Sequence;
@@ -82,13 +82,11 @@ fn ask_each(
 pub(crate) fn leads_back(
     alloc: Global,
     graph: &[Triple],
-    finished: &BTreeSet<Term>,
     pending: &[Term],
     goal: &Term,
 ) -> Result<bool, AllocError>
     requires graph { IsAscending triple_cmp graph.now }
-    requires finished { AreFinished graph.now finished.now.keys }
-    requires pending { ArePending graph.now finished.now.keys pending.now }
+    requires pending { ArePending graph.now pending.now }
     ensures { IfOk result (λ leads. IsTrue leads ↔ HasLoopAt graph.now goal.now) }
 {
     let mut known = BTreeSet::new(alloc);

@@ -2,15 +2,15 @@
 //! and 4.7.3).
 //!
 //! `least_on_loop` takes an ascending graph whose triples are references, and ensures exactly the least node from
-//! which a chain leads to itself, or that there is none. Nodes from which all chains end are gathered from below
-//! first, so that a graph without such a chain takes one pass. `push_siblings` ensures exactly a shape's siblings.
+//! which a chain leads to itself, or that there is none. Ranks show of the others that none leads to them, so that
+//! one node is searched. `push_siblings` ensures exactly a shape's siblings.
 #![tactic(auto)]
 
 mod below;
-mod finished;
 mod leading;
 mod loops;
 mod nodes;
+mod ranks;
 mod siblings;
 
 pub use loops::least_on_loop;

@@ -3,7 +3,7 @@ use Rattle.shape_references.proofs.Asked.{AreWaiting}
 use Rattle.shape_references.proofs.leading.leads_back.Given as goal
 
 abbrev pub invariant-loop-waiting : goal.invariant-loop-waiting
-invariant-loop-waiting l = AreWaiting l.graph l.goal l.finished.keys l.known.keys l.waiting
+invariant-loop-waiting l = AreWaiting l.graph l.goal l.known.keys l.waiting
 
 abbrev pub decreases-loop-waiting : goal.decreases-loop-waiting
 decreases-loop-waiting l = length l.waiting

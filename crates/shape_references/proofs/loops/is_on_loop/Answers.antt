@@ -1,7 +1,7 @@
 use Rattle.shape_references.proofs.loops.is_on_loop.Goals as goal
 
-pub returns-then-is_in : goal.returns-then-is_in
-returns-then-is_in c = (
+pub returns-then-is_apart : goal.returns-then-is_apart
+returns-then-is_apart c = (
   λ h. cc,
-  λ loop. absurd (c.requires.finished.apart c.args.node.now (c.is_in.ensures.0 c.if-is_in.true) loop),
+  λ loop. absurd (c.is_apart.ensures c.if-is_apart.true loop),
 )

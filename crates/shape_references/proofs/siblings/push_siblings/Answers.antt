@@ -1,4 +1,3 @@
-use Rattle.rdf_model.specs.declared.term.Term.{Term}
 use Rattle.shape_model.specs.Readings.{Sibling}
 use Rattle.shape_syntax.proofs.Loops.{gave_as, gave_none}
 use Rattle.shape_references.specs.Siblings.{IsBeside}
