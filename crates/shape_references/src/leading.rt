@@ -78,7 +78,29 @@ fn ask_each(
     Ok(left)
 }
 
-/// Whether a chain leads from the node to itself. Pending nodes are asked again until no more are shown to lead to it.
+// Asks the nodes again until no more are shown to lead to the goal.
+fn ask_all(
+    alloc: Global,
+    graph: &[Triple],
+    goal: &Term,
+    nodes: Sequence<Term>,
+) -> Result<bool, AllocError>
+    requires graph { IsAscending triple_cmp graph.now }
+    requires nodes { ArePending graph.now nodes }
+    ensures { IfOk result (λ leads. IsTrue leads ↔ HasLoopAt graph.now goal.now) }
+{
+    let mut known = BTreeSet::new(alloc);
+    let mut waiting = nodes;
+    loop {
+        let left = ask_each(alloc, graph, goal, waiting.as_slice(), &mut known)?;
+        if left.len() == waiting.len() {
+            return Ok(is_in(&known, goal));
+        }
+        waiting = left;
+    }
+}
+
+/// Whether a chain leads from the node to itself.
 pub(crate) fn leads_back(
     alloc: Global,
     graph: &[Triple],
@@ -89,13 +111,6 @@ pub(crate) fn leads_back(
     requires pending { ArePending graph.now pending.now }
     ensures { IfOk result (λ leads. IsTrue leads ↔ HasLoopAt graph.now goal.now) }
 {
-    let mut known = BTreeSet::new(alloc);
-    let mut waiting = Sequence::copied_from(alloc, pending)?;
-    loop {
-        let left = ask_each(alloc, graph, goal, waiting.as_slice(), &mut known)?;
-        if left.len() == waiting.len() {
-            return Ok(is_in(&known, goal));
-        }
-        waiting = left;
-    }
+    let nodes = Sequence::copied_from(alloc, pending)?;
+    ask_all(alloc, graph, goal, nodes)
 }

@@ -48,26 +48,54 @@ fn is_on_loop(
 }
 
 // The first of the subjects from which a chain leads to itself.
-fn first_on_loop(
+fn first_on_loop<'a>(
     alloc: Global,
     graph: &[Triple],
     ranks: &BTreeMap<Term, usize>,
     pending: &[Term],
-    nodes: &[Term],
-) -> Result<Option<Term>, AllocError>
+    nodes: &'a [Term],
+) -> Result<Option<&'a Term>, AllocError>
     requires graph { IsAscending triple_cmp graph.now }
     requires pending { ArePending graph.now pending.now }
     requires nodes { IsListing term_cmp (IsSubject graph.now) nodes.now }
-    ensures { IfOk result (λ found. MatchOption found ((n : TermData) → HasLoopAt graph.now n → ⊥) (λ n. IsLeastOnLoop graph.now n)) }
+    ensures { IfOk result (λ found. MatchOption found ((n : TermData) → HasLoopAt graph.now n → ⊥) (λ n. IsLeastOnLoop graph.now n.now)) }
 {
     let level = are_level(graph, ranks);
     for node in nodes {
         let found = is_on_loop(alloc, graph, ranks, level, pending, node)?;
         if found {
-            return Ok(Some(node.clone()?));
+            return Ok(Some(node));
         }
     }
     Ok(None)
+}
+
+fn sorted_subjects(alloc: Global, graph: &[Triple]) -> Result<Vec<Term>, AllocError>
+    ensures { IfOk result (λ nodes. IsListing term_cmp (IsSubject graph.now) nodes.items) }
+{
+    let found = subjects(alloc, graph)?;
+    let sorted = sorted_once(found.into_vec())?;
+    Ok(sorted)
+}
+
+// The least of the subjects on a loop, which are asked in the order of `from_below`.
+fn least_among(
+    alloc: Global,
+    graph: &[Triple],
+    ranks: &BTreeMap<Term, usize>,
+    below: Sequence<Term>,
+    nodes: &[Term],
+) -> Result<Option<Term>, AllocError>
+    requires graph { IsAscending triple_cmp graph.now }
+    requires nodes { IsListing term_cmp (IsSubject graph.now) nodes.now }
+    ensures { IfOk result (λ found. MatchOption found ((n : TermData) → HasLoopAt graph.now n → ⊥) (λ n. IsLeastOnLoop graph.now n)) }
+{
+    let mut pending = below;
+    push_nodes(nodes, &mut pending)?;
+    match first_on_loop(alloc, graph, ranks, pending.as_slice(), nodes)? {
+        Some(node) => Ok(Some(node.clone()?)),
+        None => Ok(None),
+    }
 }
 
 /// The least node from which a chain of one triple or more leads to itself, if there is one.
@@ -75,9 +103,8 @@ pub fn least_on_loop(alloc: Global, graph: &[Triple]) -> Result<Option<Term>, Al
     requires { IsAscending triple_cmp graph.now }
     ensures { IfOk result (λ found. MatchOption found ((n : TermData) → HasLoopAt graph.now n → ⊥) (λ n. IsLeastOnLoop graph.now n)) }
 {
-    let mut pending = from_below(alloc, graph)?;
-    let ranks = ranks_of(alloc, graph, pending.as_slice())?;
-    let nodes = sorted_once(subjects(alloc, graph)?.into_vec())?;
-    push_nodes(nodes.as_slice(), &mut pending)?;
-    first_on_loop(alloc, graph, &ranks, pending.as_slice(), nodes.as_slice())
+    let below = from_below(alloc, graph)?;
+    let ranks = ranks_of(alloc, graph, below.as_slice())?;
+    let nodes = sorted_subjects(alloc, graph)?;
+    least_among(alloc, graph, &ranks, below, nodes.as_slice())
 }

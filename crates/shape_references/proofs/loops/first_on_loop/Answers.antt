@@ -5,7 +5,7 @@ use Rattle.shape_references.proofs.LeastLoop.{first_is_least, none_on_loop}
 use Rattle.shape_references.proofs.loops.first_on_loop.Goals as goal
 
 pub returns-then-found : goal.returns-then-found
-returns-then-found c = rw c.in_ok-clone.ensures.cases (first_is_least c.args.graph.now c.args.nodes.now c.loop-node.node-index c.node-item.result c.requires.nodes (omega arith) c.node-item.is c.loop-node.invariant (c.in_ok-found.ensures.0 c.if-found.true))
+returns-then-found c = first_is_least c.args.graph.now c.args.nodes.now c.loop-node.node-index c.node-item.result c.requires.nodes (omega arith) c.node-item.is c.loop-node.invariant (c.in_ok-found.ensures.0 c.if-found.true)
 
 pub loop-node-preserved : goal.loop-node-preserved
 loop-node-preserved c = none_more (HasLoopAt c.args.graph.now) c.args.nodes.now c.loop-node.node-index c.node-item.result (omega arith) c.node-item.is c.loop-node.invariant (λ h. let k = c.in_ok-found.ensures.1 h in cc)
