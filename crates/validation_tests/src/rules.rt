@@ -72,6 +72,28 @@ e:S sh:path e:p; e:S sh:qualifiedMinCount \"1 => e:S 34 \"1
 e:S sh:qualifiedValueShapesDisjoint \"x => e:S 35 \"x
 e:S sh:closed %yes => e:S 36 %yes
 e:S sh:ignoredProperties _1; _1 rdf:first \"x; _1 rdf:rest rdf:nil => e:S 37 _1
+e:S sh:targetNode e:a; e:S sh:or _1; _1 rdf:first e:T; _1 rdf:rest _2; _2 rdf:first e:U; _2 rdf:rest rdf:nil; e:T sh:node e:S => e:S 38
+e:S sh:node e:S => e:S 38
+e:S sh:path e:p; e:S sh:property e:S => e:S 38
+e:S sh:path e:p; e:S sh:qualifiedValueShape e:S => e:S 38
+e:S sh:and _1; _1 rdf:first e:T; _1 rdf:rest _2; _2 rdf:first e:S; _2 rdf:rest rdf:nil => e:S 38
+e:S sh:xone _1; _1 rdf:first e:T; _1 rdf:rest rdf:nil; e:T sh:node e:U; e:U sh:node e:S => e:S 38
+e:T sh:not e:S; e:S sh:or _1; _1 rdf:first e:T; _1 rdf:rest rdf:nil => e:S 38
+e:S sh:property e:P; e:S sh:property e:P2; e:P sh:path e:p; e:P sh:qualifiedValueShape e:Q; e:P sh:qualifiedMinCount '1; e:P sh:qualifiedValueShapesDisjoint %true; e:P2 sh:path e:p; e:P2 sh:qualifiedValueShape e:T; e:T sh:property e:P => e:P 38
+e:S sh:deactivated %true; e:S sh:node e:S => e:S 38
+e:A sh:node e:T; e:T sh:node e:U; e:U sh:node e:T; e:V sh:node e:V => e:T 38
+_1 sh:node _2; _2 sh:node _1 => _1 38
+e:S sh:node e:S; e:S sh:not \"x => e:S 28 \"x
+e:S sh:node e:S; e:S sh:sparql e:q => e:S 38
+e:A sh:sparql e:q; e:S sh:node e:S => e:A 39 sh:sparql
+e:S sh:node e:S; e:T sh:class \"x => e:S 38
+e:A sh:node e:B; e:A sh:node e:C; e:B sh:node e:D; e:C sh:node e:D =>
+e:S sh:and _1; _1 rdf:first e:T; _1 rdf:rest _2; _2 rdf:first e:T; _2 rdf:rest rdf:nil; e:S sh:node e:T =>
+e:S sh:targetNode e:S; e:S sh:class e:S; e:S sh:hasValue e:S; e:S sh:equals e:S; e:S sh:in _1; _1 rdf:first e:S; _1 rdf:rest rdf:nil =>
+e:S e:node e:S =>
+e:S sh:property e:P; e:S sh:property e:P2; e:P sh:path e:p; e:P sh:qualifiedValueShape e:Q; e:P sh:qualifiedMinCount '1; e:P sh:qualifiedValueShapesDisjoint %false; e:P2 sh:path e:p; e:P2 sh:qualifiedValueShape e:T; e:T sh:property e:P =>
+e:S sh:property e:P; e:S sh:property e:P2; e:P sh:path e:p; e:P sh:qualifiedValueShape e:Q; e:P sh:qualifiedMinCount '1; e:P sh:qualifiedValueShapesDisjoint %1; e:P2 sh:path e:p; e:P2 sh:qualifiedValueShape e:T; e:T sh:property e:P =>
+e:S sh:property e:P; e:S sh:property e:P2; e:P sh:path e:p; e:P sh:qualifiedValueShape e:Q; e:P sh:qualifiedValueShapesDisjoint %true; e:P2 sh:path e:p; e:P2 sh:qualifiedValueShape e:Q; e:P2 sh:qualifiedValueShapesDisjoint %true =>
 e:n sh:sparql e:q => e:n 39 sh:sparql
 e:n rdf:type sh:ConstraintComponent => e:n 39 sh:ConstraintComponent";
 
@@ -128,6 +150,46 @@ fn long_patterns(rt: HostRuntime) -> Result<(), Fail> {
     for (letters, is_broken) in [(4096, false), (4097, true)] {
         let found = least(alloc, long_pattern(alloc, letters)?)?;
         assert_eq!(rt; found.is_some(), is_broken, "{letters}");
+    }
+    Ok(())
+}
+
+fn numbered(alloc: Global, number: usize) -> Result<Term, AllocError> {
+    let iri = format!(in alloc; "e:n{number}")?;
+    Ok(Term::Iri(Text::from_string(iri)))
+}
+
+fn refers(alloc: Global, from: usize, to: usize) -> Result<Triple, AllocError> {
+    Ok(Triple {
+        subject: numbered(alloc, from)?,
+        predicate: term(alloc, "sh:node")?,
+        object: numbered(alloc, to)?,
+    })
+}
+
+// 300 references, each shape to the next, and one from the last to this shape.
+fn chain_to(alloc: Global, back: usize) -> Result<Vec<Triple>, AllocError> {
+    let mut graph = Vec::new(alloc);
+    for number in 0..300 {
+        graph.push(refers(alloc, number, number + 1)?)?;
+    }
+    graph.push(refers(alloc, 300, back)?)?;
+    Ok(graph)
+}
+
+// Long chains that end, that lead to themselves as a whole, and that lead to the end of themselves; the nodes in the order
+// of their texts.
+#[test]
+fn long_chains(rt: HostRuntime) -> Result<(), Fail> {
+    let alloc = rt.alloc();
+    for (back, expected) in [
+        (301, ""),
+        (0, "<e:n0> 38 -"),
+        (250, "<e:n250> 38 -"),
+        (300, "<e:n300> 38 -"),
+    ] {
+        let found = text_of(alloc, &least(alloc, chain_to(alloc, back)?)?)?;
+        assert_eq!(rt; found.as_str(), expected, "{back}");
     }
     Ok(())
 }

@@ -1,0 +1,4 @@
+pub mod Asked
+pub mod LeastLoop
+pub mod RankedNodes
+pub mod SiblingValues

@@ -1,0 +1,59 @@
+-- What the triples with a value of a property show.
+use Rattle.std.proofs.Common.{◌≡◌, List, refl, sym, subst}
+use Rattle.std.specs.Prelude.{◌↔◌}
+use Rattle.std.specs.List.{Contains}
+use Rattle.collections.specs.Listings.{IsListing}
+use Rattle.rdf_model.specs.declared.term.Term.{Term}
+use Rattle.rdf_model.specs.declared.triple.Triple.{Triple}
+use Rattle.rdf_model.specs.Terms.{triple_cmp}
+use Rattle.shape_model.specs.Vocabulary.{ShapeProperty, ShProperty, property_iri}
+use Rattle.shape_model.specs.ShapeSyntax.{HasProperty}
+use Rattle.shape_model.specs.Readings.{Sibling}
+use Rattle.shape_reader.proofs.Values.{value_of}
+use Rattle.shape_syntax.specs.Gathering.{Gives}
+use Rattle.shape_references.specs.Siblings.{AreValues, IsBeside, IsTurned, IsTurnOf, IsUnder, MayHaveSiblings}
+
+pub value_in : (s own : List Triple) (n : Term) (p : ShapeProperty) → AreValues s n p own → (t : Triple) → Contains own t → HasProperty s n p t.object
+value_in s own n p all t c = let k = (all t).0 c in value_of s n (property_iri p) t (k.0, k.1.0, k.1.1)
+
+pub in_values : (s own : List Triple) (n : Term) (p : ShapeProperty) → AreValues s n p own → (v : Term) → HasProperty s n p v → Contains own (record { subject = n; predicate = property_iri p; object = v })
+in_values s own n p all v h = (all (record { subject = n; predicate = property_iri p; object = v })).1 (h, (refl, refl))
+
+-- what values of the property give
+pub values_give : (s own : List Triple) (n : Term) (p : ShapeProperty) (B : Term → Term → Type 0) → AreValues s n p own
+    → (y : Term) → Gives (λ (t : Triple) (z : Term). B t.object z) own y ↔ ((v : Term) × HasProperty s n p v × B v y)
+values_give s own n p B all y = (
+  λ g. (g.0.object, value_in s own n p all g.0 g.1, g.2),
+  λ h. (record { subject = n; predicate = property_iri p; object = h.0 }, in_values s own n p all h.0 h.1, h.2),
+)
+
+-- one of the triples has this object
+pub one_value : (s own : List Triple) (n : Term) (p : ShapeProperty) (v : Term) → AreValues s n p own → ((t : Triple) × Contains own t × (t.object ≡ v)) ↔ HasProperty s n p v
+one_value s own n p v all = (
+  λ h. subst (λ (w : Term). HasProperty s n p w) h.2 (value_in s own n p all h.0 h.1),
+  λ h. (record { subject = n; predicate = property_iri p; object = v }, in_values s own n p all v h, refl),
+)
+
+-- the shapes that have it as a sh:property, by the turned triples
+pub turned_value : (s turned : List Triple) → IsListing triple_cmp (IsTurned s) turned → (shape parent : Term) → HasProperty turned shape ShProperty parent ↔ HasProperty s parent ShProperty shape
+turned_value s turned list shape parent =
+    let k = list.members (record { subject = shape; predicate = property_iri ShProperty; object = parent }) in
+    (λ h. (k.0 h).1, λ h. k.1 (refl, h))
+
+pub beside_by : (s turned : List Triple) (shape : Term) → IsListing triple_cmp (IsTurned s) turned → (t : Term) → ((parent : Term) × HasProperty turned shape ShProperty parent × IsUnder s shape parent t) ↔ IsBeside s shape t
+beside_by s turned shape list t = (
+  λ h. (h.0, (turned_value s turned list shape h.0).0 h.1, h.2),
+  λ h. (h.0, (turned_value s turned list shape h.0).1 h.1, h.2),
+)
+
+pub sibling_by : (s : List Triple) (shape t : Term) → (MayHaveSiblings s shape × IsBeside s shape t) ↔ Sibling s shape t
+sibling_by s shape t = (
+  λ h. let b = h.1 in let u = b.2 in (h.0.0, h.0.1, u.2.1, (b.0, u.0, b.1, u.1, u.2.0)),
+  λ h. let q = h.3 in ((h.0, h.1), (q.0, q.2, (q.1, q.3, (q.4, h.2)))),
+)
+
+pub turned_by : (s : List Triple) (t : Triple) → Gives IsTurnOf s t ↔ IsTurned s t
+turned_by s t = (
+  λ g. let u = g.0 in subst (λ (x : Triple). IsTurned s x) (sym g.2.1) (g.2.0, g.1),
+  λ h. (record { subject = t.object; predicate = t.predicate; object = t.subject }, h.1, (h.0, refl)),
+)

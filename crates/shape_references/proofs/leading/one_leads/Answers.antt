@@ -1,0 +1,21 @@
+use Rattle.std.proofs.Common.{◌≡◌, refl, arith}
+use Rattle.std.specs.Prelude.{◌⊎◌}
+use Rattle.std.specs.List.{Contains}
+use Rattle.rdf_model.specs.declared.triple.Triple.{Triple}
+use Rattle.shape_reader.proofs.Scans.{read_in, none_more, in_all}
+use Rattle.shape_references.proofs.leading.one_leads.Goals as goal
+
+pub returns-then-is_goal_or_known : goal.returns-then-is_goal_or_known
+returns-then-is_goal_or_known c = (
+  λ h. (c.triple-item.result, read_in c.args.own.now c.loop-triple.triple-index c.triple-item.result (omega arith) c.triple-item.is, c.is_goal_or_known.ensures.0 c.if-is_goal_or_known.true),
+  λ i. refl,
+)
+
+pub loop-triple-preserved : goal.loop-triple-preserved
+loop-triple-preserved c = none_more (λ (t : Triple). (t.object ≡ c.args.goal.now) ⊎ Contains c.args.known.now.keys t.object) c.args.own.now c.loop-triple.triple-index c.triple-item.result (omega arith) c.triple-item.is c.loop-triple.invariant (λ h. let k = c.is_goal_or_known.ensures.1 h in cc)
+
+pub returns : goal.returns
+returns c = (
+  λ h. cc,
+  λ i. absurd (c.loop-triple.invariant i.0 (in_all c.args.own.now c.loop-triple.triple-index (omega arith) i.0 i.1) i.2),
+)

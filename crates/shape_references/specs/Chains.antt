@@ -1,0 +1,31 @@
+-- Chains of references, from node to node.
+use Rattle.std.specs.Prelude.{◌≢◌, List, [], ◌∷◌}
+use Rattle.std.specs.declared.cmp.Ordering.TheVariants.{Greater}
+use Rattle.rdf_model.specs.declared.term.Term.{Term}
+use Rattle.rdf_model.specs.declared.triple.Triple.{Triple}
+use Rattle.rdf_model.specs.Terms.{term_cmp}
+use Rattle.shape_model.specs.Triples.{Has}
+
+-- from a through the nodes in turn to b, each of which refers to the next
+abbrev pub Chain : (Term → Term → Type 0) → Term → List Term → Term → Type 0
+Chain R a [] b = R a b
+Chain R a (m ∷ ms) b = R a m × Chain R m ms b
+
+-- a chain leads from a to b: one reference or more
+abbrev pub LeadsTo : (Term → Term → Type 0) → Term → Term → Type 0
+LeadsTo R a b = (ms : List Term) × Chain R a ms b
+
+-- a chain leads from the node to itself
+abbrev pub IsOnLoop : (Term → Term → Type 0) → Term → Type 0
+IsOnLoop R n = LeadsTo R n n
+
+-- In a graph whose triples are references: the subject of a triple refers to its object.
+abbrev pub IsJoined : List Triple → Term → Term → Type 0
+IsJoined g a b = (p : Term) × Has g a p b
+
+abbrev pub HasLoopAt : List Triple → Term → Type 0
+HasLoopAt g n = IsOnLoop (IsJoined g) n
+
+-- the first of the nodes from which a chain leads to themselves
+abbrev pub IsLeastOnLoop : List Triple → Term → Type 0
+IsLeastOnLoop g n = HasLoopAt g n × ((m : Term) → HasLoopAt g m → term_cmp n m ≢ Greater)

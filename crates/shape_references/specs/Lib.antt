@@ -1,0 +1,4 @@
+pub mod Chains
+pub mod Asking
+pub mod Ranks
+pub mod Siblings

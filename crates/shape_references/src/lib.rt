@@ -1,0 +1,17 @@
+//! What references between shapes rest on: chains of them, and the siblings of property shapes (SHACL sections 3.4.3
+//! and 4.7.3).
+//!
+//! `least_on_loop` takes an ascending graph whose triples are references, and ensures exactly the least node from
+//! which a chain leads to itself, or that there is none. Ranks show of the others that none leads to them, so that
+//! one node is searched. `push_siblings` ensures exactly a shape's siblings.
+#![tactic(auto)]
+
+mod below;
+mod leading;
+mod loops;
+mod nodes;
+mod ranks;
+mod siblings;
+
+pub use loops::least_on_loop;
+pub use siblings::{push_siblings, turned_properties};

@@ -1,0 +1,259 @@
+//! The siblings of a property shape (SHACL section 4.7.3).
+ghost use Rattle.std.specs.Prelude.{◌≡◌, ◌⊎◌, ◌↔◌, IsTrue, IfOk, OnOk};
+ghost use Rattle.std.specs.List.{Contains};
+ghost use Rattle.collections.specs.Listings.{IsListing};
+ghost use Rattle.collections.specs.Ordered.{IsAscending};
+ghost use Rattle.rdf_model.specs.declared.term.Term.{Term as TermData};
+ghost use Rattle.rdf_model.specs.declared.triple.Triple.{Triple as TripleData};
+ghost use Rattle.rdf_model.specs.Terms.{triple_cmp};
+ghost use Rattle.shape_model.specs.Vocabulary.{ShPath, ShProperty, ShQualifiedValueShape, ShQualifiedValueShapesDisjoint, property_iri, true_literal};
+ghost use Rattle.shape_model.specs.ShapeSyntax.{HasProperty};
+ghost use Rattle.shape_model.specs.Readings.{Sibling};
+ghost use Rattle.shape_syntax.specs.Gathering.{Gives};
+ghost use Rattle.shape_references.specs.Siblings.{AreValues, IsBeside, IsForeign, IsOfOther, IsTurned, IsTurnOf, IsUnder, MayHaveSiblings};
+
+use collections::{Sequence, sorted_once};
+use rdf_model::{Term, Triple};
+use shape_syntax::lookup::values;
+use shape_syntax::terms::{is_named, is_same};
+use std::alloc::{AllocError, Global};
+
+#[tactic(auto, unfolding(shape_model::specs::Vocabulary::sh))]
+fn properties<'a>(graph: &'a [Triple], node: &Term) -> &'a [Triple]
+    requires { IsAscending triple_cmp graph.now }
+    ensures { AreValues graph.now node.now ShProperty result.now }
+{
+    values(graph, node, "http://www.w3.org/ns/shacl#property")
+}
+
+#[tactic(auto, unfolding(shape_model::specs::Vocabulary::sh))]
+fn qualified_shapes<'a>(graph: &'a [Triple], node: &Term) -> &'a [Triple]
+    requires { IsAscending triple_cmp graph.now }
+    ensures { AreValues graph.now node.now ShQualifiedValueShape result.now }
+{
+    values(
+        graph,
+        node,
+        "http://www.w3.org/ns/shacl#qualifiedValueShape",
+    )
+}
+
+#[tactic(auto, unfolding(shape_model::specs::Vocabulary::sh))]
+fn disjointness<'a>(graph: &'a [Triple], node: &Term) -> &'a [Triple]
+    requires { IsAscending triple_cmp graph.now }
+    ensures { AreValues graph.now node.now ShQualifiedValueShapesDisjoint result.now }
+{
+    values(
+        graph,
+        node,
+        "http://www.w3.org/ns/shacl#qualifiedValueShapesDisjoint",
+    )
+}
+
+#[tactic(auto, unfolding(shape_model::specs::Vocabulary::sh))]
+fn paths<'a>(graph: &'a [Triple], node: &Term) -> &'a [Triple]
+    requires { IsAscending triple_cmp graph.now }
+    ensures { AreValues graph.now node.now ShPath result.now }
+{
+    values(graph, node, "http://www.w3.org/ns/shacl#path")
+}
+
+#[tactic(auto, unfolding(shape_model::specs::Vocabulary::true_literal))]
+fn is_true(term: &Term) -> bool
+    ensures { IsTrue result ↔ (term.now ≡ true_literal) }
+{
+    match term {
+        Term::Literal {
+            lexical,
+            datatype,
+            language: None,
+        } => {
+            lexical.as_str() == "true"
+                && datatype.as_str() == "http://www.w3.org/2001/XMLSchema#boolean"
+        }
+        _ => false,
+    }
+}
+
+// Whether the object of one of the triples is `true`.
+fn one_is_true(found: &[Triple]) -> bool
+    ensures { IsTrue result ↔ ((t : TripleData) × Contains found.now t × (t.object ≡ true_literal)) }
+{
+    for triple in found {
+        if is_true(&triple.object) {
+            return true;
+        }
+    }
+    false
+}
+
+// Whether one of the triples has this object.
+fn has_object(found: &[Triple], value: &Term) -> bool
+    ensures { IsTrue result ↔ ((t : TripleData) × Contains found.now t × (t.object ≡ value.now)) }
+{
+    for triple in found {
+        if is_same(&triple.object, value) {
+            return true;
+        }
+    }
+    false
+}
+
+fn has_path(graph: &[Triple], shape: &Term) -> bool
+    requires { IsAscending triple_cmp graph.now }
+    ensures { IsTrue result ↔ ((n : TermData) × HasProperty graph.now shape.now ShPath n) }
+{
+    let found = paths(graph, shape);
+    !found.is_empty()
+}
+
+fn is_disjoint(graph: &[Triple], shape: &Term) -> bool
+    requires { IsAscending triple_cmp graph.now }
+    ensures { IsTrue result ↔ HasProperty graph.now shape.now ShQualifiedValueShapesDisjoint true_literal }
+{
+    one_is_true(disjointness(graph, shape))
+}
+
+fn may_have_siblings(graph: &[Triple], shape: &Term) -> bool
+    requires { IsAscending triple_cmp graph.now }
+    ensures { IsTrue result ↔ MayHaveSiblings graph.now shape.now }
+{
+    has_path(graph, shape) && is_disjoint(graph, shape)
+}
+
+fn is_own(graph: &[Triple], shape: &Term, value: &Term) -> bool
+    requires { IsAscending triple_cmp graph.now }
+    ensures { IsTrue result ↔ HasProperty graph.now shape.now ShQualifiedValueShape value.now }
+{
+    has_object(qualified_shapes(graph, shape), value)
+}
+
+fn push_foreign(
+    graph: &[Triple],
+    shape: &Term,
+    value: &Term,
+    nodes: &mut Sequence<Term>,
+) -> Result<(), AllocError>
+    requires { IsAscending triple_cmp graph.now }
+    ensures { OnOk result ((t : TermData) → Contains nodes.new t ↔ (Contains nodes.old t ⊎ ((value.now ≡ t) × IsForeign graph.now shape.now t))) }
+{
+    if is_own(graph, shape, value) {
+        return Ok(());
+    }
+    nodes.push(value.clone()?)?;
+    Ok(())
+}
+
+// Adds the qualified value shapes of the other.
+fn push_of_other(
+    graph: &[Triple],
+    shape: &Term,
+    other: &Term,
+    nodes: &mut Sequence<Term>,
+) -> Result<(), AllocError>
+    requires { IsAscending triple_cmp graph.now }
+    ensures { OnOk result ((t : TermData) → Contains nodes.new t ↔ (Contains nodes.old t ⊎ IsOfOther graph.now shape.now other.now t)) }
+{
+    for triple in qualified_shapes(graph, other) {
+        push_foreign(graph, shape, &triple.object, nodes)?;
+    }
+    Ok(())
+}
+
+// Adds those of all the sh:property values of the parent.
+fn push_under(
+    graph: &[Triple],
+    shape: &Term,
+    parent: &Term,
+    nodes: &mut Sequence<Term>,
+) -> Result<(), AllocError>
+    requires { IsAscending triple_cmp graph.now }
+    ensures { OnOk result ((t : TermData) → Contains nodes.new t ↔ (Contains nodes.old t ⊎ IsUnder graph.now shape.now parent.now t)) }
+{
+    for triple in properties(graph, parent) {
+        push_of_other(graph, shape, &triple.object, nodes)?;
+    }
+    Ok(())
+}
+
+// Adds those under all the shapes that have the shape as a sh:property.
+fn push_beside(
+    graph: &[Triple],
+    turned: &[Triple],
+    shape: &Term,
+    nodes: &mut Sequence<Term>,
+) -> Result<(), AllocError>
+    requires graph { IsAscending triple_cmp graph.now }
+    requires turned { IsListing triple_cmp (IsTurned graph.now) turned.now }
+    ensures { OnOk result ((t : TermData) → Contains nodes.new t ↔ (Contains nodes.old t ⊎ IsBeside graph.now shape.now t)) }
+{
+    for triple in properties(turned, shape) {
+        push_under(graph, shape, &triple.object, nodes)?;
+    }
+    Ok(())
+}
+
+/// Adds the siblings of the shape. The graph's `turned_properties` are given.
+pub fn push_siblings(
+    graph: &[Triple],
+    turned: &[Triple],
+    shape: &Term,
+    nodes: &mut Sequence<Term>,
+) -> Result<(), AllocError>
+    requires graph { IsAscending triple_cmp graph.now }
+    requires turned { IsListing triple_cmp (IsTurned graph.now) turned.now }
+    ensures { OnOk result ((t : TermData) → Contains nodes.new t ↔ (Contains nodes.old t ⊎ Sibling graph.now shape.now t)) }
+{
+    if may_have_siblings(graph, shape) {
+        push_beside(graph, turned, shape, nodes)?;
+        return Ok(());
+    }
+    Ok(())
+}
+
+#[tactic(auto, unfolding(shape_model::specs::Vocabulary::sh))]
+fn is_property(term: &Term) -> bool
+    ensures { IsTrue result ↔ (term.now ≡ property_iri ShProperty) }
+{
+    is_named(term, "http://www.w3.org/ns/shacl#property")
+}
+
+/// The triple turned round.
+pub(crate) fn turn_of(triple: &Triple) -> Result<Triple, AllocError>
+    ensures { IfOk result (λ turn. turn ≡ record { subject = triple.now.object; predicate = triple.now.predicate; object = triple.now.subject }) }
+{
+    Ok(Triple {
+        subject: triple.object.clone()?,
+        predicate: triple.predicate.clone()?,
+        object: triple.subject.clone()?,
+    })
+}
+
+fn push_turn(triple: &Triple, turned: &mut Sequence<Triple>) -> Result<(), AllocError>
+    ensures { OnOk result ((t : TripleData) → Contains turned.new t ↔ (Contains turned.old t ⊎ IsTurnOf triple.now t)) }
+{
+    if is_property(&triple.predicate) {
+        turned.push(turn_of(triple)?)?;
+        return Ok(());
+    }
+    Ok(())
+}
+
+fn all_turns(alloc: Global, graph: &[Triple]) -> Result<Sequence<Triple>, AllocError>
+    ensures { IfOk result (λ turned. (t : TripleData) → Contains turned t ↔ Gives IsTurnOf graph.now t) }
+{
+    let mut turned = Sequence::new(alloc);
+    for triple in graph {
+        push_turn(triple, &mut turned)?;
+    }
+    Ok(turned)
+}
+
+/// The triples with sh:property, turned round and in order, so that the shapes that have a sh:property are found.
+pub fn turned_properties(alloc: Global, graph: &[Triple]) -> Result<Vec<Triple>, AllocError>
+    ensures { IfOk result (λ turned. IsListing triple_cmp (IsTurned graph.now) turned.items) }
+{
+    let turns = all_turns(alloc, graph)?;
+    let sorted = sorted_once(turns.into_vec())?;
+    Ok(sorted)
+}
