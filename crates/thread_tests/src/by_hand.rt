@@ -1,0 +1,173 @@
+// A store that is asked by hand, and its history replayed.
+ghost use Rattle.std.specs.Prelude.{◌≡◌, ◌<◌, IfOk};
+ghost use Rattle.guard_store.specs.Callers.{IsKeeper, IsSession};
+
+use commit_core::{Core, Limits};
+use guard_store::{
+    BeginFault, CommitFault, Committed, HeadFault, Keeper, OpenFault, Session, StageFault, Store,
+};
+use rdf_model::{Pattern, Term, Text, Triple};
+use shape_eval::Steps;
+use std::alloc::{AllocError, Global};
+use std::marker::Brand;
+use std::process::Abort;
+use std::sync::Wait;
+use std::sync::ledger::{Blank, Ledger};
+use std::test::*;
+
+const LIMITS: Limits = Limits {
+    terms: 3,
+    triples: 10,
+};
+
+fn iri(alloc: Global, text: &str) -> Result<Term, AllocError> {
+    Ok(Term::Iri(Text::new(alloc, text)?))
+}
+
+fn triple(alloc: Global, subject: &str, object: &str) -> Result<Triple, AllocError> {
+    Ok(Triple {
+        subject: iri(alloc, subject)?,
+        predicate: iri(alloc, "e:p")?,
+        object: iri(alloc, object)?,
+    })
+}
+
+const ALL: Pattern = Pattern {
+    subject: None,
+    predicate: None,
+    object: None,
+};
+
+// What a session does by itself where no transaction is open, and within one.
+fn ask_locally<R: Wait + Abort>(
+    rt: &R,
+    alloc: Global,
+    store: &Store,
+    session: Session,
+) -> Result<Session, Fail>
+    requires { IsSession store.now session }
+    ensures { IfOk result (IsSession store.now) }
+{
+    let block = [triple(alloc, "e:a", "e:b")?];
+    let (session, added) = store.stage_add(rt, session, &block);
+    assert_eq!(rt; added, Err(StageFault::NoTransaction));
+    let (session, removed) = store.stage_remove(rt, session, &block);
+    assert_eq!(rt; removed, Err(StageFault::NoTransaction));
+    let (session, head) = store.head(rt, session);
+    assert_eq!(rt; head, Err(HeadFault::NoTransaction));
+    let (session, begun) = store.begin(rt, session);
+    assert_eq!(rt; begun, Ok(0));
+    let (session, again) = store.begin(rt, session);
+    assert_eq!(rt; again, Err(BeginFault::AlreadyOpen));
+    Ok(session)
+}
+
+// A transaction that adds a triple, which it then finds, and one block more that would name too many terms.
+fn add_one<R: Wait + Abort>(
+    rt: &R,
+    alloc: Global,
+    store: &Store,
+    session: Session,
+) -> Result<Session, Fail>
+    requires { IsSession store.now session }
+    ensures { IfOk result (IsSession store.now) }
+{
+    let (session, added) = store.stage_add(rt, session, &[triple(alloc, "e:a", "e:b")?]);
+    assert_eq!(rt; added, Ok(()));
+    let (session, full) = store.stage_add(rt, session, &[triple(alloc, "e:c", "e:d")?]);
+    assert_eq!(rt; full, Err(StageFault::Full { count: 5 }));
+    let (session, head) = store.head(rt, session);
+    assert_eq!(rt; head, Ok(0));
+    Ok(session)
+}
+
+// Whether the answer is that of an accepted commit with this number.
+fn is_done(answer: &Result<Committed, CommitFault>, wanted: u64) -> bool {
+    matches!(answer, Ok(Committed::Done { number, again: _ }) if *number == wanted)
+}
+
+fn is_read_only(answer: &Result<Committed, CommitFault>, wanted: u64) -> bool {
+    matches!(answer, Ok(Committed::ReadOnly { version }) if *version == wanted)
+}
+
+// One session commits while another reads; the history of both is then replayed.
+fn commit_and_read<L: Ledger, R: Wait + Abort>(
+    rt: &R,
+    alloc: Global,
+    blank: Blank,
+) -> Result<(), Fail>
+    requires name { blank.name ≡ L.name }
+    requires parts { blank.parts ≡ L.parts }
+    requires some { 0 < L.parts }
+{
+    let mut steps = Steps::<L>::begin(blank);
+    let (store, keeper) = Store::new(alloc, LIMITS)?;
+    let Ok((keeper, first)) = store.open(rt, keeper) else {
+        return Err(Fail::new("a session is opened"));
+    };
+    let Ok((keeper, second)) = store.open(rt, keeper) else {
+        return Err(Fail::new("another session is opened"));
+    };
+    let first = ask_locally(rt, alloc, &store, first)?;
+    let first = add_one(rt, alloc, &store, first)?;
+    let (second, begun) = store.begin(rt, second);
+    assert_eq!(rt; begun, Ok(0));
+    let (first, done) = store.commit(rt, first, &mut steps);
+    assert!(rt; is_done(&done, 1));
+    let (second, read) = store.commit(rt, second, &mut steps);
+    assert!(rt; is_read_only(&read, 0));
+    let keeper = store.meet(keeper, second);
+    let keeper = store.meet(keeper, first);
+    let core = store.close(keeper);
+    assert_eq!(rt;
+        core.order()?.as_slice(),
+        [1, 2, 1, 1, 1, 1, 2, 1].as_slice()
+    );
+    let Ok(events) = core.into_events() else {
+        return Err(Fail::new("there is memory for the events"));
+    };
+    let Ok(again) = Core::replay(alloc, LIMITS, events, &mut steps) else {
+        return Err(Fail::new("each event is a step"));
+    };
+    assert_eq!(rt; again.triples(), 1);
+    Ok(())
+}
+
+#[test]
+fn a_store_by_hand(rt: HostRuntime) -> Result<(), Fail> {
+    commit_and_read::<Brand, HostRuntime>(&rt, rt.alloc(), Blank::new(1))
+}
+
+// Opens a session and meets it again.
+fn open_and_meet<R: Wait>(rt: &R, store: &Store, keeper: Keeper) -> Result<Keeper, Fail>
+    requires keeper { IsKeeper store.now keeper }
+    requires seats { keeper.pass.spare ≡ 64 }
+    ensures keeper { IfOk result (IsKeeper store.now) }
+    ensures seats { IfOk result (λ next. next.pass.spare ≡ 64) }
+{
+    let Ok((keeper, session)) = store.open(rt, keeper) else {
+        return Err(Fail::new("a session is left"));
+    };
+    Ok(store.meet(keeper, session))
+}
+
+// 64 sessions are given out, and no more; the keeper goes on.
+#[test]
+fn a_full_store(rt: HostRuntime) -> Result<(), Fail> {
+    let (store, keeper) = Store::new(rt.alloc(), LIMITS)?;
+    let mut keeper = keeper;
+    for _i in 0..64 {
+        keeper = open_and_meet(&rt, &store, keeper)?;
+    }
+    for _i in 0..2 {
+        let Err((kept, OpenFault::SessionsFull)) = store.open(&rt, keeper) else {
+            return Err(Fail::new("no session is left"));
+        };
+        keeper = kept;
+    }
+    let core = store.close(keeper);
+    let order = core.order()?;
+    assert_eq!(&rt; order.len(), 66);
+    assert_eq!(&rt; order[65], 0);
+    Ok(())
+}

@@ -1,0 +1,136 @@
+// Files that run in threads, and then again in the order that the threads made.
+ghost use Rattle.std.specs.Prelude.{◌≤◌, length};
+
+use collections::Sequence;
+use commit_core::Limits;
+use rdf_model::{Pattern, Term, Text, Triple};
+use session_model::Command;
+use session_player::{replay_all, text_of};
+use session_threads::run_all;
+use std::alloc::{AllocError, Global};
+use std::process::Abort;
+use std::sync::Wait;
+use std::test::*;
+use std::thread::Threads;
+
+const LIMITS: Limits = Limits {
+    terms: 20,
+    triples: 100,
+};
+
+// A command; a find asks for all triples of a predicate.
+#[derive(Clone, Copy)]
+enum Row {
+    Begin,
+    // Adds the triple of this subject, predicate and object, or removes it.
+    Add(&'static str, &'static str, &'static str),
+    Remove(&'static str, &'static str, &'static str),
+    Find(&'static str),
+    BadAdd,
+    Commit,
+    Abort,
+}
+
+fn iri(alloc: Global, text: &str) -> Result<Term, AllocError> {
+    Ok(Term::Iri(Text::new(alloc, text)?))
+}
+
+fn block(alloc: Global, iris: [&str; 3]) -> Result<Sequence<Triple>, AllocError> {
+    let [subject, predicate, object] = iris;
+    let mut triples = Sequence::new(alloc);
+    triples.push(Triple {
+        subject: iri(alloc, subject)?,
+        predicate: iri(alloc, predicate)?,
+        object: iri(alloc, object)?,
+    })?;
+    Ok(triples)
+}
+
+fn command_of(alloc: Global, row: Row) -> Result<Command, AllocError> {
+    match row {
+        Row::Begin => Ok(Command::Begin),
+        Row::Add(subject, predicate, object) => {
+            Ok(Command::Add(block(alloc, [subject, predicate, object])?))
+        }
+        Row::Remove(subject, predicate, object) => {
+            Ok(Command::Remove(block(alloc, [subject, predicate, object])?))
+        }
+        Row::Find(predicate) => Ok(Command::Find(Pattern {
+            subject: None,
+            predicate: Some(iri(alloc, predicate)?),
+            object: None,
+        })),
+        Row::BadAdd => Ok(Command::BadAdd { line: 1, kind: 2 }),
+        Row::Commit => Ok(Command::Commit),
+        Row::Abort => Ok(Command::Abort),
+    }
+}
+
+fn commands_of(alloc: Global, rows: &[Row]) -> Result<Sequence<Command>, AllocError> {
+    let mut commands = Sequence::new(alloc);
+    for row in rows {
+        commands.push(command_of(alloc, *row)?)?;
+    }
+    Ok(commands)
+}
+
+// A transaction that reads what it overtakes or is overtaken by, one that only reads, and one that is dropped.
+const ROWS: [Row; 12] = [
+    Row::Begin,
+    Row::Find("e:p"),
+    Row::Add("e:a", "e:p", "e:b"),
+    Row::Add("e:c", "e:q", "e:b"),
+    Row::Remove("e:c", "e:q", "e:b"),
+    Row::BadAdd,
+    Row::Commit,
+    Row::Begin,
+    Row::Begin,
+    Row::Abort,
+    Row::Begin,
+    Row::Commit,
+];
+
+fn places_of(alloc: Global, order: &[u32]) -> Result<Vec<Option<u32>>, AllocError> {
+    let mut places = Vec::new(alloc);
+    for session in order {
+        places.push(Some(*session))?;
+    }
+    Ok(places)
+}
+
+// The files run in threads; the order that they made, handed in, gives the same text.
+fn run_and_replay<R: Threads + Wait + Abort + Sync>(
+    rt: &R,
+    alloc: Global,
+    files: &[Sequence<Command>],
+) -> Result<(), Fail>
+    requires { length files.now ≤ 64 }
+{
+    let run = run_all(rt, alloc, LIMITS, files)?;
+    let text = text_of(alloc, &run)?;
+    let places = places_of(alloc, &run.order)?;
+    let Ok(again) = replay_all(alloc, LIMITS, files, &places) else {
+        return Err(Fail::new("each place is valid"));
+    };
+    let told = text_of(alloc, &again)?;
+    assert_eq!(rt; text.as_str(), told.as_str());
+    Ok(())
+}
+
+#[test]
+fn three_files_in_three_threads(rt: HostRuntime) -> Result<(), Fail> {
+    let alloc = rt.alloc();
+    let files = [
+        commands_of(alloc, &ROWS)?,
+        commands_of(alloc, &ROWS)?,
+        commands_of(alloc, &ROWS)?,
+    ];
+    run_and_replay(&rt, alloc, &files)
+}
+
+#[test]
+fn one_file_and_none(rt: HostRuntime) -> Result<(), Fail> {
+    let alloc = rt.alloc();
+    run_and_replay(&rt, alloc, &[commands_of(alloc, &ROWS)?])?;
+    run_and_replay(&rt, alloc, &[])
+}

@@ -1,0 +1,7 @@
+//! Tests of the store that callers share, and of session files that run beside each other.
+#![tactic(auto)]
+
+#[cfg(test)]
+mod by_hand;
+#[cfg(test)]
+mod files;
