@@ -34,11 +34,11 @@ at_bridge g a b e (suc n) shape f r =
 
 pub target_bridge : (g : List Triple) (y z : Reading) → SameReading y z → (shape f : Term) → TargetOf g y shape f → TargetOf g z shape f
 target_bridge g y z e shape f = elim [
-  | inl i ↦ inl ((e.has ShTargetNode f).0 i)
-  | inr (inl i) ↦ inr (inl (i.0, (e.has ShTargetClass i.0).0 i.1, i.2))
+  | inl i ↦ inl ((e.has ShTargetNode f tt).0 i)
+  | inr (inl i) ↦ inr (inl (i.0, (e.has ShTargetClass i.0 tt).0 i.1, i.2))
   | inr (inr (inl i)) ↦ inr (inr (inl (e.is_class.0 i.0, i.1)))
-  | inr (inr (inr (inl i))) ↦ inr (inr (inr (inl (i.0, (e.has ShTargetSubjectsOf i.0).0 i.1, i.2))))
-  | inr (inr (inr (inr i))) ↦ inr (inr (inr (inr (i.0, (e.has ShTargetObjectsOf i.0).0 i.1, i.2))))
+  | inr (inr (inr (inl i))) ↦ inr (inr (inr (inl (i.0, (e.has ShTargetSubjectsOf i.0 tt).0 i.1, i.2))))
+  | inr (inr (inr (inr i))) ↦ inr (inr (inr (inr (i.0, (e.has ShTargetObjectsOf i.0 tt).0 i.1, i.2))))
 ]
 
 way_bridge : (y z : Reading) → SameReading y z → (q w : List Path) → ValueWay y q w → ValueWay z q w
@@ -47,12 +47,12 @@ way_bridge y z e q w = elim [ inl i ↦ inl (e.is_node_shape.0 i.0, i.1) | inr i
 pub look_bridge : (a b : Term → Reading) → ((shape : Term) → SameReading (a shape) (b shape)) → (n : ℕ) (shape : Term) (q : List Path) (row : LookRow) → ShapeLookDepth n a shape q row → ShapeLookDepth n b shape q row
 look_bridge a b e zero shape q row h = h
 look_bridge a b e (suc n) shape q row h = (
-  λ d. h.0 (((e shape).has ShDeactivated true_literal).1 d),
+  λ d. h.0 (((e shape).has ShDeactivated true_literal refl).1 d),
   elim h.1 [
     | inl i ↦ inl (i.0, ((e shape).path i.0).0 i.1, i.2)
-    | inr (inl i) ↦ inr (inl (i.0, i.1, ((e shape).has ShClass i.0).0 i.2, way_bridge (a shape) (b shape) (e shape) q i.1 i.3, i.4))
+    | inr (inl i) ↦ inr (inl (i.0, i.1, ((e shape).has ShClass i.0 tt).0 i.2, way_bridge (a shape) (b shape) (e shape) q i.1 i.3, i.4))
     | inr (inr (inl i)) ↦ inr (inr (inl (i.0, compared_same (a shape) (b shape) (e shape) i.0 i.1, i.2)))
-    | inr (inr (inr (inl i))) ↦ inr (inr (inr (inl (((e shape).has ShClosed true_literal).0 i.0, (i.1.0, way_bridge (a shape) (b shape) (e shape) q i.1.0 i.1.1, i.1.2)))))
+    | inr (inr (inr (inl i))) ↦ inr (inr (inr (inl (((e shape).has ShClosed true_literal tt).0 i.0, (i.1.0, way_bridge (a shape) (b shape) (e shape) q i.1.0 i.1.1, i.1.2)))))
     | inr (inr (inr (inr i))) ↦ inr (inr (inr (inr (i.0, i.1, refers_same (a shape) (b shape) (e shape) i.0 i.2, way_bridge (a shape) (b shape) (e shape) q i.1 i.3, look_bridge a b e n i.0 i.1 row i.4))))
   ],
 )

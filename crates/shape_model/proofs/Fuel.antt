@@ -1,11 +1,11 @@
 -- As many references as the shapes graph has triples are deep enough, where no shape refers to itself.
-use Rattle.std.proofs.Common.{◌≡◌, ℕ, zero, suc, ◌≤◌, List, [], ◌∷◌, ◌++◌, length, refl, subst, ap, arith, inl, inr}
+use Rattle.std.proofs.Common.{◌≡◌, ℕ, zero, suc, ◌+◌, ◌≤◌, List, [], ◌∷◌, ◌++◌, length, refl, subst, ap, arith, inl, inr}
 use Rattle.std.specs.Prelude.{◌↔◌}
 use Rattle.std.specs.List.{Contains}
 use Rattle.std.proofs.lemmas.List.Elements.{Contains-append_cases, Contains-push_cases}
 use Rattle.rdf_model.specs.declared.term.Term.{Term}
 use Rattle.rdf_model.specs.declared.triple.Triple.{Triple}
-use Rattle.shape_model.specs.Laws.{FuelLaw, UnfoldLaw}
+use Rattle.shape_model.specs.Laws.{DepthLaw, FuelLaw, UnfoldLaw}
 use Rattle.shape_model.specs.Readings.{HasQualifiedCount, IsAcyclic, Reading, References, Refers, reading}
 use Rattle.shape_model.specs.ShapeSyntax.{HasProperty}
 use Rattle.shape_model.specs.Triples.{IsMember}
@@ -127,6 +127,12 @@ no_chain s acyclic a ms e c =
 
 pub fuel_law : FuelLaw
 fuel_law g s acyclic n le shape f r = enough g (reading s) (suc (length s)) n shape le (no_chain s acyclic shape) f r
+
+pub depth_law : DepthLaw
+depth_law g s acyclic n shallow shape f r =
+    let far = fuel_law g s acyclic (n + suc (length s)) (omega arith) shape f r in
+    let near = enough g (reading s) n (n + suc (length s)) shape (omega arith) (shallow shape) f r in
+    (λ i. near.1 (far.0 i), λ i. far.1 (near.0 i))
 
 pub unfold_law : UnfoldLaw
 unfold_law g s acyclic shape f r = fuel_law g s acyclic (suc (suc (length s))) (omega arith) shape f r

@@ -5,34 +5,65 @@ use Rattle.rdf_model.specs.declared.term.Term.{Term}
 use Rattle.shape_model.specs.declared.component.Component.TheVariants as components
 use Rattle.shape_model.specs.Components.{AtIn, ComponentRow, ConformsTo, Finding, ForCount, ForEach, ForEachOfList, ForPairs, ForQualifiedCount, IsQualified, NoneOf, OneOf, RowsOf, SameSurroundings, Surroundings, parameter_of, row_of}
 use Rattle.shape_model.specs.Listings.{Counts}
-use Rattle.shape_model.specs.Readings.{HasFlags, HasMember, HasQualifiedCount, IsClosed, IsCompared, Reading, Refers, SameReading}
-use Rattle.shape_model.specs.ShapeSyntax.{TakesList}
+use Rattle.shape_model.specs.Readings.{HasFlags, HasMember, HasQualifiedCount, IsAsked, IsClosed, IsCompared, Reading, Refers, SameReading}
+use Rattle.shape_model.specs.ShapeSyntax.{TakesMembers}
 use Rattle.shape_model.specs.TermTests.{IsAtMost, IsFewer, IsInLanguages, IsLess, IsMatched, IsMore, IsOfDatatype, IsOfKind, IsTooLong, IsTooShort}
 use Rattle.shape_model.specs.Triples.{IsMember}
 use Rattle.shape_model.specs.Vocabulary.{ShAnd, ShClass, ShClosed, ShDeactivated, ShDisjoint, ShEquals, ShFlags, ShIn, ShLanguageIn, ShLessThan, ShLessThanOrEquals, ShNode, ShNot, ShOr, ShProperty, ShQualifiedMaxCount, ShQualifiedMinCount, ShQualifiedValueShape, ShXone, ShapeProperty, true_literal}
 use Rattle.shape_model.specs.declared.component.Component.{Component}
 use Rattle.shape_model.specs.declared.result_row.ResultRow.{ResultRow}
 
-takes_languages : TakesList ShLanguageIn
+takes_languages : TakesMembers ShLanguageIn
 takes_languages = inl refl
 
-takes_and : TakesList ShAnd
+takes_and : TakesMembers ShAnd
 takes_and = inr (inl refl)
 
-takes_or : TakesList ShOr
+takes_or : TakesMembers ShOr
 takes_or = inr (inr (inl refl))
 
-takes_xone : TakesList ShXone
+takes_xone : TakesMembers ShXone
 takes_xone = inr (inr (inr (inl refl)))
 
-takes_in : TakesList ShIn
-takes_in = inr (inr (inr (inr (inr refl))))
+takes_in : TakesMembers ShIn
+takes_in = inr (inr (inr (inr refl)))
+
+-- a parameter of a component is asked for as such
+asked : (c : Component) (q : Term) → IsAsked (parameter_of c) q
+asked components.Class q = tt
+asked components.Datatype q = tt
+asked components.NodeKind q = tt
+asked components.MinCount q = tt
+asked components.MaxCount q = tt
+asked components.MinExclusive q = tt
+asked components.MinInclusive q = tt
+asked components.MaxExclusive q = tt
+asked components.MaxInclusive q = tt
+asked components.MinLength q = tt
+asked components.MaxLength q = tt
+asked components.Pattern q = tt
+asked components.LanguageIn q = tt
+asked components.UniqueLang q = tt
+asked components.Equals q = tt
+asked components.Disjoint q = tt
+asked components.LessThan q = tt
+asked components.LessThanOrEquals q = tt
+asked components.Not q = tt
+asked components.And q = tt
+asked components.Or q = tt
+asked components.Xone q = tt
+asked components.Node q = tt
+asked components.QualifiedMinCount q = tt
+asked components.QualifiedMaxCount q = tt
+asked components.Closed q = tt
+asked components.HasValue q = tt
+asked components.In q = tt
 
 pub reading_itself : (y : Reading) → SameReading y y
 reading_itself y = record {
   path = λ p. (λ i. i, λ i. i);
   is_node_shape = (λ i. i, λ i. i);
-  has = λ word v. (λ i. i, λ i. i);
+  has = λ word v asked. (λ i. i, λ i. i);
   has_list = λ word takes n ms. (λ i. i, λ i. i);
   sibling = λ t. (λ i. i, λ i. i);
   allowed = λ p. (λ i. i, λ i. i);
@@ -43,7 +74,7 @@ pub reading_back : (y z : Reading) → SameReading y z → SameReading z y
 reading_back y z e = record {
   path = λ p. ((e.path p).1, (e.path p).0);
   is_node_shape = (e.is_node_shape.1, e.is_node_shape.0);
-  has = λ word v. ((e.has word v).1, (e.has word v).0);
+  has = λ word v asked. ((e.has word v asked).1, (e.has word v asked).0);
   has_list = λ word takes n ms. ((e.has_list word takes n ms).1, (e.has_list word takes n ms).0);
   sibling = λ t. ((e.sibling t).1, (e.sibling t).0);
   allowed = λ p. ((e.allowed p).1, (e.allowed p).0);
@@ -53,36 +84,36 @@ reading_back y z e = record {
 module _ (y z : Reading) (e : SameReading y z) where
   pub compared_same : (p : Term) → IsCompared y p → IsCompared z p
   compared_same p = elim [
-    | inl i ↦ inl ((e.has ShEquals p).0 i)
-    | inr (inl i) ↦ inr (inl ((e.has ShDisjoint p).0 i))
-    | inr (inr (inl i)) ↦ inr (inr (inl ((e.has ShLessThan p).0 i)))
-    | inr (inr (inr i)) ↦ inr (inr (inr ((e.has ShLessThanOrEquals p).0 i)))
+    | inl i ↦ inl ((e.has ShEquals p tt).0 i)
+    | inr (inl i) ↦ inr (inl ((e.has ShDisjoint p tt).0 i))
+    | inr (inr (inl i)) ↦ inr (inr (inl ((e.has ShLessThan p tt).0 i)))
+    | inr (inr (inr i)) ↦ inr (inr (inr ((e.has ShLessThanOrEquals p tt).0 i)))
   ]
 
   count_same : HasQualifiedCount y → HasQualifiedCount z
-  count_same h = (h.0, elim h.1 [ inl i ↦ inl ((e.has ShQualifiedMinCount h.0).0 i) | inr i ↦ inr ((e.has ShQualifiedMaxCount h.0).0 i) ])
+  count_same h = (h.0, elim h.1 [ inl i ↦ inl ((e.has ShQualifiedMinCount h.0 tt).0 i) | inr i ↦ inr ((e.has ShQualifiedMaxCount h.0 tt).0 i) ])
 
-  list_same : (word : ShapeProperty) → TakesList word → (t : Term) → HasMember y word t → HasMember z word t
+  list_same : (word : ShapeProperty) → TakesMembers word → (t : Term) → HasMember y word t → HasMember z word t
   list_same word takes t h = (h.0, h.1, (e.has_list word takes h.0 h.1).0 h.2, h.3)
 
   pub refers_same : (t : Term) → Refers y t → Refers z t
   refers_same t = elim [
-    | inl i ↦ inl ((e.has ShNot t).0 i)
-    | inr (inl i) ↦ inr (inl ((e.has ShNode t).0 i))
-    | inr (inr (inl i)) ↦ inr (inr (inl ((e.has ShProperty t).0 i)))
+    | inl i ↦ inl ((e.has ShNot t tt).0 i)
+    | inr (inl i) ↦ inr (inl ((e.has ShNode t tt).0 i))
+    | inr (inr (inl i)) ↦ inr (inr (inl ((e.has ShProperty t tt).0 i)))
     | inr (inr (inr (inl i))) ↦ inr (inr (inr (inl (list_same ShAnd takes_and t i))))
     | inr (inr (inr (inr (inl i)))) ↦ inr (inr (inr (inr (inl (list_same ShOr takes_or t i)))))
     | inr (inr (inr (inr (inr (inl i))))) ↦ inr (inr (inr (inr (inr (inl (list_same ShXone takes_xone t i))))))
-    | inr (inr (inr (inr (inr (inr (inl i)))))) ↦ inr (inr (inr (inr (inr (inr (inl (count_same i.0, (e.has ShQualifiedValueShape t).0 i.1)))))))
+    | inr (inr (inr (inr (inr (inr (inl i)))))) ↦ inr (inr (inr (inr (inr (inr (inl (count_same i.0, (e.has ShQualifiedValueShape t tt).0 i.1)))))))
     | inr (inr (inr (inr (inr (inr (inr i)))))) ↦ inr (inr (inr (inr (inr (inr (inr (count_same i.0, (e.sibling t).0 i.1)))))))
   ]
 
 flip : (y z : Reading) → SameReading y z → (a b : Surroundings) → SameSurroundings y a b → SameSurroundings z b a
 flip y z e a b same = record {
   value_node = λ v. ((same.value_node v).1, (same.value_node v).0);
-  instance = λ q v i w. let k = same.instance q v ((e.has ShClass q).1 i) ((same.value_node v).1 w) in (k.1, k.0);
+  instance = λ q v i w. let k = same.instance q v ((e.has ShClass q tt).1 i) ((same.value_node v).1 w) in (k.1, k.0);
   focus_value = λ q w i. let k = same.focus_value q w (compared_same z y (reading_back y z e) q i) in (k.1, k.0);
-  triple = λ i v p o w. let k = same.triple ((e.has ShClosed true_literal).1 i) v p o ((same.value_node v).1 w) in (k.1, k.0);
+  triple = λ i v p o w. let k = same.triple ((e.has ShClosed true_literal tt).1 i) v p o ((same.value_node v).1 w) in (k.1, k.0);
   row = λ m v i w r. let k = same.row m v (refers_same z y (reading_back y z e) m i) ((same.value_node v).1 w) r in (k.1, k.0);
 }
 
@@ -113,7 +144,7 @@ module _ (shape f : Term) (y z : Reading) (e : SameReading y z) (a b : Surroundi
   counted : (row : Finding → ResultRow) (P Q : Term → Type 0) (IsWrong : ℕ → Type 0) (r : ResultRow) → ((v : Term) → P v ↔ Q v) → ForCount row P IsWrong r → ForCount row Q IsWrong r
   counted row P Q IsWrong r k h = (h.0, counts_same P Q h.0 k h.1, h.2, h.3)
 
-  of_list : (word : ShapeProperty) → TakesList word → (q : Term) (row : Finding → ResultRow) (P Q : List Term → Term → Type 0) (r : ResultRow)
+  of_list : (word : ShapeProperty) → TakesMembers word → (q : Term) (row : Finding → ResultRow) (P Q : List Term → Term → Type 0) (r : ResultRow)
       → ((ms : List Term) → y.has_list word q ms → (v : Term) → a.value_node v → P ms v → Q ms v)
       → ForEachOfList a y word q row P r → ForEachOfList b z word q row Q r
   of_list word takes q row P Q r to h = (h.0, (e.has_list word takes q h.0).0 h.1, each row (P h.0) (Q h.0) r (to h.0 h.1) h.2)
@@ -123,8 +154,8 @@ module _ (shape f : Term) (y z : Reading) (e : SameReading y z) (a b : Surroundi
 
   flags_same : (flags : List ℕ) → HasFlags z flags → HasFlags y flags
   flags_same flags = elim [
-    | inl h ↦ inl (h.0, (e.has ShFlags h.0).1 h.1, h.2)
-    | inr h ↦ inr (λ q i. h.0 q ((e.has ShFlags q).0 i), h.1)
+    | inl h ↦ inl (h.0, (e.has ShFlags h.0 tt).1 h.1, h.2)
+    | inr h ↦ inr (λ q i. h.0 q ((e.has ShFlags q tt).0 i), h.1)
   ]
 
   qualify : (m : Term) → HasQualifiedCount y → y.has ShQualifiedValueShape m → (v : Term) → IsQualified a y m v ↔ IsQualified b z m v
@@ -142,7 +173,7 @@ module _ (shape f : Term) (y z : Reading) (e : SameReading y z) (a b : Surroundi
   )
 
   qualified : (q : Term) → (y.has ShQualifiedMinCount q ⊎ y.has ShQualifiedMaxCount q) → (row : Finding → ResultRow) (IsWrong : ℕ → Type 0) (r : ResultRow) → ForQualifiedCount a y row IsWrong r → ForQualifiedCount b z row IsWrong r
-  qualified q n row IsWrong r h = (h.0, (e.has ShQualifiedValueShape h.0).0 h.1, counted row (IsQualified a y h.0) (IsQualified b z h.0) IsWrong r (qualify h.0 (q, n) h.1) h.2)
+  qualified q n row IsWrong r h = (h.0, (e.has ShQualifiedValueShape h.0 tt).0 h.1, counted row (IsQualified a y h.0) (IsQualified b z h.0) IsWrong r (qualify h.0 (q, n) h.1) h.2)
 
   -- the results at one value of the parameter
   keep : (c : Component) (q : Term) (row : Finding → ResultRow) (r : ResultRow) → y.has (parameter_of c) q → RowsOf c a y q row r → RowsOf c b z q row r
@@ -186,14 +217,14 @@ module _ (shape f : Term) (y z : Reading) (e : SameReading y z) (a b : Surroundi
   keep components.In q row r i h = of_list ShIn takes_in q row (λ ms v. IsMember ms v → ⊥) (λ ms v. IsMember ms v → ⊥) r (λ ms l v w x. x) h
 
   keep_row : (c : Component) (r : ResultRow) → ComponentRow c a y shape f r → ComponentRow c b z shape f r
-  keep_row c r h = (h.0, (e.has (parameter_of c) h.0).0 h.1, keep c h.0 (row_of c shape f h.0) r h.1 h.2)
+  keep_row c r h = (h.0, (e.has (parameter_of c) h.0 (asked c h.0)).0 h.1, keep c h.0 (row_of c shape f h.0) r h.1 h.2)
 
   keep_all : (r : ResultRow) → AtIn a y shape f r → AtIn b z shape f r
   keep_all r h = (
-    λ k. h.0 ((e.has ShDeactivated true_literal).1 k),
+    λ k. h.0 ((e.has ShDeactivated true_literal refl).1 k),
     elim h.1 [
       | inl x ↦ inl (x.0, keep_row x.0 r x.1)
-      | inr x ↦ inr (x.0, (e.has ShProperty x.0).0 x.1, (x.2.0, (same.value_node x.2.0).0 x.2.1, (same.row x.0 x.2.0 (inr (inr (inl x.1))) x.2.1 r).0 x.2.2))
+      | inr x ↦ inr (x.0, (e.has ShProperty x.0 tt).0 x.1, (x.2.0, (same.value_node x.2.0).0 x.2.1, (same.row x.0 x.2.0 (inr (inr (inl x.1))) x.2.1 r).0 x.2.2))
     ],
   )
 

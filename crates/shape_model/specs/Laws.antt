@@ -15,7 +15,7 @@ use Rattle.shape_model.specs.Listings.{Counts}
 use Rattle.shape_model.specs.Looks.{LookRow, Matches, PathLook}
 use Rattle.shape_model.specs.NodeLooks.{IsLook, ShapeReads}
 use Rattle.shape_model.specs.Paths.{Path}
-use Rattle.shape_model.specs.Readings.{IsAcyclic, ValueNode, reading}
+use Rattle.shape_model.specs.Readings.{IsAcyclic, IsShallow, ValueNode, reading}
 use Rattle.shape_model.specs.ShapeLooks.{Looks, ResultLook}
 use Rattle.shape_model.specs.Targets.{Target, TargetOf}
 use Rattle.shape_model.specs.Touching.{IsFootprint, Touched}
@@ -65,6 +65,10 @@ VerdictLaw = (g k s : List Triple) (net : List Change) (looked : List (Look Term
 -- Where no shape refers to itself, longer chains of references give no other results.
 abbrev pub FuelLaw : Type 0
 FuelLaw = (g s : List Triple) → IsAcyclic s → (n : ℕ) → suc (length s) ≤ n → (shape f : Term) (r : ResultRow) → At g s shape f r ↔ AtDepth n g (reading s) shape f r
+
+-- Where moreover no chain of so many references leads from a shape, fewer are deep enough.
+abbrev pub DepthLaw : Type 0
+DepthLaw = (g s : List Triple) → IsAcyclic s → (n : ℕ) → IsShallow n s → (shape f : Term) (r : ResultRow) → At g s shape f r ↔ AtDepth n g (reading s) shape f r
 
 -- So the results of a shape are those by the results of the shapes that it refers to.
 abbrev pub UnfoldLaw : Type 0

@@ -1,8 +1,12 @@
 -- Whether a pattern matches a text (SHACL 4.4.3; REGEX of SPARQL 1.1, 17.4.3.14), by the grammar of the crate `regex`.
-use Rattle.std.specs.Prelude.{ℕ, Bool, true, false, List, chars, is_some, nat_eq, option_map}
+use Rattle.std.specs.Prelude.{◌≡◌, ℕ, Bool, Some, true, false, List, chars, is_some, nat_eq, option_map}
 use Rattle.std.specs.List.{list_any}
 use Rattle.std.specs.Option.{unwrap_or}
+use Rattle.literal_order.specs.Texts.{string_value}
+use Rattle.rdf_model.specs.declared.term.Term.{Term}
 use Rattle.regex.specs.Patterns.{Config, default_config, find_str}
+use Rattle.regex.specs.Strings.{regex_source, regex_config, IsReadFromSource}
+use Rattle.regex.specs.declared.string.regex.Regex.{Regex}
 use Rattle.regex_syntax.specs.Grammar.{read}
 
 -- whether the letter is one of the flags
@@ -25,3 +29,9 @@ config_of flags = record default_config {
 -- the grammar doesn't read matches nothing.
 unfoldable pub is_found : List ℕ → List ℕ → List ℕ → Bool
 is_found pattern flags text = unwrap_or (option_map (λ whole. is_some (find_str whole.0.value text 0)) (read (config_of flags) (chars pattern))) false
+
+-- the regex was built of the text of the term under the flags
+pub record IsPatternOf (term : Term) (flags : List ℕ) (regex : Regex) : Type 0 where
+  pub source : string_value term ≡ Some (regex_source regex)
+  pub config : regex_config regex ≡ config_of flags
+  pub read : IsReadFromSource regex

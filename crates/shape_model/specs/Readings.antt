@@ -1,14 +1,14 @@
 -- What a shapes graph says of a shape.
-use Rattle.std.specs.Prelude.{◌≡◌, ◌⊎◌, ◌↔◌, ℕ, List, [], ◌∷◌, ◌++◌, Some}
+use Rattle.std.specs.Prelude.{◌≡◌, ◌⊎◌, ◌↔◌, ℕ, List, [], ◌∷◌, ◌++◌, Some, length}
 use Rattle.rdf_model.specs.declared.term.Term.{Term}
 use Rattle.rdf_model.specs.declared.triple.Triple.{Triple}
 use Rattle.literal_order.specs.Texts.{string_value}
 use Rattle.shape_model.specs.Vocabulary.{rdfs_class, true_literal, ShapeProperty, ShFlags, ShEquals, ShDisjoint, ShLessThan, ShLessThanOrEquals, ShNot, ShAnd, ShOr, ShXone, ShNode, ShProperty, ShQualifiedValueShape, ShQualifiedMinCount, ShQualifiedMaxCount, ShQualifiedValueShapesDisjoint, ShClosed, ShIgnoredProperties, ShDeactivated, ShPath}
 use Rattle.shape_model.specs.Triples.{IsMember}
-use Rattle.shape_model.specs.Paths.{Path}
+use Rattle.shape_model.specs.Paths.{Path, Predicate}
 use Rattle.shape_model.specs.Walks.{Walk}
 use Rattle.shape_model.specs.Instances.{Instance}
-use Rattle.shape_model.specs.ShapeSyntax.{HasProperty, ListOf, PathOf, IsShape, TakesList}
+use Rattle.shape_model.specs.ShapeSyntax.{HasProperty, ListOf, PathOf, IsShape, TakesMembers}
 
 -- All that a validation asks a shapes graph of one shape, either by its triples or by a form that was made of them.
 pub record Reading : Type 1 where
@@ -44,11 +44,11 @@ Sibling s shape t =
     × (HasProperty s shape ShQualifiedValueShape t → ⊥)
     × ((parent : Term) × (other : Term) × HasProperty s parent ShProperty shape × HasProperty s parent ShProperty other × HasProperty s other ShQualifiedValueShape t)
 
--- the predicates that a closed shape allows (SHACL 4.8.1): the sh:path of its sh:property values, and the members of
--- its sh:ignoredProperties
+-- the predicates that a closed shape allows (SHACL 4.8.1): the IRIs that are the sh:path of its sh:property values, and
+-- the members of its sh:ignoredProperties
 abbrev pub IsAllowed : List Triple → Term → Term → Type 0
 IsAllowed s shape p =
-    ((n : Term) × HasProperty s shape ShProperty n × HasProperty s n ShPath p)
+    ((n : Term) × HasProperty s shape ShProperty n × ShapePath s n (Predicate p))
     ⊎ ((head : Term) × (members : List Term) × HasProperty s shape ShIgnoredProperties head × ListOf s head members × IsMember members p)
 
 -- an implicit class target is a shape that is an instance of rdfs:Class in the shapes graph (SHACL 2.1.3.3)
@@ -118,12 +118,26 @@ References readings a (m ∷ ms) = Refers (readings a) m × References readings 
 abbrev pub IsAcyclic : List Triple → Type 0
 IsAcyclic s = (a : Term) (ms : List Term) → References (reading s) a (ms ++ a ∷ []) → ⊥
 
--- two readings that say the same, of lists at the properties that take one
+-- The values of properties that a validation asks for as such. It reads the path of a shape in place of its sh:path,
+-- the predicates that a shape allows in place of its sh:ignoredProperties, its siblings in place of its
+-- sh:qualifiedValueShapesDisjoint; and whether a shape is deactivated, whatever else its sh:deactivated may be.
+abbrev pub IsAsked : ShapeProperty → Term → Type 0
+IsAsked ShPath v = ⊥
+IsAsked ShIgnoredProperties v = ⊥
+IsAsked ShQualifiedValueShapesDisjoint v = ⊥
+IsAsked ShDeactivated v = v ≡ true_literal
+IsAsked p v = Unit {0}
+
+-- no chain of so many references leads from any shape
+abbrev pub IsShallow : ℕ → List Triple → Type 0
+IsShallow n s = (a : Term) (ms : List Term) → length ms ≡ n → References (reading s) a ms → ⊥
+
+-- two readings that a validation can't tell apart
 pub record SameReading (y z : Reading) : Type 0 where
   pub path : (p : Path) → y.path p ↔ z.path p
   pub is_node_shape : y.is_node_shape ↔ z.is_node_shape
-  pub has : (p : ShapeProperty) (v : Term) → y.has p v ↔ z.has p v
-  pub has_list : (p : ShapeProperty) → TakesList p → (head : Term) (members : List Term) → y.has_list p head members ↔ z.has_list p head members
+  pub has : (p : ShapeProperty) (v : Term) → IsAsked p v → y.has p v ↔ z.has p v
+  pub has_list : (p : ShapeProperty) → TakesMembers p → (head : Term) (members : List Term) → y.has_list p head members ↔ z.has_list p head members
   pub sibling : (t : Term) → y.sibling t ↔ z.sibling t
   pub allowed : (p : Term) → y.allowed p ↔ z.allowed p
   pub is_class : y.is_class ↔ z.is_class

@@ -98,9 +98,9 @@ TakesShape p = (p ≡ ShNot) ⊎ (p ≡ ShNode) ⊎ (p ≡ ShProperty) ⊎ (p �
 abbrev pub TakesShapes : ShapeProperty → Type 0
 TakesShapes p = (p ≡ ShAnd) ⊎ (p ≡ ShOr) ⊎ (p ≡ ShXone)
 
--- a property whose values are lists (SHACL 4.4.4, 4.6.2 to 4.6.4, 4.8.1, 4.8.3)
-abbrev pub TakesList : ShapeProperty → Type 0
-TakesList p = (p ≡ ShLanguageIn) ⊎ (p ≡ ShAnd) ⊎ (p ≡ ShOr) ⊎ (p ≡ ShXone) ⊎ (p ≡ ShIgnoredProperties) ⊎ (p ≡ ShIn)
+-- a property of which a validation reads the members of its lists (SHACL 4.4.4, 4.6.2 to 4.6.4, 4.8.3)
+abbrev pub TakesMembers : ShapeProperty → Type 0
+TakesMembers p = (p ≡ ShLanguageIn) ⊎ (p ≡ ShAnd) ⊎ (p ≡ ShOr) ⊎ (p ≡ ShXone) ⊎ (p ≡ ShIn)
 
 -- The node is a shape (SHACL 2.1): an instance of sh:NodeShape or sh:PropertyShape, the subject of a declaration
 -- of targets or of a parameter, a value of a shape-expecting parameter, or a member of such a list.

@@ -1,5 +1,5 @@
 // Each function promises a theorem on the definitions, and does nothing.
-ghost use Rattle.shape_model.specs.Laws.{AcyclicLaw, BesideLaw, BridgeLaw, ClassPathLaw, CompiledLaw, ConformsLaw, CountLaw, CoverLaw, FuelLaw, LeastLaw, ListingLaw, LookLaw, NoShapesLaw, ReadsLaw, TouchedLaw, UnfoldLaw, ValuesLaw, VerdictLaw, WalkLaw};
+ghost use Rattle.shape_model.specs.Laws.{AcyclicLaw, BesideLaw, BridgeLaw, ClassPathLaw, CompiledLaw, ConformsLaw, CountLaw, CoverLaw, DepthLaw, FuelLaw, LeastLaw, ListingLaw, LookLaw, NoShapesLaw, ReadsLaw, TouchedLaw, UnfoldLaw, ValuesLaw, VerdictLaw, WalkLaw};
 
 /// A node walks along the class path to just the classes that it is an instance of.
 pub fn class_path_law()
@@ -39,6 +39,11 @@ pub fn verdict_law()
 /// As many references as the shapes graph has triples, and one more, are deep enough.
 pub fn fuel_law()
     ensures { FuelLaw }
+{}
+
+/// Fewer references are deep enough where no chain of so many leads from a shape.
+pub fn depth_law()
+    ensures { DepthLaw }
 {}
 
 /// The results of a shape are those by the results of the shapes that it refers to.

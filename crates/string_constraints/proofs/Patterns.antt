@@ -9,10 +9,10 @@ use Rattle.regex.specs.declared.string.regex.Regex.{Regex}
 use Rattle.regex_syntax.specs.Grammar.{read}
 use Rattle.rdf_model.specs.declared.term.Term.{Term}
 use Rattle.rdf_model.specs.declared.term.Term.TheVariants.{Iri}
-use Rattle.shape_model.specs.Patterns.{config_of, is_found}
+use Rattle.shape_model.specs.Patterns.{IsPatternOf, config_of, is_found}
 use Rattle.shape_model.specs.Readings.{HasFlags}
 use Rattle.shape_model.specs.TermTests.{IsMatched}
-use Rattle.string_constraints.specs.Matches.{IsPatternOf, IsFoundIn, with_flags}
+use Rattle.string_constraints.specs.Matches.{IsFoundIn, with_flags}
 
 value_of : {A : Type 0} → (o : Option A) (P : A → Type 0) → IsSomeAnd o P → (x : A) × (o ≡ Some x) × P x
 value_of None P h = absurd h

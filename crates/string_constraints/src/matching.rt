@@ -3,10 +3,11 @@ ghost use Rattle.rdf_model.specs.Numbers.{IsNumbering, term_at};
 ghost use Rattle.regex.specs.Patterns.{SameCaptures, find_str};
 ghost use Rattle.regex.specs.Strings.{matcher_pattern, regex_pattern};
 ghost use Rattle.shape_model.specs.declared.component.Component.TheVariants as components;
+ghost use Rattle.shape_model.specs.Patterns.{IsPatternOf};
 ghost use Rattle.component_rows.specs.Answers.{AreAnswersTo};
 ghost use Rattle.component_rows.specs.Listed.{ListsRows, at_nodes};
 ghost use Rattle.component_rows.specs.Nodes.{AreNodes, HasNode};
-ghost use Rattle.string_constraints.specs.Matches.{IsPatternOf, IsFoundIn, with_flags};
+ghost use Rattle.string_constraints.specs.Matches.{IsFoundIn, with_flags};
 
 use component_rows::{named, refused};
 use rdf_model::{Names, Term};

@@ -1,0 +1,125 @@
+-- When compiled shapes stand for a shapes graph: for a validation they say of each shape what its triples say.
+use Rattle.std.specs.Prelude.{◌≡◌, ◌⊎◌, ℕ, List, [], ◌∷◌, Option, Some, None, MatchOption, IsTrue, codes, slice_get}
+use Rattle.std.specs.Option.{unwrap_or}
+use Rattle.std.specs.List.{All, Contains}
+use Rattle.std.specs.Arc.{arc_value}
+use Rattle.std.specs.declared.cmp.Ordering.{Ordering}
+use Rattle.collections.specs.Ordered.{IsAscending}
+use Rattle.literal_order.specs.Texts.{string_value}
+use Rattle.rdf_model.specs.declared.term.Term.{Term}
+use Rattle.rdf_model.specs.declared.triple.Triple.{Triple}
+use Rattle.rdf_model.specs.Terms.{term_cmp}
+use Rattle.shape_model.specs.Components.{parameter_of}
+use Rattle.shape_model.specs.Declarations.{messages_of, severity_of}
+use Rattle.shape_model.specs.Paths.{Predicate}
+use Rattle.shape_model.specs.Patterns.{IsPatternOf}
+use Rattle.shape_model.specs.Readings.{Reading, SameReading, reading}
+use Rattle.shape_model.specs.ShapeSyntax.{IsShape}
+use Rattle.shape_model.specs.Vocabulary.{sh, true_literal, ShapeProperty, ShPattern, ShFlags, ShProperty, ShQualifiedValueShape, ShDeactivated, ShTargetNode, ShTargetClass, ShTargetSubjectsOf, ShTargetObjectsOf}
+use Rattle.compiled_shapes.specs.declared.constraint.Constraint.{Constraint}
+use Rattle.compiled_shapes.specs.declared.constraint.Constraint.TheVariants.{ByTerm, ByList, ByShape, ByShapes}
+use Rattle.compiled_shapes.specs.declared.shape.Shape.{Shape}
+use Rattle.compiled_shapes.specs.declared.target.Target.TheVariants.{Node, Class, ImplicitClass, SubjectsOf, ObjectsOf}
+use Rattle.compiled_shapes.specs.Readings.{ReadShape, component_of, parameter, read_optional}
+
+-- the shape at the place has the node
+abbrev pub IsAt : List ReadShape → ℕ → Term → Type 0
+IsAt shapes n t = (m : ReadShape) × (slice_get shapes n ≡ Some m) × (m.node ≡ t)
+
+-- so has the shape at one of the places
+abbrev pub IsAtSome : List ReadShape → List ℕ → Term → Type 0
+IsAtSome shapes ns t = (n : ℕ) × Contains ns n × IsAt shapes n t
+
+-- the shapes at the places have the nodes in turn
+abbrev pub AreAt : List ReadShape → List ℕ → List Term → Type 0
+AreAt shapes [] [] = Unit {0}
+AreAt shapes [] (t ∷ ts) = ⊥
+AreAt shapes (n ∷ ns) [] = ⊥
+AreAt shapes (n ∷ ns) (t ∷ ts) = IsAt shapes n t × AreAt shapes ns ts
+
+-- the constraint is that of this value of the property
+abbrev pub IsFor : ShapeProperty → Term → Constraint Term → Type 0
+IsFor p v k = (parameter_of (component_of k) ≡ p) × (parameter k ≡ v)
+
+-- the constraint keeps the list of these members
+abbrev pub HasMembers : List ReadShape → Constraint Term → List Term → Type 0
+HasMembers shapes (ByTerm component q) members = ⊥
+HasMembers shapes (ByList component q kept) members = kept ≡ members
+HasMembers shapes (ByShape component q shape) members = ⊥
+HasMembers shapes (ByShapes component q places) members = AreAt shapes places members
+
+-- the constraint names the shape that its parameter is
+abbrev pub IsLinked : List ReadShape → Constraint Term → Type 0
+IsLinked shapes (ByTerm component q) = Unit {0}
+IsLinked shapes (ByList component q members) = Unit {0}
+IsLinked shapes (ByShape component q shape) = IsAt shapes shape q
+IsLinked shapes (ByShapes component q places) = Unit {0}
+
+-- The shape has this value of the property. What a validation doesn't ask for as such is no parameter of a component, and
+-- so no shape has it.
+abbrev pub ShapeHas : List ReadShape → ReadShape → ShapeProperty → Term → Type 0
+ShapeHas shapes s ShTargetNode v = Contains s.targets (Node v)
+ShapeHas shapes s ShTargetClass v = Contains s.targets (Class v)
+ShapeHas shapes s ShTargetSubjectsOf v = Contains s.targets (SubjectsOf v)
+ShapeHas shapes s ShTargetObjectsOf v = Contains s.targets (ObjectsOf v)
+ShapeHas shapes s ShPattern v = s.pattern ≡ Some v
+ShapeHas shapes s ShFlags v = s.flags ≡ Some v
+ShapeHas shapes s ShProperty v = IsAtSome shapes s.properties v
+ShapeHas shapes s ShQualifiedValueShape v = (n : ℕ) × (s.qualified ≡ Some n) × IsAt shapes n v
+ShapeHas shapes s ShDeactivated v = IsTrue s.is_deactivated × (v ≡ true_literal)
+ShapeHas shapes s p v = (k : Constraint Term) × Contains s.constraints k × IsFor p v k
+
+-- it has a value of the property that is the head of a list with these members
+abbrev pub ShapeHasList : List ReadShape → ReadShape → ShapeProperty → Term → List Term → Type 0
+ShapeHasList shapes s p head members = (k : Constraint Term) × Contains s.constraints k × IsFor p head k × HasMembers shapes k members
+
+-- where the shape is closed, it allows the IRIs that are paths of its property shapes, and those that it ignores
+abbrev pub ShapeAllows : List ReadShape → ReadShape → Term → Type 0
+ShapeAllows shapes s p =
+    ((n : ℕ) × (m : ReadShape) × Contains s.properties n × (slice_get shapes n ≡ Some m) × (m.path ≡ Some (Predicate p)))
+    ⊎ Contains s.ignored p
+
+-- what a compiled shape says
+abbrev pub shape_reading : List ReadShape → ReadShape → Reading
+shape_reading shapes s = record {
+  path = λ p. s.path ≡ Some p;
+  is_node_shape = s.path ≡ None;
+  has = ShapeHas shapes s;
+  has_list = ShapeHasList shapes s;
+  sibling = IsAtSome shapes s.siblings;
+  allowed = ShapeAllows shapes s;
+  is_class = Contains s.targets ImplicitClass;
+}
+
+-- the order of shapes is that of their nodes
+abbrev pub shape_cmp : ReadShape → ReadShape → Ordering
+shape_cmp a b = term_cmp a.node b.node
+
+pub record StandFor (shapes : List ReadShape) (s : List Triple) : Type 0 where
+  -- each says what the graph says of its node, which is a shape
+  pub each : (c : ReadShape) → Contains shapes c → SameReading (reading s c.node) (shape_reading shapes c)
+  pub are_shapes : (c : ReadShape) → Contains shapes c → IsShape s c.node
+  -- each shape is compiled, once
+  pub all : (n : Term) → IsShape s n → (c : ReadShape) × Contains shapes c × (c.node ≡ n)
+  pub ascending : IsAscending shape_cmp shapes
+  -- a constraint that names one shape names that of its parameter
+  pub linked : (c : ReadShape) → Contains shapes c → All (IsLinked shapes) c.constraints
+  -- for the report of its results
+  pub severity : (c : ReadShape) → Contains shapes c → unwrap_or c.severity (sh (codes "Violation")) ≡ severity_of s c.node
+  pub messages : (c : ReadShape) → Contains shapes c → c.messages ≡ messages_of s c.node
+
+-- the text of a shape's flags; without sh:flags there are none
+abbrev pub HasFlagsText : Option Term → List ℕ → Type 0
+HasFlagsText None text = text ≡ []
+HasFlagsText (Some q) text = string_value q ≡ Some text
+
+-- the shape's pattern, if it has one, was built of the text of its parameter under the shape's flags
+abbrev pub IsBuilt : {T : Type 0} → (T → Term) → Shape T → Type 0
+IsBuilt read s = MatchOption s.pattern (Unit {0}) (λ p. (text : List ℕ) × HasFlagsText (read_optional read s.flags) text × IsPatternOf (read p.parameter) text (arc_value p.regex))
+
+abbrev pub AreBuilt : {T : Type 0} → (T → Term) → List (Shape T) → Type 0
+AreBuilt read shapes = All (IsBuilt read) shapes
+
+-- the term stands in the graph
+abbrev pub StandsIn : List Triple → Term → Type 0
+StandsIn s x = (t : Triple) × Contains s t × ((t.subject ≡ x) ⊎ (t.predicate ≡ x) ⊎ (t.object ≡ x))

@@ -1,0 +1,19 @@
+//! Shapes of SHACL Core as they are compiled, with all of its constraint components, by terms or by the numbers of terms.
+//!
+//! `specs/Standing.antt` says when `Shapes` stand for a shapes graph: what each says is, for a validation, what the
+//! triples say of its node. `bind` ensures shapes that read the same by the numbers of their terms among the names.
+#![tactic(auto)]
+
+mod bound;
+mod component;
+mod constraint;
+mod pattern;
+mod shape;
+mod target;
+
+pub use bound::Bound;
+pub use component::{ListComponent, ShapeComponent, ShapesComponent, TermComponent};
+pub use constraint::Constraint;
+pub use pattern::Pattern;
+pub use shape::{Shape, Shapes};
+pub use target::Target;
