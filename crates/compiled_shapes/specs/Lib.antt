@@ -1,3 +1,4 @@
 pub mod Components
 pub mod Readings
 pub mod Standing
+pub mod Binding

@@ -1,6 +1,6 @@
 -- Compiled shapes as they are read: each part that stands for a term read as that term, and each path as the path of
 -- SHACL that it is.
-use Rattle.std.specs.Prelude.{◌<◌, ℕ, Bool, List, length, map, Option, Some, None, MatchOption, option_map}
+use Rattle.std.specs.Prelude.{◌<◌, ℕ, Bool, List, length, map, Option, Some, None, MatchOption}
 use Rattle.std.specs.List.{All}
 use Rattle.rdf_model.specs.declared.term.Term.{Term}
 use Rattle.rdf_model.specs.Numbers.{term_at}

@@ -7,11 +7,12 @@
 mod bound;
 mod component;
 mod constraint;
+mod parts;
 mod pattern;
 mod shape;
 mod target;
 
-pub use bound::Bound;
+pub use bound::{Bound, bind};
 pub use component::{ListComponent, ShapeComponent, ShapesComponent, TermComponent};
 pub use constraint::Constraint;
 pub use pattern::Pattern;

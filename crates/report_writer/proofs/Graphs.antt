@@ -1,9 +1,10 @@
 -- What a well-formed shapes graph says of a result, by the compiled shape that gave it.
-use Rattle.std.proofs.Common.{◌≡◌, ◌∙◌, ℕ, List, map, [], ◌∷◌, refl, sym, ap, arith, inl, inr}
+use Rattle.std.proofs.Common.{◌≡◌, ◌∙◌, ℕ, List, map, [], ◌∷◌, refl, sym, subst, ap, arith, inl, inr}
 use Rattle.std.specs.Prelude.{Option, Some, None, codes}
 use Rattle.std.specs.List.{Contains}
 use Rattle.std.proofs.lemmas.List.Elements.{All-contains}
 use Rattle.rdf_model.specs.declared.term.Term.{Term}
+use Rattle.rdf_model.specs.declared.term.Term.TheVariants.{Blank, Iri, Literal}
 use Rattle.rdf_model.specs.declared.triple.Triple.{Triple}
 use Rattle.rdf_model.specs.NTriples.{term_text}
 use Rattle.shape_ast.specs.Naming.{ReadShape}
@@ -11,8 +12,8 @@ use Rattle.shape_ast.specs.Standing.{StandFor}
 use Rattle.shape_model.specs.declared.result_row.ResultRow.{ResultRow}
 use Rattle.shape_model.specs.declared.rule.Rule.TheVariants as rules
 use Rattle.shape_model.specs.Paths.{Path, Predicate}
-use Rattle.shape_model.specs.ShapeSyntax.{HasProperty}
-use Rattle.shape_model.specs.Triples.{Has, IsMember}
+use Rattle.shape_model.specs.ShapeSyntax.{HasProperty, IsShape}
+use Rattle.shape_model.specs.Triples.{Has, IsIri, IsMember}
 use Rattle.shape_model.specs.Vocabulary.{ShPath, property_iri, sh}
 use Rattle.shape_model.specs.WellFormed.{IsWellFormed, unread_predicates}
 use Rattle.shape_model.specs.Declarations.{first_or, severity_of, values_of}
@@ -51,6 +52,15 @@ module _ (s : List Triple) (well : IsWellFormed s) where
   no_message : (n : Term) → values_of s n (sh (codes "message")) ≡ []
   no_message n = unread n (sh (codes "message")) (inr (inr (inr (inr (inr (inr (inr (inr (inr (inr (inr (inr (inr (inr (inr (inr (inr (inr (inr (inr (inr (inr (inr (inr (inr (inr (inr (inr (inr (inr (inr (inl refl))))))))))))))))))))))))))))))))
 
+-- each sh:path of a shape is an IRI so far
+iri_unless : (v : Term) → ((IsIri v → ⊥) → ⊥) → IsIri v
+iri_unless (Blank session number) not = not (λ i. i)
+iri_unless (Iri iri) not = tt
+iri_unless (Literal lexical datatype language) not = not (λ i. i)
+
+path_iri : (s : List Triple) → IsWellFormed s → (n : Term) → IsShape s n → (v : Term) → HasProperty s n ShPath v → IsIri v
+path_iri s well n shape v h = iri_unless v (λ not. well (record { node = n; rule = rules.Path; value = Some v }) (shape, (v, h, not, refl)))
+
 -- the path that a compiled shape has is the one of its triples, each of which is an IRI so far
 path_values : (s : List Triple) (n : Term) (path : Option Path) → ((v : Term) → HasProperty s n ShPath v → path ≡ Some (Predicate v)) → ((v : Term) → path ≡ Some (Predicate v) → HasProperty s n ShPath v)
     → ((p : Path) → path ≡ Some p → (v : Term) × HasProperty s n ShPath v) → map term_text (first_of (values_of s n (property_iri ShPath))) ≡ optional_text path
@@ -67,7 +77,8 @@ has_defaults shapes s stand well c i r e =
     record {
       path = ap (λ (n : Term). path_by r.component (map term_text (listed r.other)) (map term_text (first_of (values_of s n (property_iri ShPath))))) (sym e)
           ∙ ap (path_by r.component (map term_text (listed r.other)))
-          (path_values s c.node c.path (λ v. (same.has ShPath v).0) (λ v. (same.has ShPath v).1) (λ p is. let k = (same.path p).1 is in (k.0, k.1)));
+          (path_values s c.node c.path (λ v h. (same.path (Predicate v)).0 (v, h, (refl, path_iri s well c.node (stand.are_shapes c i) v h)))
+          (λ v is. let k = (same.path (Predicate v)).1 is in subst (λ (u : Term). HasProperty s c.node ShPath u) k.2.0 k.1) (λ p is. let k = (same.path p).1 is in (k.0, k.1)));
       severity = ap (first_or (sh (codes "Violation"))) (no_severity s well r.source_shape);
       messages = no_message s well r.source_shape;
     }

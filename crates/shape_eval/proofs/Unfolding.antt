@@ -227,7 +227,7 @@ module _ (g s : List Triple) (shapes : List ReadShape) (stand : StandFor shapes 
       (λ a. opened_to shapes g (At g s) c read f r (same.0 (unfolded.0 a)), λ o. unfolded.1 (same.1 (opened_from shapes g (At g s) c read f r o)))
 
   property_of : (c : ReadShape) → Contains shapes c → (n : ℕ) (m : ReadShape) → Contains c.properties n → slice_get shapes n ≡ Some m → HasProperty s c.node ShProperty m.node
-  property_of c i n m j e = ((stand.each c i).has ShProperty m.node).1 (n, m, j, e, refl)
+  property_of c i n m j e = ((stand.each c i).has ShProperty m.node tt).1 (n, m, j, e, refl)
 
   -- the results of a property shape are those of its own constraints
   own_alone : (c : ReadShape) → Contains shapes c → (n : ℕ) (m : ReadShape) → Contains c.properties n → slice_get shapes n ≡ Some m → (v : Term) (r : ResultRow) → At g s m.node v r → OwnRow g m v r

@@ -29,7 +29,7 @@ takes_in : TakesMembers ShIn
 takes_in = inr (inr (inr (inr refl)))
 
 -- a parameter of a component is asked for as such
-asked : (c : Component) (q : Term) → IsAsked (parameter_of c) q
+pub asked : (c : Component) (q : Term) → IsAsked (parameter_of c) q
 asked components.Class q = tt
 asked components.Datatype q = tt
 asked components.NodeKind q = tt

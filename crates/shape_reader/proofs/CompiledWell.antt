@@ -14,7 +14,7 @@ use Rattle.shape_model.specs.declared.rule.Rule.TheVariants as rules
 use Rattle.shape_model.specs.Instances.{Instance}
 use Rattle.shape_model.specs.Paths.{Path, Inverse, Sequence, Alternative, ZeroOrMore, OneOrMore, ZeroOrOne, Predicate}
 use Rattle.shape_model.specs.Readings.{IsAllowed, IsNodeShape, SameReading, ShapePath, reading}
-use Rattle.shape_model.specs.ShapeSyntax.{HasProperty, IsShape, PathOf, TakesList}
+use Rattle.shape_model.specs.ShapeSyntax.{HasProperty, IsShape, PathOf, TakesMembers}
 use Rattle.shape_model.specs.TermTests.{count_of}
 use Rattle.shape_model.specs.Triples.{Has, IsBlank, IsIri, IsMember}
 use Rattle.shape_model.specs.Vocabulary.{ShapeProperty, property_iri, rdf_type, sh, ShClass, ShDatatype, ShNodeKind, ShMinCount, ShMaxCount, ShMinExclusive, ShMinInclusive, ShMaxExclusive, ShMaxInclusive, ShMinLength, ShMaxLength, ShPattern, ShFlags, ShLanguageIn, ShUniqueLang, ShEquals, ShDisjoint, ShLessThan, ShLessThanOrEquals, ShNot, ShAnd, ShOr, ShXone, ShNode, ShProperty, ShQualifiedValueShape, ShQualifiedMinCount, ShQualifiedMaxCount, ShQualifiedValueShapesDisjoint, ShClosed, ShIgnoredProperties, ShHasValue, ShIn, ShDeactivated, ShPath, ShTargetNode, ShTargetClass, ShTargetSubjectsOf, ShTargetObjectsOf}
@@ -361,21 +361,22 @@ module _ (s : List Triple) (well : IsWellFormed s) where
       λ h. elim h [
         | inl a ↦
             let k = to_place c i a.0 a.1 in
-            (k.0, k.1, k.2, k.3, (path_said k.1 (get_in shapes k.0 k.1 k.3) p).0 (subst (λ (n : Term). HasProperty s n ShPath p) (sym k.4) a.2))
+            (k.0, k.1, k.2, k.3, (path_said k.1 (get_in shapes k.0 k.1 k.3) p).0 (subst (λ (n : Term). HasProperty s n ShPath p) (sym k.4) (subst (λ (v : Term). HasProperty s a.0 ShPath v) a.2.2.0 a.2.1)))
         | inr a ↦ absurd (unread_property c.node ShIgnoredProperties a.0 refl a.2)
       ],
-      λ h. inl (h.1.node, from_place c i h.0 h.1 h.2 h.3, (path_said h.1 (get_in shapes h.0 h.1 h.3) p).1 h.4),
+      λ h.
+          let d = get_in shapes h.0 h.1 h.3 in
+          let m = (path_said h.1 d p).1 h.4 in inl (h.1.node, from_place c i h.0 h.1 h.2 h.3, (p, m, (refl, path_iri h.1.node (is_shape h.1 d) p m))),
     )
 
-    no_list : (c : ReadShape) (p : ShapeProperty) → TakesList p → (head : Term) → HasProperty s c.node p head → ⊥
+    no_list : (c : ReadShape) (p : ShapeProperty) → TakesMembers p → (head : Term) → HasProperty s c.node p head → ⊥
     unfolding is_read
     no_list c p takes head h = elim takes [
       | inl e ↦ unread_property c.node ShLanguageIn head refl (at e)
       | inr (inl e) ↦ unread_property c.node ShAnd head refl (at e)
       | inr (inr (inl e)) ↦ unread_property c.node ShOr head refl (at e)
       | inr (inr (inr (inl e))) ↦ unread_property c.node ShXone head refl (at e)
-      | inr (inr (inr (inr (inl e)))) ↦ unread_property c.node ShIgnoredProperties head refl (at e)
-      | inr (inr (inr (inr (inr e)))) ↦ unread_property c.node ShIn head refl (at e)
+      | inr (inr (inr (inr e))) ↦ unread_property c.node ShIn head refl (at e)
     ]
       where
         at : {q : ShapeProperty} → p ≡ q → HasProperty s c.node q head
@@ -386,7 +387,7 @@ module _ (s : List Triple) (well : IsWellFormed s) where
     says_alike c i = record {
       path = path_same c i;
       is_node_shape = none_path s c.node c.path (compiled c i).path;
-      has = has_same c i;
+      has = λ p v asked. has_same c i p v;
       has_list = λ p takes head members. (λ h. no_list c p takes head h.0, λ h. absurd h);
       sibling = λ t. (λ h. unread_property c.node ShQualifiedValueShapesDisjoint _ refl h.1, λ h. absurd h);
       allowed = allowed_same c i;

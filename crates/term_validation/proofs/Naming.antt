@@ -6,6 +6,7 @@ use Rattle.std.proofs.lemmas.List.Elements.{All-contains, All-contains_itself}
 use Rattle.rdf_model.specs.declared.term.Term.{Term}
 use Rattle.rdf_model.specs.declared.triple.Triple.{Triple}
 use Rattle.shape_model.specs.Components.{parameter_of}
+use Rattle.shape_model.proofs.Surroundings.{asked}
 use Rattle.shape_model.specs.Paths.{Path, Predicate, Inverse, Sequence, Alternative, ZeroOrMore, OneOrMore, ZeroOrOne, Paths, Last, Also}
 use Rattle.shape_model.specs.Triples.{Has, IsMember}
 use Rattle.shape_model.specs.ShapeSyntax.{HasProperty, IsShape, ListOf, PathOf, PathsOf}
@@ -71,14 +72,14 @@ module _ (names : List Term) (s : List Triple) (named : AreNamedTriples names s)
     value_named p v h = object_named c.node (property_iri p) v h
 
     constraint_named : (k : Constraint Term) → Contains c.constraints k → IsNamed names (constraint_term k)
-    constraint_named (NodeKind kind q) i = value_named ShNodeKind q (((stand.each c here).has ShNodeKind q).1 (kind, i))
-    constraint_named (MinCount count q) i = value_named ShMinCount q (((stand.each c here).has ShMinCount q).1 (count, i))
-    constraint_named (MaxCount count q) i = value_named ShMaxCount q (((stand.each c here).has ShMaxCount q).1 (count, i))
-    constraint_named (ByTerm k q) i = value_named (parameter_of (component_of k)) q (((stand.each c here).has (parameter_of (component_of k)) q).1 (has_term shapes c k q i))
+    constraint_named (NodeKind kind q) i = value_named ShNodeKind q (((stand.each c here).has ShNodeKind q tt).1 (kind, i))
+    constraint_named (MinCount count q) i = value_named ShMinCount q (((stand.each c here).has ShMinCount q tt).1 (count, i))
+    constraint_named (MaxCount count q) i = value_named ShMaxCount q (((stand.each c here).has ShMaxCount q tt).1 (count, i))
+    constraint_named (ByTerm k q) i = value_named (parameter_of (component_of k)) q (((stand.each c here).has (parameter_of (component_of k)) q (asked (component_of k) q)).1 (has_term shapes c k q i))
 
     declaration_named : (t : Target Term) → Contains c.targets t → IsNamed names (target_term t)
-    declaration_named (Node n) i = value_named ShTargetNode n (((stand.each c here).has ShTargetNode n).1 i)
-    declaration_named (SubjectsOf p) i = value_named ShTargetSubjectsOf p (((stand.each c here).has ShTargetSubjectsOf p).1 i)
+    declaration_named (Node n) i = value_named ShTargetNode n (((stand.each c here).has ShTargetNode n tt).1 i)
+    declaration_named (SubjectsOf p) i = value_named ShTargetSubjectsOf p (((stand.each c here).has ShTargetSubjectsOf p tt).1 i)
 
     own_path_named : (o : Option Path) → c.path ≡ o → MatchOption o (Unit {0}) (HoldsOfEach (IsNamed names))
     own_path_named None e = tt
