@@ -50,7 +50,7 @@ module _ {K : Type 0} where
   drop-all (b ∷ bs) (suc i) e = drop-all bs i (omega arith)
 
 module _ {K : Type 0} (R : K → K → Ordering) (o : IsTotalOrder R) where
-  all-above : (x : K) (ks : List K) → AllAbove R x ks → keys_above R (Some x) ks ≡ ks
+  pub all-above : (x : K) (ks : List K) → AllAbove R x ks → keys_above R (Some x) ks ≡ ks
   all-above x [] a = refl
   all-above x (k ∷ ks) a = ap (λ c. cond (is_gt c) (k ∷ keys_above R (Some x) ks) (keys_above R (Some x) ks)) (turned_back R o x k a.0) ∙ ap (λ (t : List K). k ∷ t) (all-above x ks a.1)
 
@@ -105,7 +105,7 @@ module _ {K : Type 0} (R : K → K → Ordering) (o : IsTotalOrder R) where
     | false ↦ filter-all p x ks a.1
   ]
 
-  filter-ascends : (p : K → Bool) (ks : List K) → IsAscending R ks → IsAscending R (filter p ks)
+  pub filter-ascends : (p : K → Bool) (ks : List K) → IsAscending R ks → IsAscending R (filter p ks)
   filter-ascends p [] s = tt
   filter-ascends p (k ∷ ks) s = elim (p k) as (λ b. IsAscending R (cond b (k ∷ filter p ks) (filter p ks))) [
     | true ↦ (filter-all p k ks s.0, filter-ascends p ks s.1)

@@ -11,3 +11,4 @@ pub mod Steps
 pub mod Counts
 pub mod Reached
 pub mod Above
+pub mod Ranges

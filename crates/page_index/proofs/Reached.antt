@@ -35,24 +35,10 @@ filter-append {X} p (k ∷ ks) ls = elim (p k) as (λ b. cond b (k ∷ filter p 
   | false ↦ filter-append p ks ls
 ]
 
-pub take-more : {X : Type 0} (ks : List X) (i : ℕ) (k : X) → i < length ks → k ≡ get_or ks i k → take (i + 1) ks ≡ take i ks ++ (k ∷ [])
-take-more ks i k lt is = ap (λ (n : ℕ). take n ks) (let e : i + 1 ≡ suc i = omega arith in e) ∙ take-suc ks i k lt ∙ ap (λ (w : _). take i ks ++ (w ∷ [])) (sym is)
-
-pub keys-more : {K : Type 0} (bs : List (Block K)) (i : ℕ) (b : Block K) → i < length bs → b ≡ get_or bs i b → keys_of (take (i + 1) bs) ≡ keys_of (take i bs) ++ b.page.keys
-keys-more bs i b lt is = ap keys_of (take-more bs i b lt is) ∙ keys-append (take i bs) (b ∷ []) ∙ ap (λ (ks : List _). keys_of (take i bs) ++ ks) (append-nil b.page.keys)
-
--- one step of a reading that adds what it is given
-pub added-more : {K : Type 0} (into old more mine all keys : List K) → into ≡ mine ++ more → mine ≡ old ++ all → keys ≡ all ++ more → into ≡ old ++ keys
-added-more into old more mine all keys a b c = let e = append_assoc old all more in cc (a, b, c, e)
-
 module _ {K : Type 0} (R : K → K → Ordering) (o : IsTotalOrder R) where
   pub found-result : (x : K) (ks : List K) (r : Result ℕ ℕ) → IsAscending R ks → IsSearchInRange r (length ks) → IsBinarySearchResult (λ y. R y x) ks r → is_ok r ≡ has_item R x ks
   found-result x ks (Ok i) s lt p = sym (has-there R o x ks i lt p)
   found-result x ks (Err i) s le p = sym (has-free R o x ks i le (p (rises R o x ks s)))
-
-  pub none-under : (from to : K) (ks : List K) → AllUnder R from ks → filter (is_within R from to) ks ≡ []
-  none-under from to [] u = refl
-  none-under from to (k ∷ ks) u = ap (λ c. cond (is_ge c && is_lt (R k to)) (k ∷ filter (is_within R from to) ks) (filter (is_within R from to) ks)) (turned R o from k u.0) ∙ none-under from to ks u.1
 
   none-at : (from to k : K) (ks : List K) → (R k to ≡ Less → ⊥) → filter (is_within R from to) (k ∷ ks) ≡ filter (is_within R from to) ks
   none-at from to k ks n = elim (R k to) as (λ c. R k to ≡ c → cond (is_ge (R k from) && is_lt c) (k ∷ filter (is_within R from to) ks) (filter (is_within R from to) ks) ≡ filter (is_within R from to) ks) [
@@ -69,50 +55,11 @@ module _ {K : Type 0} (R : K → K → Ordering) (o : IsTotalOrder R) where
   none-beyond from to [] u = refl
   none-beyond from to (k ∷ ks) u = none-at from to k ks u.0 ∙ none-beyond from to ks u.1
 
-  reached-above : (to k : K) (ks : List K) → AllAbove R k ks → (R k to ≡ Less → ⊥) → AllReached (λ w. R w to) ks
+  pub reached-above : (to k : K) (ks : List K) → AllAbove R k ks → (R k to ≡ Less → ⊥) → AllReached (λ w. R w to) ks
   reached-above to k [] a n = tt
   reached-above to k (l ∷ ks) a n = (λ e. n (o.trans k l to a.0 e), reached-above to k ks a.1 n)
 
-  reached-all : (to k : K) (ks : List K) → first_of ks ≡ Some k → IsAscending R ks → (R k to ≡ Less → ⊥) → AllReached (λ w. R w to) ks
-  reached-all to k [] e s n = tt
-  reached-all to k (l ∷ ks) e s n = let same : l ≡ k = cc in let m : R l to ≡ Less → ⊥ = subst (λ (w : K). R w to ≡ Less → ⊥) (sym same) n in (m, reached-above to l ks s.0 m)
-
-  pub reached-at : (to : K) (h : ℕ) (bs : List (Block K)) (i : ℕ) → IsAscending R (keys_of bs) → AreBelow h bs → ((d : Block K) → i < length bs → R (get_or bs i d).low to ≡ Less → ⊥) → AllReached (λ w. R w to) (keys_of (drop i bs))
-  reached-at to h [] zero s b f = tt
-  reached-at to h [] (suc i) s b f = tt
-  reached-at to h (c ∷ bs) zero s b f = reached-all to c.low (c.page.keys ++ keys_of bs) (first-append c.page.keys (keys_of bs) c.low b.0.first) s (f c (omega arith))
-  reached-at to h (c ∷ bs) (suc i) s b f = reached-at to h bs i (ascending-right R c.page.keys (keys_of bs) s) b.1 (λ d lt. f d (omega arith))
-
-  pub lows-rising : (x : K) (h : ℕ) (bs : List (Block K)) → IsAscending R (keys_of bs) → AreBelow h bs → IsPartitionedBy (λ b. is_lt (R b.low x)) bs
-  lows-rising x h [] s b i j d le lt e = absurd (omega arith)
-  lows-rising x h (c ∷ bs) s b zero zero d le lt e = e
-  lows-rising x h (c ∷ bs) s b zero (suc j) d le lt e = ap is_lt (o.trans c.low (get_or bs j d).low x (low-above R c.low h bs j d (first-below R c.low c.page.keys (keys_of bs) b.0.first s) b.1 (omega arith)) (lt-less (R (get_or bs j d).low x) e))
-  lows-rising x h (c ∷ bs) s b (suc i) zero d le lt e = absurd (omega arith)
-  lows-rising x h (c ∷ bs) s b (suc i) (suc j) d le lt e = lows-rising x h bs (ascending-right R c.page.keys (keys_of bs) s) b.1 i j d (omega arith) (omega arith) e
-
-  pub under-from : (x : K) (h : ℕ) (bs : List (Block K)) (p : ℕ) → IsAscending R (keys_of bs) → AreBelow h bs → p ≤ length bs → IsPartitionPoint (λ b. is_lt (R b.low x) ≡ true) (λ b. is_lt (R b.low x) ≡ false) bs p → AllUnder R x (keys_of (take (p - 1) bs))
-  under-from x h bs zero s b le q = tt
-  under-from x h [] (suc p) s b le q = absurd (omega arith)
-  under-from x h (c ∷ bs) (suc p) s b le q = subst (λ (i : ℕ). AllUnder R x (keys_of (take i (c ∷ bs)))) (let e : p ≡ suc p - 1 = omega arith in e) (before-at R o x h (c ∷ bs) p c s b (omega arith) (λ e. let t = turned_back R o (get_or (c ∷ bs) p c).low x (lt-less (R (get_or (c ∷ bs) p c).low x) (q.0 p c (omega arith) (omega arith))) in cc (e, t)))
-
-  pub reached-beyond : (x : K) (h : ℕ) (bs : List (Block K)) (p : ℕ) → IsAscending R (keys_of bs) → AreBelow h bs → IsPartitionPoint (λ b. is_lt (R b.low x) ≡ true) (λ b. is_lt (R b.low x) ≡ false) bs p → AllReached (λ w. R w x) (keys_of (drop p bs))
-  reached-beyond x h bs p s b q = reached-at x h bs p s b (λ d lt. not_lt-not_less (R (get_or bs p d).low x) (q.1 p d (omega arith) lt))
-
 module _ {K : Type 0} (f : K → Ordering) where
-  pub reached-right : (ks ls : List K) → AllReached f (ks ++ ls) → AllReached f ls
-  reached-right [] ls a = a
-  reached-right (k ∷ ks) ls a = reached-right ks ls a.1
-
-  pub reached-drop : (bs : List (Block K)) (i j : ℕ) → i ≤ j → AllReached f (keys_of (drop i bs)) → AllReached f (keys_of (drop j bs))
-  reached-drop [] zero zero le a = tt
-  reached-drop [] zero (suc j) le a = tt
-  reached-drop [] (suc i) zero le a = tt
-  reached-drop [] (suc i) (suc j) le a = tt
-  reached-drop (b ∷ bs) zero zero le a = a
-  reached-drop (b ∷ bs) zero (suc j) le a = reached-drop bs zero j (omega arith) (reached-right b.page.keys (keys_of bs) a)
-  reached-drop (b ∷ bs) (suc i) zero le a = absurd (omega arith)
-  reached-drop (b ∷ bs) (suc i) (suc j) le a = reached-drop bs i j (omega arith) a
-
   reached-member : (h : ℕ) (ks : List K) (bs : List (Block K)) (i : ℕ) (d : Block K) → AllReached f (ks ++ keys_of bs) → AreBelow h bs → i < length bs → f (get_or bs i d).low ≡ Less → ⊥
   reached-member h (k ∷ ks) bs i d a b lt e = reached-member h ks bs i d a.1 b lt e
   reached-member h [] [] i d a b lt e = absurd (omega arith)

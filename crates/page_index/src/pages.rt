@@ -1,5 +1,6 @@
-ghost use Rattle.std.specs.Prelude.{◌≡◌, ◌<◌, [], ◌∷◌, length, not, IfOk, OnOk, OnErr, MatchOption, MatchResult, None, Some, filter};
+ghost use Rattle.std.specs.Prelude.{◌≡◌, ◌<◌, [], ◌∷◌, ◌++◌, length, not, IfOk, OnOk, OnErr, MatchOption, MatchResult, None, Some, filter};
 ghost use Rattle.std.specs.declared.cmp.Ordering.{Ordering};
+ghost use Rattle.std.specs.Ordering.{is_lt};
 ghost use Rattle.std.specs.Fn.{ComputesKey};
 ghost use Rattle.collections.specs.Ordered.{IsAscending, with_item, without_item, has_item};
 ghost use Rattle.page_index.specs.Reading.{IsRising, IsRun, first_reached, is_within, keys_above};
@@ -8,6 +9,7 @@ ghost use Rattle.std.specs.Option.{option_map};
 ghost use Rattle.page_index.specs.Root.{root_keys};
 ghost use Rattle.page_index.specs.Blocks.{IsRemovable, most};
 
+use crate::iter::Iter;
 use crate::levels::root_of;
 use crate::page::{MOST, Node, Page};
 use crate::parts::{halves, pair_entries};
@@ -69,8 +71,8 @@ impl<K: Ord> Pages<K> {
         self.len
     }
 
-    /// Where the order given is `Less` at the keys of a prefix alone, the first key at which it is not
-    /// `Less`, and `None` exactly where it is `Less` at each key. It takes no memory.
+    /// The first key at which the order given is not `Less`, and `None` exactly where there is none: so it
+    /// is where the order computes one answer for each key, and those at which it is `Less` come first.
     pub fn seek<F: Fn(&K) -> Ordering>(&self, order: F) -> Option<&K>
         requires { F.IsAlwaysCallable order }
         ensures { (of : K → Ordering) → ComputesKey F.FnMut of order → IsRising of self.now → MatchOption result (first_reached of self.now ≡ None) (λ key. first_reached of self.now ≡ Some key.now) }
@@ -180,10 +182,13 @@ impl<K: Ord + ExactClone + Drop> Pages<K> {
         ensures keys { IfOk result (λ keys. keys.items ≡ filter (is_within K.cmp from.now to.now) self.now) }
     {
         let mut keys = Vec::new(self.alloc);
-        if let Some(root) = &self.root {
-            root.range_into(from, to, &mut keys)?;
+        match first_from(self, from) {
+            None => Ok(keys),
+            Some(first) => {
+                add_from(self, first, to, &mut keys)?;
+                Ok(keys)
+            }
         }
-        Ok(keys)
     }
 
     /// Clones of all keys, in their order.
@@ -192,11 +197,54 @@ impl<K: Ord + ExactClone + Drop> Pages<K> {
         ensures ascending { IsAscending K.cmp self.now }
     {
         let mut keys = Vec::with_capacity(self.alloc, self.len)?;
-        if let Some(root) = &self.root {
-            root.keys_into(&mut keys)?;
+        for key in self.iter() {
+            keys.push(key.clone()?)?;
         }
         Ok(keys)
     }
+}
+
+// Adds clones of the ascending keys up to another, and without that one.
+fn add_until<K: Ord + ExactClone + Drop>(
+    keys: Iter<'_, K>,
+    to: &K,
+    into: &mut Vec<K>,
+) -> Result<(), AllocError>
+    requires { IsAscending K.cmp keys }
+    ensures { OnOk result (into.new.items ≡ into.old.items ++ filter (λ k. is_lt (K.cmp k to.now)) keys.entry) }
+{
+    for key in keys {
+        if key.cmp(to).is_ge() {
+            return Ok(());
+        }
+        into.push(key.clone()?)?;
+    }
+    Ok(())
+}
+
+// The first key that is not below the one given.
+fn first_from<'a, K: Ord>(pages: &'a Pages<K>, from: &K) -> Option<&'a K>
+    ensures { MatchOption result (first_reached (λ k. K.cmp k from.now) pages.now ≡ None) (λ key. first_reached (λ k. K.cmp k from.now) pages.now ≡ Some key.now) }
+{
+    pages.ascends();
+    pages.seek(|key| key.cmp(from))
+}
+
+// Adds clones of a key and of those above it up to another, and without that one.
+fn add_from<K: Ord + ExactClone + Drop>(
+    pages: &Pages<K>,
+    first: &K,
+    to: &K,
+    into: &mut Vec<K>,
+) -> Result<(), AllocError>
+    ensures { OnOk result (into.new.items ≡ into.old.items ++ filter (λ k. is_lt (K.cmp k to.now)) (first.now ∷ keys_above K.cmp (Some first.now) pages.now)) }
+{
+    if first.cmp(to).is_ge() {
+        return Ok(());
+    }
+    pages.ascends();
+    into.push(first.clone()?)?;
+    add_until(pages.iter_above(first), to, into)
 }
 
 // Splits the root where it is full, so that a key has room below it.

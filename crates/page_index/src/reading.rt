@@ -1,17 +1,14 @@
-ghost use Rattle.std.specs.Prelude.{◌≡◌, ◌≤◌, [], ◌∷◌, ◌++◌, length, take, drop, OnOk, MatchOption, None, Some, filter, true, false};
+ghost use Rattle.std.specs.Prelude.{◌≡◌, ◌≤◌, length, drop, MatchOption, None, Some, true, false};
 ghost use Rattle.std.specs.List.Sorted.{IsPartitionedBy, IsPartitionPoint};
 ghost use Rattle.std.specs.Ordering.{is_lt};
 ghost use Rattle.std.specs.declared.cmp.Ordering.{Ordering};
 ghost use Rattle.std.specs.Fn.{ComputesKey};
 ghost use Rattle.collections.specs.Ordered.{has_item};
-ghost use Rattle.page_index.specs.Blocks.{Block, AreSound, AllUnder, keys_of, height_of, first_of};
-ghost use Rattle.page_index.specs.Reading.{IsRising, AllReached, first_reached, is_within};
+ghost use Rattle.page_index.specs.Blocks.{Block, AreSound, keys_of, height_of, first_of};
+ghost use Rattle.page_index.specs.Reading.{IsRising, first_reached};
 
 use crate::page::{Entry, Node, Page};
-use crate::parts::add_clones;
 use crate::place::place_of;
-use collections::ExactClone;
-use std::alloc::AllocError;
 use std::cmp::Ordering;
 
 impl<K: Ord> Page<K> {
@@ -99,87 +96,4 @@ fn low_at<K: Ord>(entries: &[Entry<K>], at: usize) -> Option<&K>
     }
     let entry = &entries[at];
     Some(&entry.low)
-}
-
-// Adds a clone of a key that stands from one key up to another.
-fn add_within<K: Ord + ExactClone + Drop>(
-    into: &mut Vec<K>,
-    key: &K,
-    from: &K,
-    to: &K,
-) -> Result<(), AllocError>
-    ensures { OnOk result (into.new.items ≡ into.old.items ++ filter (is_within K.cmp from.now to.now) (key.now ∷ [])) }
-{
-    if key.cmp(from).is_ge() && key.cmp(to).is_lt() {
-        into.push(key.clone()?)?;
-    }
-    Ok(())
-}
-
-// Adds clones of the keys from one up to another.
-fn add_range<K: Ord + ExactClone + Drop>(
-    into: &mut Vec<K>,
-    keys: &[K],
-    from: &K,
-    to: &K,
-) -> Result<(), AllocError>
-    ensures { OnOk result (into.new.items ≡ into.old.items ++ filter (is_within K.cmp from.now to.now) keys.now) }
-{
-    for key in keys {
-        add_within(into, key, from, to)?;
-    }
-    Ok(())
-}
-
-// The first entry below which a key may stand that is not below the one given.
-fn first_from<K: Ord>(entries: &[Entry<K>], from: &K) -> usize
-    requires sound { AreSound K.cmp (height_of entries.now) entries.now }
-    ensures { AllUnder K.cmp from.now (keys_of (take result entries.now)) }
-{
-    let after = entries.partition_point(|entry| entry.low.cmp(from).is_lt());
-    after.saturating_sub(1)
-}
-
-// The first entry below which no key is below the one given.
-fn first_beyond<K: Ord>(entries: &[Entry<K>], to: &K) -> usize
-    requires sound { AreSound K.cmp (height_of entries.now) entries.now }
-    ensures bound { result ≤ length entries.now }
-    ensures beyond { AllReached (λ k. K.cmp k to.now) (keys_of (drop result entries.now)) }
-{
-    entries.partition_point(|entry| entry.low.cmp(to).is_lt())
-}
-
-impl<K: Ord + ExactClone + Drop> Page<K> {
-    // Adds clones of the keys, in order.
-    pub(crate) fn keys_into(&self, into: &mut Vec<K>) -> Result<(), AllocError>
-        ensures { OnOk result (into.new.items ≡ into.old.items ++ self.now.keys) }
-    {
-        match &self.node {
-            Node::Leaf(keys) => add_clones(into, keys),
-            Node::Inner(entries) => {
-                for at in 0..entries.len() {
-                    let entry = &entries[at];
-                    entry.page.keys_into(into)?;
-                }
-                Ok(())
-            }
-        }
-    }
-
-    // Adds clones of the keys from one up to another, in order.
-    pub(crate) fn range_into(&self, from: &K, to: &K, into: &mut Vec<K>) -> Result<(), AllocError>
-        ensures { OnOk result (into.new.items ≡ into.old.items ++ filter (is_within K.cmp from.now to.now) self.now.keys) }
-    {
-        match &self.node {
-            Node::Leaf(keys) => add_range(into, keys, from, to),
-            Node::Inner(entries) => {
-                let end = first_beyond(entries, to);
-                for at in first_from(entries, from)..end {
-                    let entry = &entries[at];
-                    entry.page.range_into(from, to, into)?;
-                }
-                Ok(())
-            }
-        }
-    }
 }

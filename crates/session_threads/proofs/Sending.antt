@@ -19,6 +19,7 @@ use Rattle.shape_ast.proofs.path.Path.TheLaws.TheKnot as path_knot
 use Rattle.page_index.proofs.page.Entry.TheLaws.TheKnot as page_knot
 use Rattle.shape_ast.specs.contracts.path.Path as path
 use Rattle.page_index.specs.contracts.pages.Pages as pages
+use Rattle.growing_list.specs.contracts.growing.GrowingList as growing
 use Rattle.shape_ast.proofs.shape.Target.TheSendSync as target_sent
 use Rattle.shape_ast.proofs.constraint.Constraint.TheSendSync as constraint_sent
 use Rattle.rdf_model.proofs.term.Term.TheSendSync as term_sent
@@ -30,12 +31,9 @@ use Rattle.rdf_model.specs.contracts.triple.Triple as triple
 use Rattle.rdf_model.specs.contracts.triple.TripleOrd.TheImpl as triple_order
 use Rattle.rdf_model.specs.contracts.triple.TriplePartialEq.TheImpl as triple_equality
 use Rattle.rdf_model.specs.contracts.triple.TriplePartialOrd.TheImpl as triple_comparison
-use Rattle.term_dict.proofs.entry.ByNumber.TheSendSync as by_number_sent
+use Rattle.term_dict.proofs.entry.NamedTerm.TheSendSync as named_sent
 use Rattle.term_dict.proofs.entry.ByTerm.TheSendSync as by_term_sent
-use Rattle.term_dict.specs.contracts.entry.ByNumber as by_number
-use Rattle.term_dict.specs.contracts.entry.ByNumberOrd.TheImpl as by_number_order
-use Rattle.term_dict.specs.contracts.entry.ByNumberPartialEq.TheImpl as by_number_equality
-use Rattle.term_dict.specs.contracts.entry.ByNumberPartialOrd.TheImpl as by_number_comparison
+use Rattle.term_dict.specs.contracts.entry.NamedTerm as named
 use Rattle.term_dict.specs.contracts.entry.ByTerm as by_term
 use Rattle.term_dict.specs.contracts.entry.ByTermOrd.TheImpl as by_term_order
 use Rattle.term_dict.specs.contracts.entry.ByTermPartialEq.TheImpl as by_term_equality
@@ -86,14 +84,14 @@ shapes_sync = search (content_send, content_sync, crosses, sendable) depth 60 fi
 triples_send : IsSend (pages.the_row triple.the_row triple_order.ghosts triple_equality.ghosts triple_comparison.ghosts)
 triples_send = search (page_knot.crosses, triple_sent.the_send, triple_sent.the_sync, crosses, sendable) depth 60 fits 20000
 
-by_number_send : IsSend (pages.the_row by_number.the_row by_number_order.ghosts by_number_equality.ghosts by_number_comparison.ghosts)
-by_number_send = search (page_knot.crosses, by_number_sent.the_send, by_number_sent.the_sync, crosses, sendable) depth 60 fits 20000
+names_send : IsSend (growing.the_row named.the_row)
+names_send = search (named_sent.the_send, named_sent.the_sync, crosses, sendable) depth 60 fits 20000
 
 by_term_send : IsSend (pages.the_row by_term.the_row by_term_order.ghosts by_term_equality.ghosts by_term_comparison.ghosts)
 by_term_send = search (page_knot.crosses, by_term_sent.the_send, by_term_sent.the_sync, crosses, sendable) depth 60 fits 20000
 
 dict_send : IsSend dict.the_row
-dict_send = search (by_number_send, by_term_send, crosses, sendable) depth 60 fits 20000
+dict_send = search (names_send, by_term_send, crosses, sendable) depth 60 fits 20000
 
 verdict_send : IsSend verdict.the_row
 verdict_send = search (look_sent.the_send, term_sent.the_send, sequence_sent.the_send, crosses, sendable) depth 60 fits 20000

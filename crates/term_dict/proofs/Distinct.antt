@@ -14,17 +14,18 @@ use Rattle.collections.specs.Ordered.{AllAbove, IsAscending, has_item}
 use Rattle.rdf_model.specs.declared.term.Term.{Term}
 use Rattle.rdf_model.specs.Terms.{term_cmp}
 use Rattle.rdf_model.specs.Orders.{term_exact, term_total}
-use Rattle.term_dict.specs.Entries.{Entry, entry, entry_cmp, entries_from, terms_in}
+use Rattle.term_dict.specs.Entries.{Entry, entry, entry_cmp, entries_from}
 use Rattle.term_dict.specs.Orders.{entry_total}
-use Rattle.term_dict.specs.Tables.{AreCounted, AreOne}
+use Rattle.term_dict.specs.Tables.{AreOne}
 use Rattle.term_dict.specs.Names.{IsNumberOf, first_terms, with_term, with_terms}
 use Rattle.term_dict.proofs.Growing.{first_named, longer, take_more, two_first}
-
-pub entries_push : (n : ℕ) (ts : List Term) (t : Term) → entries_from n (ts ++ t ∷ []) ≡ entries_from n ts ++ entry (n + length ts) t ∷ []
-entries_push n [] t = ap (λ (m : ℕ). entry m t ∷ []) (omega arith)
-entries_push n (u ∷ ts) t = ap (λ (es : List Entry). entry n u ∷ es) (entries_push (n + 1) ts t ∙ ap (λ (m : ℕ). entries_from (n + 1) ts ++ entry m t ∷ []) (let k : n + 1 + length ts ≡ n + length (u ∷ ts) = omega arith in k))
+use Rattle.term_dict.proofs.Places.{entries_push}
 
 -- one step along a list of terms
+pub terms_step : (ts : List Term) (i : ℕ) (t u : Term) (old new : List Term) → i < length ts → t ≡ get_or ts i t → u ≡ t → old ≡ take i ts → new ≡ old ++ u ∷ [] → new ≡ take (i + 1) ts
+terms_step ts i t u old new lt is same o n =
+    n ∙ ap (λ (w : Term). old ++ w ∷ []) same ∙ ap (λ (us : List Term). us ++ t ∷ []) o ∙ sym (take_more ts i t lt is)
+
 pub entries_step : (ts : List Term) (i : ℕ) (t u : Term) (old new : List Entry) → i < length ts → t ≡ get_or ts i t → u ≡ t → old ≡ entries_from 0 (take i ts) → new ≡ old ++ entry i u ∷ [] → new ≡ entries_from 0 (take (i + 1) ts)
 entries_step ts i t u old new lt is same o n =
     let k : length (take i ts) ≡ i = length-take-le i ts (omega arith) in
@@ -37,14 +38,6 @@ entries_step ts i t u old new lt is same o n =
     length-take-le zero ts h = refl
     length-take-le (suc i) [] h = absurd (omega arith)
     length-take-le (suc i) (t ∷ ts) h = ap suc (length-take-le i ts (omega arith))
-
-pub entries_counted : (n : ℕ) (ts : List Term) → AreCounted n (entries_from n ts)
-entries_counted n [] = tt
-entries_counted n (t ∷ ts) = (refl, entries_counted (n + 1) ts)
-
-pub entries_terms : (n : ℕ) (ts : List Term) → terms_in (entries_from n ts) ≡ ts
-entries_terms n [] = refl
-entries_terms n (t ∷ ts) = ap (λ (us : List Term). t ∷ us) (entries_terms (n + 1) ts)
 
 tied : (o : Ordering) → is_eq o ≡ true → o ≡ Equal
 tied Less h = cc
@@ -95,16 +88,15 @@ unfolding IsDistinct
 entries_distinct n [] d = tt
 entries_distinct n (t ∷ ts) d = (entries_apart n (n + 1) t ts d.0, entries_distinct (n + 1) ts d.1)
 
--- both orders of terms that are apart
-one_of_terms : (ts : List Term) (es : List Entry) → IsDistinct (eq_by_cmp term_cmp) ts → IsPermutation (entries_from 0 ts) es → IsSorted entry_cmp es → AreOne (entries_from 0 ts) es
+-- the sorted entries of terms that are apart
+one_of_terms : (ts : List Term) (es : List Entry) → IsDistinct (eq_by_cmp term_cmp) ts → IsPermutation (entries_from 0 ts) es → IsSorted entry_cmp es → AreOne ts es
 one_of_terms ts es d p s = record {
-  counted = entries_counted 0 ts;
   ascending = distinct_ascending entry_cmp entry_total es s (IsDistinct-IsPermutation (eq_by_cmp entry_cmp) (flips entry_cmp entry_total) (entries_from 0 ts) es p (entries_distinct 0 ts d));
   same = λ e. (λ c. Contains-permutation (entries_from 0 ts) es e p c, λ c. Contains-permutation es (entries_from 0 ts) e (IsPermutation-sym (entries_from 0 ts) es p) c);
 }
 
-pub one_as : (ts : List Term) (ns bs es ls : List Entry) → IsDistinct (eq_by_cmp term_cmp) ts → ns ≡ entries_from 0 ts → bs ≡ entries_from 0 ts → IsPermutation bs es → IsSorted entry_cmp es → ls ≡ es → AreOne ns ls
-one_as ts ns bs es ls d n b p s l = subst (λ (ks : List Entry). AreOne ks ls) (sym n) (subst (λ (ks : List Entry). AreOne (entries_from 0 ts) ks) (sym l) (one_of_terms ts es d (subst (λ (ks : List Entry). IsPermutation ks es) b p) s))
+pub one_as : (ts us : List Term) (bs es ls : List Entry) → IsDistinct (eq_by_cmp term_cmp) ts → us ≡ ts → bs ≡ entries_from 0 ts → IsPermutation bs es → IsSorted entry_cmp es → ls ≡ es → AreOne us ls
+one_as ts us bs es ls d n b p s l = subst (λ (ws : List Term). AreOne ws ls) (sym n) (subst (λ (ks : List Entry). AreOne ts ks) (sym l) (one_of_terms ts es d (subst (λ (ks : List Entry). IsPermutation ks es) b p) s))
 
 -- a term that is met
 pub met_with : (us vs : List Term) (t : Term) → vs ≡ cond (list_any (eq_by_cmp term_cmp t) us) us (us ++ t ∷ []) → vs ≡ with_term us t

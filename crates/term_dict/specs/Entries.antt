@@ -1,7 +1,6 @@
 -- Named terms, each with its number.
-use Rattle.std.specs.Prelude.{ℕ, ◌+◌, List, [], ◌∷◌, map}
+use Rattle.std.specs.Prelude.{ℕ, ◌+◌, List, [], ◌∷◌}
 use Rattle.std.specs.declared.cmp.Ordering.{Ordering}
-use Rattle.std.specs.Ordering.{nat_cmp}
 use Rattle.rdf_model.specs.declared.term.Term.{Term}
 use Rattle.rdf_model.specs.Terms.{term_cmp}
 
@@ -9,14 +8,8 @@ pub record Entry : Type 0 where
   pub number : ℕ
   pub term : Term
 
-abbrev pub number_cmp : Entry → Entry → Ordering
-number_cmp a b = nat_cmp a.number b.number
-
 abbrev pub entry_cmp : Entry → Entry → Ordering
 entry_cmp a b = term_cmp a.term b.term
-
-abbrev pub terms_in : List Entry → List Term
-terms_in entries = map (λ e. e.term) entries
 
 abbrev pub entry : ℕ → Term → Entry
 entry n t = record { number = n; term = t }

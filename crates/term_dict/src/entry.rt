@@ -1,4 +1,4 @@
-//! A named term, in the order of numbers and in the order of terms.
+//! A named term, in the list of the terms and in the order of terms.
 ghost use Rattle.std.specs.Prelude.{◌≡◌};
 
 use collections::ExactClone;
@@ -8,89 +8,32 @@ use std::cmp::Ordering;
 use std::marker::Model;
 use std::sync::Arc;
 
-// A named term, among others by its number.
+// A named term, among others by its number, which is its place.
 #[derive(Drop)]
-pub(crate) struct ByNumber {
-    pub(crate) number: usize,
+pub(crate) struct NamedTerm {
     pub(crate) term: Arc<Term>,
 }
 
-impl Model for ByNumber {
+impl Model for NamedTerm {
     ghost use Rattle.std.specs.Arc.{arc_value};
-    ghost use Rattle.term_dict.specs.Entries.{Entry};
+    ghost use Rattle.rdf_model.specs.declared.term.Term.{Term};
 
-    ghost Value = { Entry };
+    ghost Value = { Term };
 
-    ghost view = { λ e. record { number = e.number; term = arc_value e.term } };
+    ghost view = { λ n. arc_value n.term };
 }
 
-impl Ord for ByNumber {
-    ghost use Rattle.std.proofs.Common.{refl};
-    ghost use Rattle.term_dict.specs.Entries.{number_cmp};
-    ghost use Rattle.term_dict.specs.Orders.{number_total};
-
-    ghost cmp = { number_cmp };
-
-    ghost total = { number_total };
-
-    ghost matches_partial_cmp = { λ x y. refl };
-
-    ghost matches_eq = { λ x y. refl };
-
-    fn cmp(&self, other: &ByNumber) -> Ordering {
-        self.number.cmp(&other.number)
-    }
-}
-
-impl PartialOrd for ByNumber {
-    ghost use Rattle.std.specs.Ordering.{as_partial_cmp};
-    ghost use Rattle.std.specs.Cmp.{partial_order_from_total};
-    ghost use Rattle.term_dict.specs.Entries.{number_cmp};
-    ghost use Rattle.term_dict.specs.Orders.{number_total};
-
-    ghost partial_cmp = { as_partial_cmp number_cmp };
-
-    ghost laws = { partial_order_from_total number_total };
-
-    fn partial_cmp(&self, other: &ByNumber) -> Option<Ordering> {
-        Some(self.cmp(other))
-    }
-}
-
-impl PartialEq for ByNumber {
-    ghost use Rattle.std.specs.Ordering.{eq_by_cmp};
-    ghost use Rattle.std.specs.Cmp.{partial_equiv_from_equiv, eq_by_cmp_equiv};
-    ghost use Rattle.term_dict.specs.Entries.{number_cmp};
-    ghost use Rattle.term_dict.specs.Orders.{number_total};
-
-    ghost eq = { eq_by_cmp number_cmp };
-
-    ghost laws = { partial_equiv_from_equiv (eq_by_cmp_equiv number_total) };
-
-    fn eq(&self, other: &ByNumber) -> bool {
-        self.cmp(other) == Ordering::Equal
-    }
-}
-
-impl Eq for ByNumber {
-    ghost use Rattle.std.specs.Cmp.{eq_by_cmp_equiv};
-    ghost use Rattle.term_dict.specs.Orders.{number_total};
-
-    ghost laws = { eq_by_cmp_equiv number_total };
-}
-
-impl Clone for ByNumber {
+impl Clone for NamedTerm {
     ghost is_clone = { λ source copy. copy ≡ source };
 
-    fn clone(&self) -> Result<ByNumber, AllocError> {
-        Ok(ByNumber {
-            number: self.number,
+    fn clone(&self) -> Result<NamedTerm, AllocError> {
+        Ok(NamedTerm {
             term: Arc::try_clone(&self.term)?,
         })
     }
 }
 
-impl ExactClone for ByNumber {
+impl ExactClone for NamedTerm {
     ghost clone_is_equal = { λ source copy is_copy. is_copy };
 }
 

@@ -7,8 +7,9 @@ ghost use Rattle.rdf_model.specs.Numbers.{IsNumbering, term_at};
 ghost use Rattle.term_dict.specs.Entries.{entries_from, entry};
 ghost use Rattle.term_dict.specs.Names.{AreNumbersOf, IsNumberOf, with_term, with_terms};
 
-use crate::entry::{ByNumber, ByTerm};
+use crate::entry::{ByTerm, NamedTerm};
 use crate::met::MetTerm;
+use growing_list::GrowingList;
 use page_index::Pages;
 use rdf_model::Term;
 use std::alloc::{AllocError, Global};
@@ -22,25 +23,24 @@ fn is_of(entry: &ByTerm, term: &Term) -> bool
     *entry.term == *term
 }
 
-// Named terms in both orders. Contracts see the list of the terms by their numbers.
+// Named terms by their numbers, and in the order of terms. Contracts see the list of the terms by their numbers.
 #[derive(Drop)]
 pub(crate) struct Table {
     alloc: Global,
-    by_number: Pages<ByNumber>,
+    terms: GrowingList<NamedTerm>,
     by_term: Pages<ByTerm>,
 }
 
 impl Model for Table {
     ghost use Rattle.std.specs.Prelude.{List};
     ghost use Rattle.rdf_model.specs.declared.term.Term.{Term};
-    ghost use Rattle.term_dict.specs.Entries.{terms_in};
     ghost use Rattle.term_dict.specs.Tables.{AreOne};
 
     ghost Value = { List Term };
 
-    ghost view = { λ t. terms_in t.by_number };
+    ghost view = { λ t. t.terms };
 
-    ghost invariant = { λ t. AreOne t.by_number t.by_term };
+    ghost invariant = { λ t. AreOne t.terms t.by_term };
 }
 
 impl Table {
@@ -49,7 +49,7 @@ impl Table {
     {
         Table {
             alloc,
-            by_number: Pages::new(alloc),
+            terms: GrowingList::new(alloc),
             by_term: Pages::new(alloc),
         }
     }
@@ -57,7 +57,7 @@ impl Table {
     pub(crate) fn len(&self) -> usize
         ensures { result ≡ length self.now }
     {
-        self.by_number.len()
+        self.terms.len()
     }
 
     // Another table with the same terms, of which none is copied.
@@ -66,7 +66,7 @@ impl Table {
     {
         Ok(Table {
             alloc: self.alloc,
-            by_number: self.by_number.share()?,
+            terms: self.terms.share()?,
             by_term: self.by_term.share()?,
         })
     }
@@ -82,8 +82,8 @@ impl Table {
     pub(crate) fn term(&self, number: usize) -> Option<&Term>
         ensures { MatchOption result (length self.now ≤ number) (λ term. (number < length self.now) × (term.now ≡ term_at self.now number)) }
     {
-        match self.by_number.seek(|entry| entry.number.cmp(&number)) {
-            Some(entry) => Some(&entry.term),
+        match self.terms.get(number) {
+            Some(named) => Some(&named.term),
             None => None,
         }
     }
@@ -110,17 +110,17 @@ impl Table {
     {
         let Table {
             alloc,
-            mut by_number,
+            mut terms,
             mut by_term,
         } = self;
-        let number = by_number.len();
+        let number = terms.len();
         let term = Arc::new(alloc, term.clone()?)?;
         let same = Arc::try_clone(&term)?;
-        let _ = by_number.insert(ByNumber { number, term })?;
+        terms.push(NamedTerm { term })?;
         let _ = by_term.insert(ByTerm { number, term: same })?;
         Ok(Table {
             alloc,
-            by_number,
+            terms,
             by_term,
         })
     }
@@ -140,35 +140,38 @@ impl Table {
     }
 }
 
-// Adds the entry of a term in both orders.
+// Adds a term, and its entry in the order of terms.
 fn push_entry(
     alloc: Global,
     number: usize,
     term: &Term,
-    by_number: &mut Vec<ByNumber>,
+    terms: &mut GrowingList<NamedTerm>,
     by_term: &mut Vec<ByTerm>,
 ) -> Result<(), AllocError>
-    ensures numbers { OnOk result (by_number.new.items ≡ by_number.old.items ++ entry number term.now ∷ []) }
-    ensures terms { OnOk result (by_term.new.items ≡ by_term.old.items ++ entry number term.now ∷ []) }
+    ensures terms { OnOk result (terms.new ≡ terms.old ++ term.now ∷ []) }
+    ensures entries { OnOk result (by_term.new.items ≡ by_term.old.items ++ entry number term.now ∷ []) }
 {
     let term = Arc::new(alloc, term.clone()?)?;
     let same = Arc::try_clone(&term)?;
-    by_number.push(ByNumber { number, term })?;
+    terms.push(NamedTerm { term })?;
     by_term.push(ByTerm { number, term: same })?;
     Ok(())
 }
 
-// The entries of terms, which are numbered by their places.
-fn entries_of(alloc: Global, terms: &[MetTerm]) -> Result<(Vec<ByNumber>, Vec<ByTerm>), AllocError>
-    ensures numbers { IfOk result (λ entries. entries.0.items ≡ entries_from 0 terms.now) }
-    ensures terms { IfOk result (λ entries. entries.1.items ≡ entries_from 0 terms.now) }
+// The terms, and their entries, which are numbered by their places.
+fn entries_of(
+    alloc: Global,
+    terms: &[MetTerm],
+) -> Result<(GrowingList<NamedTerm>, Vec<ByTerm>), AllocError>
+    ensures terms { IfOk result (λ named. named.0 ≡ terms.now) }
+    ensures entries { IfOk result (λ named. named.1.items ≡ entries_from 0 terms.now) }
 {
-    let mut by_number = Vec::with_capacity(alloc, terms.len())?;
+    let mut named = GrowingList::new(alloc);
     let mut by_term = Vec::with_capacity(alloc, terms.len())?;
     for (number, met) in terms.iter().enumerate() {
-        push_entry(alloc, number, met.term, &mut by_number, &mut by_term)?;
+        push_entry(alloc, number, met.term, &mut named, &mut by_term)?;
     }
-    Ok((by_number, by_term))
+    Ok((named, by_term))
 }
 
 // The table of terms, no two of which are equal.
@@ -176,11 +179,11 @@ pub(crate) fn table_of(alloc: Global, terms: &[MetTerm]) -> Result<Table, AllocE
     requires { IsDistinct (eq_by_cmp term_cmp) terms.now }
     ensures { IfOk result (λ table. table ≡ terms.now) }
 {
-    let (by_number, mut by_term) = entries_of(alloc, terms)?;
+    let (terms, mut by_term) = entries_of(alloc, terms)?;
     by_term.sort()?;
     Ok(Table {
         alloc,
-        by_number: Pages::from_sorted(alloc, &by_number)?,
+        terms,
         by_term: Pages::from_sorted(alloc, &by_term)?,
     })
 }

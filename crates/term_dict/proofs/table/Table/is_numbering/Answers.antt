@@ -5,4 +5,4 @@ use Rattle.term_dict.proofs.Places.{numbering}
 use Rattle.term_dict.proofs.table.Table.is_numbering.Goals as goal
 
 pub returns : goal.returns
-returns c = subst (λ (ts : List Term). IsNumbering ts) c.self.view_is (numbering c.self.inside.by_number c.self.inside.by_term c.self.invariant)
+returns c = subst (λ (ts : List Term). IsNumbering ts) c.self.view_is (numbering c.self.inside.terms c.self.inside.by_term c.self.invariant)
