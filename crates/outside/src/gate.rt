@@ -26,8 +26,8 @@ pub enum Place {
     },
 }
 
-/// Is told where each session stands, and may hold it there for a while.
-pub trait Gate {
+/// Is told where each session stands, and may hold it there for a while. Sessions call it from threads of their own.
+pub trait Gate: Sync {
     /// Returns when the session may go on. Nothing more is promised.
     fn at(&self, session: u32, place: Place);
 }
