@@ -8,14 +8,14 @@ root=$(cd "$(dirname "$0")/.." && pwd)
 copy=$(mktemp -d)
 trap 'rm -rf "$copy"' EXIT
 mkdir -p "$copy/crates/term_bench/src"
-for crate in rdf_text collections rdf_model page_index triple_index term_dict; do
+for crate in rdf_text collections rdf_model page_index growing_list triple_index term_dict; do
   mkdir "$copy/crates/$crate"
   for part in src specs proofs; do
     if [ -d "$root/crates/$crate/$part" ]; then cp -r "$root/crates/$crate/$part" "$copy/crates/$crate"; fi
   done
   grep "^$crate:" "$root/crates.txt" >> "$copy/crates.txt"
 done
-echo "term_bench: term_dict triple_index page_index rdf_model rdf_text collections indexmap" >> "$copy/crates.txt"
+echo "term_bench: term_dict growing_list triple_index page_index rdf_model rdf_text collections indexmap" >> "$copy/crates.txt"
 cat > "$copy/crates/term_bench/src/main.rt" <<'PROGRAM'
 //! Times a dictionary of terms and an index of triples.
 #![tactic(auto)]

@@ -1,6 +1,5 @@
 -- What a reading reaches: the keys from one on, up to another, and the first at which an order is not Less.
-use Rattle.std.proofs.Common.{◌≡◌, ◌∙◌, ℕ, zero, suc, ◌+◌, ◌-◌, ◌<◌, ◌≤◌, Bool, List, [], ◌∷◌, ◌++◌, length, get_or, take, drop, refl, sym, subst, ap, arith, true, false, append_assoc, append-nil, inl, inr}
-use Rattle.std.proofs.Math.Seq.{take-suc}
+use Rattle.std.proofs.Common.{◌≡◌, ◌∙◌, ℕ, zero, suc, ◌-◌, ◌<◌, ◌≤◌, Bool, List, [], ◌∷◌, ◌++◌, length, get_or, drop, refl, sym, subst, ap, arith, true, false, inl, inr}
 use Rattle.std.specs.Prelude.{◌⊎◌, ◌&&◌, None, Some, Result, Ok, Err, is_ok, filter, cond}
 use Rattle.std.specs.List.Sorted.{IsPartitionedBy, IsPartitionPoint, IsSearchInRange, IsBinarySearchResult}
 use Rattle.std.specs.declared.cmp.Ordering.{Ordering}
@@ -8,12 +7,10 @@ use Rattle.std.specs.declared.cmp.Ordering.TheVariants.{Less, Equal, Greater}
 use Rattle.std.specs.Ordering.{match_ordering, MatchOrdering, is_lt, is_ge}
 use Rattle.std.specs.Cmp.{IsTotalOrder}
 use Rattle.collections.specs.Ordered.{AllAbove, IsAscending, has_item}
-use Rattle.page_index.specs.Blocks.{Block, AreBelow, AllUnder, keys_of, first_of}
+use Rattle.page_index.specs.Blocks.{Block, AreBelow, keys_of, first_of}
 use Rattle.page_index.specs.Reading.{AllReached, IsRising, first_reached, is_within}
-use Rattle.page_index.proofs.Keys.{turned, turned_back, ascending-right}
 use Rattle.page_index.proofs.Found.{rises, has-there, has-free}
-use Rattle.page_index.proofs.Sides.{keys-append}
-use Rattle.page_index.proofs.Places.{first-append, low-above, first-below, before-at}
+use Rattle.page_index.proofs.Places.{first-append}
 
 pub lt-less : (c : Ordering) → is_lt c ≡ true → c ≡ Less
 lt-less Less e = refl

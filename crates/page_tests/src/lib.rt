@@ -4,6 +4,8 @@
 #[cfg(test)]
 mod dict;
 #[cfg(test)]
+mod growing;
+#[cfg(test)]
 mod index;
 #[cfg(test)]
 mod pages;

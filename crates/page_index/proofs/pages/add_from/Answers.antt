@@ -25,6 +25,6 @@ returns g c =
     let pushed : c.push.new.self.items ≡ c.args.into.now.items ++ c.args.first.now ∷ [] = c.in_ok-push.ensures.items ∙ ap (λ (k : g.row.K.Denot). c.args.into.now.items ++ k ∷ []) same in
     let rest = keys_above g.K.Ord.cmp (Some c.args.first.now) c.args.pages.now in
     let all : c.push.new.self.items ++ filter L c.iter_above.result ≡ c.args.into.now.items ++ filter L (c.args.first.now ∷ rest) =
-        ap (λ (is : List g.row.K.Denot). is ++ filter L c.iter_above.result) pushed ∙ ap (λ (ks : List g.row.K.Denot). (c.args.into.now.items ++ c.args.first.now ∷ []) ++ filter L ks) c.iter_above.ensures
-        ∙ append_assoc c.args.into.now.items (c.args.first.now ∷ []) (filter L rest) ∙ ap (λ (ks : List g.row.K.Denot). c.args.into.now.items ++ ks) (front-stays g.K.Ord.cmp g.met.K.Ord.total c.args.to.now c.args.first.now rest front) in
+    ap (λ (is : List g.row.K.Denot). is ++ filter L c.iter_above.result) pushed ∙ ap (λ (ks : List g.row.K.Denot). (c.args.into.now.items ++ c.args.first.now ∷ []) ++ filter L ks) c.iter_above.ensures
+    ∙ append_assoc c.args.into.now.items (c.args.first.now ∷ []) (filter L rest) ∙ ap (λ (ks : List g.row.K.Denot). c.args.into.now.items ++ ks) (front-stays g.K.Ord.cmp g.met.K.Ord.total c.args.to.now c.args.first.now rest front) in
     subst (λ (is : List g.row.K.Denot). OnOk c.add_until.result (c.add_until.new.into.items ≡ is)) all c.add_until.ensures

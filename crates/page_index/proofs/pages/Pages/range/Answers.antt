@@ -1,4 +1,4 @@
-use Rattle.std.proofs.Common.{◌≡◌, ◌∙◌, ◌∷◌, ◌++◌, [], List, ap, sym, subst}
+use Rattle.std.proofs.Common.{◌∙◌, ◌∷◌, ◌++◌, List, ap, sym, subst}
 use Rattle.std.specs.Prelude.{Some, filter}
 use Rattle.std.specs.Ordering.{is_lt}
 use Rattle.collections.specs.Ordered.{IsAscending}
