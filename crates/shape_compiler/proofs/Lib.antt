@@ -1,0 +1,13 @@
+pub mod Names
+pub mod Options
+pub mod Places
+pub mod Deciding
+pub mod WellFormed
+pub mod Told
+pub mod Constraints
+pub mod Speaking
+pub mod Naming
+pub mod Assembled
+pub mod Collected
+pub mod Gathered
+pub mod Causes
