@@ -1,0 +1,106 @@
+ghost use Rattle.std.specs.Prelude.{◌≡◌, IfOk, OnOk};
+ghost use Rattle.rdf_model.specs.Graphs.{after, changed, differing};
+ghost use Rattle.store_model.specs.Finds.{found};
+ghost use Rattle.store_model.specs.Store.{changed_triple};
+ghost use Rattle.data_graph.specs.Nets.{is_in_one, in_one};
+
+use collections::sorted_once;
+use page_index::Pages;
+use rdf_model::{Change, Pattern, Triple};
+use std::alloc::{AllocError, Global};
+
+fn apply_change(graph: &mut Pages<Triple>, change: &Change) -> Result<(), AllocError>
+    ensures { OnOk result (graph.new ≡ changed graph.old change.now) }
+{
+    match change {
+        Change::Add(triple) => {
+            graph.insert(triple.clone()?)?;
+        }
+        Change::Remove(triple) => {
+            graph.remove(triple)?;
+        }
+    }
+    Ok(())
+}
+
+/// The graph after the changes. It shares with the graph what they leave.
+pub fn graph_after(graph: &Pages<Triple>, net: &[Change]) -> Result<Pages<Triple>, AllocError>
+    ensures { IfOk result (λ next. next ≡ after graph.now net.now) }
+{
+    let mut next = graph.share()?;
+    for change in net {
+        apply_change(&mut next, change)?;
+    }
+    Ok(next)
+}
+
+/// The triples that the pattern asks for, in their order.
+pub fn graph_matching(
+    alloc: Global,
+    graph: &Pages<Triple>,
+    pattern: &Pattern,
+) -> Result<Vec<Triple>, AllocError>
+    ensures { IfOk result (λ v. v.items ≡ found graph.now pattern.now) }
+{
+    let mut matching = Vec::new(alloc);
+    for triple in graph.iter() {
+        if pattern.matches(triple) {
+            matching.push(triple.clone()?)?;
+        }
+    }
+    Ok(matching)
+}
+
+// The triple that a change adds or removes.
+fn triple_of(change: &Change) -> &Triple
+    ensures { result.now ≡ changed_triple change.now }
+{
+    match change {
+        Change::Add(triple) => triple,
+        Change::Remove(triple) => triple,
+    }
+}
+
+// Whether a triple is in exactly one of two graphs.
+fn is_in_one_of(graph: &Pages<Triple>, other: &Pages<Triple>, triple: &Triple) -> bool
+    ensures { result ≡ is_in_one graph.now other.now triple.now }
+{
+    let before = graph.contains(triple);
+    let after = other.contains(triple);
+    (before && !after) || (after && !before)
+}
+
+// The triples of the changes that are in exactly one of two graphs.
+fn changed_in(
+    alloc: Global,
+    graph: &Pages<Triple>,
+    other: &Pages<Triple>,
+    net: &[Change],
+) -> Result<Vec<Triple>, AllocError>
+    ensures { IfOk result (λ v. v.items ≡ in_one graph.now other.now net.now) }
+{
+    let mut triples = Vec::new(alloc);
+    for change in net {
+        let triple = triple_of(change);
+        if is_in_one_of(graph, other, triple) {
+            triples.push(triple.clone()?)?;
+        }
+    }
+    Ok(triples)
+}
+
+/// The triples that are in exactly one of two graphs, ascending, where the second is the first after
+/// the changes. It looks at no triple but theirs.
+pub fn graph_differing(
+    alloc: Global,
+    graph: &Pages<Triple>,
+    other: &Pages<Triple>,
+    net: &[Change],
+) -> Result<Vec<Triple>, AllocError>
+    requires { other.now ≡ after graph.now net.now }
+    ensures { IfOk result (λ v. v.items ≡ differing graph.now other.now) }
+{
+    graph.ascends();
+    let triples = changed_in(alloc, graph, other, net)?;
+    Ok(sorted_once(triples)?)
+}
