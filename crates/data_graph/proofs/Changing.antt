@@ -1,5 +1,5 @@
 -- Changes by number make of the numbers of a graph those of the graph after the changes.
-use Rattle.std.proofs.Common.{◌≡◌, ◌∙◌, List, [], ◌∷◌, refl, sym, ap, subst, inl, inr}
+use Rattle.std.proofs.Common.{◌≡◌, ◌∙◌, List, [], ◌∷◌, sym, ap, subst, inl, inr}
 use Rattle.std.specs.Prelude.{◌↔◌, map}
 use Rattle.std.specs.List.{AllByRecursion, Contains}
 use Rattle.collections.specs.Ordered.{IsAscending, with_item, without_item}
