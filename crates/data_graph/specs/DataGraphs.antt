@@ -1,5 +1,5 @@
 -- A data graph with numbers for its terms.
-use Rattle.std.specs.Prelude.{◌≡◌, ◌↔◌, ℕ, List, MatchOption, Option}
+use Rattle.std.specs.Prelude.{◌↔◌, ℕ, List, MatchOption, Option}
 use Rattle.collections.specs.Ordered.{IsAscending}
 use Rattle.rdf_model.specs.Terms.{triple_cmp}
 use Rattle.std.specs.List.{All, Contains}
