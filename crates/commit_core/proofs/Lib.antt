@@ -5,4 +5,3 @@ pub mod Planning
 pub mod Conditions
 pub mod Replaying
 pub mod Taking
-pub mod Sets

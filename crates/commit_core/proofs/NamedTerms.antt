@@ -22,6 +22,7 @@ use Rattle.collections.proofs.Members.{has_cases, has_equal, has_tail, with_case
 use Rattle.store_model.specs.Store.{AreNamed, NetNamed, StagedNamed, changed_triple, named_with, number_of, numbers_of, shapes_under, terms_of}
 use Rattle.term_dict.specs.Names.{AreNumbersOf, first_terms, with_terms}
 use Rattle.term_validation.specs.Named.{AreNamedTriples, IsNamedTriple}
+use Rattle.data_graph.specs.DataGraphs.{AreNamedChanges}
 
 -- whether a term has a name
 abbrev has : List Term → Term → Bool
@@ -149,6 +150,17 @@ all_named named (u ∷ us) a t c = elim (has_cases u us t c) [
   | inl e ↦ subst (λ (x : Triple). IsNamedTriple named x) e (triple_named named u a.0)
   | inr d ↦ all_named named us a.1 t d
 ]
+
+each_change : (named : List Term) (net : List Change) → NetNamed named net → (c : Change) → Contains net c → IsNamedTriple named (changed_triple c)
+each_change named [] a c i = absurd (omega arith)
+each_change named (d ∷ ds) a c i = elim (has_cases d ds c i) [
+  | inl e ↦ subst (λ (x : Change). IsNamedTriple named (changed_triple x)) e (triple_named named (changed_triple d) a.0)
+  | inr k ↦ each_change named ds a.1 c k
+]
+
+-- the triples of changes that are named term by term
+pub net_named : (named : List Term) (net : List Change) → NetNamed named net → AreNamedChanges named net
+net_named named net a = all_of (λ c. IsNamedTriple named (changed_triple c)) net (each_change named net a)
 
 -- the staged shapes, or else the newest
 pub named_under : (named : List Term) (shapes : List Triple) (staged : Option (List Triple)) → AreNamedTriples named shapes → StagedNamed named staged → AreNamedTriples named (shapes_under shapes staged)

@@ -2,20 +2,17 @@
 use Rattle.std.proofs.Common.{◌≡◌, ◌∙◌, ℕ, ◌+◌, Bool, true, false, ◌||◌, cond, List, [], ◌∷◌, ◌++◌, drop, Option, Some, None, refl, sym, ap, subst, arith, inl, inr}
 use Rattle.std.specs.Prelude.{◌↔◌, MatchBool}
 use Rattle.std.specs.List.{AllByRecursion, Contains}
-use Rattle.std.specs.Ordering.{eq_by_cmp, is_eq}
-use Rattle.std.specs.Cmp.{tied_itself}
-use Rattle.std.specs.declared.cmp.Ordering.{Ordering}
-use Rattle.std.specs.declared.cmp.Ordering.TheVariants.{Less, Equal, Greater}
+use Rattle.std.specs.Ordering.{eq_by_cmp}
 use Rattle.rdf_model.specs.declared.change.Change.{Change}
 use Rattle.rdf_model.specs.declared.look.Look.{Look}
 use Rattle.rdf_model.specs.declared.term.Term.{Term}
 use Rattle.rdf_model.specs.declared.triple.Triple.{Triple}
 use Rattle.rdf_model.specs.Graphs.{after}
 use Rattle.rdf_model.specs.Matching.{is_read, is_read_by}
-use Rattle.rdf_model.specs.Orders.{triple_exact, triple_total}
+use Rattle.rdf_model.specs.Orders.{triple_exact}
 use Rattle.rdf_model.specs.Terms.{triple_cmp}
 use Rattle.collections.specs.Ordered.{has_item}
-use Rattle.collections.proofs.Members.{has_cases, has_equal, has_tail}
+use Rattle.collections.proofs.Members.{has_cases}
 use Rattle.shape_model.specs.Agreement.{Agree}
 use Rattle.shape_model.specs.Validation.{Listing, NoResult}
 use Rattle.shape_model.specs.declared.result_row.ResultRow.{ResultRow}
@@ -30,6 +27,7 @@ use Rattle.store_model.specs.declared.event.Limits.{Limits}
 use Rattle.store_model.specs.Store.{RecordedStore, Replays, State, again, again_from, empty_store, first_read, shapes_under, touched_or}
 use Rattle.store_model.proofs.Steps.{StepIsDeterministic-holds}
 use Rattle.store_model.proofs.Versions.{Grows, between_is, replayed}
+use Rattle.data_graph.proofs.Tests.{is_equal, or_last, to_list, to_test}
 use Rattle.commit_core.specs.Consistent.{IsConsistent}
 use Rattle.commit_core.specs.Verdicts.{AreOfVerdict, IsVerdict}
 use Rattle.commit_core.proofs.Consistency.{past_sound}
@@ -49,30 +47,6 @@ since : (s : RecordedStore) (head : State) (front back : List Event) → Replays
 since s head front back all e h =
     let r = split s.limits empty_store s.state front back (subst (λ (es : List Event). Replays s.limits empty_store es s.state) e all) in
     subst (λ (x : State). Replays s.limits x back s.state) (one_end s.limits empty_store head r.0 front h r.1) r.2
-
--- a triple is in a list of triples where its test says so
-is_equal : (o : Ordering) → is_eq o ≡ true → o ≡ Equal
-is_equal Less e = cc
-is_equal Equal e = refl
-is_equal Greater e = cc
-
-to_list : (ts : List Triple) (t : Triple) → has_item triple_cmp t ts ≡ true → Contains ts t
-to_list [] t h = cc
-to_list (u ∷ us) t h = elim (eq_by_cmp triple_cmp u t) as (λ b. eq_by_cmp triple_cmp u t ≡ b → (b || has_item triple_cmp t us) ≡ true → Contains (u ∷ us) t) [
-  | true ↦ λ e g. has_equal u us t (triple_exact u t (is_equal (triple_cmp u t) e))
-  | false ↦ λ e g. has_tail u us t (to_list us t g)
-] refl h
-
-or_last : (a b : Bool) → b ≡ true → (a || b) ≡ true
-or_last true b h = refl
-or_last false b h = h
-
-to_test : (ts : List Triple) (t : Triple) → Contains ts t → has_item triple_cmp t ts ≡ true
-to_test [] t c = absurd (omega arith)
-to_test (u ∷ us) t c = elim (has_cases u us t c) [
-  | inl e ↦ ap (λ b. b || has_item triple_cmp t us) (subst (λ (x : Triple). eq_by_cmp triple_cmp u x ≡ true) e (ap is_eq (tied_itself triple_total u)))
-  | inr d ↦ or_last (eq_by_cmp triple_cmp u t) (has_item triple_cmp t us) (to_test us t d)
-]
 
 alike : (g h : List Triple) (t : Triple) → has_item triple_cmp t h ≡ has_item triple_cmp t g → Contains g t ↔ Contains h t
 alike g h t e = (λ c. to_list h t (e ∙ to_test g t c), λ c. to_list g t (sym e ∙ to_test h t c))

@@ -10,6 +10,7 @@ use Rattle.store_model.specs.declared.event.Action.TheVariants as actions
 use Rattle.store_model.specs.declared.event.Reply.{Reply}
 use Rattle.store_model.specs.declared.event.Reply.TheVariants as replies
 use Rattle.store_model.specs.Store.{RecordedStore, TakesStep, is_staged, overtaker, shapes_under}
+use Rattle.data_graph.specs.DataGraphs.{NamedGraph, with_changes}
 use Rattle.commit_core.specs.declared.commit.CheckedTransaction.{CheckedTransaction}
 use Rattle.commit_core.specs.declared.commit.Commit.{Commit}
 use Rattle.commit_core.specs.declared.commit.Commit.TheVariants.{Done, Conflict, FullTriples, Refused, Memory}
@@ -32,6 +33,10 @@ Answers (Refused rows again shapes) old new i x =
     TakesCommit old new i x.transaction (replies.Refused rows again) × (shapes ≡ shapes_under old.state.shapes x.transaction.staged) × Listing (after old.state.graph x.transaction.net) shapes rows
 Answers (Memory y) old new i x = (y ≡ x) × (new ≡ old)
 
+-- the data graph of a store, with its names
+abbrev pub data_of : RecordedStore → NamedGraph
+data_of s = record { triples = s.state.graph; terms = s.state.named; limit = s.limits.terms }
+
 -- nothing overtook the transaction, and the graph would be within the limit
 abbrev pub IsWithin : Limits → List Triple → List Accepted → Transaction → Type 0
 IsWithin l graph commits x = (overtaker commits x.base x.finds ≡ None) × (length (after graph x.net) ≤ l.triples)
@@ -41,20 +46,20 @@ abbrev pub Refuses : List Triple → List Triple → Transaction → Refusal →
 Refuses graph shapes x p = (p.shapes ≡ shapes_under shapes x.staged) × Listing (after graph x.net) p.shapes p.rows × (0 < length p.rows) × (p.recorded ≡ p.rows)
 
 -- the graph has none
-abbrev pub Accepts : List Triple → List Triple → Transaction → Acceptance → Type 0
-Accepts graph shapes x p =
-    (p.shapes ≡ shapes_under shapes x.staged) × Listing (after graph x.net) p.shapes [] × (p.graph ≡ after graph x.net) × (p.accepted.changed ≡ differing graph (after graph x.net)) × (p.accepted.staged ≡ is_staged x.staged)
+abbrev pub Accepts : NamedGraph → List Triple → Transaction → Acceptance → Type 0
+Accepts g shapes x p =
+    (p.shapes ≡ shapes_under shapes x.staged) × Listing (after g.triples x.net) p.shapes [] × (p.graph ≡ with_changes g x.net) × (p.accepted.changed ≡ differing g.triples (after g.triples x.net)) × (p.accepted.staged ≡ is_staged x.staged)
 
 -- what its listing makes of a commit that nothing overtook and that is within the limit
-abbrev pub IsJudged : List Triple → List Triple → Transaction → Plan → Type 0
-IsJudged graph shapes x (Overtaken o t) = ⊥
-IsJudged graph shapes x (TooLarge n) = ⊥
-IsJudged graph shapes x (Refuse p) = Refuses graph shapes x p
-IsJudged graph shapes x (Accept p) = Accepts graph shapes x p
+abbrev pub IsJudged : NamedGraph → List Triple → Transaction → Plan → Type 0
+IsJudged g shapes x (Overtaken o t) = ⊥
+IsJudged g shapes x (TooLarge n) = ⊥
+IsJudged g shapes x (Refuse p) = Refuses g.triples shapes x p
+IsJudged g shapes x (Accept p) = Accepts g shapes x p
 
 -- the first of a commit's answers that applies, and what is needed to carry it out
-abbrev pub IsPlan : Limits → List Triple → List Triple → List Accepted → Transaction → Plan → Type 0
-IsPlan l graph shapes commits x (Overtaken o t) = (overtaker commits x.base x.finds ≡ Some o) × (t ≡ o.triple)
-IsPlan l graph shapes commits x (TooLarge n) = (overtaker commits x.base x.finds ≡ None) × (l.triples < length (after graph x.net)) × (n ≡ length (after graph x.net))
-IsPlan l graph shapes commits x (Refuse p) = IsWithin l graph commits x × Refuses graph shapes x p
-IsPlan l graph shapes commits x (Accept p) = IsWithin l graph commits x × Accepts graph shapes x p
+abbrev pub IsPlan : Limits → NamedGraph → List Triple → List Accepted → Transaction → Plan → Type 0
+IsPlan l g shapes commits x (Overtaken o t) = (overtaker commits x.base x.finds ≡ Some o) × (t ≡ o.triple)
+IsPlan l g shapes commits x (TooLarge n) = (overtaker commits x.base x.finds ≡ None) × (l.triples < length (after g.triples x.net)) × (n ≡ length (after g.triples x.net))
+IsPlan l g shapes commits x (Refuse p) = IsWithin l g.triples commits x × Refuses g.triples shapes x p
+IsPlan l g shapes commits x (Accept p) = IsWithin l g.triples commits x × Accepts g shapes x p

@@ -1,11 +1,10 @@
 ghost use Rattle.std.specs.Prelude.{◌≡◌, [], IfOk};
-ghost use Rattle.rdf_model.specs.Graphs.{differing};
+ghost use Rattle.rdf_model.specs.Graphs.{after, differing};
 ghost use Rattle.store_model.specs.Store.{is_staged, shapes_under};
 
-use crate::graphs::graph_differing;
 use collections::Sequence;
-use page_index::Pages;
-use rdf_model::Triple;
+use data_graph::{DataGraph, graph_differing};
+use rdf_model::{Change, Triple};
 use shape_model::ResultRow;
 use shapes_graph::ShapesGraph;
 use std::alloc::{AllocError, Global};
@@ -138,7 +137,7 @@ impl Refusal {
 
 /// A commit whose graph has none: the next graph, the commit as it is kept, the next shapes graph.
 pub struct Acceptance {
-    pub graph: Pages<Triple>,
+    pub graph: DataGraph,
     pub accepted: Accepted,
     pub shapes: ShapesGraph,
 }
@@ -156,7 +155,7 @@ impl Drop for Acceptance {
 
 impl Acceptance {
     /// The next graph, the commit as it is kept, and the next shapes graph.
-    pub fn into_parts(self) -> (Pages<Triple>, Accepted, ShapesGraph)
+    pub fn into_parts(self) -> (DataGraph, Accepted, ShapesGraph)
         ensures { result ≡ (self.graph, self.accepted, self.shapes) }
     {
         let Acceptance {
@@ -201,17 +200,19 @@ fn stages_shapes(staged: &Option<ShapesGraph>) -> bool
     }
 }
 
-/// The plan of a commit whose graph has no result.
+/// The plan of a commit whose graph, after the changes, has no result.
 pub fn accepting(
     alloc: Global,
-    graph: &Pages<Triple>,
-    next: Pages<Triple>,
+    graph: &DataGraph,
+    next: DataGraph,
+    net: &[Change],
     staged: &Option<ShapesGraph>,
     shapes: ShapesGraph,
 ) -> Result<Acceptance, AllocError>
-    ensures { IfOk result (λ plan. (plan.graph ≡ next) × (plan.accepted.changed ≡ differing graph.now next) × (plan.accepted.staged ≡ is_staged staged.now) × (plan.shapes ≡ shapes)) }
+    requires { next.triples ≡ after graph.now.triples net.now }
+    ensures { IfOk result (λ plan. (plan.graph ≡ next) × (plan.accepted.changed ≡ differing graph.now.triples next.triples) × (plan.accepted.staged ≡ is_staged staged.now) × (plan.shapes ≡ shapes)) }
 {
-    let changed = graph_differing(alloc, graph, &next)?;
+    let changed = graph_differing(alloc, graph.triples(), next.triples(), net)?;
     Ok(Acceptance {
         graph: next,
         accepted: Accepted {

@@ -7,7 +7,6 @@
 
 mod asking;
 mod commit;
-mod graphs;
 mod history;
 mod overtaking;
 mod reasons;

@@ -62,7 +62,7 @@ impl Core {
             Action::Begin | Action::Head | Action::Name(_) => is_opened(self.opened, session),
             Action::Commit(transaction) => {
                 is_opened(self.opened, session)
-                    && may_commit(version_of(&self.commits), &self.named, transaction)
+                    && may_commit(version_of(&self.commits), self.graph.names(), transaction)
             }
             Action::Void => session <= self.opened,
         }

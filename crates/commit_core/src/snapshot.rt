@@ -3,8 +3,8 @@ ghost use Rattle.rdf_model.specs.Graphs.{after};
 ghost use Rattle.store_model.specs.Finds.{found};
 ghost use Rattle.commit_core.specs.Consistent.{IsSound};
 
-use crate::graphs::{graph_after, graph_matching};
 use collections::both;
+use data_graph::{graph_after, graph_matching};
 use page_index::Pages;
 use rdf_model::{Change, Pattern, Triple};
 use shapes_graph::ShapesGraph;

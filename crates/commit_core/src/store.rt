@@ -4,7 +4,8 @@ ghost use Rattle.store_model.specs.Snapshots.{snapshot_of};
 ghost use Rattle.rdf_model.specs.Graphs.{after};
 ghost use Rattle.shape_model.specs.Validation.{Listing};
 ghost use Rattle.term_validation.specs.Named.{AreNamedTriples};
-ghost use Rattle.commit_core.specs.Commits.{Answers, IsJudged, IsPlan, TakesCommit};
+ghost use Rattle.data_graph.specs.DataGraphs.{with_changes};
+ghost use Rattle.commit_core.specs.Commits.{Answers, IsJudged, IsPlan, TakesCommit, data_of};
 ghost use Rattle.commit_core.specs.Verdicts.{AreOfVerdict, AreReasons};
 ghost use Rattle.commit_core.specs.Consistent.{IsConsistent};
 ghost use Rattle.commit_core.specs.Faults.{OpensNone, NamesNone};
@@ -12,15 +13,14 @@ ghost use Rattle.commit_core.specs.Faults.{OpensNone, NamesNone};
 use crate::commit::{
     Acceptance, CheckedTransaction, Commit, Plan, Reasons, Refusal, accepting, shapes_for,
 };
-use crate::graphs::graph_after;
 use crate::history::{History, events_back, room_for, sessions_back};
 use crate::overtaking::find_overtaker;
 use crate::reasons::{find_reasons, has_held};
 use crate::room::Slip;
 use crate::snapshot::Snap;
 use collections::Sequence;
-use page_index::Pages;
-use rdf_model::{Term, Triple};
+use data_graph::DataGraph;
+use rdf_model::Term;
 use shape_eval::Steps;
 use shape_model::ResultRow;
 use shapes_graph::ShapesGraph;
@@ -29,8 +29,6 @@ use std::boxed::Box;
 use std::marker::Model;
 use std::sync::ledger::Ledger;
 use store_model::{Accepted, Action, Event, Limits, Overtaker, Reply, Transaction};
-use term_dict::Dict;
-use term_validation::listing;
 
 pub(crate) const MOST_SESSIONS: u32 = 64;
 
@@ -93,15 +91,14 @@ fn add_commit(commits: &mut Vec<Accepted>, accepted: Accepted) -> Result<(), All
     Ok(())
 }
 
-/// The store with its history. Contracts see its limits, its state and its events. The limit of terms
-/// is kept by their dictionary.
+/// The store with its history. Contracts see its limits, its state and its events. The data graph
+/// keeps the terms that are named, and their limit.
 pub struct Core {
     pub(crate) alloc: Global,
     most_triples: usize,
-    graph: Pages<Triple>,
+    pub(crate) graph: DataGraph,
     shapes: ShapesGraph,
     pub(crate) commits: Vec<Accepted>,
-    pub(crate) named: Dict,
     pub(crate) opened: u32,
     pub(crate) history: History,
 }
@@ -112,9 +109,9 @@ impl Model for Core {
 
     ghost Value = { RecordedStore };
 
-    ghost view = { λ c. record { limits = record { terms = c.named.limit; triples = c.most_triples }; state = record { graph = c.graph; shapes = c.shapes; commits = c.commits.items; named = c.named.terms; opened = c.opened }; history = c.history } };
+    ghost view = { λ c. record { limits = record { terms = c.graph.limit; triples = c.most_triples }; state = record { graph = c.graph.triples; shapes = c.shapes; commits = c.commits.items; named = c.graph.terms; opened = c.opened }; history = c.history } };
 
-    ghost invariant = { λ c. IsConsistent (record { limits = record { terms = c.named.limit; triples = c.most_triples }; state = record { graph = c.graph; shapes = c.shapes; commits = c.commits.items; named = c.named.terms; opened = c.opened }; history = c.history }) };
+    ghost invariant = { λ c. IsConsistent (record { limits = record { terms = c.graph.limit; triples = c.most_triples }; state = record { graph = c.graph.triples; shapes = c.shapes; commits = c.commits.items; named = c.graph.terms; opened = c.opened }; history = c.history }) };
 }
 
 // Written by hand, so that what owns a core calls it in place of having it written out.
@@ -126,7 +123,6 @@ impl Drop for Core {
             graph: _,
             shapes: _,
             commits: _,
-            named: _,
             opened: _,
             history: _,
         } = self;
@@ -139,15 +135,14 @@ impl Core {
         requires { limits.terms + 2 < 2 ^ 32 }
         ensures { IfOk result (λ core. core ≡ record { limits = limits; state = empty_store; history = [] }) }
     {
-        let named = Dict::new(alloc, limits.terms)?;
+        let graph = DataGraph::new(alloc, limits.terms)?;
         let shapes = ShapesGraph::empty(alloc)?;
         Ok(Core {
             alloc,
             most_triples: limits.triples,
-            graph: Pages::new(alloc),
+            graph,
             shapes,
             commits: Vec::new(alloc),
-            named,
             opened: 0,
             history: History::new(),
         })
@@ -197,9 +192,9 @@ impl Core {
     {
         Snap::sharing(
             version_of(&self.commits),
-            &self.graph,
+            self.graph.triples(),
             &self.shapes,
-            &self.named,
+            self.graph.names(),
         )
     }
 
@@ -253,7 +248,7 @@ impl Core {
     {
         let slip = slip(self.alloc)?;
         let asked = Sequence::copied_from(self.alloc, terms)?;
-        match self.named.name_all(terms) {
+        match self.graph.name_all(terms) {
             Ok(numbers) => {
                 self.history.push(
                     slip.room,
@@ -283,43 +278,45 @@ impl Core {
     // The results of the next graph: those that a verdict found, where it held, else by an evaluation.
     fn results<L: Ledger>(
         &self,
-        next: &Pages<Triple>,
+        next: &mut DataGraph,
         shapes: &ShapesGraph,
         found: &Sequence<ResultRow>,
         held: bool,
         steps: &mut Steps<L>,
     ) -> Result<Sequence<ResultRow>, AllocError>
-        requires graph { AreNamedTriples self.now.state.named next.now }
-        requires shapes { AreNamedTriples self.now.state.named shapes.now }
-        requires found { MatchBool held (Listing next.now shapes.now found.now) (Unit {0}) }
-        ensures { IfOk result (λ rows. Listing next.now shapes.now rows) }
+        requires graph { AreNamedTriples next.old.terms next.old.triples }
+        requires shapes { AreNamedTriples next.old.terms shapes.now }
+        requires found { MatchBool held (Listing next.old.triples shapes.now found.now) (Unit {0}) }
+        ensures same { next.new ≡ next.old }
+        ensures rows { IfOk result (λ rows. Listing next.old.triples shapes.now rows) }
     {
         if held {
             return Sequence::copied_from(self.alloc, found.as_slice());
         }
-        let graph = next.keys()?;
-        let rows = listing(self.alloc, &self.named, &graph, shapes, steps)?;
+        let rows = next.listing(shapes, steps)?;
         Ok(Sequence::from_vec(rows))
     }
 
     // What its listing makes of a commit that nothing overtook and whose graph is within the limit.
     fn judge<L: Ledger>(
         &self,
-        next: Pages<Triple>,
+        next: DataGraph,
         checked: &CheckedTransaction,
         held: bool,
         steps: &mut Steps<L>,
     ) -> Result<Plan, AllocError>
         requires committable { IsCommittable self.now.state checked.now.transaction }
-        requires next { next ≡ after self.now.state.graph checked.now.transaction.net }
+        requires next { next ≡ with_changes (data_of self.now) checked.now.transaction.net }
         requires found { MatchBool held (Listing (after self.now.state.graph checked.now.transaction.net) (shapes_under self.now.state.shapes checked.now.transaction.staged) checked.now.rows) (Unit {0}) }
-        ensures { IfOk result (IsJudged self.now.state.graph self.now.state.shapes checked.now.transaction) }
+        ensures { IfOk result (IsJudged (data_of self.now) self.now.state.shapes checked.now.transaction) }
     {
+        let mut next = next;
         let staged = &checked.transaction.staged;
         let shapes = shapes_for(&self.shapes, staged)?;
-        let rows = self.results(&next, &shapes, &checked.rows, held, steps)?;
+        let rows = self.results(&mut next, &shapes, &checked.rows, held, steps)?;
         if rows.is_empty() {
-            let plan = accepting(self.alloc, &self.graph, next, staged, shapes)?;
+            let net = checked.transaction.net.as_slice();
+            let plan = accepting(self.alloc, &self.graph, next, net, staged, shapes)?;
             return Ok(Plan::Accept(plan));
         }
         let recorded = Sequence::copied_from(self.alloc, rows.as_slice())?;
@@ -339,7 +336,7 @@ impl Core {
     ) -> Result<Plan, AllocError>
         requires committable { IsCommittable self.now.state checked.now.transaction }
         requires found { MatchBool held (Listing (after self.now.state.graph checked.now.transaction.net) (shapes_under self.now.state.shapes checked.now.transaction.staged) checked.now.rows) (Unit {0}) }
-        ensures { IfOk result (IsPlan self.now.limits self.now.state.graph self.now.state.shapes self.now.state.commits checked.now.transaction) }
+        ensures { IfOk result (IsPlan self.now.limits (data_of self.now) self.now.state.shapes self.now.state.commits checked.now.transaction) }
     {
         let transaction = &checked.transaction;
         let finds = transaction.finds.as_slice();
@@ -347,9 +344,10 @@ impl Core {
             let triple = overtaker.triple.clone()?;
             return Ok(Plan::Overtaken(overtaker, triple));
         }
-        let next = graph_after(&self.graph, transaction.net.as_slice())?;
-        if next.len() > self.most_triples {
-            return Ok(Plan::TooLarge(next.len()));
+        let next = self.graph.after(transaction.net.as_slice())?;
+        let count = next.triples().len();
+        if count > self.most_triples {
+            return Ok(Plan::TooLarge(count));
         }
         self.judge(next, checked, held, steps)
     }
@@ -380,7 +378,7 @@ impl Core {
     ) -> Commit
         requires opened { IsOpened self.old.state session }
         requires committable { IsCommittable self.old.state checked.transaction }
-        requires plan { IsPlan self.old.limits self.old.state.graph self.old.state.shapes self.old.state.commits checked.transaction (Plan.Refuse refusal) }
+        requires plan { IsPlan self.old.limits (data_of self.old) self.old.state.shapes self.old.state.commits checked.transaction (Plan.Refuse refusal) }
         requires reasons { AreReasons self.old.state.commits checked.transaction reasons }
         ensures { Answers result self.old self.new session checked }
     {
@@ -406,7 +404,7 @@ impl Core {
     ) -> Commit
         requires opened { IsOpened self.old.state session }
         requires committable { IsCommittable self.old.state checked.transaction }
-        requires plan { IsPlan self.old.limits self.old.state.graph self.old.state.shapes self.old.state.commits checked.transaction (Plan.Accept acceptance) }
+        requires plan { IsPlan self.old.limits (data_of self.old) self.old.state.shapes self.old.state.commits checked.transaction (Plan.Accept acceptance) }
         requires reasons { AreReasons self.old.state.commits checked.transaction reasons }
         ensures { Answers result self.old self.new session checked }
     {
@@ -562,7 +560,6 @@ impl Core {
             graph: _,
             shapes: _,
             commits: _,
-            named: _,
             opened: _,
             history,
         } = self;
@@ -573,6 +570,6 @@ impl Core {
     pub fn triples(&self) -> usize
         ensures { result ≡ length self.now.state.graph }
     {
-        self.graph.len()
+        self.graph.triples().len()
     }
 }

@@ -39,6 +39,13 @@ use Rattle.term_dict.specs.contracts.entry.ByTermOrd.TheImpl as by_term_order
 use Rattle.term_dict.specs.contracts.entry.ByTermPartialEq.TheImpl as by_term_equality
 use Rattle.term_dict.specs.contracts.entry.ByTermPartialOrd.TheImpl as by_term_comparison
 use Rattle.term_dict.specs.contracts.dict.Dict as dict
+use Rattle.triple_index.proofs.key.Key.TheSendSync as key_sent
+use Rattle.triple_index.specs.contracts.key.Key as key
+use Rattle.triple_index.specs.contracts.key.KeyOrd.TheImpl as key_order
+use Rattle.triple_index.specs.contracts.key.KeyPartialEq.TheImpl as key_equality
+use Rattle.triple_index.specs.contracts.key.KeyPartialOrd.TheImpl as key_comparison
+use Rattle.triple_index.specs.contracts.index.Index as index
+use Rattle.data_graph.specs.contracts.graph.DataGraph as data_graph
 use Rattle.shapes_graph.specs.contracts.graph.Content as content
 use Rattle.shapes_graph.specs.contracts.graph.ShapesGraph as shapes
 use Rattle.store_model.specs.contracts.event.Reply as answer
@@ -93,6 +100,15 @@ by_term_send = search (page_knot.crosses, by_term_sent.the_send, by_term_sent.th
 dict_send : IsSend dict.the_row
 dict_send = search (names_send, by_term_send, crosses, sendable) depth 60 fits 20000
 
+keys_send : IsSend (pages.the_row key.the_row key_order.ghosts key_equality.ghosts key_comparison.ghosts)
+keys_send = search (page_knot.crosses, key_sent.the_send, key_sent.the_sync, crosses, sendable) depth 60 fits 20000
+
+index_send : IsSend index.the_row
+index_send = search (keys_send, crosses, sendable) depth 60 fits 20000
+
+data_graph_send : IsSend data_graph.the_row
+data_graph_send = search (triples_send, dict_send, index_send, crosses, sendable) depth 60 fits 20000
+
 verdict_send : IsSend verdict.the_row
 verdict_send = search (look_sent.the_send, term_sent.the_send, sequence_sent.the_send, crosses, sendable) depth 60 fits 20000
 
@@ -118,7 +134,7 @@ history_send : IsSend history.the_row
 history_send = search (event_send, history_knot.crosses, crosses, sendable) depth 60 fits 20000
 
 core_send : IsSend core.the_row
-core_send = search (triples_send, shapes_send, accepted_sent.the_send, dict_send, history_send, crosses, sendable) depth 60 fits 20000
+core_send = search (data_graph_send, shapes_send, accepted_sent.the_send, history_send, crosses, sendable) depth 60 fits 20000
 
 shared_send : IsSend shared.the_row
 shared_send = search (core_send, crosses, sendable) depth 60 fits 20000

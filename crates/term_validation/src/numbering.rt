@@ -16,8 +16,8 @@ fn number_of<N: Names>(names: &N, term: &Term) -> u32
     names.id(term).unwrap()
 }
 
-// The numbers of a triple's terms.
-fn number_triple<N: Names>(names: &N, triple: &Triple) -> Ids
+/// The numbers of a triple's terms.
+pub fn number_triple<N: Names>(names: &N, triple: &Triple) -> Ids
     requires { IsNamedTriple (N.terms names.now) triple.now }
     ensures bound { IsNumbered (N.terms names.now) result }
     ensures triple { triple_at (N.terms names.now) result ≡ triple.now }

@@ -1,34 +1,19 @@
 ghost use Rattle.std.specs.Prelude.{◌≡◌, ◌↔◌, [], IfOk, IsTrue};
-ghost use Rattle.rdf_model.specs.Numbers.{IsNumbering};
+ghost use Rattle.rdf_model.specs.Numbers.{AreNumbered, IsNumbering, graph_of};
+ghost use Rattle.rdf_model.specs.declared.term.Term.{Term as TermData};
+ghost use Rattle.shape_model.specs.ShapeSyntax.{IsShape};
 ghost use Rattle.shape_model.specs.Validation.{Listing};
 ghost use Rattle.term_validation.specs.Named.{AreNamedTriples};
 
 use crate::numbering::number_triples;
 use graph_validation::whole;
-use rdf_model::{ListGraph, Names, Term, Triple};
+use rdf_model::{Names, Term, Triple, Triples};
 use shape_ast::{ResultRow, Shape, bind};
 use shape_eval::Steps;
 use shapes_graph::ShapesGraph;
 use std::alloc::{AllocError, Global};
 use std::sync::ledger::Ledger;
-
-// The results, by the numbers that the names give the terms.
-fn listing_by_number<N: Names, L: Ledger>(
-    alloc: Global,
-    names: &N,
-    graph: &[Triple],
-    shapes: &ShapesGraph,
-    steps: &mut Steps<L>,
-) -> Result<Vec<ResultRow>, AllocError>
-    requires numbering { IsNumbering (N.terms names.now) }
-    requires graph { AreNamedTriples (N.terms names.now) graph.now }
-    requires shapes { AreNamedTriples (N.terms names.now) shapes.now }
-    ensures { IfOk result (λ rows. Listing graph.now shapes.now rows.items) }
-{
-    let bound = bind(alloc, shapes.shapes(), names)?;
-    let ids = ListGraph::from_triples(number_triples(alloc, names, graph)?);
-    Ok(whole(alloc, &ids, names, &bound, steps)?)
-}
+use triple_index::Index;
 
 fn is_nothing(shapes: &[Shape<Term>]) -> bool
     ensures { IsTrue result ↔ (shapes.now ≡ []) }
@@ -36,9 +21,35 @@ fn is_nothing(shapes: &[Shape<Term>]) -> bool
     shapes.is_empty()
 }
 
+/// Whether a shapes graph has no shape: then no graph has a result under it.
+pub fn is_without_shapes(shapes: &ShapesGraph) -> bool
+    ensures { IsTrue result ↔ ((shape : TermData) → IsShape shapes.now shape → ⊥) }
+{
+    is_nothing(shapes.shapes().shapes.as_slice())
+}
+
 /// The results of validating the data graph by the shapes graph (SHACL section 3.6), each once, in
-/// the order of results. All terms of both are among the names. `steps` is the ledger in which the
-/// evaluations are allowed; how many they are is not promised. It fails only for want of memory.
+/// the order of results. The graph is given by the numbers of its terms; all terms of the shapes are
+/// among the names. `steps` is the ledger in which the evaluations are allowed; how many they are is
+/// not promised. It fails only for want of memory.
+pub fn listing_over<R: Triples, N: Names, L: Ledger>(
+    alloc: Global,
+    graph: &R,
+    names: &N,
+    shapes: &ShapesGraph,
+    steps: &mut Steps<L>,
+) -> Result<Vec<ResultRow>, AllocError>
+    requires numbering { IsNumbering (N.terms names.now) }
+    requires graph { AreNumbered (N.terms names.now) (R.triples graph.now) }
+    requires shapes { AreNamedTriples (N.terms names.now) shapes.now }
+    ensures { IfOk result (λ rows. Listing (graph_of (N.terms names.now) (R.triples graph.now)) shapes.now rows.items) }
+{
+    let bound = bind(alloc, shapes.shapes(), names)?;
+    Ok(whole(alloc, graph, names, &bound, steps)?)
+}
+
+/// The same of a data graph that is given by its terms, which are all among the names. Without shapes
+/// nothing is numbered.
 pub fn listing<N: Names, L: Ledger>(
     alloc: Global,
     names: &N,
@@ -51,8 +62,10 @@ pub fn listing<N: Names, L: Ledger>(
     requires shapes { AreNamedTriples (N.terms names.now) shapes.now }
     ensures { IfOk result (λ rows. Listing graph.now shapes.now rows.items) }
 {
-    if is_nothing(shapes.shapes().shapes.as_slice()) {
+    if is_without_shapes(shapes) {
         return Ok(Vec::new(alloc));
     }
-    Ok(listing_by_number(alloc, names, graph, shapes, steps)?)
+    let ids = number_triples(alloc, names, graph)?;
+    let index = Index::from_triples(alloc, ids.as_slice())?;
+    Ok(listing_over(alloc, &index, names, shapes, steps)?)
 }

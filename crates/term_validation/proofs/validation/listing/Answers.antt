@@ -1,15 +1,28 @@
-use Rattle.std.proofs.Common.{◌∙◌, List, sym, subst}
-use Rattle.rdf_model.specs.declared.term.Term.{Term}
+use Rattle.std.proofs.Common.{List, sym, subst}
+use Rattle.rdf_model.specs.declared.ids.Ids.{Ids}
+use Rattle.rdf_model.specs.Numbers.{graph_of}
+use Rattle.std.specs.Prelude.{◌↔◌}
+use Rattle.std.specs.List.{Contains}
 use Rattle.shape_model.specs.declared.result_row.ResultRow.{ResultRow}
 use Rattle.shape_model.specs.Validation.{Listing}
-use Rattle.shape_ast.specs.declared.shape.Shape.{Shape}
-use Rattle.shape_ast.specs.Naming.{read_shapes}
-use Rattle.shape_ast.specs.Standing.{StandFor}
+use Rattle.term_validation.proofs.Members.{index_members, index_numbered, same_listing}
 use Rattle.term_validation.proofs.NoShapes.{no_shapes}
 use Rattle.term_validation.proofs.validation.listing.Goals as goal
 
-pub returns-then-is_nothing : goal.returns-then-is_nothing
-returns-then-is_nothing g c =
+pub returns-then-is_without_shapes : goal.returns-then-is_without_shapes
+returns-then-is_without_shapes g c =
     let s = c.args.shapes.now in
-    let stand = subst (λ (all : List (Shape Term)). StandFor (read_shapes all) s) (sym c.as_slice.ensures ∙ c.is_nothing.ensures.0 c.if-is_nothing.true) c.shapes.ensures.shapes in
-    subst (λ (rows : List ResultRow). Listing c.args.graph.now s rows) (sym c.new.ensures.items) (no_shapes c.args.graph.now s stand)
+    subst (λ (rows : List ResultRow). Listing c.args.graph.now s rows) (sym c.new.ensures.items) (no_shapes c.args.graph.now s (c.is_without_shapes.ensures.0 c.if-is_without_shapes.true))
+
+pub listing_over-requires-clause-graph : goal.listing_over-requires-clause-graph
+listing_over-requires-clause-graph g c =
+    let terms = g.N.Names.terms c.args.names.now in
+    let index = c.in_ok-index.index in
+    index_numbered terms c.in_ok-ids.ids index c.in_ok-ids.ensures.0 (λ i. subst (λ (is : List Ids). Contains index i ↔ Contains is i) c.as_slice.ensures (c.in_ok-index.ensures.members i))
+
+pub returns : goal.returns
+returns g c =
+    let terms = g.N.Names.terms c.args.names.now in
+    let index = c.in_ok-index.index in
+    let same = λ (i : Ids). subst (λ (is : List Ids). Contains index i ↔ Contains is i) c.as_slice.ensures (c.in_ok-index.ensures.members i) in
+    same_listing (graph_of terms index) c.args.graph.now c.args.shapes.now (index_members terms c.in_ok-ids.ids index c.args.graph.now c.in_ok-ids.ensures.1 same) _ c.in_ok-listing_over.ensures

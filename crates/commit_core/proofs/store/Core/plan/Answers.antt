@@ -1,6 +1,17 @@
-use Rattle.std.proofs.Common.{rules}
+use Rattle.std.proofs.Common.{rules, List, subst, sym}
+use Rattle.rdf_model.specs.declared.change.Change.{Change}
+use Rattle.store_model.specs.Store.{RecordedStore}
+use Rattle.data_graph.specs.DataGraphs.{AreNamedChanges}
+use Rattle.commit_core.specs.Commits.{data_of}
+use Rattle.commit_core.proofs.NamedTerms.{net_named}
 use Rattle.commit_core.proofs.Planning.{judged_result}
 use Rattle.commit_core.proofs.store.Core.plan.Goals as goal
 
+pub after-requires : goal.after-requires
+after-requires g c =
+    let net = c.args.checked.now.transaction.net in
+    let named = subst (λ (s : RecordedStore). AreNamedChanges s.state.named net) (sym c.self.view_is) (net_named _ _ c.requires.committable.net) in
+    subst (λ (cs : List Change). AreNamedChanges c.self.inside.graph.terms cs) (sym c.as_slice.ensures) named
+
 pub returns : goal.returns
-returns g c = judged_result c.args.self.now.limits c.args.self.now.state.graph c.args.self.now.state.shapes c.args.self.now.state.commits c.args.checked.now.transaction _ (search rules, search rules) c.judge.ensures
+returns g c = judged_result c.args.self.now.limits (data_of c.args.self.now) c.args.self.now.state.shapes c.args.self.now.state.commits c.args.checked.now.transaction _ (search rules, search rules) c.judge.ensures

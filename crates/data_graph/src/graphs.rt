@@ -1,7 +1,10 @@
 ghost use Rattle.std.specs.Prelude.{◌≡◌, IfOk, OnOk};
-ghost use Rattle.rdf_model.specs.Graphs.{after, changed, differing, lacking, with_each};
+ghost use Rattle.rdf_model.specs.Graphs.{after, changed, differing};
 ghost use Rattle.store_model.specs.Finds.{found};
+ghost use Rattle.store_model.specs.Store.{changed_triple};
+ghost use Rattle.data_graph.specs.Nets.{is_in_one, in_one};
 
+use collections::sorted_once;
 use page_index::Pages;
 use rdf_model::{Change, Pattern, Triple};
 use std::alloc::{AllocError, Global};
@@ -31,23 +34,6 @@ pub fn graph_after(graph: &Pages<Triple>, net: &[Change]) -> Result<Pages<Triple
     Ok(next)
 }
 
-// The triples of one graph that another lacks.
-fn graph_lacking(
-    alloc: Global,
-    graph: &Pages<Triple>,
-    other: &Pages<Triple>,
-) -> Result<Vec<Triple>, AllocError>
-    ensures { IfOk result (λ v. v.items ≡ lacking graph.now other.now) }
-{
-    let mut missing = Vec::new(alloc);
-    for triple in graph.iter() {
-        if !other.contains(triple) {
-            missing.push(triple.clone()?)?;
-        }
-    }
-    Ok(missing)
-}
-
 /// The triples that the pattern asks for, in their order.
 pub fn graph_matching(
     alloc: Global,
@@ -65,27 +51,56 @@ pub fn graph_matching(
     Ok(matching)
 }
 
-// Puts each of the triples into the graph.
-fn insert_each(graph: &mut Pages<Triple>, triples: Vec<Triple>) -> Result<(), AllocError>
-    ensures { OnOk result (graph.new ≡ with_each graph.old triples.items) }
+// The triple that a change adds or removes.
+fn triple_of(change: &Change) -> &Triple
+    ensures { result.now ≡ changed_triple change.now }
 {
-    for triple in triples {
-        graph.insert(triple)?;
+    match change {
+        Change::Add(triple) => triple,
+        Change::Remove(triple) => triple,
     }
-    Ok(())
 }
 
-/// The triples that are in exactly one of two graphs, ascending.
+// Whether a triple is in exactly one of two graphs.
+fn is_in_one_of(graph: &Pages<Triple>, other: &Pages<Triple>, triple: &Triple) -> bool
+    ensures { result ≡ is_in_one graph.now other.now triple.now }
+{
+    let before = graph.contains(triple);
+    let after = other.contains(triple);
+    (before && !after) || (after && !before)
+}
+
+// The triples of the changes that are in exactly one of two graphs.
+fn changed_in(
+    alloc: Global,
+    graph: &Pages<Triple>,
+    other: &Pages<Triple>,
+    net: &[Change],
+) -> Result<Vec<Triple>, AllocError>
+    ensures { IfOk result (λ v. v.items ≡ in_one graph.now other.now net.now) }
+{
+    let mut triples = Vec::new(alloc);
+    for change in net {
+        let triple = triple_of(change);
+        if is_in_one_of(graph, other, triple) {
+            triples.push(triple.clone()?)?;
+        }
+    }
+    Ok(triples)
+}
+
+/// The triples that are in exactly one of two graphs, ascending, where the second is the first after
+/// the changes. It looks at no triple but theirs.
 pub fn graph_differing(
     alloc: Global,
     graph: &Pages<Triple>,
     other: &Pages<Triple>,
+    net: &[Change],
 ) -> Result<Vec<Triple>, AllocError>
+    requires { other.now ≡ after graph.now net.now }
     ensures { IfOk result (λ v. v.items ≡ differing graph.now other.now) }
 {
     graph.ascends();
-    let mut all = Pages::new(alloc);
-    insert_each(&mut all, graph_lacking(alloc, graph, other)?)?;
-    insert_each(&mut all, graph_lacking(alloc, other, graph)?)?;
-    Ok(all.keys()?)
+    let triples = changed_in(alloc, graph, other, net)?;
+    Ok(sorted_once(triples)?)
 }

@@ -1,0 +1,55 @@
+-- The triples by number stay those of the graph where more terms are named.
+use Rattle.std.proofs.Common.{◌≡◌, true, false, cond, List, [], ◌∷◌, ◌++◌, Option, Some, None, sym, subst, arith, length-append}
+use Rattle.std.specs.Prelude.{◌↔◌}
+use Rattle.std.specs.List.{Contains}
+use Rattle.std.proofs.Math.ListN.{get_or-append}
+use Rattle.collections.specs.Ordered.{has_item}
+use Rattle.rdf_model.specs.declared.ids.Ids.{Ids}
+use Rattle.rdf_model.specs.declared.term.Term.{Term}
+use Rattle.rdf_model.specs.declared.term.Term.TheVariants.{Blank}
+use Rattle.rdf_model.specs.declared.triple.Triple.{Triple}
+use Rattle.rdf_model.specs.Numbers.{AreNumbered, graph_of, triple_at}
+use Rattle.rdf_model.specs.Terms.{term_cmp}
+use Rattle.term_dict.specs.Names.{with_terms}
+use Rattle.term_validation.specs.Named.{IsNumbered}
+use Rattle.data_graph.specs.DataGraphs.{IsIndexOf, IsIndexed}
+
+same_triple : (terms : List Term) (u : Term) (i : Ids) → IsNumbered terms i → triple_at (terms ++ u ∷ []) i ≡ triple_at terms i
+same_triple terms u i n =
+    let subject = get_or-append terms (u ∷ []) (Blank 0 0) i.subject n.0 in
+    let predicate = get_or-append terms (u ∷ []) (Blank 0 0) i.predicate n.1 in
+    let object = get_or-append terms (u ∷ []) (Blank 0 0) i.object n.2 in
+    λ k. record { subject = subject k; predicate = predicate k; object = object k }
+
+same_triples : (terms : List Term) (u : Term) (ids : List Ids) → AreNumbered terms ids → graph_of (terms ++ u ∷ []) ids ≡ graph_of terms ids
+same_triples terms u [] a = λ k. []
+same_triples terms u (i ∷ is) a = let one = same_triple terms u i a.0 in let more = same_triples terms u is a.1 in λ k. one k ∷ more k
+
+still_numbered : (terms : List Term) (u : Term) (ids : List Ids) → AreNumbered terms ids → AreNumbered (terms ++ u ∷ []) ids
+still_numbered terms u [] a = tt
+still_numbered terms u (i ∷ is) a =
+    let l = length-append terms (u ∷ []) in
+    let n = a.0 in
+    ((omega (arith, l, n.0), omega (arith, l, n.1), omega (arith, l, n.2)), still_numbered terms u is a.1)
+
+one_more : (terms : List Term) (u : Term) (ids : List Ids) (g : List Triple) → IsIndexOf terms ids g → IsIndexOf (terms ++ u ∷ []) ids g
+one_more terms u ids g x = record {
+  numbered = still_numbered terms u ids x.numbered;
+  members = λ t. subst (λ (ts : List Triple). Contains ts t ↔ Contains g t) (sym (same_triples terms u ids x.numbered)) (x.members t);
+}
+
+all_more : (terms ts : List Term) (ids : List Ids) (g : List Triple) → IsIndexOf terms ids g → IsIndexOf (with_terms terms ts) ids g
+all_more terms [] ids g x = x
+all_more terms (t ∷ ts) ids g x = elim (has_item term_cmp t terms) as (λ b. IsIndexOf (with_terms (cond b terms (terms ++ t ∷ [])) ts) ids g) [
+  | true ↦ all_more terms ts ids g x
+  | false ↦ all_more (terms ++ t ∷ []) ts ids g (one_more terms t ids g x)
+]
+
+-- by the names that a dictionary has afterwards
+named_more : (terms more ts : List Term) (ids : List Ids) (g : List Triple) → more ≡ with_terms terms ts → IsIndexOf terms ids g → IsIndexOf more ids g
+named_more terms more ts ids g e x = subst (λ (us : List Term). IsIndexOf us ids g) (sym e) (all_more terms ts ids g x)
+
+-- where they are there
+pub indexed_more : (terms more ts : List Term) (numbers : Option (List Ids)) (g : List Triple) → more ≡ with_terms terms ts → IsIndexed terms numbers g → IsIndexed more numbers g
+indexed_more terms more ts None g e x = tt
+indexed_more terms more ts (Some ids) g e x = named_more terms more ts ids g e x

@@ -1,0 +1,4 @@
+pub mod Changing
+pub mod Differing
+pub mod Growing
+pub mod Tests

@@ -1,0 +1,8 @@
+use Rattle.std.proofs.Common.{subst, sym}
+use Rattle.rdf_model.specs.declared.change.Change.{Change}
+use Rattle.store_model.specs.Store.{changed_triple}
+use Rattle.term_validation.specs.Named.{IsNamedTriple}
+use Rattle.data_graph.proofs.numbering.number_changes.Goals as goal
+
+pub number_change-requires : goal.number_change-requires
+number_change-requires c = subst (λ (x : Change). IsNamedTriple c.args.names.now.terms (changed_triple x)) (sym c.change-item.is) (c.requires c.loop-change.change-index c.change-item.result c.loop-change-test.true)

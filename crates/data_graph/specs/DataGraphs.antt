@@ -1,0 +1,59 @@
+-- A data graph with numbers for its terms.
+use Rattle.std.specs.Prelude.{◌↔◌, ℕ, List, MatchOption, Option}
+use Rattle.collections.specs.Ordered.{IsAscending}
+use Rattle.rdf_model.specs.Terms.{triple_cmp}
+use Rattle.std.specs.List.{All, Contains}
+use Rattle.rdf_model.specs.declared.change.Change.{Change}
+use Rattle.rdf_model.specs.declared.change.Change.TheVariants as changes
+use Rattle.rdf_model.specs.declared.ids.Ids.{Ids}
+use Rattle.rdf_model.specs.declared.term.Term.{Term}
+use Rattle.rdf_model.specs.declared.triple.Triple.{Triple}
+use Rattle.rdf_model.specs.Graphs.{after}
+use Rattle.rdf_model.specs.Numbers.{AreNumbered, graph_of, triple_at}
+use Rattle.store_model.specs.Store.{changed_triple}
+use Rattle.term_dict.specs.Names.{Named, with_terms}
+use Rattle.term_validation.specs.Named.{IsNamedTriple, IsNumbered}
+use Rattle.triple_index.specs.declared.change.NumberedChange.{NumberedChange}
+use Rattle.triple_index.specs.declared.change.NumberedChange.TheVariants.{Add, Remove}
+
+-- what a data graph is to contracts: its triples, the terms by their numbers, and how many are named beside the first two
+pub record NamedGraph : Type 0 where
+  pub triples : List Triple
+  pub terms : List Term
+  pub limit : ℕ
+
+abbrev pub names_of : NamedGraph → Named
+names_of g = record { terms = g.terms; limit = g.limit }
+
+-- the graph where more terms are named, and the graph after changes
+abbrev pub with_names : NamedGraph → List Term → NamedGraph
+with_names g ts = record { triples = g.triples; terms = with_terms g.terms ts; limit = g.limit }
+
+abbrev pub with_changes : NamedGraph → List Change → NamedGraph
+with_changes g net = record { triples = after g.triples net; terms = g.terms; limit = g.limit }
+
+-- each number of the triples has a term, and read as terms they have just the members of the graph
+pub record IsIndexOf (terms : List Term) (ids : List Ids) (g : List Triple) : Type 0 where
+  pub numbered : AreNumbered terms ids
+  pub members : (t : Triple) → Contains (graph_of terms ids) t ↔ Contains g t
+
+-- the terms of the triples that are added or removed are named
+abbrev pub AreNamedChanges : List Term → List Change → Type 0
+AreNamedChanges terms net = All (λ c. IsNamedTriple terms (changed_triple c)) net
+
+-- a change of numbers that have terms, and the change of triples that it stands for
+abbrev pub IsNumberedChange : List Term → NumberedChange → Type 0
+IsNumberedChange terms (Add i) = IsNumbered terms i
+IsNumberedChange terms (Remove i) = IsNumbered terms i
+
+abbrev pub change_at : List Term → NumberedChange → Change
+change_at terms (Add i) = changes.Add (triple_at terms i)
+change_at terms (Remove i) = changes.Remove (triple_at terms i)
+
+-- after changes the numbers later are the index of each graph after them whose index the numbers ids were
+abbrev pub KeepsIndex : List Term → List Ids → List Change → List Ids → Type 0
+KeepsIndex terms ids net later = (g : List Triple) → IsAscending triple_cmp g → IsIndexOf terms ids g → IsIndexOf terms later (after g net)
+
+-- the triples by number, where they are there
+abbrev pub IsIndexed : List Term → Option (List Ids) → List Triple → Type 0
+IsIndexed terms numbers g = MatchOption numbers (Unit {0}) (λ ids. IsIndexOf terms ids g)

@@ -1,0 +1,2 @@
+pub mod DataGraphs
+pub mod Nets

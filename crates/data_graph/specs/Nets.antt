@@ -1,0 +1,14 @@
+-- The triples of changes that are in exactly one of two graphs.
+use Rattle.std.specs.Prelude.{Bool, not, ◌&&◌, ◌||◌, List, map}
+use Rattle.std.specs.List.{filter}
+use Rattle.collections.specs.Ordered.{has_item}
+use Rattle.rdf_model.specs.declared.change.Change.{Change}
+use Rattle.rdf_model.specs.declared.triple.Triple.{Triple}
+use Rattle.rdf_model.specs.Terms.{triple_cmp}
+use Rattle.store_model.specs.Store.{changed_triple}
+
+abbrev pub is_in_one : List Triple → List Triple → Triple → Bool
+is_in_one g h t = (has_item triple_cmp t g && not (has_item triple_cmp t h)) || (has_item triple_cmp t h && not (has_item triple_cmp t g))
+
+abbrev pub in_one : List Triple → List Triple → List Change → List Triple
+in_one g h net = filter (is_in_one g h) (map changed_triple net)

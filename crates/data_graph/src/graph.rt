@@ -1,0 +1,156 @@
+ghost use Rattle.std.specs.Prelude.{◌≡◌, ◌+◌, ◌<◌, ◌≤◌, ◌^◌, [], IfErr, IfOk, OnErr, OnOk, length};
+ghost use Rattle.rdf_model.specs.Graphs.{after};
+ghost use Rattle.shape_model.specs.Validation.{Listing};
+ghost use Rattle.term_dict.specs.Faults.{IsCause};
+ghost use Rattle.term_dict.specs.Names.{AreNumbersOf, first_terms, with_terms};
+ghost use Rattle.term_validation.specs.Named.{AreNamedTriples};
+ghost use Rattle.data_graph.specs.DataGraphs.{AreNamedChanges, IsIndexOf, IsIndexed, names_of, with_changes, with_names};
+
+use crate::graphs::graph_after;
+use crate::numbering::{index_after, index_of, listing_by};
+use page_index::Pages;
+use rdf_model::{Change, Term, Triple};
+use shape_eval::Steps;
+use shape_model::ResultRow;
+use shapes_graph::ShapesGraph;
+use std::alloc::{AllocError, Global};
+use std::marker::Model;
+use std::sync::ledger::Ledger;
+use term_dict::{Dict, NameFault};
+use term_validation::is_without_shapes;
+use triple_index::Index;
+
+/// A data graph with numbers for its terms. Contracts see its triples, the terms by their numbers,
+/// and how many may be named beside the two first. Its triples by number are there once it, or one
+/// that it was made from, was validated.
+pub struct DataGraph {
+    alloc: Global,
+    triples: Pages<Triple>,
+    names: Dict,
+    numbers: Option<Index>,
+}
+
+impl Model for DataGraph {
+    ghost use Rattle.data_graph.specs.DataGraphs.{IsIndexed, NamedGraph};
+
+    ghost Value = { NamedGraph };
+
+    ghost view = { λ g. record { triples = g.triples; terms = g.names.terms; limit = g.names.limit } };
+
+    ghost invariant = { λ g. IsIndexed g.names.terms g.numbers g.triples };
+}
+
+// Written by hand, so that what owns one calls it in place of having it written out.
+impl Drop for DataGraph {
+    fn drop(self) {
+        let DataGraph {
+            alloc: _,
+            triples: _,
+            names: _,
+            numbers: _,
+        } = self;
+    }
+}
+
+impl DataGraph {
+    /// A graph with no triple, where rdf:type and rdfs:subClassOf are named, and as many terms beside
+    /// them may be as the limit says.
+    pub fn new(alloc: Global, limit: usize) -> Result<DataGraph, AllocError>
+        requires { limit + 2 < 2 ^ 32 }
+        ensures { IfOk result (λ graph. graph ≡ record { triples = []; terms = first_terms; limit = limit }) }
+    {
+        let names = Dict::new(alloc, limit)?;
+        Ok(DataGraph {
+            alloc,
+            triples: Pages::new(alloc),
+            names,
+            numbers: None,
+        })
+    }
+
+    /// The triples.
+    pub fn triples(&self) -> &Pages<Triple>
+        ensures { result.now ≡ self.now.triples }
+    {
+        &self.triples
+    }
+
+    /// The names of terms.
+    pub fn names(&self) -> &Dict
+        ensures { result.now ≡ names_of self.now }
+    {
+        &self.names
+    }
+
+    /// Names terms, as `Dict::name_all` does. After an error the graph is as it was.
+    pub fn name_all(&mut self, terms: &[Term]) -> Result<Vec<u32>, NameFault>
+        ensures ok { OnOk result (self.new ≡ with_names self.old terms.now) }
+        ensures numbers { IfOk result (λ numbers. AreNumbersOf self.new.terms terms.now numbers.items) }
+        ensures fits { OnOk result (length (with_terms self.old.terms terms.now) ≤ self.old.limit + 2) }
+        ensures err { OnErr result (self.new ≡ self.old) }
+        ensures cause { IfErr result (λ fault. IsCause fault (names_of self.old) terms.now) }
+    {
+        let numbers = self.names.name_all(terms)?;
+        Ok(numbers)
+    }
+
+    // The triples by number.
+    fn index(&self) -> Result<Index, AllocError>
+        requires { AreNamedTriples self.now.terms self.now.triples }
+        ensures { IfOk result (λ numbers. IsIndexOf self.now.terms numbers self.now.triples) }
+    {
+        match &self.numbers {
+            Some(numbers) => Ok(numbers.share()?),
+            None => index_of(self.alloc, &self.names, &self.triples),
+        }
+    }
+
+    // The triples by number after the changes, where they are there before.
+    fn numbers_after(&self, net: &[Change]) -> Result<Option<Index>, AllocError>
+        requires { AreNamedChanges self.now.terms net.now }
+        ensures { IfOk result (λ numbers. IsIndexed self.now.terms numbers (after self.now.triples net.now)) }
+    {
+        self.triples.ascends();
+        match &self.numbers {
+            Some(numbers) => Ok(Some(index_after(self.alloc, &self.names, numbers, net)?)),
+            None => Ok(None),
+        }
+    }
+
+    /// The graph after the changes, whose terms are all named. It shares with this one what they leave.
+    pub fn after(&self, net: &[Change]) -> Result<DataGraph, AllocError>
+        requires { AreNamedChanges self.now.terms net.now }
+        ensures { IfOk result (λ next. next ≡ with_changes self.now net.now) }
+    {
+        let triples = graph_after(&self.triples, net)?;
+        let numbers = self.numbers_after(net)?;
+        let names = self.names.share()?;
+        Ok(DataGraph {
+            alloc: self.alloc,
+            triples,
+            names,
+            numbers,
+        })
+    }
+
+    /// The results of validating the graph by the shapes graph (SHACL section 3.6), each once, in the
+    /// order of results. All terms of both are named. Without shapes nothing is numbered.
+    pub fn listing<L: Ledger>(
+        &mut self,
+        shapes: &ShapesGraph,
+        steps: &mut Steps<L>,
+    ) -> Result<Vec<ResultRow>, AllocError>
+        requires graph { AreNamedTriples self.old.terms self.old.triples }
+        requires shapes { AreNamedTriples self.old.terms shapes.now }
+        ensures same { self.new ≡ self.old }
+        ensures rows { IfOk result (λ rows. Listing self.old.triples shapes.now rows.items) }
+    {
+        if is_without_shapes(shapes) {
+            return Ok(Vec::new(self.alloc));
+        }
+        let numbers = self.index()?;
+        let rows = listing_by(self.alloc, &self.names, &numbers, shapes, steps)?;
+        self.numbers = Some(numbers);
+        Ok(rows)
+    }
+}

@@ -1,0 +1,102 @@
+ghost use Rattle.std.specs.Prelude.{◌≡◌, ◌↔◌, IfOk, map};
+ghost use Rattle.std.specs.List.{AllByRecursion, Contains};
+ghost use Rattle.rdf_model.specs.Numbers.{AreNumbered, graph_of};
+ghost use Rattle.shape_model.specs.Validation.{Listing};
+ghost use Rattle.store_model.specs.Store.{changed_triple};
+ghost use Rattle.term_validation.specs.Named.{AreNamedTriples, IsNamedTriple};
+ghost use Rattle.triple_index.specs.Changes.{after_ids};
+ghost use Rattle.data_graph.specs.DataGraphs.{AreNamedChanges, IsIndexOf, IsNumberedChange, KeepsIndex, change_at};
+
+use page_index::Pages;
+use rdf_model::{Change, Ids, Triple};
+use shape_eval::Steps;
+use shape_model::ResultRow;
+use shapes_graph::ShapesGraph;
+use std::alloc::{AllocError, Global};
+use std::sync::ledger::Ledger;
+use term_dict::Dict;
+use term_validation::{listing_over, number_triple};
+use triple_index::{Index, NumberedChange};
+
+// The triples of a graph by the numbers of their terms, in their order.
+fn number_graph(alloc: Global, names: &Dict, graph: &Pages<Triple>) -> Result<Vec<Ids>, AllocError>
+    requires { AreNamedTriples names.now.terms graph.now }
+    ensures { IfOk result (λ ids. AreNumbered names.now.terms ids.items × (graph_of names.now.terms ids.items ≡ graph.now)) }
+{
+    let mut ids = Vec::with_capacity(alloc, graph.len())?;
+    for triple in graph.iter() {
+        ids.push(number_triple(names, triple))?;
+    }
+    Ok(ids)
+}
+
+/// The index of a graph, built at once.
+pub fn index_of(alloc: Global, names: &Dict, graph: &Pages<Triple>) -> Result<Index, AllocError>
+    requires { AreNamedTriples names.now.terms graph.now }
+    ensures { IfOk result (λ index. IsIndexOf names.now.terms index graph.now) }
+{
+    let ids = number_graph(alloc, names, graph)?;
+    Ok(Index::from_triples(alloc, &ids)?)
+}
+
+// A change by the numbers of its terms.
+fn number_change(names: &Dict, change: &Change) -> NumberedChange
+    requires { IsNamedTriple names.now.terms (changed_triple change.now) }
+    ensures numbered { IsNumberedChange names.now.terms result }
+    ensures change { change_at names.now.terms result ≡ change.now }
+{
+    match change {
+        Change::Add(triple) => NumberedChange::Add(number_triple(names, triple)),
+        Change::Remove(triple) => NumberedChange::Remove(number_triple(names, triple)),
+    }
+}
+
+// The changes by the numbers of their terms, in their order.
+fn number_changes(
+    alloc: Global,
+    names: &Dict,
+    net: &[Change],
+) -> Result<Vec<NumberedChange>, AllocError>
+    requires { AreNamedChanges names.now.terms net.now }
+    ensures { IfOk result (λ changes. AllByRecursion (IsNumberedChange names.now.terms) changes.items × (map (change_at names.now.terms) changes.items ≡ net.now)) }
+{
+    let mut changes = Vec::with_capacity(alloc, net.len())?;
+    for change in net {
+        changes.push(number_change(names, change))?;
+    }
+    Ok(changes)
+}
+
+/// The index after the changes. It shares with the index what they leave.
+pub fn index_after(
+    alloc: Global,
+    names: &Dict,
+    index: &Index,
+    net: &[Change],
+) -> Result<Index, AllocError>
+    requires { AreNamedChanges names.now.terms net.now }
+    ensures { IfOk result (KeepsIndex names.now.terms index.now net.now) }
+{
+    names.is_numbering();
+    index.ascends();
+    let changes = number_changes(alloc, names, net)?;
+    let mut next = index.share()?;
+    next.apply(&changes)?;
+    Ok(next)
+}
+
+/// The listing of the graph that an index stands for.
+pub fn listing_by<L: Ledger>(
+    alloc: Global,
+    names: &Dict,
+    index: &Index,
+    shapes: &ShapesGraph,
+    steps: &mut Steps<L>,
+) -> Result<Vec<ResultRow>, AllocError>
+    requires index { AreNumbered names.now.terms index.now }
+    requires shapes { AreNamedTriples names.now.terms shapes.now }
+    ensures { IfOk result (λ rows. Listing (graph_of names.now.terms index.now) shapes.now rows.items) }
+{
+    names.is_numbering();
+    Ok(listing_over(alloc, index, names, shapes, steps)?)
+}
