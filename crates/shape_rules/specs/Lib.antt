@@ -6,3 +6,4 @@ pub mod Syntax
 pub mod References
 pub mod Broken
 pub mod Steps
+pub mod Laws

@@ -5,6 +5,7 @@
 //! binary search in a graph that ascends. Rule 40 isn't asked so far.
 #![tactic(auto)]
 
+pub mod laws;
 mod least;
 mod passes;
 mod property;
