@@ -1,3 +1,4 @@
+pub mod Refusing
 pub mod Keeping
 pub mod Playing
 pub mod Closing

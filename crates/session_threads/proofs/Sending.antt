@@ -157,16 +157,18 @@ command_sync = search (triple_sent.the_sync, shapes_sync, term_sent.the_sync, se
 store_sync : IsSync store.the_row
 store_sync = search (turns_sent.the_sync, shared_send, crosses, sendable) depth 60 fits 20000
 
-four_sync : (ν : Sym) (A B C D : RattleType) → IsSync A → IsSync B → IsSync C → IsSync D → IsSync (TupleAt ν (A ∷ B ∷ C ∷ D ∷ []))
-four_sync ν A B C D a b c d = declared_sync (type_at ν (A ∷ B ∷ C ∷ D ∷ [])) (as_row_sync (row_field A) a, (as_row_sync (row_field B) b, (as_row_sync (row_field C) c, (as_row_sync (row_field D) d, tt))))
+five_sync : (ν : Sym) (A B C D E : RattleType) → IsSync A → IsSync B → IsSync C → IsSync D → IsSync E → IsSync (TupleAt ν (A ∷ B ∷ C ∷ D ∷ E ∷ []))
+five_sync ν A B C D E a b c d e =
+    declared_sync (type_at ν (A ∷ B ∷ C ∷ D ∷ E ∷ [])) (as_row_sync (row_field A) a, (as_row_sync (row_field B) b, (as_row_sync (row_field C) c, (as_row_sync (row_field D) d, (as_row_sync (row_field E) e, tt)))))
 
--- what all threads see: the runtime, the allocator, the store and the files
-held_sync : (ν : Sym) (α β γ δ : NamedLft) (R : RattleType) → IsSync R
-    → IsSync (TupleAt ν (ShrRef α.mir α.lft R ∷ ShrRef β.mir β.lft heap.the_row ∷ ShrRef γ.mir γ.lft store.the_row ∷ ShrSlice δ.mir δ.lft (sequence.the_row command.the_row) ∷ []))
-held_sync ν α β γ δ R sent = four_sync ν (ShrRef α.mir α.lft R) (ShrRef β.mir β.lft heap.the_row) (ShrRef γ.mir γ.lft store.the_row) (ShrSlice δ.mir δ.lft (sequence.the_row command.the_row))
-    (shr_sync α.mir α.lft R sent) (shr_sync β.mir β.lft heap.the_row crossing.sync) (shr_sync γ.mir γ.lft store.the_row store_sync)
-    (shr_slice_sync δ.mir δ.lft (sequence.the_row command.the_row) (sequence_sent.the_sync command.the_row command_sync))
+-- what all threads see: the runtime, the allocator, the store, the files and the gate
+held_sync : (ν : Sym) (α β γ δ ε : NamedLft) (R G : RattleType) → IsSync R → IsSync G
+    → IsSync (TupleAt ν (ShrRef α.mir α.lft R ∷ ShrRef β.mir β.lft heap.the_row ∷ ShrRef γ.mir γ.lft store.the_row ∷ ShrSlice δ.mir δ.lft (sequence.the_row command.the_row) ∷ ShrRef ε.mir ε.lft G ∷ []))
+held_sync ν α β γ δ ε R G run gate =
+    five_sync ν (ShrRef α.mir α.lft R) (ShrRef β.mir β.lft heap.the_row) (ShrRef γ.mir γ.lft store.the_row) (ShrSlice δ.mir δ.lft (sequence.the_row command.the_row)) (ShrRef ε.mir ε.lft G)
+    (shr_sync α.mir α.lft R run) (shr_sync β.mir β.lft heap.the_row crossing.sync) (shr_sync γ.mir γ.lft store.the_row store_sync)
+    (shr_slice_sync δ.mir δ.lft (sequence.the_row command.the_row) (sequence_sent.the_sync command.the_row command_sync)) (shr_sync ε.mir ε.lft G gate)
 
-pub closure_sync : (σ : Ty) (ν : Sym) (α β γ δ : NamedLft) (R : RattleType) → IsSync R
-    → IsSync (param 2 (arg σ no (TupleAt ν (ShrRef α.mir α.lft R ∷ ShrRef β.mir β.lft heap.the_row ∷ ShrRef γ.mir γ.lft store.the_row ∷ ShrSlice δ.mir δ.lft (sequence.the_row command.the_row) ∷ []))))
-closure_sync σ ν α β γ δ R sent = record { shared = (held_sync ν α β γ δ R sent).shared }
+pub closure_sync : (σ : Ty) (ν : Sym) (α β γ δ ε : NamedLft) (R G : RattleType) → IsSync R → IsSync G
+    → IsSync (param 2 (arg σ no (TupleAt ν (ShrRef α.mir α.lft R ∷ ShrRef β.mir β.lft heap.the_row ∷ ShrRef γ.mir γ.lft store.the_row ∷ ShrSlice δ.mir δ.lft (sequence.the_row command.the_row) ∷ ShrRef ε.mir ε.lft G ∷ []))))
+closure_sync σ ν α β γ δ ε R G run gate = record { shared = (held_sync ν α β γ δ ε R G run gate).shared }

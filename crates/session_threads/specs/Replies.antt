@@ -63,3 +63,7 @@ IsRefused (BrokenShapes rule node) r = r ≡ told.ShapesBroken rule node
 IsRefused Commit r = ⊥
 IsRefused (Find p) r = ⊥
 IsRefused Abort r = ⊥
+
+-- a command whose block can't be read or isn't well-formed
+abbrev pub IsRefusedBlock : Command → Type 0
+IsRefusedBlock c = (r : SessionReply) × IsRefused c r

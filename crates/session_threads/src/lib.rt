@@ -9,6 +9,7 @@ mod perform;
 mod play;
 mod replies;
 mod team;
+mod watch;
 
 pub use play::play_file;
 pub use team::run_all;

@@ -3,12 +3,16 @@ ghost use Rattle.std.specs.Prelude.{◌≡◌, ◌∷◌, ◌++◌, [], IfOk, On
 ghost use Rattle.guard_store.specs.Transactions.{plain_in};
 ghost use Rattle.guard_store.specs.Callers.{HasWork, IsSession, OnlyReads};
 ghost use Rattle.session_player.specs.Ready.{answer_in};
-ghost use Rattle.session_threads.specs.Replies.{IsRefused};
+ghost use Rattle.session_threads.specs.Replies.{IsRefusedBlock};
 ghost use Rattle.session_threads.specs.Playing.{Plays};
 
-use crate::replies::{abort_reply, begin_reply, commit_reply, find_reply, stage_reply};
+use crate::replies::{
+    abort_reply, begin_reply, block_refusal, commit_reply, find_reply, stage_reply,
+};
+use crate::watch::{Watch, is_ready, next_event};
 use collections::Sequence;
-use guard_store::{Session, Store};
+use guard_store::{BeginFault, CommitFault, Session, StageFault, Store};
+use outside::{EventKind, Gate};
 use rdf_model::{Pattern, Triple};
 use session_model::{Command, SessionReply};
 use shape_eval::Steps;
@@ -17,9 +21,10 @@ use std::alloc::{AllocError, Global};
 use std::sync::Wait;
 use std::sync::ledger::Ledger;
 
-fn begin<R: Wait>(
+fn begin<R: Wait, G: Gate>(
     rt: &R,
     store: &Store,
+    watch: &mut Watch<G>,
     session: Session,
     replies: &mut Sequence<SessionReply>,
 ) -> Result<Session, AllocError>
@@ -27,14 +32,16 @@ fn begin<R: Wait>(
     ensures { IfOk result (λ next. Plays store.now session next Command.Begin replies.old replies.new) }
 {
     let (session, answer) = store.begin(rt, session);
+    watch.after(answer == Err(BeginFault::Memory), false);
     let reply = begin_reply(answer)?;
     replies.push(reply)?;
     Ok(session)
 }
 
-fn add<R: Wait>(
+fn add<R: Wait, G: Gate>(
     rt: &R,
     store: &Store,
+    watch: &mut Watch<G>,
     session: Session,
     triples: &Sequence<Triple>,
     replies: &mut Sequence<SessionReply>,
@@ -43,14 +50,16 @@ fn add<R: Wait>(
     ensures { IfOk result (λ next. Plays store.now session next (Command.Add triples.now) replies.old replies.new) }
 {
     let (session, answer) = store.stage_add(rt, session, triples.as_slice());
+    watch.after(answer == Err(StageFault::Memory), false);
     let reply = stage_reply(answer, SessionReply::Added(triples.len()))?;
     replies.push(reply)?;
     Ok(session)
 }
 
-fn remove<R: Wait>(
+fn remove<R: Wait, G: Gate>(
     rt: &R,
     store: &Store,
+    watch: &mut Watch<G>,
     session: Session,
     triples: &Sequence<Triple>,
     replies: &mut Sequence<SessionReply>,
@@ -59,14 +68,16 @@ fn remove<R: Wait>(
     ensures { IfOk result (λ next. Plays store.now session next (Command.Remove triples.now) replies.old replies.new) }
 {
     let (session, answer) = store.stage_remove(rt, session, triples.as_slice());
+    watch.after(answer == Err(StageFault::Memory), false);
     let reply = stage_reply(answer, SessionReply::Removed(triples.len()))?;
     replies.push(reply)?;
     Ok(session)
 }
 
-fn stage<R: Wait>(
+fn stage<R: Wait, G: Gate>(
     rt: &R,
     store: &Store,
+    watch: &mut Watch<G>,
     session: Session,
     shapes: &ShapesGraph,
     replies: &mut Sequence<SessionReply>,
@@ -75,8 +86,12 @@ fn stage<R: Wait>(
     ensures { IfOk result (λ next. Plays store.now session next (Command.Shapes shapes.now) replies.old replies.new) }
 {
     let count = shapes.triples().len();
-    let copy = shapes.share()?;
+    let Ok(copy) = shapes.share() else {
+        watch.after(true, false);
+        return Err(AllocError);
+    };
     let (session, answer) = store.stage_shapes(rt, session, copy);
+    watch.after(answer == Err(StageFault::Memory), false);
     let reply = stage_reply(answer, SessionReply::ShapesStaged(count))?;
     replies.push(reply)?;
     Ok(session)
@@ -158,10 +173,11 @@ fn end_reading<L: Ledger, R: Wait>(
 }
 
 // Takes the newest version, then commits.
-fn commit_work<L: Ledger, R: Wait>(
+fn commit_work<L: Ledger, R: Wait, G: Gate>(
     rt: &R,
     alloc: Global,
     store: &Store,
+    watch: &mut Watch<G>,
     session: Session,
     replies: &mut Sequence<SessionReply>,
     steps: &mut Steps<L>,
@@ -171,19 +187,24 @@ fn commit_work<L: Ledger, R: Wait>(
     ensures { IfOk result (λ next. Plays store.now session next Command.Commit replies.old replies.new) }
 {
     let (session, answer) = store.head(rt, session);
+    watch.after(answer.is_err(), false);
     let Ok(_) = answer else {
         return Err(AllocError);
     };
+    watch.before(Some(EventKind::Commit));
     let (session, answer) = store.commit(rt, session, steps);
+    let ran_out = matches!(answer, Err(CommitFault::Memory));
+    watch.after(ran_out, is_ready(&answer));
     let reply = commit_reply(alloc, answer)?;
     replies.push(reply)?;
     Ok(session)
 }
 
-fn commit<L: Ledger, R: Wait>(
+fn commit<L: Ledger, R: Wait, G: Gate>(
     rt: &R,
     alloc: Global,
     store: &Store,
+    watch: &mut Watch<G>,
     session: Session,
     replies: &mut Sequence<SessionReply>,
     steps: &mut Steps<L>,
@@ -192,7 +213,7 @@ fn commit<L: Ledger, R: Wait>(
     ensures { IfOk result (λ next. Plays store.now session next Command.Commit replies.old replies.new) }
 {
     if session.has_work() {
-        commit_work(rt, alloc, store, session, replies, steps)
+        commit_work(rt, alloc, store, watch, session, replies, steps)
     } else {
         end_reading(rt, alloc, store, session, replies, steps)
     }
@@ -203,24 +224,24 @@ fn refuse(
     store: &Store,
     session: Session,
     command: &Command,
-    reply: SessionReply,
     replies: &mut Sequence<SessionReply>,
 ) -> Result<Session, AllocError>
     requires session { IsSession store.now session }
-    requires local { IsRefused command.now reply }
+    requires refused { IsRefusedBlock command.now }
     ensures { IfOk result (λ next. Plays store.now session next command.now replies.old replies.new) }
 {
     let _ = store;
-    let _ = command;
+    let reply = block_refusal(command)?;
     push_answer(&session, reply, replies)?;
     Ok(session)
 }
 
-/// Does one command of a session, and adds its reply.
-pub fn perform<L: Ledger, R: Wait>(
+/// Does one command of a session, and adds its reply. The gate is told of each of its events.
+pub fn perform<L: Ledger, R: Wait, G: Gate>(
     rt: &R,
     alloc: Global,
     store: &Store,
+    watch: &mut Watch<G>,
     session: Session,
     command: &Command,
     replies: &mut Sequence<SessionReply>,
@@ -229,41 +250,18 @@ pub fn perform<L: Ledger, R: Wait>(
     requires { IsSession store.now session }
     ensures { IfOk result (λ next. Plays store.now session next command.now replies.old replies.new) }
 {
+    watch.before(next_event(&session, command));
     match command {
-        Command::Begin => begin(rt, store, session, replies),
-        Command::Add(triples) => add(rt, store, session, triples, replies),
-        Command::Remove(triples) => remove(rt, store, session, triples, replies),
-        Command::Shapes(shapes) => stage(rt, store, session, shapes, replies),
-        Command::BadAdd { line, kind } => {
-            let reply = SessionReply::AddRefused {
-                line: *line,
-                kind: *kind,
-            };
-            refuse(store, session, command, reply, replies)
-        }
-        Command::BadRemove { line, kind } => {
-            let reply = SessionReply::RemoveRefused {
-                line: *line,
-                kind: *kind,
-            };
-            refuse(store, session, command, reply, replies)
-        }
-        Command::BadShapes { line, kind } => {
-            let reply = SessionReply::ShapesRefused {
-                line: *line,
-                kind: *kind,
-            };
-            refuse(store, session, command, reply, replies)
-        }
-        Command::BrokenShapes { rule, node } => {
-            let reply = SessionReply::ShapesBroken {
-                rule: *rule,
-                node: node.clone()?,
-            };
-            refuse(store, session, command, reply, replies)
-        }
-        Command::Commit => commit(rt, alloc, store, session, replies, steps),
+        Command::Begin => begin(rt, store, watch, session, replies),
+        Command::Add(triples) => add(rt, store, watch, session, triples, replies),
+        Command::Remove(triples) => remove(rt, store, watch, session, triples, replies),
+        Command::Shapes(shapes) => stage(rt, store, watch, session, shapes, replies),
+        Command::Commit => commit(rt, alloc, store, watch, session, replies, steps),
         Command::Find(pattern) => find(alloc, store, session, pattern, replies),
         Command::Abort => abort(store, session, replies),
+        Command::BadAdd { line: _, kind: _ }
+        | Command::BadRemove { line: _, kind: _ }
+        | Command::BadShapes { line: _, kind: _ }
+        | Command::BrokenShapes { rule: _, node: _ } => refuse(store, session, command, replies),
     }
 }

@@ -4,8 +4,10 @@ ghost use Rattle.guard_store.specs.Callers.{IsSession};
 ghost use Rattle.session_threads.specs.Playing.{PlaysAll};
 
 use crate::perform::perform;
+use crate::watch::Watch;
 use collections::Sequence;
 use guard_store::{Session, Store};
+use outside::Gate;
 use session_model::{Command, SessionReply};
 use shape_eval::Steps;
 use std::alloc::{AllocError, Global};
@@ -14,12 +16,13 @@ use std::sync::Wait;
 use std::sync::ledger::{Blank, Ledger};
 
 // Plays all commands of a file, in an own ledger of evaluations.
-fn play_in<L: Ledger, R: Wait>(
+fn play_in<L: Ledger, R: Wait, G: Gate>(
     rt: &R,
     alloc: Global,
     store: &Store,
     session: Session,
     commands: &[Command],
+    gate: &G,
     blank: Blank,
 ) -> Result<(Session, Sequence<SessionReply>), AllocError>
     requires session { IsSession store.now session }
@@ -31,24 +34,35 @@ fn play_in<L: Ledger, R: Wait>(
 {
     let mut steps = Steps::<L>::begin(blank);
     let mut replies = Sequence::new(alloc);
+    let mut watch = Watch::new(gate, session.number());
     let mut session = session;
     for command in commands {
-        session = perform(rt, alloc, store, session, command, &mut replies, &mut steps)?;
+        session = perform(
+            rt,
+            alloc,
+            store,
+            &mut watch,
+            session,
+            command,
+            &mut replies,
+            &mut steps,
+        )?;
     }
     Ok((session, replies))
 }
 
-/// Plays all commands of a file.
-pub fn play_file<R: Wait>(
+/// Plays all commands of a file. The gate is told of the session's events but its opening.
+pub fn play_file<R: Wait, G: Gate>(
     rt: &R,
     alloc: Global,
     store: &Store,
     session: Session,
     commands: &[Command],
+    gate: &G,
 ) -> Result<(Session, Sequence<SessionReply>), AllocError>
     requires session { IsSession store.now session }
     requires free { session.current ≡ None }
     ensures { IfOk result (λ r. PlaysAll store.now session r.0 commands.now r.1) }
 {
-    play_in::<Brand, R>(rt, alloc, store, session, commands, Blank::new(1))
+    play_in::<Brand, R, G>(rt, alloc, store, session, commands, gate, Blank::new(1))
 }

@@ -4,13 +4,13 @@ ghost use Rattle.rdf_model.specs.declared.triple.Triple.{Triple};
 ghost use Rattle.report_writer.specs.Report.{report_text};
 ghost use Rattle.shape_model.specs.Validation.{Listing};
 ghost use Rattle.session_model.specs.Sessions;
-ghost use Rattle.session_threads.specs.Replies.{IsAbortReply, IsBeginReply, IsCommitReply, IsFindRefusal, IsListed, IsStageReply};
+ghost use Rattle.session_threads.specs.Replies.{IsAbortReply, IsBeginReply, IsCommitReply, IsFindRefusal, IsListed, IsRefused, IsRefusedBlock, IsStageReply};
 
 use collections::{Sequence, let_go};
 use guard_store::{BeginFault, CommitFault, Committed, FindFault, StageFault};
 use rdf_model::{Text, Triple};
 use report_writer::report;
-use session_model::SessionReply;
+use session_model::{Command, SessionReply};
 use shape_model::ResultRow;
 use shapes_graph::ShapesGraph;
 use std::alloc::{AllocError, Global};
@@ -77,6 +77,32 @@ pub fn abort_reply(aborted: bool) -> SessionReply
         SessionReply::Aborted
     } else {
         SessionReply::NoTransaction
+    }
+}
+
+/// The reply, within a transaction, to a command whose block can't be read or isn't well-formed.
+pub fn block_refusal(command: &Command) -> Result<SessionReply, AllocError>
+    requires { IsRefusedBlock command.now }
+    ensures { IfOk result (IsRefused command.now) }
+{
+    match command {
+        Command::BadAdd { line, kind } => Ok(SessionReply::AddRefused {
+            line: *line,
+            kind: *kind,
+        }),
+        Command::BadRemove { line, kind } => Ok(SessionReply::RemoveRefused {
+            line: *line,
+            kind: *kind,
+        }),
+        Command::BadShapes { line, kind } => Ok(SessionReply::ShapesRefused {
+            line: *line,
+            kind: *kind,
+        }),
+        Command::BrokenShapes { rule, node } => Ok(SessionReply::ShapesBroken {
+            rule: *rule,
+            node: node.clone()?,
+        }),
+        _ => unreachable!(),
     }
 }
 

@@ -6,6 +6,7 @@ ghost use Rattle.session_threads.specs.Team.{AreNumbered, HasEnded, IsSound, IsS
 use crate::play::play_file;
 use collections::Sequence;
 use guard_store::{Keeper, Session, Store};
+use outside::Gate;
 use session_model::{Command, SessionReply};
 use session_player::Run;
 use std::alloc::{AllocError, Global};
@@ -28,14 +29,21 @@ pub struct Player {
 
 impl Player {
     // Plays its file. Without the memory for it the player has no replies.
-    fn work<R: Wait>(&mut self, rt: &R, alloc: Global, store: &Store, files: &[Sequence<Command>])
+    fn work<R: Wait, G: Gate>(
+        &mut self,
+        rt: &R,
+        alloc: Global,
+        store: &Store,
+        files: &[Sequence<Command>],
+        gate: &G,
+    )
         requires { IsStarting store.now (length files.now) self.old }
         ensures ended { HasEnded store.now files.now self.new }
         ensures number { self.new.number ≡ self.old.number }
     {
         let session = self.session.take().unwrap();
         let commands = files[self.number as usize - 1].as_slice();
-        let Ok((session, replies)) = play_file(rt, alloc, store, session, commands) else {
+        let Ok((session, replies)) = play_file(rt, alloc, store, session, commands, gate) else {
             return;
         };
         self.session = Some(session);
@@ -79,12 +87,13 @@ fn open_all<R: Wait>(
 }
 
 // Lets all players play, each in a thread of its own.
-fn play_all<R: Threads + Wait + Sync>(
+fn play_all<R: Threads + Wait + Sync, G: Gate>(
     rt: &R,
     alloc: Global,
     store: &Store,
     players: &mut [Player],
     files: &[Sequence<Command>],
+    gate: &G,
 )
     requires players { All (IsStarting store.now (length files.now)) players.old }
     requires numbers { AreNumbered players.old }
@@ -101,7 +110,7 @@ fn play_all<R: Threads + Wait + Sync>(
             ensures ended { HasEnded store.entry.now files.entry.now player.new }
             ensures number { player.new.number ≡ player.old.number }
         {
-            player.work(rt, alloc, store, files);
+            player.work(rt, alloc, store, files, gate);
         },
     );
 }
@@ -143,12 +152,14 @@ fn gather(
     Ok((keeper, all))
 }
 
-/// Runs session files beside each other over a new store, each in a thread of its own; the I-th file is session I.
-pub fn run_all<R: Threads + Wait + Sync>(
+/// Runs session files beside each other over a new store, each in a thread of its own; the I-th file is session I. The
+/// gate is told of each event but the openings, in the session's thread, outside turns.
+pub fn run_all<R: Threads + Wait + Sync, G: Gate>(
     rt: &R,
     alloc: Global,
     limits: Limits,
     files: &[Sequence<Command>],
+    gate: &G,
 ) -> Result<Run, AllocError>
     requires small { limits.terms + 2 < 2 ^ 32 }
     requires few { length files.now ≤ 64 }
@@ -156,7 +167,7 @@ pub fn run_all<R: Threads + Wait + Sync>(
 {
     let (store, keeper) = Store::new(alloc, limits)?;
     let (keeper, mut players) = open_all(rt, alloc, &store, keeper, files.len())?;
-    play_all(rt, alloc, &store, &mut players, files);
+    play_all(rt, alloc, &store, &mut players, files, gate);
     let (keeper, all) = gather(alloc, &store, keeper, players, files)?;
     let mut replies = all;
     replies.reverse();

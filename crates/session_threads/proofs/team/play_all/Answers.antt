@@ -7,4 +7,4 @@ pub for_each_mut-requires-send-T : goal.for_each_mut-requires-send-T
 for_each_mut-requires-send-T g c κs within = search (player_send, crosses, sendable) depth 60 fits 20000
 
 pub for_each_mut-requires-sync-F : goal.for_each_mut-requires-sync-F
-for_each_mut-requires-sync-F g c κs within = closure_sync _ _ _ _ _ _ _ c.type_bounds.sync-R
+for_each_mut-requires-sync-F g c κs within = closure_sync _ _ _ _ _ _ _ _ _ c.type_bounds.sync-R c.type_bounds.sync-G
