@@ -14,7 +14,7 @@ use crate::loading::{load_all, load_history};
 use crate::request::{Request, read_request};
 use collections::Sequence;
 use history_reader::read_history;
-use outside::{Files, Maker};
+use outside::{Files, Gate, Maker};
 use rdf_text::Text;
 use session_model::Command;
 use session_player::{ReplayFault, replay_all, text_of};
@@ -35,28 +35,30 @@ pub struct Answer {
 }
 
 // All that the sessions print.
-fn print_sessions<R: Threads + Wait + Sync>(
+fn print_sessions<R: Threads + Wait + Sync, G: Gate>(
     rt: &R,
     alloc: Global,
     limits: Limits,
     all: &[Sequence<Command>],
+    gate: &G,
 ) -> Result<String, AllocError>
     requires terms { limits.terms ≤ 2000000 }
     requires few { length all.now ≤ 64 }
     ensures { IfOk result (λ text. (order : List ℕ) × IsPrint all.now limits order (string_bytes text)) }
 {
-    let run = run_all(rt, alloc, limits, all)?;
+    let run = run_all(rt, alloc, limits, all, gate)?;
     text_of(alloc, &run)
 }
 
 // What a run of the session files prints.
-fn run_sessions<R: Threads + Wait + Sync, F: Files, M: Maker>(
+fn run_sessions<R: Threads + Wait + Sync, F: Files, M: Maker, G: Gate>(
     rt: &R,
     alloc: Global,
     limits: Limits,
     names: &[Text],
     files: &mut F,
     maker: &mut M,
+    gate: &G,
 ) -> Result<String, Status>
     requires terms { limits.terms ≤ 2000000 }
     requires few { length names.now ≤ 64 }
@@ -67,7 +69,7 @@ fn run_sessions<R: Threads + Wait + Sync, F: Files, M: Maker>(
     ensures maker { maker.new ≡ maker.old }
 {
     let all = load_all(alloc, files, maker, names)?;
-    match print_sessions(rt, alloc, limits, all.as_slice()) {
+    match print_sessions(rt, alloc, limits, all.as_slice(), gate) {
         Ok(text) => Ok(text),
         Err(_) => Err(Status::Memory),
     }
@@ -163,12 +165,13 @@ fn replay_sessions<F: Files, M: Maker>(
 }
 
 // What a run of the files prints.
-fn run_files<R: Threads + Wait + Sync, F: Files, M: Maker>(
+fn run_files<R: Threads + Wait + Sync, F: Files, M: Maker, G: Gate>(
     rt: &R,
     alloc: Global,
     request: &Request,
     files: &mut F,
     maker: &mut M,
+    gate: &G,
 ) -> Result<String, Status>
     requires { request.now.limits.terms ≤ 2000000 }
     ensures answer { let before : Loads = record { loaded = F.loaded files.old; failed = F.failed files.old } in
@@ -183,7 +186,7 @@ fn run_files<R: Threads + Wait + Sync, F: Files, M: Maker>(
     }
     let names = request.files.as_slice();
     match &request.history {
-        None => run_sessions(rt, alloc, request.limits, names, files, maker),
+        None => run_sessions(rt, alloc, request.limits, names, files, maker, gate),
         Some(history) => replay_sessions(
             alloc,
             request.limits,
@@ -229,12 +232,13 @@ fn error_text(alloc: Global, status: Status) -> Result<Option<String>, AllocErro
 }
 
 // The text of a run, or why there is none.
-fn run_text<R: Threads + Wait + Sync, F: Files, M: Maker>(
+fn run_text<R: Threads + Wait + Sync, F: Files, M: Maker, G: Gate>(
     rt: &R,
     alloc: Global,
     words: &[&str],
     files: &mut F,
     maker: &mut M,
+    gate: &G,
 ) -> Result<String, Status>
     ensures answer { let given = map (λ w. w.now) words.now in
         let before : Loads = record { loaded = F.loaded files.old; failed = F.failed files.old } in
@@ -247,16 +251,17 @@ fn run_text<R: Threads + Wait + Sync, F: Files, M: Maker>(
         Ok(request) => request,
         Err(status) => return Err(status),
     };
-    run_files(rt, alloc, &request, files, maker)
+    run_files(rt, alloc, &request, files, maker, gate)
 }
 
 /// What is due for the words, or why nothing is.
-pub fn answer_to<R: Threads + Wait + Sync, F: Files, M: Maker>(
+pub fn answer_to<R: Threads + Wait + Sync, F: Files, M: Maker, G: Gate>(
     rt: &R,
     alloc: Global,
     words: &[&str],
     files: &mut F,
     maker: &mut M,
+    gate: &G,
 ) -> Result<Answer, Status>
     ensures answer { let given = map (λ w. w.now) words.now in
         let before : Loads = record { loaded = F.loaded files.old; failed = F.failed files.old } in
@@ -265,7 +270,7 @@ pub fn answer_to<R: Threads + Wait + Sync, F: Files, M: Maker>(
         (λ s. Fails s (F.holds files.old) given before after) }
     ensures maker { maker.new ≡ maker.old }
 {
-    let status = match run_text(rt, alloc, words, files, maker) {
+    let status = match run_text(rt, alloc, words, files, maker, gate) {
         Ok(text) => return Ok(Answer {
             status: Status::Done,
             text,

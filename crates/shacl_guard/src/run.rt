@@ -13,7 +13,8 @@ use std::thread::Threads;
 ///
 /// `run FILES..` runs up to 64 session files beside each other: the sink takes what a plain store gives,
 /// asked one step at a time in the history that is printed, which holds the steps of each session once
-/// and in its file's order. `replay HISTORY FILES..` does the same in the history that is handed in.
+/// and in its file's order. The gate is told of each step of a session but its opening, before it and after it.
+/// `replay HISTORY FILES..` does the same in the history that is handed in, and tells no gate.
 pub fn run_command<R: Threads + Wait + Sync, F: Files, K: Sink, M: Maker, G: Gate>(
     rt: &R,
     alloc: Global,
@@ -21,7 +22,7 @@ pub fn run_command<R: Threads + Wait + Sync, F: Files, K: Sink, M: Maker, G: Gat
     files: &mut F,
     out: &mut K,
     maker: &mut M,
-    _gate: &G,
+    gate: &G,
 ) -> Status
     // By the status: what the words and the files are, which files were loaded, and exactly what the sink took.
     ensures outcome { IsOutcome result (record {
@@ -40,7 +41,7 @@ pub fn run_command<R: Threads + Wait + Sync, F: Files, K: Sink, M: Maker, G: Gat
     // No pattern is made so far.
     ensures maker { maker.new ≡ maker.old }
 {
-    match answer_to(rt, alloc, words, files, maker) {
+    match answer_to(rt, alloc, words, files, maker, gate) {
         Ok(answer) => match write_all(out, answer.text.as_bytes()) {
             Ok(()) => answer.status,
             Err(_) => Status::WriteFault,

@@ -3,6 +3,7 @@ ghost use Rattle.std.specs.Prelude.{◌≤◌, length};
 
 use collections::Sequence;
 use commit_core::Limits;
+use outside::OpenGate;
 use rdf_model::{Pattern, Term, Text, Triple};
 use session_model::Command;
 use session_player::{replay_all, text_of};
@@ -90,7 +91,7 @@ const ROWS: [Row; 12] = [
     Row::Commit,
 ];
 
-fn places_of(alloc: Global, order: &[u32]) -> Result<Vec<Option<u32>>, AllocError> {
+pub fn places_of(alloc: Global, order: &[u32]) -> Result<Vec<Option<u32>>, AllocError> {
     let mut places = Vec::new(alloc);
     for session in order {
         places.push(Some(*session))?;
@@ -106,7 +107,7 @@ fn run_and_replay<R: Threads + Wait + Abort + Sync>(
 ) -> Result<(), Fail>
     requires { length files.now ≤ 64 }
 {
-    let run = run_all(rt, alloc, LIMITS, files)?;
+    let run = run_all(rt, alloc, LIMITS, files, &OpenGate)?;
     let text = text_of(alloc, &run)?;
     let places = places_of(alloc, &run.order)?;
     let Ok(again) = replay_all(alloc, LIMITS, files, &places) else {
