@@ -1,0 +1,9 @@
+pub mod Values
+pub mod Constraints
+pub mod Lookups
+pub mod Growing
+pub mod Closings
+pub mod Telling
+pub mod Texts
+pub mod Depths
+pub mod Asking
