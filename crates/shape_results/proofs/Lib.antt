@@ -7,3 +7,4 @@ pub mod Telling
 pub mod Texts
 pub mod Depths
 pub mod Asking
+pub mod Owning

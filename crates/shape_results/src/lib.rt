@@ -11,6 +11,7 @@ mod by_list;
 mod by_shape;
 mod by_term;
 mod closing;
+mod own_rows;
 mod qualified;
 mod told;
 mod value_nodes;
