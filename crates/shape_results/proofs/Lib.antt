@@ -8,3 +8,4 @@ pub mod Texts
 pub mod Depths
 pub mod Asking
 pub mod Owning
+pub mod Evaluations

@@ -11,7 +11,10 @@ mod by_list;
 mod by_shape;
 mod by_term;
 mod closing;
+mod evaluation;
 mod own_rows;
 mod qualified;
 mod told;
 mod value_nodes;
+
+pub use evaluation::eval;
