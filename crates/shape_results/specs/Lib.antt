@@ -1,0 +1,6 @@
+pub mod ValueNodes
+pub mod Told
+pub mod Around
+pub mod ShapeRows
+pub mod Predicates
+pub mod Results

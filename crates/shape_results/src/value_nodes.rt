@@ -1,0 +1,35 @@
+ghost use Rattle.std.specs.Prelude.{◌≡◌, IfOk};
+ghost use Rattle.std.specs.Ordering.{nat_cmp};
+ghost use Rattle.collections.specs.Listings.{IsListing};
+ghost use Rattle.shape_results.specs.ValueNodes.{AreValueNodes, AtNumbers};
+
+use path_eval::values;
+use rdf_model::{Footprint, Triples};
+use shape_ast::Path;
+use std::alloc::{AllocError, Global};
+
+/// The value nodes at a focus node (SHACL section 3.7), ascending by number, for a shape with this
+/// path or none. The looks that find them are added to the footprint.
+pub(crate) fn value_nodes<R: Triples>(
+    alloc: Global,
+    graph: &R,
+    path: &Option<Path<u32>>,
+    focus: u32,
+    footprint: &mut Footprint,
+) -> Result<Vec<u32>, AllocError>
+    ensures { IfOk result (λ values. AtNumbers (R.triples graph.now) path.now focus (λ terms. AreValueNodes terms (R.triples graph.now) path.now focus values.items)) }
+{
+    match path {
+        None => alone(alloc, focus),
+        Some(path) => values(alloc, graph, path, focus, footprint),
+    }
+}
+
+// One number.
+fn alone(alloc: Global, number: u32) -> Result<Vec<u32>, AllocError>
+    ensures { IfOk result (λ numbers. IsListing nat_cmp (λ n. number ≡ n) numbers.items) }
+{
+    let mut numbers = Vec::new(alloc);
+    numbers.push(number)?;
+    Ok(numbers)
+}
