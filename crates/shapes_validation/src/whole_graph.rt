@@ -1,0 +1,132 @@
+ghost use Rattle.std.specs.Prelude.{◌<◌, IfOk, length};
+ghost use Rattle.std.specs.List.{All};
+ghost use Rattle.rdf_model.specs.Numbers.{AreNumbered, IsNumbering, term_at};
+ghost use Rattle.path_eval.specs.Instances.{AreClassWords};
+ghost use Rattle.compiled_shapes.specs.Readings.{AreBound};
+ghost use Rattle.compiled_shapes.specs.Standing.{AreBuilt};
+ghost use Rattle.shape_results.specs.Results.{ListsResults};
+ghost use Rattle.shapes_validation.specs.Whole.{CollectsAtNodes, CollectsOfShape, CollectsResults, ListsGraph};
+
+use crate::shape_targets::shape_targets;
+use collections::sorted_once;
+use compiled_shapes::Bound;
+use path_eval::ClassWords;
+use rdf_model::{Footprint, Names, Triples};
+use shape_model::ResultRow;
+use shape_results::eval;
+use std::alloc::{AllocError, Global};
+
+// The results of a shape at a focus node. How they were found is not kept.
+fn rows_at_node<R: Triples, N: Names>(
+    alloc: Global,
+    graph: &R,
+    names: &N,
+    words: ClassWords,
+    bound: &Bound,
+    shape: usize,
+    focus: u32,
+) -> Result<Vec<ResultRow>, AllocError>
+    requires numbering { IsNumbering (N.terms names.now) }
+    requires graph { AreNumbered (N.terms names.now) (R.triples graph.now) }
+    requires words { AreClassWords (N.terms names.now) words }
+    requires bound { AreBound (N.terms names.now) bound.now.shapes }
+    requires built { AreBuilt (term_at (N.terms names.now)) bound.now.shapes }
+    requires shape { shape < length bound.now.shapes }
+    requires focus { focus < length (N.terms names.now) }
+    ensures { IfOk result (λ rows. ListsResults (N.terms names.now) (R.triples graph.now) bound.now.shapes shape focus rows.items) }
+{
+    let mut looks = Footprint::new(alloc);
+    Ok(eval(alloc, graph, names, words, bound, shape, focus, &mut looks)?)
+}
+
+// The results of a shape at some focus nodes.
+fn rows_at<R: Triples, N: Names>(
+    alloc: Global,
+    graph: &R,
+    names: &N,
+    words: ClassWords,
+    bound: &Bound,
+    shape: usize,
+    nodes: &[u32],
+) -> Result<Vec<ResultRow>, AllocError>
+    requires numbering { IsNumbering (N.terms names.now) }
+    requires graph { AreNumbered (N.terms names.now) (R.triples graph.now) }
+    requires words { AreClassWords (N.terms names.now) words }
+    requires bound { AreBound (N.terms names.now) bound.now.shapes }
+    requires built { AreBuilt (term_at (N.terms names.now)) bound.now.shapes }
+    requires shape { shape < length bound.now.shapes }
+    requires nodes { All (λ n. n < length (N.terms names.now)) nodes.now }
+    ensures { IfOk result (λ rows. CollectsAtNodes (N.terms names.now) (R.triples graph.now) bound.now.shapes shape nodes.now rows.items) }
+{
+    let mut rows = Vec::new(alloc);
+    for node in nodes {
+        let mut more = rows_at_node(alloc, graph, names, words, bound, shape, *node)?;
+        rows.append(&mut more)?;
+    }
+    Ok(rows)
+}
+
+// The results of a shape at all its targets.
+fn rows_of_shape<R: Triples, N: Names>(
+    alloc: Global,
+    graph: &R,
+    names: &N,
+    words: ClassWords,
+    bound: &Bound,
+    shape: usize,
+) -> Result<Vec<ResultRow>, AllocError>
+    requires numbering { IsNumbering (N.terms names.now) }
+    requires graph { AreNumbered (N.terms names.now) (R.triples graph.now) }
+    requires words { AreClassWords (N.terms names.now) words }
+    requires bound { AreBound (N.terms names.now) bound.now.shapes }
+    requires built { AreBuilt (term_at (N.terms names.now)) bound.now.shapes }
+    requires shape { shape < length bound.now.shapes }
+    ensures { IfOk result (λ rows. CollectsOfShape (N.terms names.now) (R.triples graph.now) bound.now.shapes shape rows.items) }
+{
+    let nodes = shape_targets(alloc, graph, words, &bound.shapes.as_slice()[shape])?;
+    Ok(rows_at(alloc, graph, names, words, bound, shape, &nodes)?)
+}
+
+// The results of all shapes at their targets.
+fn all_rows<R: Triples, N: Names>(
+    alloc: Global,
+    graph: &R,
+    names: &N,
+    words: ClassWords,
+    bound: &Bound,
+) -> Result<Vec<ResultRow>, AllocError>
+    requires numbering { IsNumbering (N.terms names.now) }
+    requires graph { AreNumbered (N.terms names.now) (R.triples graph.now) }
+    requires words { AreClassWords (N.terms names.now) words }
+    requires bound { AreBound (N.terms names.now) bound.now.shapes }
+    requires built { AreBuilt (term_at (N.terms names.now)) bound.now.shapes }
+    ensures { IfOk result (λ rows. CollectsResults (N.terms names.now) (R.triples graph.now) bound.now.shapes (length bound.now.shapes) rows.items) }
+{
+    let mut rows = Vec::new(alloc);
+    for shape in 0..bound.shapes.len() {
+        let mut more = rows_of_shape(alloc, graph, names, words, bound, shape)?;
+        rows.append(&mut more)?;
+    }
+    Ok(rows)
+}
+
+/// The results of validating the data graph (SHACL section 3.6), each once, in the order of results. They are the
+/// listing under each shapes graph that the shapes stand for, where no shape refers to itself and no chain of references
+/// is longer than 256.
+pub fn whole<R: Triples, N: Names>(
+    alloc: Global,
+    graph: &R,
+    names: &N,
+    words: ClassWords,
+    bound: &Bound,
+) -> Result<Vec<ResultRow>, AllocError>
+    requires numbering { IsNumbering (N.terms names.now) }
+    requires graph { AreNumbered (N.terms names.now) (R.triples graph.now) }
+    requires words { AreClassWords (N.terms names.now) words }
+    requires bound { AreBound (N.terms names.now) bound.now.shapes }
+    requires built { AreBuilt (term_at (N.terms names.now)) bound.now.shapes }
+    ensures { IfOk result (λ rows. ListsGraph (N.terms names.now) (R.triples graph.now) bound.now.shapes rows.items) }
+{
+    let rows = all_rows(alloc, graph, names, words, bound)?;
+    Ok(sorted_once(rows)?)
+}
