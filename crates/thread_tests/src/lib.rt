@@ -5,7 +5,3 @@
 mod by_hand;
 #[cfg(test)]
 mod files;
-#[cfg(test)]
-mod held;
-#[cfg(test)]
-mod holding_gate;
