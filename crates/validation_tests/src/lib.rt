@@ -1,9 +1,7 @@
-//! Tests of validation: the definitions, the reader of shapes graphs, the table of rules, compiled shapes, single evaluations,
+//! Tests of validation: the definitions, the reader of shapes graphs, the table of rules, single evaluations,
 //! whole listings in two ways, and reports, each as a table of rows that were worked out by hand.
 #![tactic(auto)]
 
-#[cfg(test)]
-mod compiling;
 #[cfg(test)]
 mod definitions;
 #[cfg(test)]
