@@ -1,5 +1,5 @@
--- The triples by number stay those of the graph where more terms are named.
-use Rattle.std.proofs.Common.{◌≡◌, true, false, cond, List, [], ◌∷◌, ◌++◌, Option, Some, None, sym, subst, arith, length-append}
+-- Where more terms are named, the triples by number stay those of the graph, and the words of classes keep their numbers.
+use Rattle.std.proofs.Common.{◌≡◌, ◌∙◌, true, false, cond, List, [], ◌∷◌, ◌++◌, Option, Some, None, sym, subst, arith, length-append, refl}
 use Rattle.std.specs.Prelude.{◌↔◌}
 use Rattle.std.specs.List.{Contains}
 use Rattle.std.proofs.Math.ListN.{get_or-append}
@@ -10,9 +10,10 @@ use Rattle.rdf_model.specs.declared.term.Term.TheVariants.{Blank}
 use Rattle.rdf_model.specs.declared.triple.Triple.{Triple}
 use Rattle.rdf_model.specs.Numbers.{AreNumbered, graph_of, triple_at}
 use Rattle.rdf_model.specs.Terms.{term_cmp}
-use Rattle.term_dict.specs.Names.{with_terms}
+use Rattle.shape_model.specs.Vocabulary.{rdf, rdf_type, sub_class_of}
+use Rattle.term_dict.specs.Names.{first_terms, with_terms}
 use Rattle.term_validation.specs.Named.{IsNumbered}
-use Rattle.data_graph.specs.DataGraphs.{IsIndexOf, IsIndexed}
+use Rattle.data_graph.specs.DataGraphs.{HaveClassWords, IsIndexOf, IsIndexed}
 
 same_triple : (terms : List Term) (u : Term) (i : Ids) → IsNumbered terms i → triple_at (terms ++ u ∷ []) i ≡ triple_at terms i
 same_triple terms u i n =
@@ -53,3 +54,36 @@ named_more terms more ts ids g e x = subst (λ (us : List Term). IsIndexOf us id
 pub indexed_more : (terms more ts : List Term) (numbers : Option (List Ids)) (g : List Triple) → more ≡ with_terms terms ts → IsIndexed terms numbers g → IsIndexed more numbers g
 indexed_more terms more ts None g e x = tt
 indexed_more terms more ts (Some ids) g e x = named_more terms more ts ids g e x
+
+-- the first terms of a dictionary are the words of classes
+first_are_words : first_terms ≡ rdf_type ∷ sub_class_of ∷ []
+unfolding first_terms rdf rdf_type sub_class_of
+first_are_words = refl
+
+pub words_first : (terms : List Term) → terms ≡ first_terms → HaveClassWords terms
+words_first terms e = subst (λ (ts : List Term). HaveClassWords ts) (sym (e ∙ first_are_words)) (record {
+  types_bound = omega arith;
+  types = refl;
+  above_bound = omega arith;
+  above = refl;
+})
+
+one_word : (terms : List Term) (u : Term) → HaveClassWords terms → HaveClassWords (terms ++ u ∷ [])
+one_word terms u w =
+    let l = length-append terms (u ∷ []) in
+    record {
+      types_bound = omega (arith, l, w.types_bound);
+      types = get_or-append terms (u ∷ []) (Blank 0 0) 0 w.types_bound ∙ w.types;
+      above_bound = omega (arith, l, w.above_bound);
+      above = get_or-append terms (u ∷ []) (Blank 0 0) 1 w.above_bound ∙ w.above;
+    }
+
+all_words : (terms ts : List Term) → HaveClassWords terms → HaveClassWords (with_terms terms ts)
+all_words terms [] w = w
+all_words terms (t ∷ ts) w = elim (has_item term_cmp t terms) as (λ b. HaveClassWords (with_terms (cond b terms (terms ++ t ∷ [])) ts)) [
+  | true ↦ all_words terms ts w
+  | false ↦ all_words (terms ++ t ∷ []) ts (one_word terms t w)
+]
+
+pub words_more : (terms more ts : List Term) → more ≡ with_terms terms ts → HaveClassWords terms → HaveClassWords more
+words_more terms more ts e w = subst (λ (us : List Term). HaveClassWords us) (sym e) (all_words terms ts w)

@@ -11,6 +11,7 @@ use Rattle.rdf_model.specs.declared.triple.Triple.{Triple}
 use Rattle.rdf_model.specs.Graphs.{after}
 use Rattle.rdf_model.specs.Numbers.{AreNumbered, graph_of, triple_at}
 use Rattle.store_model.specs.Store.{changed_triple}
+use Rattle.path_eval.specs.Instances.{AreClassWords}
 use Rattle.term_dict.specs.Names.{Named, with_terms}
 use Rattle.term_validation.specs.Named.{IsNamedTriple, IsNumbered}
 use Rattle.triple_index.specs.declared.change.NumberedChange.{NumberedChange}
@@ -31,6 +32,10 @@ with_names g ts = record { triples = g.triples; terms = with_terms g.terms ts; l
 
 abbrev pub with_changes : NamedGraph → List Change → NamedGraph
 with_changes g net = record { triples = after g.triples net; terms = g.terms; limit = g.limit }
+
+-- rdf:type and rdfs:subClassOf have the numbers 0 and 1
+abbrev pub HaveClassWords : List Term → Type 0
+HaveClassWords terms = AreClassWords terms (record { rdf_type = 0; sub_class_of = 1 })
 
 -- each number of the triples has a term, and read as terms they have just the members of the graph
 pub record IsIndexOf (terms : List Term) (ids : List Ids) (g : List Triple) : Type 0 where

@@ -31,13 +31,13 @@ pub struct DataGraph {
 }
 
 impl Model for DataGraph {
-    ghost use Rattle.data_graph.specs.DataGraphs.{IsIndexed, NamedGraph};
+    ghost use Rattle.data_graph.specs.DataGraphs.{HaveClassWords, IsIndexed, NamedGraph};
 
     ghost Value = { NamedGraph };
 
     ghost view = { λ g. record { triples = g.triples; terms = g.names.terms; limit = g.names.limit } };
 
-    ghost invariant = { λ g. IsIndexed g.names.terms g.numbers g.triples };
+    ghost invariant = { λ g. HaveClassWords g.names.terms × IsIndexed g.names.terms g.numbers g.triples };
 }
 
 // Written by hand, so that what owns one calls it in place of having it written out.

@@ -5,9 +5,10 @@ ghost use Rattle.shape_model.specs.Validation.{Listing};
 ghost use Rattle.store_model.specs.Store.{changed_triple};
 ghost use Rattle.term_validation.specs.Named.{AreNamedTriples, IsNamedTriple};
 ghost use Rattle.triple_index.specs.Changes.{after_ids};
-ghost use Rattle.data_graph.specs.DataGraphs.{AreNamedChanges, IsIndexOf, IsNumberedChange, KeepsIndex, change_at};
+ghost use Rattle.data_graph.specs.DataGraphs.{AreNamedChanges, HaveClassWords, IsIndexOf, IsNumberedChange, KeepsIndex, change_at};
 
 use page_index::Pages;
+use path_eval::ClassWords;
 use rdf_model::{Change, Ids, Triple};
 use shape_eval::Steps;
 use shape_model::ResultRow;
@@ -17,6 +18,12 @@ use std::sync::ledger::Ledger;
 use term_dict::Dict;
 use term_validation::{listing_over, number_triple};
 use triple_index::{Index, NumberedChange};
+
+// The numbers of rdf:type and rdfs:subClassOf, which are named first.
+const CLASS_WORDS: ClassWords = ClassWords {
+    rdf_type: 0,
+    sub_class_of: 1,
+};
 
 // The triples of a graph by the numbers of their terms, in their order.
 fn number_graph(alloc: Global, names: &Dict, graph: &Pages<Triple>) -> Result<Vec<Ids>, AllocError>
@@ -93,10 +100,11 @@ pub fn listing_by<L: Ledger>(
     shapes: &ShapesGraph,
     steps: &mut Steps<L>,
 ) -> Result<Vec<ResultRow>, AllocError>
+    requires words { HaveClassWords names.now.terms }
     requires index { AreNumbered names.now.terms index.now }
     requires shapes { AreNamedTriples names.now.terms shapes.now }
     ensures { IfOk result (λ rows. Listing (graph_of names.now.terms index.now) shapes.now rows.items) }
 {
     names.is_numbering();
-    Ok(listing_over(alloc, index, names, shapes, steps)?)
+    Ok(listing_over(alloc, index, names, CLASS_WORDS, shapes, steps)?)
 }

@@ -1,2 +1,2 @@
-pub mod TargetNumbers
+pub mod Declarations
 pub mod Gathering

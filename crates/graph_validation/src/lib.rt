@@ -1,11 +1,10 @@
-//! Validation of a whole graph by compiled shapes, over the numbers of terms.
+//! Validation of a whole graph by compiled shapes with all components of SHACL Core, over the numbers of terms.
 //!
-//! `targets` ensures exactly the targets of a shape, and `whole` exactly the listing of the data
-//! graph under each well-formed shapes graph that the shapes stand for.
+//! `whole` ensures exactly the listing of the data graph under each shapes graph that the shapes stand for, in which no
+//! shape refers to itself and no chain of references is longer than 256.
 #![tactic(auto)]
 
 mod shape_targets;
 mod whole_graph;
 
-pub use shape_targets::targets;
 pub use whole_graph::whole;

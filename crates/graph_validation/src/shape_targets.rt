@@ -1,56 +1,48 @@
-ghost use Rattle.std.specs.Prelude.{IfOk};
-ghost use Rattle.std.specs.Ordering.{nat_cmp};
-ghost use Rattle.collections.specs.Listings.{IsListing};
-ghost use Rattle.graph_validation.specs.Targets.{AreMembers, IsTargetOf, IsTargetOfSome};
+ghost use Rattle.std.specs.Prelude.{◌≡◌, IfOk, map};
+ghost use Rattle.target_nodes.specs.TargetNumbers.{AreTargets, Declared};
+ghost use Rattle.graph_validation.specs.Targets.{declaration_of};
 
-use collections::sorted_once;
+use path_eval::ClassWords;
 use rdf_model::Triples;
 use shape_ast::{Shape, Target};
 use std::alloc::{AllocError, Global};
-use target_nodes::subjects_of;
+use target_nodes::targets;
 
-// The targets that one declaration gives.
-fn targets_of<R: Triples>(
-    alloc: Global,
-    graph: &R,
-    target: &Target<u32>,
-) -> Result<Vec<u32>, AllocError>
-    ensures { IfOk result (λ found. AreMembers (IsTargetOf (R.triples graph.now) target.now) found.items) }
+fn declaration(target: &Target<u32>) -> target_nodes::Target<u32>
+    ensures { result ≡ declaration_of target.now }
 {
     match target {
-        Target::Node(node) => {
-            let mut found = Vec::new(alloc);
-            found.push(*node)?;
-            Ok(found)
-        }
-        Target::SubjectsOf(predicate) => subjects_of(alloc, graph, *predicate),
+        Target::Node(node) => target_nodes::Target::Node(*node),
+        Target::Class(class) => target_nodes::Target::Class(*class),
+        Target::ImplicitClass => target_nodes::Target::ImplicitClass,
+        Target::SubjectsOf(predicate) => target_nodes::Target::SubjectsOf(*predicate),
+        Target::ObjectsOf(predicate) => target_nodes::Target::ObjectsOf(*predicate),
     }
 }
 
-// The targets that the declarations give.
-fn all_targets<R: Triples>(
+// The same declarations once more.
+fn declarations(
     alloc: Global,
-    graph: &R,
-    declared: &[Target<u32>],
-) -> Result<Vec<u32>, AllocError>
-    ensures { IfOk result (λ found. AreMembers (IsTargetOfSome (R.triples graph.now) declared.now) found.items) }
+    targets: &[Target<u32>],
+) -> Result<Vec<target_nodes::Target<u32>>, AllocError>
+    ensures { IfOk result (λ declared. declared.items ≡ map declaration_of targets.now) }
 {
-    let mut found = Vec::new(alloc);
-    for target in declared {
-        let mut more = targets_of(alloc, graph, target)?;
-        found.append(&mut more)?;
-    }
-    Ok(found)
+    targets
+        .iter()
+        .map(|target| declaration(target))
+        .collect(alloc)
 }
 
-/// The targets of a shape (SHACL section 2.1.3) by their numbers, ascending.
-pub fn targets<R: Triples>(
+/// The targets of a shape (SHACL section 2.1.3) by their numbers, each once, ascending.
+pub(crate) fn shape_targets<R: Triples>(
     alloc: Global,
     graph: &R,
+    words: ClassWords,
     shape: &Shape<u32>,
 ) -> Result<Vec<u32>, AllocError>
-    ensures { IfOk result (λ found. IsListing nat_cmp (IsTargetOfSome (R.triples graph.now) shape.now.targets) found.items) }
+    ensures { IfOk result (λ found. Declared (R.triples graph.now) words (map declaration_of shape.now.targets) shape.now.node
+        (λ terms. AreTargets terms (R.triples graph.now) (map declaration_of shape.now.targets) shape.now.node found.items)) }
 {
-    let found = all_targets(alloc, graph, shape.targets.as_slice())?;
-    Ok(sorted_once(found)?)
+    let declared = declarations(alloc, shape.targets.as_slice())?;
+    Ok(targets(alloc, graph, words, shape.node, &declared)?)
 }

@@ -10,7 +10,7 @@ use Rattle.shape_model.specs.Paths as defined
 use Rattle.shape_model.specs.Walks.{Chain, Walk}
 use Rattle.shape_model.specs.Instances.{class_path}
 use Rattle.shape_model.specs.NodeLooks.{PathReads}
-use Rattle.shape_ast.specs.declared.path.Path.{Predicate}
+use Rattle.compiled_paths.specs.declared.path.Path.{Predicate}
 use Rattle.path_eval.specs.declared.instances.ClassWords.{ClassWords}
 use Rattle.path_eval.specs.Instances.{AreClassWords}
 use Rattle.path_eval.specs.Relations.{Repeated}

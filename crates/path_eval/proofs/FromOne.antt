@@ -13,8 +13,8 @@ use Rattle.rdf_model.specs.Numbers.{term_at, graph_of, IsNumbering}
 use Rattle.shape_model.specs.Walks.{Walk}
 use Rattle.shape_model.specs.Looks.{turn}
 use Rattle.shape_model.specs.NodeLooks.{PathReads}
-use Rattle.shape_ast.specs.declared.path.Path.{Path}
-use Rattle.shape_ast.specs.PathReadings.{path_of}
+use Rattle.compiled_paths.specs.declared.path.Path.{Path}
+use Rattle.compiled_paths.specs.PathReadings.{path_of}
 use Rattle.path_eval.specs.Naming.{look_of, AddsReads, AreValues, IsBoundLook, Numbered}
 use Rattle.path_eval.specs.Relations.{Adds, FromSome, IsFollowed}
 use Rattle.path_eval.specs.NumberedWalks.{Reaches}

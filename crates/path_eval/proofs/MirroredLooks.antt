@@ -11,8 +11,8 @@ use Rattle.shape_model.specs.Paths as defined
 use Rattle.shape_model.specs.Walks.{Chain, Walk}
 use Rattle.shape_model.specs.Looks.{turn, turn_all}
 use Rattle.shape_model.specs.NodeLooks.{PathReads, ThroughReads, SomeReads}
-use Rattle.shape_ast.specs.declared.path.Path.{Path, Predicate, Inverse', Sequence', Alternative', ZeroOrMore', OneOrMore', ZeroOrOne', Row_of-Path, end_of-Path, more_of-Path}
-use Rattle.shape_ast.specs.PathReadings.{IsBoundPath, RowHasEach, members, path_of, read_row}
+use Rattle.compiled_paths.specs.declared.path.Path.{Path, Predicate, Inverse', Sequence', Alternative', ZeroOrMore', OneOrMore', ZeroOrOne', Row_of-Path, end_of-Path, more_of-Path}
+use Rattle.compiled_paths.specs.PathReadings.{IsBoundPath, RowHasEach, members, path_of, read_row}
 use Rattle.path_eval.specs.Naming.{IsBoundLook, look_of}
 use Rattle.path_eval.specs.Relations.{Repeated}
 use Rattle.path_eval.specs.NumberedWalks.{Reaches, RowBackward}

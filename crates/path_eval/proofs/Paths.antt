@@ -9,7 +9,7 @@ use Rattle.collections.specs.Listings.{IsListing}
 use Rattle.collections.specs.Ordered.{IsAscending}
 use Rattle.rdf_model.specs.declared.ids.Ids.{Ids}
 use Rattle.rdf_model.specs.declared.look.Look.{Look}
-use Rattle.shape_ast.specs.declared.path.Path.{Path, Sequence, Alternative}
+use Rattle.compiled_paths.specs.declared.path.Path.{Path, Sequence, Alternative}
 use Rattle.path_eval.specs.Relations.{Adds, FromSome, IsFollowed}
 use Rattle.path_eval.specs.NumberedWalks.{Backward, Onward, Reaches, ReachesSome}
 use Rattle.path_eval.specs.NumberedLooks.{Reads, ReadsBackward, ReadsOnward, ReadsSome}

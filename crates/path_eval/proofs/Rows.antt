@@ -2,8 +2,8 @@
 use Rattle.std.proofs.Common.{◌≡◌, ◌∙◌, ℕ, List, Vec, Box, Global, Bool, true, false, refl, ap}
 use Rattle.std.specs.Prelude.{◌⊎◌}
 use Rattle.rdf_model.specs.declared.ids.Ids.{Ids}
-use Rattle.shape_ast.specs.declared.path.Path.{Path, Sequence, Row_of-Path, end_of-Path, more_of-Path, items-the_row-Path, items_hidden-the_row-Path-0, Alternative}
-use Rattle.shape_ast.proofs.Rows.{row_of}
+use Rattle.compiled_paths.specs.declared.path.Path.{Path, Sequence, Row_of-Path, end_of-Path, more_of-Path, items-the_row-Path, items_hidden-the_row-Path-0, Alternative}
+use Rattle.compiled_paths.proofs.Rows.{row_of}
 use Rattle.path_eval.specs.NumberedWalks.{Backward, Onward, Reaches, ReachesSome, RowBackward, RowOnward, RowSome}
 use Rattle.path_eval.specs.NumberedLooks.{Reads, ReadsBackward, ReadsOnward, ReadsSome, RowReadsBackward, RowReadsOnward, RowReadsSome}
 

@@ -12,8 +12,8 @@ use Rattle.rdf_model.specs.Numbers.{term_at, graph_of, IsNumbering, AreNumbered}
 use Rattle.shape_model.specs.Walks.{Walk}
 use Rattle.shape_model.specs.Looks.{turn}
 use Rattle.shape_model.specs.NodeLooks.{PathReads}
-use Rattle.shape_ast.specs.declared.path.Path.{Path}
-use Rattle.shape_ast.specs.PathReadings.{IsBoundPath, path_of}
+use Rattle.compiled_paths.specs.declared.path.Path.{Path}
+use Rattle.compiled_paths.specs.PathReadings.{IsBoundPath, path_of}
 use Rattle.path_eval.specs.Relations.{Adds}
 
 -- the look of terms

@@ -9,8 +9,8 @@ ghost use Rattle.path_eval.specs.NumberedLooks.{AtRepeated, Reads, ReadsBackward
 
 use crate::visited::{Visited, enter_all};
 use collections::sorted_once;
+use compiled_paths::Path;
 use rdf_model::{Footprint, Look, Triples};
-use shape_ast::Path;
 use std::alloc::{AllocError, Global};
 
 // The look that finds the values of a predicate at a node, or the nodes that have it as value.

@@ -1,7 +1,7 @@
 use collections::Sequence;
+use compiled_paths::Path;
 use path_eval::{ClassWords, back, is_instance, values};
 use rdf_model::{Footprint, Ids, ListGraph};
-use shape_ast::Path;
 use std::alloc::{AllocError, Global};
 use std::process::Abort;
 use std::test::Fail;

@@ -6,4 +6,5 @@ pub mod Terms
 pub mod Finding
 pub mod PathValues
 pub mod Gathered
-pub mod EmptyShapes
+pub mod Beyond
+pub mod Nothing

@@ -1,79 +1,61 @@
--- In a well-formed shapes graph the results of a shape's components are those of sh:nodeKind, sh:minCount and sh:maxCount.
-use Rattle.std.proofs.Common.{◌≡◌, ℕ, zero, suc, List, [], ◌∷◌, refl, inl, inr}
-use Rattle.std.specs.Prelude.{◌↔◌, ◌⊎◌, Some}
+-- In a plain shapes graph the results of a shape's components are those of sh:nodeKind, sh:minCount and sh:maxCount.
+use Rattle.std.proofs.Common.{◌≡◌, ℕ, List, refl, inl, inr}
+use Rattle.std.specs.Prelude.{◌↔◌, ◌⊎◌}
 use Rattle.rdf_model.specs.declared.term.Term.{Term}
 use Rattle.rdf_model.specs.declared.triple.Triple.{Triple}
 use Rattle.shape_model.specs.declared.component.Component.{Component}
 use Rattle.shape_model.specs.declared.component.Component.TheVariants as components
 use Rattle.shape_model.specs.declared.result_row.ResultRow.{ResultRow}
-use Rattle.shape_model.specs.declared.rule.Rule.TheVariants as rules
 use Rattle.shape_model.specs.Components.{ComponentRow, PropertyRow}
 use Rattle.shape_model.specs.Listings.{Counts}
 use Rattle.shape_model.specs.Readings.{reading, ValueNode}
-use Rattle.shape_model.specs.ShapeSyntax.{IsShape}
-use Rattle.shape_model.specs.Triples.{Has, IsMember}
 use Rattle.shape_model.specs.Validation.{At, surroundings}
 use Rattle.shape_model.specs.Vocabulary.{ShAnd, ShClass, ShClosed, ShDatatype, ShDeactivated, ShDisjoint, ShEquals, ShHasValue, ShIn, ShLanguageIn, ShLessThan, ShLessThanOrEquals, ShMaxExclusive, ShMaxInclusive, ShMaxLength, ShMinExclusive, ShMinInclusive, ShMinLength, ShNode, ShNot, ShOr, ShPattern, ShQualifiedMaxCount, ShQualifiedMinCount, ShUniqueLang, ShXone, property_iri, true_literal}
-use Rattle.shape_model.specs.WellFormed.{IsWellFormed, unread_predicates}
 use Rattle.shape_model.proofs.Fuel.{unfold_law}
 use Rattle.shape_model.proofs.Listings.{listing_same}
-use Rattle.shape_model.proofs.WellFormed.{acyclic_law}
 use Rattle.rdf_model.specs.Terms.{term_cmp}
+use Rattle.plain_validation.specs.Plain.{IsPlain}
 use Rattle.plain_validation.specs.PlainResults.{OwnRow, PlainValue}
+use Rattle.plain_validation.proofs.Beyond.{acyclic, unread}
 use Rattle.plain_validation.proofs.Values.{value_same}
-
--- a term at a place of a list
-abbrev pub StandsAt : ℕ → List Term → Term → Type 0
-StandsAt k [] t = ⊥
-StandsAt zero (m ∷ ms) t = m ≡ t
-StandsAt (suc k) (m ∷ ms) t = StandsAt k ms t
-
-stands : (k : ℕ) (ms : List Term) (t : Term) → StandsAt k ms t → IsMember ms t
-stands k [] t e = e
-stands zero (m ∷ ms) t e = inl e
-stands (suc k) (m ∷ ms) t e = inr (stands k ms t e)
 
 counts_same : (P Q : Term → Type 0) (n : ℕ) → ((v : Term) → P v ↔ Q v) → Counts P n → Counts Q n
 counts_same P Q n e c = record { items = c.items; listing = listing_same term_cmp P Q e c.items c.listing; count = c.count }
 
-module _ (s : List Triple) (well : IsWellFormed s) where
-  -- no node has a value of a predicate that isn't read
-  pub unread : (k : ℕ) (n p v : Term) → StandsAt k unread_predicates p → Has s n p v → ⊥
-  unread k n p v m h = well (record { node = n; rule = rules.Unsupported; value = Some p }) (inl (p, v, stands k unread_predicates p m, h, refl))
-
-  module _ (g : List Triple) (shape f : Term) (is : IsShape s shape) where
+module _ (s : List Triple) (plain : IsPlain s) where
+  module _ (g : List Triple) (shape f : Term) where
     same : (v : Term) → ValueNode g (reading s shape) f v ↔ PlainValue g s shape f v
-    same v = value_same s well g shape is f v
+    same v = value_same s plain g shape f v
 
     own : (c : Component) (r : ResultRow) → ComponentRow c (surroundings (At g s) g (reading s shape) f) (reading s shape) shape f r → OwnRow g s shape f r
-    own components.Class r h = absurd (unread 0 shape (property_iri ShClass) h.0 refl h.1)
-    own components.Datatype r h = absurd (unread 1 shape (property_iri ShDatatype) h.0 refl h.1)
+    own components.Class r h = absurd (unread s plain 0 shape (property_iri ShClass) h.0 refl h.1)
+    own components.Datatype r h = absurd (unread s plain 1 shape (property_iri ShDatatype) h.0 refl h.1)
     own components.NodeKind r h = inl (h.0, h.1, (h.2.0, (same h.2.0).0 h.2.1, (h.2.2, h.2.3)))
     own components.MinCount r h = inr (inl (h.0, h.1, (h.2.0, counts_same (ValueNode g (reading s shape) f) (PlainValue g s shape f) h.2.0 same h.2.1, (h.2.2, h.2.3))))
     own components.MaxCount r h = inr (inr (h.0, h.1, (h.2.0, counts_same (ValueNode g (reading s shape) f) (PlainValue g s shape f) h.2.0 same h.2.1, (h.2.2, h.2.3))))
-    own components.MinExclusive r h = absurd (unread 2 shape (property_iri ShMinExclusive) h.0 refl h.1)
-    own components.MinInclusive r h = absurd (unread 3 shape (property_iri ShMinInclusive) h.0 refl h.1)
-    own components.MaxExclusive r h = absurd (unread 4 shape (property_iri ShMaxExclusive) h.0 refl h.1)
-    own components.MaxInclusive r h = absurd (unread 5 shape (property_iri ShMaxInclusive) h.0 refl h.1)
-    own components.MinLength r h = absurd (unread 6 shape (property_iri ShMinLength) h.0 refl h.1)
-    own components.MaxLength r h = absurd (unread 7 shape (property_iri ShMaxLength) h.0 refl h.1)
-    own components.Pattern r h = absurd (unread 8 shape (property_iri ShPattern) h.0 refl h.1)
-    own components.LanguageIn r h = absurd (unread 10 shape (property_iri ShLanguageIn) h.0 refl h.1)
-    own components.UniqueLang r h = absurd (unread 11 shape (property_iri ShUniqueLang) h.0 refl h.1)
-    own components.Equals r h = absurd (unread 12 shape (property_iri ShEquals) h.0 refl h.1)
-    own components.Disjoint r h = absurd (unread 13 shape (property_iri ShDisjoint) h.0 refl h.1)
-    own components.LessThan r h = absurd (unread 14 shape (property_iri ShLessThan) h.0 refl h.1)
-    own components.LessThanOrEquals r h = absurd (unread 15 shape (property_iri ShLessThanOrEquals) h.0 refl h.1)
-    own components.Not r h = absurd (unread 16 shape (property_iri ShNot) h.0 refl h.1)
-    own components.And r h = absurd (unread 17 shape (property_iri ShAnd) h.0 refl h.1)
-    own components.Or r h = absurd (unread 18 shape (property_iri ShOr) h.0 refl h.1)
-    own components.Xone r h = absurd (unread 19 shape (property_iri ShXone) h.0 refl h.1)
-    own components.Node r h = absurd (unread 20 shape (property_iri ShNode) h.0 refl h.1)
-    own components.QualifiedMinCount r h = absurd (unread 22 shape (property_iri ShQualifiedMinCount) h.0 refl h.1)
-    own components.QualifiedMaxCount r h = absurd (unread 23 shape (property_iri ShQualifiedMaxCount) h.0 refl h.1)
-    own components.Closed r h = absurd (unread 25 shape (property_iri ShClosed) h.0 refl h.1)
-    own components.HasValue r h = absurd (unread 27 shape (property_iri ShHasValue) h.0 refl h.1)
-    own components.In r h = absurd (unread 28 shape (property_iri ShIn) h.0 refl h.1)
+    own components.MinExclusive r h = absurd (unread s plain 2 shape (property_iri ShMinExclusive) h.0 refl h.1)
+    own components.MinInclusive r h = absurd (unread s plain 3 shape (property_iri ShMinInclusive) h.0 refl h.1)
+    own components.MaxExclusive r h = absurd (unread s plain 4 shape (property_iri ShMaxExclusive) h.0 refl h.1)
+    own components.MaxInclusive r h = absurd (unread s plain 5 shape (property_iri ShMaxInclusive) h.0 refl h.1)
+    own components.MinLength r h = absurd (unread s plain 6 shape (property_iri ShMinLength) h.0 refl h.1)
+    own components.MaxLength r h = absurd (unread s plain 7 shape (property_iri ShMaxLength) h.0 refl h.1)
+    own components.Pattern r h = absurd (unread s plain 8 shape (property_iri ShPattern) h.0 refl h.1)
+    own components.LanguageIn r h = absurd (unread s plain 10 shape (property_iri ShLanguageIn) h.0 refl h.1)
+    own components.UniqueLang r h = absurd (unread s plain 11 shape (property_iri ShUniqueLang) h.0 refl h.1)
+    own components.Equals r h = absurd (unread s plain 12 shape (property_iri ShEquals) h.0 refl h.1)
+    own components.Disjoint r h = absurd (unread s plain 13 shape (property_iri ShDisjoint) h.0 refl h.1)
+    own components.LessThan r h = absurd (unread s plain 14 shape (property_iri ShLessThan) h.0 refl h.1)
+    own components.LessThanOrEquals r h = absurd (unread s plain 15 shape (property_iri ShLessThanOrEquals) h.0 refl h.1)
+    own components.Not r h = absurd (unread s plain 16 shape (property_iri ShNot) h.0 refl h.1)
+    own components.And r h = absurd (unread s plain 17 shape (property_iri ShAnd) h.0 refl h.1)
+    own components.Or r h = absurd (unread s plain 18 shape (property_iri ShOr) h.0 refl h.1)
+    own components.Xone r h = absurd (unread s plain 19 shape (property_iri ShXone) h.0 refl h.1)
+    own components.Node r h = absurd (unread s plain 20 shape (property_iri ShNode) h.0 refl h.1)
+    own components.QualifiedMinCount r h = absurd (unread s plain 22 shape (property_iri ShQualifiedMinCount) h.0 refl h.1)
+    own components.QualifiedMaxCount r h = absurd (unread s plain 23 shape (property_iri ShQualifiedMaxCount) h.0 refl h.1)
+    own components.Closed r h = absurd (unread s plain 25 shape (property_iri ShClosed) h.0 refl h.1)
+    own components.HasValue r h = absurd (unread s plain 27 shape (property_iri ShHasValue) h.0 refl h.1)
+    own components.In r h = absurd (unread s plain 28 shape (property_iri ShIn) h.0 refl h.1)
 
     back : (r : ResultRow) → OwnRow g s shape f r → (c : Component) × ComponentRow c (surroundings (At g s) g (reading s shape) f) (reading s shape) shape f r
     back r = elim [
@@ -84,7 +66,7 @@ module _ (s : List Triple) (well : IsWellFormed s) where
 
     -- the results of a shape are its own and those of its property shapes
     pub at_rows : (r : ResultRow) → At g s shape f r ↔ (OwnRow g s shape f r ⊎ PropertyRow (surroundings (At g s) g (reading s shape) f) (reading s shape) r)
-    at_rows r = let u = unfold_law g s (acyclic_law s well) shape f r in (
+    at_rows r = let u = unfold_law g s (acyclic s plain) shape f r in (
       λ i. elim ((u.0 i).1) [ inl h ↦ inl (own h.0 r h.1) | inr h ↦ inr h ],
-      λ i. u.1 ((λ d. unread 29 shape (property_iri ShDeactivated) true_literal refl d), elim i [ inl h ↦ inl (back r h) | inr h ↦ inr h ]),
+      λ i. u.1 ((λ d. unread s plain 29 shape (property_iri ShDeactivated) true_literal refl d), elim i [ inl h ↦ inl (back r h) | inr h ↦ inr h ]),
     )

@@ -2,7 +2,7 @@ ghost use Rattle.std.specs.Prelude.{IfOk};
 ghost use Rattle.collections.specs.Listings.{IsListing};
 ghost use Rattle.shape_model.specs.Rows.{result_row_cmp};
 ghost use Rattle.shape_model.specs.Validation.{Listing};
-ghost use Rattle.shape_model.specs.WellFormed.{IsWellFormed};
+ghost use Rattle.plain_validation.specs.Plain.{IsPlain};
 ghost use Rattle.plain_validation.specs.PlainResults.{PlainResult};
 
 use crate::rows::all_rows;
@@ -11,7 +11,7 @@ use rdf_model::Triple;
 use shape_model::ResultRow;
 use std::alloc::{AllocError, Global};
 
-// The plain results of a shapes graph, whether it is well-formed or not, each once, in order.
+// The plain results of a shapes graph, whatever else it has, each once, in order.
 pub(crate) fn plain_listing(
     alloc: Global,
     graph: &[Triple],
@@ -30,7 +30,7 @@ pub fn listing(
     graph: &[Triple],
     shapes: &[Triple],
 ) -> Result<Vec<ResultRow>, AllocError>
-    requires { IsWellFormed shapes.now }
+    requires { IsPlain shapes.now }
     ensures { IfOk result (λ rows. Listing graph.now shapes.now rows.items) }
 {
     let rows = plain_listing(alloc, graph, shapes)?;

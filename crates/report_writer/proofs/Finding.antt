@@ -9,9 +9,12 @@ use Rattle.rdf_model.specs.declared.term.Term.{Term}
 use Rattle.rdf_model.specs.Matching.{same_term}
 use Rattle.rdf_model.proofs.SameTerms.{equal_same, same_equal}
 use Rattle.shape_ast.specs.declared.shape.Shape.{Shape}
-use Rattle.shape_ast.specs.Naming.{ReadShape, read_shape, read_shapes}
+use Rattle.shape_ast.specs.Readings.{ReadShape, read_shape, read_shapes}
 use Rattle.shape_model.specs.declared.result_row.ResultRow.{ResultRow}
 use Rattle.report_writer.specs.Sources.{HaveSources}
+
+abbrev pub as_read : Shape Term → ReadShape
+as_read c = read_shape (λ t. t) c
 
 abbrev pub has_node : Term → Shape Term → Bool
 has_node n c = same_term c.node n
@@ -36,9 +39,9 @@ found_first test (y ∷ ys) x e =
     ] refl e
 
 -- a shape as it is read, and the shape
-pub read_from : (shapes : List (Shape Term)) (r : ReadShape) → Contains (read_shapes shapes) r → (c : Shape Term) × Contains shapes c × (read_shape c ≡ r)
+pub read_from : (shapes : List (Shape Term)) (r : ReadShape) → Contains (read_shapes shapes) r → (c : Shape Term) × Contains shapes c × (as_read c ≡ r)
 read_from [] r i = absurd (omega arith)
-read_from (c ∷ shapes) r i = elim (has_cases (read_shape c) (read_shapes shapes) r i) [
+read_from (c ∷ shapes) r i = elim (has_cases (as_read c) (read_shapes shapes) r i) [
   | inl e ↦ (c, has_head c shapes, e)
   | inr j ↦ let k = read_from shapes r j in (k.0, has_tail c shapes k.0 k.1, k.2)
 ]
@@ -49,11 +52,11 @@ finds shapes n r i e =
     first_found (has_node n) shapes c.0 c.1 (equal_same c.0.node n (ap (λ (s : ReadShape). s.node) c.2 ∙ e))
 
 -- the shape that is found is the one that is found as it is read
-pub found_read : (shapes : List (Shape Term)) (n : Term) (c : Shape Term) → find (has_node n) shapes ≡ Some c → find (λ r. same_term r.node n) (read_shapes shapes) ≡ Some (read_shape c)
+pub found_read : (shapes : List (Shape Term)) (n : Term) (c : Shape Term) → find (has_node n) shapes ≡ Some c → find (λ r. same_term r.node n) (read_shapes shapes) ≡ Some (as_read c)
 found_read [] n c e = cc
 found_read (d ∷ shapes) n c e =
-    elim (same_term d.node n) as (λ b. cond b (Some d) (find (has_node n) shapes) ≡ Some c → cond b (Some (read_shape d)) (find (λ r. same_term r.node n) (read_shapes shapes)) ≡ Some (read_shape c)) [
-      | true ↦ λ k. let same : d ≡ c = cc in ap (λ (s : Shape Term). Some (read_shape s)) same
+    elim (same_term d.node n) as (λ b. cond b (Some d) (find (has_node n) shapes) ≡ Some c → cond b (Some (as_read d)) (find (λ r. same_term r.node n) (read_shapes shapes)) ≡ Some (as_read c)) [
+      | true ↦ λ k. let same : d ≡ c = cc in ap (λ (s : Shape Term). Some (as_read s)) same
       | false ↦ λ k. found_read shapes n c k
     ] e
 
@@ -75,8 +78,8 @@ with_node : (shapes : List (Shape Term)) (n : Term) → list_any (has_node n) sh
 with_node [] n e = cc
 with_node (c ∷ shapes) n e =
     elim (has_node n c) as (λ b. has_node n c ≡ b → (b || list_any (has_node n) shapes) ≡ true → (d : ReadShape) × Contains (read_shapes (c ∷ shapes)) d × (d.node ≡ n)) [
-      | true ↦ λ k m. (read_shape c, has_head (read_shape c) (read_shapes shapes), same_equal c.node n k)
-      | false ↦ λ k m. let rest = with_node shapes n m in (rest.0, has_tail (read_shape c) (read_shapes shapes) rest.0 rest.1, rest.2)
+      | true ↦ λ k m. (as_read c, has_head (as_read c) (read_shapes shapes), same_equal c.node n k)
+      | false ↦ λ k m. let rest = with_node shapes n m in (rest.0, has_tail (as_read c) (read_shapes shapes) rest.0 rest.1, rest.2)
     ] refl e
 
 -- the test of a list of results

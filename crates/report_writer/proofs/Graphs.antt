@@ -1,97 +1,66 @@
--- What a well-formed shapes graph says of a result, by the compiled shape that gave it.
-use Rattle.std.proofs.Common.{◌≡◌, ◌∙◌, ℕ, List, map, [], ◌∷◌, refl, sym, subst, ap, arith, inl, inr}
-use Rattle.std.specs.Prelude.{Option, Some, None, codes}
+-- The report by compiled shapes is that by the triples of a well-formed shapes graph that they stand for.
+use Rattle.std.proofs.Common.{◌≡◌, ◌∙◌, ℕ, List, map, [], ◌∷◌, refl, sym, ap}
+use Rattle.std.specs.Prelude.{◌↔◌, Option, Some, None, codes}
 use Rattle.std.specs.List.{Contains}
+use Rattle.std.specs.Option.{unwrap_or}
 use Rattle.std.proofs.lemmas.List.Elements.{All-contains}
 use Rattle.rdf_model.specs.declared.term.Term.{Term}
-use Rattle.rdf_model.specs.declared.term.Term.TheVariants.{Blank, Iri, Literal}
 use Rattle.rdf_model.specs.declared.triple.Triple.{Triple}
 use Rattle.rdf_model.specs.NTriples.{term_text}
-use Rattle.shape_ast.specs.Naming.{ReadShape}
+use Rattle.shape_ast.specs.Readings.{ReadShape}
 use Rattle.shape_ast.specs.Standing.{StandFor}
 use Rattle.shape_model.specs.declared.result_row.ResultRow.{ResultRow}
-use Rattle.shape_model.specs.declared.rule.Rule.TheVariants as rules
-use Rattle.shape_model.specs.Paths.{Path, Predicate}
-use Rattle.shape_model.specs.ShapeSyntax.{HasProperty, IsShape}
-use Rattle.shape_model.specs.Triples.{Has, IsIri, IsMember}
+use Rattle.shape_model.specs.Paths.{Path}
+use Rattle.shape_model.specs.ShapeSyntax.{IsShape}
+use Rattle.shape_model.specs.Readings.{IsNodeShape, ShapePath}
 use Rattle.shape_model.specs.Vocabulary.{ShPath, property_iri, sh}
-use Rattle.shape_model.specs.WellFormed.{IsWellFormed, unread_predicates}
-use Rattle.shape_model.specs.Declarations.{first_or, severity_of, values_of}
-use Rattle.shape_model.proofs.Declarations.{values_law}
+use Rattle.shape_model.specs.Declarations.{messages_of, severity_of, values_of}
+use Rattle.shape_rules.specs.Broken.{IsWellFormed}
+use Rattle.report_writer.specs.CompiledReport.{compiled_report, compiled_text, lines_by, result_path}
+use Rattle.report_writer.specs.GraphPaths.{level_limit, path_text_at}
 use Rattle.report_writer.specs.PathTexts.{optional_text}
 use Rattle.report_writer.specs.Report.{first_of, listed, path_by, path_of, report_text, result_lines, result_text}
-use Rattle.report_writer.specs.CompiledReport.{compiled_report, compiled_text, result_path, shape_path}
-use Rattle.report_writer.specs.Defaults.{HasDefaults}
 use Rattle.report_writer.specs.Sources.{HaveSources}
 use Rattle.report_writer.proofs.Finding.{is_there}
+use Rattle.report_writer.proofs.GraphPaths.{path_law}
+use Rattle.report_writer.proofs.GraphValues.{no_values, only_value}
 use Rattle.report_writer.proofs.Results.{report_same}
-use Rattle.collections.proofs.Members.{has_head}
+use Rattle.report_writer.proofs.WellFormed.{one_value, shallow}
 
-no_members : (xs : List Term) → ((v : Term) → Contains xs v → ⊥) → xs ≡ []
-no_members [] none = refl
-no_members (x ∷ xs) none = absurd (none x (has_head x xs))
+-- the text of the first sh:path of a node
+abbrev pub own_texts : List Triple → Term → List (List ℕ)
+own_texts s n = map (path_text_at level_limit s) (first_of (values_of s n (property_iri ShPath)))
 
-no_values : (s : List Triple) (n p : Term) → ((v : Term) → Has s n p v → ⊥) → values_of s n p ≡ []
-no_values s n p none = no_members (values_of s n p) (λ v c. none v (((values_law s n p).members v).0 c))
+-- the path that a compiled shape has is the one of its triples
+path_same : (s : List Triple) → IsWellFormed s → (n : Term) → IsShape s n → (path : Option Path) → ((p : Path) → ShapePath s n p ↔ (path ≡ Some p)) → IsNodeShape s n ↔ (path ≡ None) → optional_text path ≡ own_texts s n
+path_same s well n shape None paths none = sym (ap (λ (vs : List Term). map (path_text_at level_limit s) (first_of vs)) (no_values s n (property_iri ShPath) (none.1 refl)))
+path_same s well n shape (Some p) paths none =
+    let k = (paths p).1 refl in
+    sym (
+    ap (λ (vs : List Term). map (path_text_at level_limit s) (first_of vs)) (only_value s n (property_iri ShPath) k.0 (k.1, λ w h. one_value s well n shape k.0 w k.1 h))
+    ∙ ap (λ (t : List ℕ). t ∷ []) (path_law p level_limit s k.0 k.2 (shallow s well n shape k.0 p k.1 k.2))
+    )
 
-first_is : (xs : List Term) (v : Term) → Contains xs v → ((w : Term) → Contains xs w → w ≡ v) → first_of xs ≡ v ∷ []
-first_is [] v c only = absurd (omega arith)
-first_is (x ∷ xs) v c only = ap (λ (y : Term). y ∷ []) (only x (has_head x xs))
+module _ (shapes : List ReadShape) (s : List Triple) (stand : StandFor shapes s) (well : IsWellFormed s) (r : ResultRow) where
+  -- what the shape says of a result is what the graph says
+  module _ (c : ReadShape) (i : Contains shapes c) (e : c.node ≡ r.source_shape) where
+    path : result_path c.path r ≡ path_of s r
+    path =
+        let same = stand.each c i in
+        ap (path_by r.component (map term_text (listed r.other))) (path_same s well c.node (stand.are_shapes c i) c.path same.path same.is_node_shape ∙ ap (own_texts s) e)
 
-first_value : (s : List Triple) (n p v : Term) → Has s n p v → ((w : Term) → Has s n p w → w ≡ v) → first_of (values_of s n p) ≡ v ∷ []
-first_value s n p v h only = let listing = values_law s n p in first_is (values_of s n p) v ((listing.members v).1 h) (λ w c. only w ((listing.members w).0 c))
+    severity : unwrap_or c.severity (sh (codes "Violation")) ≡ severity_of s r.source_shape
+    severity = stand.severity c i ∙ ap (severity_of s) e
 
-module _ (s : List Triple) (well : IsWellFormed s) where
-  unread : (n p : Term) → IsMember unread_predicates p → values_of s n p ≡ []
-  unread n p m = no_values s n p (λ v h. well (record { node = n; rule = rules.Unsupported; value = Some p }) (inl (p, v, m, h, refl)))
+    messages : c.messages ≡ messages_of s r.source_shape
+    messages = stand.messages c i ∙ ap (messages_of s) e
 
-  -- no shape declares a severity or a message
-  no_severity : (n : Term) → values_of s n (sh (codes "severity")) ≡ []
-  no_severity n = unread n (sh (codes "severity")) (inr (inr (inr (inr (inr (inr (inr (inr (inr (inr (inr (inr (inr (inr (inr (inr (inr (inr (inr (inr (inr (inr (inr (inr (inr (inr (inr (inr (inr (inr (inl refl)))))))))))))))))))))))))))))))
-
-  no_message : (n : Term) → values_of s n (sh (codes "message")) ≡ []
-  no_message n = unread n (sh (codes "message")) (inr (inr (inr (inr (inr (inr (inr (inr (inr (inr (inr (inr (inr (inr (inr (inr (inr (inr (inr (inr (inr (inr (inr (inr (inr (inr (inr (inr (inr (inr (inr (inl refl))))))))))))))))))))))))))))))))
-
--- each sh:path of a shape is an IRI so far
-iri_unless : (v : Term) → ((IsIri v → ⊥) → ⊥) → IsIri v
-iri_unless (Blank session number) not = not (λ i. i)
-iri_unless (Iri iri) not = tt
-iri_unless (Literal lexical datatype language) not = not (λ i. i)
-
-path_iri : (s : List Triple) → IsWellFormed s → (n : Term) → IsShape s n → (v : Term) → HasProperty s n ShPath v → IsIri v
-path_iri s well n shape v h = iri_unless v (λ not. well (record { node = n; rule = rules.Path; value = Some v }) (shape, (v, h, not, refl)))
-
--- the path that a compiled shape has is the one of its triples, each of which is an IRI so far
-path_values : (s : List Triple) (n : Term) (path : Option Path) → ((v : Term) → HasProperty s n ShPath v → path ≡ Some (Predicate v)) → ((v : Term) → path ≡ Some (Predicate v) → HasProperty s n ShPath v)
-    → ((p : Path) → path ≡ Some p → (v : Term) × HasProperty s n ShPath v) → map term_text (first_of (values_of s n (property_iri ShPath))) ≡ optional_text path
-path_values s n None to from some = ap (λ (vs : List Term). map term_text (first_of vs)) (no_values s n (property_iri ShPath) (λ v h. let e : None ≡ Some (Predicate v) = to v h in cc))
-path_values s n (Some p) to from some =
-    let k = some p refl in
-    let is : Some p ≡ Some (Predicate k.0) = to k.0 k.1 in
-    ap (map term_text) (first_value s n (property_iri ShPath) k.0 k.1 (λ w h. let e : Some p ≡ Some (Predicate w) = to w h in cc (e, is)))
-    ∙ sym (ap optional_text is)
-
-has_defaults : (shapes : List ReadShape) (s : List Triple) → StandFor shapes s → IsWellFormed s → (c : ReadShape) → Contains shapes c → (r : ResultRow) → c.node ≡ r.source_shape → HasDefaults s (result_path c.path r) r
-has_defaults shapes s stand well c i r e =
-    let same = stand.each c i in
-    record {
-      path = ap (λ (n : Term). path_by r.component (map term_text (listed r.other)) (map term_text (first_of (values_of s n (property_iri ShPath))))) (sym e)
-          ∙ ap (path_by r.component (map term_text (listed r.other)))
-          (path_values s c.node c.path (λ v h. (same.path (Predicate v)).0 (v, h, (refl, path_iri s well c.node (stand.are_shapes c i) v h)))
-          (λ v is. let k = (same.path (Predicate v)).1 is in subst (λ (u : Term). HasProperty s c.node ShPath u) k.2.0 k.1) (λ p is. let k = (same.path p).1 is in (k.0, k.1)));
-      severity = ap (first_or (sh (codes "Violation"))) (no_severity s well r.source_shape);
-      messages = no_message s well r.source_shape;
-    }
-
--- the lines by the shapes are those by the graph
-pub lines_same : (shapes : List ReadShape) (s : List Triple) → StandFor shapes s → IsWellFormed s → (r : ResultRow) (c : ReadShape) → Contains shapes c → c.node ≡ r.source_shape → (label : List ℕ) → compiled_text shapes label r ≡ result_text s label r
-lines_same shapes s stand well r c i e label =
-    let d = is_there shapes r.source_shape c i e in
-    let given = has_defaults shapes s stand well d.0 d.2 r d.3 in
-    ap (λ (o : Option ReadShape). result_lines label r (result_path (shape_path o) r) (sh (codes "Violation")) []) d.1
-    ∙ ap (λ (path : List (List ℕ)). result_lines label r path (sh (codes "Violation")) []) (sym given.path)
-    ∙ ap (λ (severity : Term). result_lines label r (path_of s r) severity []) (sym given.severity)
-    ∙ ap (λ (messages : List Term). result_lines label r (path_of s r) (severity_of s r.source_shape) messages) (sym given.messages)
+  -- the lines by the shapes are those by the graph
+  lines_same : (c : ReadShape) → Contains shapes c → c.node ≡ r.source_shape → (label : List ℕ) → compiled_text shapes label r ≡ result_text s label r
+  lines_same c i e label =
+      let d = is_there shapes r.source_shape c i e in
+      ap (lines_by label r) d.1
+      ∙ (λ k. result_lines label r (path d.0 d.2 d.3 k) (severity d.0 d.2 d.3 k) (messages d.0 d.2 d.3 k))
 
 pub by_graph : (shapes : List ReadShape) (s : List Triple) → StandFor shapes s → IsWellFormed s → (rows : List ResultRow) → HaveSources shapes rows → compiled_report shapes rows ≡ report_text s rows
 by_graph shapes s stand well rows sources = report_same (compiled_text shapes) (result_text s) rows (λ r i label.

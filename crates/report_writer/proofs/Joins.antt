@@ -1,35 +1,55 @@
 -- The parts that the lines of a result are written in make its text.
-use Rattle.std.proofs.Common.{◌≡◌, ◌∙◌, ℕ, List, [], ◌∷◌, ◌++◌, sym, ap, codes, append_assoc, append-nil, false, length, suc}
+use Rattle.std.proofs.Common.{◌≡◌, ◌∙◌, ◌<◌, ◌+◌, ℕ, List, [], ◌∷◌, ◌++◌, sym, ap, codes, append_assoc, append-nil, false, get_or, length, map, suc, take}
 use Rattle.std.proofs.Math.Dec.{eqb-suc-zero}
 use Rattle.std.specs.Prelude.{◌==◌, Bool, Some, if◌then◌else◌}
+use Rattle.std.specs.List.{flat_map}
+use Rattle.std.proofs.lemmas.Grind.{flat_map-append}
+use Rattle.std.proofs.lemmas.List.{map-append, take_more}
+use Rattle.rdf_model.specs.declared.term.Term.{Term}
 use Rattle.rdf_model.specs.NTriples.{term_text}
 use Rattle.shape_model.specs.declared.result_row.ResultRow.{ResultRow}
-use Rattle.shape_model.specs.Vocabulary.{sh}
 use Rattle.report_writer.specs.Report.{component_name, conforms_text, listed, result_lines, statement, statements, term_statements}
 
-in_turn : (o o1 o2 o3 o4 o5 o6 a b c p v s n k : List ℕ) → o1 ≡ o ++ a ++ b ++ c → o2 ≡ o1 ++ p → o3 ≡ o2 ++ v → o4 ≡ o3 ++ s → o5 ≡ o4 ++ (n ++ []) → o6 ≡ o5 ++ k
-    → o6 ≡ o ++ (a ++ b ++ c ++ p ++ v ++ s ++ n ++ k ++ [])
-in_turn o o1 o2 o3 o4 o5 o6 a b c p v s n k e1 e2 e3 e4 e5 e6 = rw (e6, e5, e4, e3, e2, e1) (simp (append_assoc, append-nil))
+in_turn : (o o1 o2 o3 o4 o5 o6 o7 a b c p v s n k m : List ℕ) → o1 ≡ o ++ a ++ b ++ c → o2 ≡ o1 ++ p → o3 ≡ o2 ++ v → o4 ≡ o3 ++ s → o5 ≡ o4 ++ (n ++ []) → o6 ≡ o5 ++ k → o7 ≡ o6 ++ m
+    → o7 ≡ o ++ (a ++ b ++ c ++ p ++ v ++ s ++ n ++ k ++ m)
+in_turn o o1 o2 o3 o4 o5 o6 o7 a b c p v s n k m e1 e2 e3 e4 e5 e6 e7 = rw (e7, e6, e5, e4, e3, e2, e1) (simp (append_assoc, append-nil))
 
-pub joined : (label : List ℕ) (r : ResultRow) (path : List (List ℕ)) (o o1 o2 o3 o4 o5 o6 : List ℕ)
+pub joined : (label : List ℕ) (r : ResultRow) (path : List (List ℕ)) (severity : Term) (messages : List Term) (o o1 o2 o3 o4 o5 o6 o7 : List ℕ)
     → o1 ≡ o ++ statement (codes "_:r") (codes "sh:result") label ++ statement label (codes "a") (codes "sh:ValidationResult") ++ statement label (codes "sh:focusNode") (term_text r.focus_node)
     → o2 ≡ o1 ++ statements label (codes "sh:resultPath") path
     → o3 ≡ o2 ++ term_statements label (codes "sh:value") (listed r.value)
-    → o4 ≡ o3 ++ statement label (codes "sh:resultSeverity") (term_text (sh (codes "Violation")))
+    → o4 ≡ o3 ++ statement label (codes "sh:resultSeverity") (term_text severity)
     → o5 ≡ o4 ++ term_statements label (codes "sh:sourceShape") (listed (Some r.source_shape))
     → o6 ≡ o5 ++ statement label (codes "sh:sourceConstraintComponent") (codes "sh:" ++ component_name r.component ++ codes "ConstraintComponent")
-    → o6 ≡ o ++ result_lines label r path (sh (codes "Violation")) []
-joined label r path o o1 o2 o3 o4 o5 o6 e1 e2 e3 e4 e5 e6 =
-    in_turn o o1 o2 o3 o4 o5 o6
+    → o7 ≡ o6 ++ term_statements label (codes "sh:resultMessage") messages
+    → o7 ≡ o ++ result_lines label r path severity messages
+joined label r path severity messages o o1 o2 o3 o4 o5 o6 o7 e1 e2 e3 e4 e5 e6 e7 =
+    in_turn o o1 o2 o3 o4 o5 o6 o7
     (statement (codes "_:r") (codes "sh:result") label)
     (statement label (codes "a") (codes "sh:ValidationResult"))
     (statement label (codes "sh:focusNode") (term_text r.focus_node))
     (statements label (codes "sh:resultPath") path)
     (term_statements label (codes "sh:value") (listed r.value))
-    (statement label (codes "sh:resultSeverity") (term_text (sh (codes "Violation"))))
+    (statement label (codes "sh:resultSeverity") (term_text severity))
     (statement label (codes "sh:sourceShape") (term_text r.source_shape))
     (statement label (codes "sh:sourceConstraintComponent") (codes "sh:" ++ component_name r.component ++ codes "ConstraintComponent"))
-    e1 e2 e3 e4 e5 e6
+    (term_statements label (codes "sh:resultMessage") messages)
+    e1 e2 e3 e4 e5 e6 e7
+
+-- one term more has its line
+pub one_term_more : (o now new label property : List ℕ) (terms : List Term) (i : ℕ) (term : Term) → i < length terms → term ≡ get_or terms i term
+    → now ≡ o ++ term_statements label property (take i terms)
+    → new ≡ now ++ term_statements label property (term ∷ [])
+    → new ≡ o ++ term_statements label property (take (i + 1) terms)
+one_term_more o now new label property terms i term less is before written =
+    let whole : take (i + 1) terms ≡ take i terms ++ term ∷ [] = take_more terms i term less ∙ ap (λ (t : Term). take i terms ++ t ∷ []) (sym is) in
+    let more : term_statements label property (take i terms ++ term ∷ []) ≡ term_statements label property (take i terms) ++ term_statements label property (term ∷ []) =
+    ap (flat_map (statement label property)) (map-append term_text (take i terms) (term ∷ [])) ∙ flat_map-append (statement label property) (map term_text (take i terms)) (term_text term ∷ []) in
+    written
+    ∙ ap (λ (text : List ℕ). text ++ term_statements label property (term ∷ [])) before
+    ∙ append_assoc o (term_statements label property (take i terms)) (term_statements label property (term ∷ []))
+    ∙ ap (λ (text : List ℕ). o ++ text) (sym more)
+    ∙ ap (λ (ts : List Term). o ++ term_statements label property ts) (sym whole)
 
 -- a line that is written in three parts
 pub path_line : (o o1 o2 o3 label text : List ℕ) → o1 ≡ o ++ (label ++ codes " sh:resultPath ") → o2 ≡ o1 ++ text → o3 ≡ o2 ++ codes " .\n" → o3 ≡ o ++ statement label (codes "sh:resultPath") text

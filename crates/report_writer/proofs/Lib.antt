@@ -1,6 +1,11 @@
 pub mod PathLists
+pub mod GraphValues
+pub mod GraphPaths
+pub mod RuleShapes
+pub mod WellFormed
 pub mod Joins
 pub mod Finding
+pub mod ReadLines
 pub mod Graphs
 pub mod Results
 pub mod Sources

@@ -1,5 +1,5 @@
 pub mod PathTexts
+pub mod GraphPaths
 pub mod Report
 pub mod Sources
 pub mod CompiledReport
-pub mod Defaults

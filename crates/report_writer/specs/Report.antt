@@ -10,6 +10,7 @@ use Rattle.shape_model.specs.declared.component.Component.TheVariants as compone
 use Rattle.shape_model.specs.declared.result_row.ResultRow.{ResultRow}
 use Rattle.shape_model.specs.Declarations.{messages_of, severity_of, values_of}
 use Rattle.shape_model.specs.Vocabulary.{ShPath, property_iri}
+use Rattle.report_writer.specs.GraphPaths.{level_limit, path_text_at}
 
 abbrev pub first_of : List Term → List Term
 first_of [] = []
@@ -25,9 +26,9 @@ abbrev pub path_by : Component → List (List ℕ) → List (List ℕ) → List 
 path_by components.Closed other own = other
 path_by c other own = own
 
--- by the triples, where each path is an IRI so far
+-- by the triples: the path of a property shape is that of its sh:path (SHACL 2.3.1)
 abbrev pub path_of : List Triple → ResultRow → List (List ℕ)
-path_of s r = path_by r.component (map term_text (listed r.other)) (map term_text (first_of (values_of s r.source_shape (property_iri ShPath))))
+path_of s r = path_by r.component (map term_text (listed r.other)) (map (path_text_at level_limit s) (first_of (values_of s r.source_shape (property_iri ShPath))))
 
 -- the local name of a component's IRI (SHACL 4), without `ConstraintComponent`
 abbrev pub component_name : Component → List ℕ

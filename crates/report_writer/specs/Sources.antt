@@ -2,7 +2,7 @@
 use Rattle.std.specs.Prelude.{◌≡◌, List}
 use Rattle.std.specs.List.{All, Contains}
 use Rattle.shape_model.specs.declared.result_row.ResultRow.{ResultRow}
-use Rattle.shape_ast.specs.Naming.{ReadShape}
+use Rattle.shape_ast.specs.Readings.{ReadShape}
 
 -- the source shape of each result is one of the shapes
 abbrev pub HaveSources : List ReadShape → List ResultRow → Type 0

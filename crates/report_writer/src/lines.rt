@@ -1,19 +1,20 @@
-ghost use Rattle.std.specs.Prelude.{◌≡◌, ◌++◌, [], codes, string_bytes, OnOk};
-ghost use Rattle.std.specs.Option.{option_copied};
+ghost use Rattle.std.specs.Prelude.{◌≡◌, ◌++◌, codes, string_bytes, OnOk};
+ghost use Rattle.std.specs.Option.{option_copied, unwrap_or};
 ghost use Rattle.rdf_model.specs.NTriples.{term_text};
 ghost use Rattle.shape_model.specs.Vocabulary.{sh};
-ghost use Rattle.shape_ast.specs.PathReadings.{defined_path, optional_path};
+ghost use Rattle.compiled_paths.specs.PathReadings.{defined_path, optional_path};
+ghost use Rattle.shape_ast.specs.Readings.{read_shape};
 ghost use Rattle.report_writer.specs.PathTexts.{optional_text, path_text};
-ghost use Rattle.report_writer.specs.Report.{component_name, listed, result_label, result_lines, statement, statements, term_statements};
-ghost use Rattle.report_writer.specs.CompiledReport.{result_path};
+ghost use Rattle.report_writer.specs.Report.{component_name, listed, result_label, statement, statements, term_statements};
+ghost use Rattle.report_writer.specs.CompiledReport.{result_path, shape_lines};
 
 use crate::component::name_of;
 use crate::paths::push_path;
 use rdf_model::Term;
-use shape_ast::{Component, Path, ResultRow};
+use shape_ast::{Component, Path, ResultRow, Shape};
 use std::alloc::AllocError;
 
-// The severity of shapes that declare none (SHACL section 2.1.4).
+// The severity of a shape that declares none (SHACL section 2.1.4).
 const VIOLATION: &str = "<http://www.w3.org/ns/shacl#Violation>";
 
 // The lines that begin each result.
@@ -46,12 +47,25 @@ fn push_term(
     }
 }
 
-// The line on the severity, sh:Violation.
+// The line on the severity of a shape that declares this one, or none.
 #[tactic(auto, unfolding(shape_model::specs::Vocabulary::sh))]
-fn push_severity(out: &mut String, number: u64) -> Result<(), AllocError>
-    ensures { OnOk result (string_bytes out.new ≡ string_bytes out.old ++ statement (result_label number) (codes "sh:resultSeverity") (term_text (sh (codes "Violation")))) }
+fn push_severity(out: &mut String, number: u64, declared: &Option<Term>) -> Result<(), AllocError>
+    ensures { OnOk result (string_bytes out.new ≡ string_bytes out.old ++ statement (result_label number) (codes "sh:resultSeverity") (term_text (unwrap_or declared.now (sh (codes "Violation"))))) }
 {
-    write!(out, "_:r{number} sh:resultSeverity {VIOLATION} .\n")
+    match declared {
+        Some(severity) => write!(out, "_:r{number} sh:resultSeverity {severity} .\n"),
+        None => write!(out, "_:r{number} sh:resultSeverity {VIOLATION} .\n"),
+    }
+}
+
+// A line for each message.
+fn push_messages(out: &mut String, number: u64, messages: &[Term]) -> Result<(), AllocError>
+    ensures { OnOk result (string_bytes out.new ≡ string_bytes out.old ++ term_statements (result_label number) (codes "sh:resultMessage") messages.now) }
+{
+    for message in messages {
+        push_term(out, number, "sh:resultMessage", Some(message))?;
+    }
+    Ok(())
 }
 
 // The line on the component.
@@ -100,19 +114,21 @@ fn push_result_path(
     }
 }
 
-/// The lines of one result (SHACL section 3.6.2) of a shape with this path.
+/// The lines of one result (SHACL section 3.6.2) of the shape: with its path, its severity and its
+/// messages.
 pub fn push_result(
     out: &mut String,
     number: u64,
     row: &ResultRow,
-    path: &Option<Path<Term>>,
+    shape: &Shape<Term>,
 ) -> Result<(), AllocError>
-    ensures { OnOk result (string_bytes out.new ≡ string_bytes out.old ++ result_lines (result_label number) row.now (result_path (optional_path path.now) row.now) (sh (codes "Violation")) []) }
+    ensures { OnOk result (string_bytes out.new ≡ string_bytes out.old ++ shape_lines (result_label number) row.now (read_shape (λ t. t) shape.now)) }
 {
     push_head(out, number, &row.focus_node)?;
-    push_result_path(out, number, row, path)?;
+    push_result_path(out, number, row, &shape.path)?;
     push_term(out, number, "sh:value", row.value.as_ref())?;
-    push_severity(out, number)?;
+    push_severity(out, number, &shape.severity)?;
     push_term(out, number, "sh:sourceShape", Some(&row.source_shape))?;
-    push_component(out, number, row.component)
+    push_component(out, number, row.component)?;
+    push_messages(out, number, shape.messages.as_slice())
 }

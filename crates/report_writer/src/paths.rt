@@ -1,5 +1,5 @@
 ghost use Rattle.std.specs.Prelude.{◌≡◌, ◌++◌, OnOk, map, string_bytes};
-ghost use Rattle.shape_ast.specs.PathReadings.{defined_path, members};
+ghost use Rattle.compiled_paths.specs.PathReadings.{defined_path, members};
 ghost use Rattle.report_writer.specs.PathTexts.{list_text, members_text, node_text, path_text};
 
 use rdf_model::Term;

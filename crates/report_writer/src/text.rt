@@ -3,9 +3,9 @@ ghost use Rattle.std.specs.List.{Contains, find};
 ghost use Rattle.std.specs.Option.{option_copied};
 ghost use Rattle.rdf_model.specs.declared.triple.Triple.{Triple};
 ghost use Rattle.rdf_model.specs.Matching.{same_term};
-ghost use Rattle.shape_ast.specs.Naming.{ReadShape, read_shapes};
+ghost use Rattle.shape_ast.specs.Readings.{ReadShape, read_shapes};
 ghost use Rattle.shape_ast.specs.Standing.{StandFor};
-ghost use Rattle.shape_model.specs.WellFormed.{IsWellFormed};
+ghost use Rattle.shape_rules.specs.Broken.{IsWellFormed};
 ghost use Rattle.report_writer.specs.Report.{conforms_text, report_text, result_label, statement};
 ghost use Rattle.report_writer.specs.CompiledReport.{compiled_report, compiled_text};
 ghost use Rattle.report_writer.specs.Sources.{HaveSources};
@@ -33,7 +33,7 @@ fn push_row(
     ensures { OnOk result (string_bytes out.new ≡ string_bytes out.old ++ compiled_text (read_shapes shapes.now) (result_label number) row.now) }
 {
     let shape = shape_of(shapes, &row.source_shape).unwrap();
-    push_result(out, number, row, &shape.path)
+    push_result(out, number, row, shape)
 }
 
 // The lines on the whole report.

@@ -8,8 +8,8 @@ ghost use Rattle.std.specs.Prelude.{IfOk, OnOk};
 ghost use Rattle.path_eval.specs.Naming.{Numbered};
 ghost use Rattle.reverse_walk.specs.Walkers.{AddsBackReads, AreWalkers};
 
+use compiled_paths::Path;
 use rdf_model::{Footprint, Triples};
-use shape_ast::Path;
 use std::alloc::{AllocError, Global};
 
 /// The nodes with a walk to the node along the path (SHACL section 2.3.1), each once, ascending by

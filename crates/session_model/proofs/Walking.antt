@@ -10,7 +10,7 @@ use Rattle.store_model.specs.declared.commit.Overtaker.{Overtaker}
 use Rattle.shape_model.specs.declared.result_row.ResultRow.{ResultRow}
 use Rattle.store_model.specs.declared.commit.Transaction.{Transaction}
 use Rattle.session_model.specs.declared.command.Command.TheVariants as commands
-use Rattle.session_model.specs.declared.command.Command.TheVariants.{Add, BadAdd, Remove, BadRemove, Shapes, BadShapes, BrokenShapes, Find, Abort}
+use Rattle.session_model.specs.declared.command.Command.TheVariants.{Add, BadAdd, Remove, BadRemove, Shapes, BadShapes, BrokenShapes, RefusedPattern, Find, Abort}
 use Rattle.rdf_model.specs.Graphs.{after}
 use Rattle.store_model.proofs.Steps.{StepIsDeterministic-holds}
 use Rattle.store_model.specs.declared.event.Reply.{Reply}
@@ -110,6 +110,8 @@ never_open None (BadShapes n kind) = refl
 never_open (Some w) (BadShapes n kind) = refl
 never_open None (BrokenShapes rule node) = refl
 never_open (Some w) (BrokenShapes rule node) = refl
+never_open None (RefusedPattern node) = refl
+never_open (Some w) (RefusedPattern node) = refl
 never_open None commands.Commit = refl
 never_open (Some w) commands.Commit = not_open w.head_taken w.transaction
 never_open None (Find p) = refl

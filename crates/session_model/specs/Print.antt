@@ -3,11 +3,10 @@ use Rattle.std.specs.Prelude.{◌≡◌, ℕ, ◌+◌, List, [], ◌∷◌, ◌+
 use Rattle.std.specs.List.{flat_map}
 use Rattle.std.specs.Fmt.{decimal}
 use Rattle.rdf_model.specs.NTriples.{term_text, triple_text}
-use Rattle.shape_model.specs.Rows.{rule_number}
 use Rattle.store_model.specs.declared.event.Limits.{Limits}
 use Rattle.session_model.specs.declared.command.Command.{Command}
 use Rattle.session_model.specs.declared.reply.SessionReply.{SessionReply}
-use Rattle.session_model.specs.declared.reply.SessionReply.TheVariants.{AlreadyOpen, NoTransaction, Begun, Added, AddRefused, Removed, RemoveRefused, ShapesStaged, ShapesRefused, ShapesBroken, FullTerms, Committed, ReadOnly, Overtaken, FullGraph, Refused, Found, Aborted}
+use Rattle.session_model.specs.declared.reply.SessionReply.TheVariants.{AlreadyOpen, NoTransaction, Begun, Added, AddRefused, Removed, RemoveRefused, ShapesStaged, ShapesRefused, ShapesBroken, PatternRefused, FullTerms, Committed, ReadOnly, Overtaken, FullGraph, Refused, Found, Aborted}
 use Rattle.session_model.specs.Sessions.{HasReplies}
 
 -- the line of a reply, without its end; the report of a refusal has lines of its own, and `end` after them; the triples
@@ -22,7 +21,8 @@ reply_text (Removed count) = codes "remove " ++ decimal count
 reply_text (RemoveRefused n kind) = codes "bad remove " ++ decimal n ++ codes " " ++ decimal kind
 reply_text (ShapesStaged count) = codes "shapes " ++ decimal count
 reply_text (ShapesRefused n kind) = codes "bad shapes line " ++ decimal n ++ codes " " ++ decimal kind
-reply_text (ShapesBroken rule node) = codes "bad shapes " ++ decimal (rule_number rule) ++ codes " " ++ term_text node
+reply_text (ShapesBroken rule node) = codes "bad shapes " ++ decimal rule ++ codes " " ++ term_text node
+reply_text (PatternRefused node) = codes "bad shapes pattern " ++ term_text node
 reply_text FullTerms = codes "full terms"
 reply_text (Committed number) = codes "commit " ++ decimal number
 reply_text (ReadOnly version) = codes "read only " ++ decimal version

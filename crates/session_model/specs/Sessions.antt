@@ -12,9 +12,9 @@ use Rattle.store_model.specs.declared.event.Action.TheVariants as actions
 use Rattle.store_model.specs.declared.event.Reply.{Reply}
 use Rattle.store_model.specs.declared.event.Reply.TheVariants.{Version, Named, Full, Conflict, FullTriples, Refused, Done}
 use Rattle.session_model.specs.declared.command.Command.{Command}
-use Rattle.session_model.specs.declared.command.Command.TheVariants.{Begin, Add, BadAdd, Remove, BadRemove, Shapes, BadShapes, BrokenShapes, Commit, Find, Abort}
+use Rattle.session_model.specs.declared.command.Command.TheVariants.{Begin, Add, BadAdd, Remove, BadRemove, Shapes, BadShapes, BrokenShapes, RefusedPattern, Commit, Find, Abort}
 use Rattle.session_model.specs.declared.reply.SessionReply.{SessionReply}
-use Rattle.session_model.specs.declared.reply.SessionReply.TheVariants.{AlreadyOpen, NoTransaction, Begun, Added, AddRefused, Removed, RemoveRefused, ShapesStaged, ShapesRefused, ShapesBroken, FullTerms, Committed, ReadOnly, Overtaken, FullGraph, Refused as RefusedBy, Found, Aborted}
+use Rattle.session_model.specs.declared.reply.SessionReply.TheVariants.{AlreadyOpen, NoTransaction, Begun, Added, AddRefused, Removed, RemoveRefused, ShapesStaged, ShapesRefused, ShapesBroken, PatternRefused, FullTerms, Committed, ReadOnly, Overtaken, FullGraph, Refused as RefusedBy, Found, Aborted}
 use Rattle.rdf_model.specs.declared.pattern.Pattern.{Pattern}
 use Rattle.rdf_model.specs.Graphs.{after}
 use Rattle.rdf_model.specs.NTriples.{triple_text}
@@ -96,6 +96,8 @@ local_answer None (BadShapes n kind) = answers NoTransaction None
 local_answer (Some w) (BadShapes n kind) = answers (ShapesRefused n kind) (Some w)
 local_answer None (BrokenShapes rule node) = answers NoTransaction None
 local_answer (Some w) (BrokenShapes rule node) = answers (ShapesBroken rule node) (Some w)
+local_answer None (RefusedPattern node) = answers NoTransaction None
+local_answer (Some w) (RefusedPattern node) = answers (PatternRefused node) (Some w)
 local_answer None Commit = answers NoTransaction None
 local_answer (Some w) Commit = local_commit w w.transaction.net w.transaction.staged
 local_answer None (Find p) = answers NoTransaction None
@@ -135,6 +137,8 @@ action_of None (BadShapes n kind) = actions.Void
 action_of (Some w) (BadShapes n kind) = actions.Void
 action_of None (BrokenShapes rule node) = actions.Void
 action_of (Some w) (BrokenShapes rule node) = actions.Void
+action_of None (RefusedPattern node) = actions.Void
+action_of (Some w) (RefusedPattern node) = actions.Void
 action_of None Commit = actions.Void
 action_of None (Find p) = actions.Void
 action_of (Some w) (Find p) = actions.Void

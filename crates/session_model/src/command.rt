@@ -1,6 +1,5 @@
 use collections::Sequence;
 use rdf_model::{Pattern, Term, Triple};
-use shape_model::Rule;
 use shapes_graph::ShapesGraph;
 
 /// A command of a session.
@@ -19,8 +18,10 @@ pub enum Command {
     Shapes(ShapesGraph),
     /// Shapes whose block can't be read: the line of the block, from 1, and the number of the refusal's kind.
     BadShapes { line: u64, kind: u8 },
-    /// Shapes whose graph isn't well-formed: of the rules that it breaks the one that is reported, and the node that breaks it.
-    BrokenShapes { rule: Rule, node: Term },
+    /// Shapes whose graph isn't well-formed: the number of the rule that is reported, and the node that breaks it.
+    BrokenShapes { rule: u8, node: Term },
+    /// Shapes whose graph is well-formed, but has a shape whose pattern was refused: that shape's node.
+    RefusedPattern { node: Term },
     Commit,
     /// Asks for the triples that the pattern has.
     Find(Pattern),
@@ -40,6 +41,7 @@ impl Drop for Command {
             Command::Shapes(_) => {}
             Command::BadShapes { line: _, kind: _ } => {}
             Command::BrokenShapes { rule: _, node: _ } => {}
+            Command::RefusedPattern { node: _ } => {}
             Command::Commit => {}
             Command::Find(_) => {}
             Command::Abort => {}

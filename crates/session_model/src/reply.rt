@@ -1,5 +1,4 @@
 use rdf_model::{Term, Text, Triple};
-use shape_model::Rule;
 use std::fmt;
 
 /// What a session is answered on one command.
@@ -23,8 +22,10 @@ pub enum SessionReply {
     ShapesStaged(usize),
     /// The block of shapes can't be read: its line, from 1, and the number of the refusal's kind.
     ShapesRefused { line: u64, kind: u8 },
-    /// The shapes graph isn't well-formed: the rule that is reported, and the node that breaks it.
-    ShapesBroken { rule: Rule, node: Term },
+    /// The shapes graph isn't well-formed: the number of the rule that is reported, and the node that breaks it.
+    ShapesBroken { rule: u8, node: Term },
+    /// The shapes graph is well-formed, but the pattern of the shape at this node was refused.
+    PatternRefused { node: Term },
     /// The block would name more terms than the limit allows.
     FullTerms,
     /// The number of the accepted commit.
@@ -57,6 +58,7 @@ impl Drop for SessionReply {
             SessionReply::ShapesStaged(_) => {}
             SessionReply::ShapesRefused { line: _, kind: _ } => {}
             SessionReply::ShapesBroken { rule: _, node: _ } => {}
+            SessionReply::PatternRefused { node: _ } => {}
             SessionReply::FullTerms => {}
             SessionReply::Committed(_) => {}
             SessionReply::ReadOnly(_) => {}
@@ -93,9 +95,8 @@ impl fmt::Display for SessionReply {
             SessionReply::ShapesRefused { line, kind } => {
                 write!(f, "bad shapes line {line} {kind}")
             }
-            SessionReply::ShapesBroken { rule, node } => {
-                write!(f, "bad shapes {} {node}", rule.number())
-            }
+            SessionReply::ShapesBroken { rule, node } => write!(f, "bad shapes {rule} {node}"),
+            SessionReply::PatternRefused { node } => write!(f, "bad shapes pattern {node}"),
             SessionReply::FullTerms => f.write_str("full terms"),
             SessionReply::Committed(number) => write!(f, "commit {number}"),
             SessionReply::ReadOnly(version) => write!(f, "read only {version}"),

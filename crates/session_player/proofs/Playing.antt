@@ -5,7 +5,6 @@ use Rattle.store_model.specs.declared.event.Event.{Event}
 use Rattle.std.specs.Prelude.{IfOk, MatchBool, MatchOption, Result, Ok, Err}
 use Rattle.std.specs.declared.alloc.AllocError.{AllocError}
 use Rattle.rdf_model.specs.declared.term.Term.{Term}
-use Rattle.shape_model.specs.declared.rule.Rule.{Rule}
 use Rattle.std.proofs.lemmas.Bool.Decides.{nat_tests}
 use Rattle.store_model.specs.declared.commit.Overtaker.{Overtaker}
 use Rattle.store_model.specs.declared.event.Limits.{Limits}
@@ -21,9 +20,9 @@ use Rattle.store_model.specs.declared.commit.Again.{Again}
 use Rattle.report_writer.specs.Report.{report_text}
 use Rattle.store_model.specs.declared.commit.Transaction.{Transaction}
 use Rattle.session_model.specs.declared.command.Command.{Command}
-use Rattle.session_model.specs.declared.command.Command.TheVariants.{Begin, Shapes, BadShapes, BrokenShapes, Commit}
+use Rattle.session_model.specs.declared.command.Command.TheVariants.{Begin, Shapes, BadShapes, BrokenShapes, RefusedPattern, Commit}
 use Rattle.session_model.specs.declared.reply.SessionReply.{SessionReply}
-use Rattle.session_model.specs.declared.reply.SessionReply.TheVariants.{Begun, ShapesStaged, ShapesRefused, ShapesBroken, FullTerms, ReadOnly, Refused as RefusedBy}
+use Rattle.session_model.specs.declared.reply.SessionReply.TheVariants.{Begun, ShapesStaged, ShapesRefused, ShapesBroken, PatternRefused, FullTerms, ReadOnly, Refused as RefusedBy}
 use Rattle.store_model.specs.Store.{State, RecordedStore, OpensNext, OpensNothing, Replies, CommitsByListing, CommitsWithinLimit, CommitsByRows, overtaker, TakesStep, IsOpened, HasChange, NetNamed, StagedNamed, named_with, shapes_under, version}
 use Rattle.session_model.specs.Sessions.{OpenTransaction, LocalAnswer, answers, local_answer, local_commit, up_to_event, begun, with_changes, with_shapes, parts_of, action_of, commit_action, after_reply, SessionState}
 use Rattle.session_player.specs.declared.transaction.ChangeKind.{ChangeKind}
@@ -196,9 +195,13 @@ pub local-refuse_shapes : (n k : ℕ) (u : Option OpenTransaction) → local_ans
 local-refuse_shapes n k None = refl
 local-refuse_shapes n k (Some w) = refl
 
-pub local-refuse_broken : (rule : Rule) (node : Term) (u : Option OpenTransaction) → local_answer u (BrokenShapes rule node) ≡ answers (answer_in u (ShapesBroken rule node)) u
+pub local-refuse_broken : (rule : ℕ) (node : Term) (u : Option OpenTransaction) → local_answer u (BrokenShapes rule node) ≡ answers (answer_in u (ShapesBroken rule node)) u
 local-refuse_broken rule node None = refl
 local-refuse_broken rule node (Some w) = refl
+
+pub local-refuse_pattern : (node : Term) (u : Option OpenTransaction) → local_answer u (RefusedPattern node) ≡ answers (answer_in u (PatternRefused node)) u
+local-refuse_pattern node None = refl
+local-refuse_pattern node (Some w) = refl
 
 -- a commit that changes something or stages shapes is an event
 pub local-change : (w : OpenTransaction) (net : List Change) (staged : Option (List Triple)) → HasChange net staged → local_commit w net staged ≡ None

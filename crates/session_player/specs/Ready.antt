@@ -6,7 +6,7 @@ use Rattle.store_model.specs.declared.event.Reply.{Reply}
 use Rattle.store_model.specs.declared.event.Reply.TheVariants as replies
 use Rattle.store_model.specs.declared.commit.Transaction.{Transaction}
 use Rattle.session_model.specs.declared.command.Command.{Command}
-use Rattle.session_model.specs.declared.command.Command.TheVariants.{Commit, Begin, Add, BadAdd, Remove, BadRemove, Shapes, BadShapes, BrokenShapes, Find, Abort}
+use Rattle.session_model.specs.declared.command.Command.TheVariants.{Commit, Begin, Add, BadAdd, Remove, BadRemove, Shapes, BadShapes, BrokenShapes, RefusedPattern, Find, Abort}
 use Rattle.session_model.specs.declared.reply.SessionReply.{SessionReply}
 use Rattle.session_model.specs.declared.reply.SessionReply.TheVariants.{NoTransaction}
 use Rattle.store_model.specs.Store.{RecordedStore, TakesStep, IsOpened, NetNamed, StagedNamed, version}
@@ -61,6 +61,7 @@ is_commit (BadRemove n kind) = false
 is_commit (Shapes ts) = false
 is_commit (BadShapes n kind) = false
 is_commit (BrokenShapes rule node) = false
+is_commit (RefusedPattern node) = false
 is_commit (Find p) = false
 is_commit Abort = false
 

@@ -7,7 +7,7 @@ ghost use Rattle.store_model.specs.Store.{IsCommittable, IsOpened};
 ghost use Rattle.session_player.specs.Ready.{CommitsWith, IsReady, Performs, TakesHead};
 
 use crate::find::{abort, find};
-use crate::stage::{change, refuse_broken, refuse_change, refuse_shapes, stage};
+use crate::stage::{change, refuse_broken, refuse_change, refuse_pattern, refuse_shapes, stage};
 use crate::transaction::{ChangeKind, OpenTransaction};
 use collections::{Sequence, let_go};
 use commit_core::{CheckedTransaction, Commit, Core, Transaction};
@@ -162,6 +162,7 @@ pub fn perform<L: Ledger>(
         Command::BrokenShapes { rule, node } => {
             refuse_broken(core, session, current, *rule, node, replies)
         }
+        Command::RefusedPattern { node } => refuse_pattern(core, session, current, node, replies),
         Command::Commit => {
             commit(alloc, core, session, current, replies, steps)?;
             Ok(None)

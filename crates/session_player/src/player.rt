@@ -58,6 +58,7 @@ fn is_event_within(transaction: &OpenTransaction, command: &Command) -> bool
         | Command::BadRemove { .. }
         | Command::BadShapes { .. }
         | Command::BrokenShapes { .. }
+        | Command::RefusedPattern { .. }
         | Command::Find(_)
         | Command::Abort => false,
     }

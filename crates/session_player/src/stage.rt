@@ -11,7 +11,6 @@ use collections::Sequence;
 use commit_core::{Core, NameFault};
 use rdf_model::{Term, Triple};
 use session_model::{Command, SessionReply};
-use shape_model::Rule;
 use shapes_graph::ShapesGraph;
 use std::alloc::{AllocError, Global};
 
@@ -161,7 +160,7 @@ pub fn refuse_broken(
     core: &Core,
     session: u32,
     current: Option<OpenTransaction>,
-    rule: Rule,
+    rule: u8,
     node: &Term,
     replies: &mut Sequence<SessionReply>,
 ) -> Result<Option<OpenTransaction>, AllocError>
@@ -170,4 +169,19 @@ pub fn refuse_broken(
 {
     let node = node.clone()?;
     answer_only(current, SessionReply::ShapesBroken { rule, node }, replies)
+}
+
+/// Shapes with a pattern that was refused change nothing.
+pub fn refuse_pattern(
+    core: &Core,
+    session: u32,
+    current: Option<OpenTransaction>,
+    node: &Term,
+    replies: &mut Sequence<SessionReply>,
+) -> Result<Option<OpenTransaction>, AllocError>
+    requires { IsReady core.now session current }
+    ensures { IfOk result (λ next. Performs session core.now core.now current next (Command.RefusedPattern node.now) replies.old replies.new) }
+{
+    let node = node.clone()?;
+    answer_only(current, SessionReply::PatternRefused { node }, replies)
 }

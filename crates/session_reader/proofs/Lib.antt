@@ -2,4 +2,5 @@ pub mod Checks
 pub mod Items
 pub mod Lengths
 pub mod OneSession
+pub mod Ordering
 pub mod Pieces

@@ -1,5 +1,6 @@
 -- Why a session isn't prepared.
-use Rattle.std.specs.Prelude.{◌≡◌, ℕ, Result, Err}
+use Rattle.std.specs.Prelude.{◌≡◌, ℕ, List, Result, Err}
+use Rattle.outside.specs.Faults.{Refusal}
 use Rattle.session_reader.specs.declared.prepare_fault.PrepareFault.{PrepareFault}
 use Rattle.session_reader.specs.declared.prepare_fault.PrepareFault.TheVariants.{Line, Memory}
 
@@ -7,3 +8,8 @@ use Rattle.session_reader.specs.declared.prepare_fault.PrepareFault.TheVariants.
 abbrev pub Fails : {X : Type 0} → PrepareFault → Result X ℕ → Type 0
 Fails (Line n) reading = reading ≡ Err n
 Fails Memory reading = Unit {0}
+
+-- no pattern is made of a file that can't be read
+abbrev pub MakesNone : PrepareFault → List Refusal → List Refusal → Type 0
+MakesNone (Line n) old new = new ≡ old
+MakesNone Memory old new = Unit {0}

@@ -1,10 +1,11 @@
 -- The commands of a session file, or the number of its first line that is no command. They are read first, and then the
--- shapes graphs among them are judged.
+-- shapes graphs among them are judged and their patterns made.
 use Rattle.std.specs.Prelude.{◌≡◌, Bool, ℕ, zero, suc, ◌+◌, ◌-◌, ◌&&◌, ◌||◌, List, [], ◌∷◌, ◌++◌, length, take, Option, Some, None, Result, Ok, Err, nat_lt, ◌==◌, if◌then◌else◌, slice_index, codes, bytes_eq}
 use Rattle.std.specs.Option.{option_map}
 use Rattle.std.specs.List.{slice_split, flat_map}
 use Rattle.rdf_model.specs.declared.triple.Triple.{Triple}
 use Rattle.rdf_model.specs.declared.pattern.Pattern.{Pattern}
+use Rattle.outside.specs.Faults.{Refusal}
 use Rattle.session_model.specs.declared.command.Command.{Command}
 use Rattle.session_reader.specs.declared.line.Syntax.{Syntax}
 use Rattle.session_reader.specs.declared.line.Syntax.TheVariants.{NTriples, Turtle}
@@ -167,6 +168,6 @@ commands_of s first (item ∷ items) = with_item s first item.number item.kind i
 abbrev pub session_of : ℕ → List ℕ → Result (List ReadCommand) ℕ
 session_of s bytes = commands_of s 1 (items_after 0 1 (slice_split (λ c. c == 10) bytes))
 
--- The commands of session s in this file.
-abbrev pub IsSession : ℕ → List ℕ → List Command → Type 0
-IsSession s bytes cs = (read : List ReadCommand) × (session_of s bytes ≡ Ok read) × AreChecked read cs
+-- The commands of session s in this file, where the patterns that were refused are old before they are made, and new after.
+abbrev pub IsSession : ℕ → List ℕ → List Command → List Refusal → List Refusal → Type 0
+IsSession s bytes cs old new = (read : List ReadCommand) × (session_of s bytes ≡ Ok read) × AreChecked read cs old new

@@ -1,5 +1,8 @@
-ghost use Rattle.std.specs.Prelude.{◌≡◌, IfOk};
-ghost use Rattle.session_reader.specs.Checking.{AreChecked, IsChecked, IsCheckedGraph};
+ghost use Rattle.std.specs.Prelude.{IfOk};
+ghost use Rattle.std.specs.List.{AllByRecursion};
+ghost use Rattle.collections.specs.Ordered.{IsAscending};
+ghost use Rattle.rdf_model.specs.Terms.{triple_cmp};
+ghost use Rattle.session_reader.specs.Checking.{AreChecked, IsChecked, IsCheckedGraph, IsOrdered, OnlyGrows};
 
 use crate::read_command::ReadCommand;
 use collections::Sequence;
@@ -16,15 +19,17 @@ fn check_graph<M: Maker>(
     maker: &mut M,
     triples: Sequence<Triple>,
 ) -> Result<Command, AllocError>
-    ensures command { IfOk result (IsCheckedGraph triples) }
-    ensures maker { maker.new ≡ maker.old }
+    requires { IsAscending triple_cmp triples }
+    ensures command { IfOk result (λ command. IsCheckedGraph triples command (M.refused maker.old) (M.refused maker.new)) }
+    ensures refused { OnlyGrows (M.refused maker.old) (M.refused maker.new) }
 {
     match read_shapes(alloc, maker, triples.as_slice()) {
         Ok(shapes) => Ok(Command::Shapes(ShapesGraph::new(alloc, triples, shapes)?)),
-        Err(ShapeFault::Rule(broken)) => Ok(Command::BrokenShapes {
-            rule: broken.rule,
-            node: broken.node,
+        Err(ShapeFault::Rule(row)) => Ok(Command::BrokenShapes {
+            rule: row.rule,
+            node: row.node.clone()?,
         }),
+        Err(ShapeFault::Pattern { node }) => Ok(Command::RefusedPattern { node }),
         Err(ShapeFault::Memory) => Err(AllocError),
     }
 }
@@ -35,8 +40,9 @@ fn check_command<M: Maker>(
     maker: &mut M,
     read: ReadCommand,
 ) -> Result<Command, AllocError>
-    ensures command { IfOk result (IsChecked read) }
-    ensures maker { maker.new ≡ maker.old }
+    requires { IsOrdered read }
+    ensures command { IfOk result (λ command. IsChecked read command (M.refused maker.old) (M.refused maker.new)) }
+    ensures refused { OnlyGrows (M.refused maker.old) (M.refused maker.new) }
 {
     match read {
         ReadCommand::Begin => Ok(Command::Begin),
@@ -58,8 +64,9 @@ pub fn check_commands<M: Maker>(
     maker: &mut M,
     read: Sequence<ReadCommand>,
 ) -> Result<Sequence<Command>, AllocError>
-    ensures commands { IfOk result (AreChecked read) }
-    ensures maker { maker.new ≡ maker.old }
+    requires { AllByRecursion IsOrdered read }
+    ensures commands { IfOk result (λ commands. AreChecked read commands (M.refused maker.old) (M.refused maker.new)) }
+    ensures refused { OnlyGrows (M.refused maker.old) (M.refused maker.new) }
 {
     let mut commands = Sequence::new(alloc);
     for command in read.into_vec() {

@@ -6,7 +6,8 @@ ghost use Rattle.session_reader.specs.declared.read_command.ReadCommand.{ReadCom
 ghost use Rattle.session_reader.specs.SessionFile;
 ghost use Rattle.session_reader.specs.SessionFile.{IsSession, session_of, block_command, block_reading, new_reading, block_text, next_after, block_after, item_at, lines_of_block, with_command, with_item, commands_of, items_after};
 ghost use Rattle.session_reader.specs.Progress.{with_commands};
-ghost use Rattle.session_reader.specs.Faults.{Fails};
+ghost use Rattle.session_reader.specs.Checking.{OnlyGrows};
+ghost use Rattle.session_reader.specs.Faults.{Fails, MakesNone};
 
 use crate::checking::check_commands;
 use crate::line::{BlockKind, LineKind, Syntax, is_block_end, kind_of, trimmed};
@@ -295,10 +296,11 @@ fn read_session(
 
 /// The commands of the file of a session, 1 to 64. A block that can't be read in its language,
 /// N-Triples 1.1 or Turtle 1.1, gives a command that tells its refusal, and so does a shapes graph that isn't well-formed (SHACL section
-/// 3.4.2), by the broken rule that is reported. The numbers of blank nodes go on from block to block.
+/// 3.4.2), by the broken rule that is reported, or that has a pattern which the maker refuses (SHACL section 4.4.3). The
+/// numbers of blank nodes go on from block to block.
 ///
 /// The error is the number of the first line that is no command, or of the command of a block that
-/// doesn't end, or memory. The maker is for patterns, and stays as it was.
+/// doesn't end, or memory. No pattern is made before the whole file is read.
 pub fn prepare<M: Maker>(
     alloc: Global,
     maker: &mut M,
@@ -307,8 +309,9 @@ pub fn prepare<M: Maker>(
 ) -> Result<Sequence<Command>, PrepareFault>
     requires session { (1 ≤ session) × (session ≤ 64) }
     requires room { 1 + length bytes.now < 2 ^ 32 }
-    ensures answer { MatchResult result (λ commands. IsSession session bytes.now commands) (λ fault. Fails fault (session_of session bytes.now)) }
-    ensures maker { maker.new ≡ maker.old }
+    ensures answer { MatchResult result (λ commands. IsSession session bytes.now commands (M.refused maker.old) (M.refused maker.new))
+        (λ fault. Fails fault (session_of session bytes.now) × MakesNone fault (M.refused maker.old) (M.refused maker.new)) }
+    ensures refused { OnlyGrows (M.refused maker.old) (M.refused maker.new) }
 {
     let read = read_session(alloc, session, bytes)?;
     let commands = check_commands(alloc, maker, read)?;

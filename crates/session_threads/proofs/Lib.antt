@@ -3,4 +3,5 @@ pub mod Keeping
 pub mod Playing
 pub mod Closing
 pub mod Gathering
+pub mod ShapesCrossing
 pub mod Sending

@@ -14,7 +14,7 @@ use Rattle.store_model.specs.declared.event.Reply.TheVariants as replies
 use Rattle.store_model.specs.Snapshots.{snapshot_of}
 use Rattle.store_model.specs.Store.{version, HasChange}
 use Rattle.session_model.specs.declared.command.Command.{Command}
-use Rattle.session_model.specs.declared.command.Command.TheVariants.{Begin, Add, Remove, Shapes, BadAdd, BadRemove, BadShapes, BrokenShapes, Commit, Find, Abort}
+use Rattle.session_model.specs.declared.command.Command.TheVariants.{Begin, Add, Remove, Shapes, BadAdd, BadRemove, BadShapes, BrokenShapes, RefusedPattern, Commit, Find, Abort}
 use Rattle.session_model.specs.declared.reply.SessionReply.{SessionReply}
 use Rattle.session_model.specs.declared.reply.SessionReply.TheVariants as said
 use Rattle.session_model.specs.Sessions as Sessions
@@ -157,6 +157,7 @@ refused_none (BadRemove n k) r h = refl
 refused_none (Shapes ts) r h = absurd h
 refused_none (BadShapes n k) r h = refl
 refused_none (BrokenShapes rule node) r h = refl
+refused_none (RefusedPattern node) r h = refl
 refused_none Commit r h = absurd h
 refused_none (Find p) r h = absurd h
 refused_none Abort r h = absurd h
@@ -170,6 +171,7 @@ refused_some (BadRemove n k) r w h = ap (λ x. answers x (Some w)) (sym h)
 refused_some (Shapes ts) r w h = absurd h
 refused_some (BadShapes n k) r w h = ap (λ x. answers x (Some w)) (sym h)
 refused_some (BrokenShapes rule node) r w h = ap (λ x. answers x (Some w)) (sym h)
+refused_some (RefusedPattern node) r w h = ap (λ x. answers x (Some w)) (sym h)
 refused_some Commit r w h = absurd h
 refused_some (Find p) r w h = absurd h
 refused_some Abort r w h = absurd h

@@ -1,8 +1,8 @@
 -- A player may go to another thread, and threads may share the store and the files.
 use Rattle.std.proofs.Crossing as crossing
-use Rattle.std.proofs.Crossing.{crosses, Box-send, Box-sync, Vec-send, Vec-sync}
+use Rattle.std.proofs.Crossing.{crosses}
 use denote.Param.Send.{IsSend, IsSync, sendable, shr_sync, shr_slice_sync}
-use denote.Param.SendFields.{as_row_send, as_row_sync, declared_sync}
+use denote.Param.SendFields.{as_row_sync, declared_send, declared_sync}
 use denote.RattleType.{RattleType}
 use denote.Exit.{no}
 use denote.Param.{arg, param}
@@ -15,13 +15,10 @@ use mathlib.Core.List.{[], ◌∷◌}
 use Rattle.std.specs.contracts.alloc.Global as heap
 use Rattle.collections.specs.contracts.sequence.Sequence as sequence
 use Rattle.commit_core.proofs.history.History.TheLaws.TheKnot as history_knot
-use Rattle.shape_ast.proofs.path.Path.TheLaws.TheKnot as path_knot
 use Rattle.page_index.proofs.page.Entry.TheLaws.TheKnot as page_knot
-use Rattle.shape_ast.specs.contracts.path.Path as path
 use Rattle.page_index.specs.contracts.pages.Pages as pages
 use Rattle.growing_list.specs.contracts.growing.GrowingList as growing
-use Rattle.shape_ast.proofs.shape.Target.TheSendSync as target_sent
-use Rattle.shape_ast.proofs.constraint.Constraint.TheSendSync as constraint_sent
+use Rattle.session_threads.proofs.ShapesCrossing as compiled
 use Rattle.rdf_model.proofs.term.Term.TheSendSync as term_sent
 use Rattle.rdf_model.proofs.triple.Triple.TheSendSync as triple_sent
 use Rattle.rdf_model.proofs.change.Change.TheSendSync as change_sent
@@ -70,17 +67,11 @@ use Rattle.guard_store.specs.contracts.session.Session as session
 use Rattle.guard_store.specs.contracts.store.Store as store
 use Rattle.session_threads.specs.contracts.team.Player as player
 
-path_send : (P : RattleType) → IsSend P → IsSend (path.the_row P)
-path_send P sent = as_row_send (path.the_field P) (path_knot.send-Path P sent Box-send Vec-send)
-
-path_sync : (P : RattleType) → IsSync P → IsSync (path.the_row P)
-path_sync P sent = as_row_sync (path.the_field P) (path_knot.sync-Path P sent Box-sync Vec-sync)
-
 content_send : IsSend content.the_row
-content_send = search (path_send, term_sent.the_send, triple_sent.the_send, target_sent.the_send, constraint_sent.the_send, sequence_sent.the_send, crosses, sendable) depth 60 fits 20000
+content_send = declared_send content.the_type (search (triple_sent.the_send, sequence_sent.the_send, crosses, sendable) depth 60 fits 20000, (compiled.shapes_send, tt))
 
 content_sync : IsSync content.the_row
-content_sync = search (path_sync, term_sent.the_sync, triple_sent.the_sync, target_sent.the_sync, constraint_sent.the_sync, sequence_sent.the_sync, crosses, sendable) depth 60 fits 20000
+content_sync = declared_sync content.the_type (search (triple_sent.the_sync, sequence_sent.the_sync, crosses, sendable) depth 60 fits 20000, (compiled.shapes_sync, tt))
 
 shapes_send : IsSend shapes.the_row
 shapes_send = search (content_send, content_sync, crosses, sendable) depth 60 fits 20000

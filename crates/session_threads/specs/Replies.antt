@@ -4,7 +4,7 @@ use Rattle.rdf_model.specs.declared.triple.Triple.{Triple}
 use Rattle.report_writer.specs.Report.{report_text}
 use Rattle.shape_model.specs.Validation.{Listing}
 use Rattle.session_model.specs.declared.command.Command.{Command}
-use Rattle.session_model.specs.declared.command.Command.TheVariants.{Begin, Add, BadAdd, Remove, BadRemove, Shapes, BadShapes, BrokenShapes, Commit, Find, Abort}
+use Rattle.session_model.specs.declared.command.Command.TheVariants.{Begin, Add, BadAdd, Remove, BadRemove, Shapes, BadShapes, BrokenShapes, RefusedPattern, Commit, Find, Abort}
 use Rattle.session_model.specs.declared.reply.SessionReply.{SessionReply}
 use Rattle.session_model.specs.declared.reply.SessionReply.TheVariants as told
 use Rattle.guard_store.specs.declared.faults.BeginFault.{BeginFault}
@@ -50,7 +50,8 @@ IsCommitReply (Conflict n t) r = r ≡ told.Overtaken n t
 IsCommitReply (FullTriples n) r = r ≡ told.FullGraph
 IsCommitReply (Refused rows why shapes) r = r ≡ told.Refused (length rows) (report_text shapes rows)
 
--- the reply to a command whose block can't be read or isn't well-formed, within a transaction
+-- the reply to a command whose block can't be read, isn't well-formed, or has a pattern that was refused, within a
+-- transaction
 abbrev pub IsRefused : Command → SessionReply → Type 0
 IsRefused Begin r = ⊥
 IsRefused (Add ts) r = ⊥
@@ -60,10 +61,11 @@ IsRefused (BadRemove n kind) r = r ≡ told.RemoveRefused n kind
 IsRefused (Shapes ts) r = ⊥
 IsRefused (BadShapes n kind) r = r ≡ told.ShapesRefused n kind
 IsRefused (BrokenShapes rule node) r = r ≡ told.ShapesBroken rule node
+IsRefused (RefusedPattern node) r = r ≡ told.PatternRefused node
 IsRefused Commit r = ⊥
 IsRefused (Find p) r = ⊥
 IsRefused Abort r = ⊥
 
--- a command whose block can't be read or isn't well-formed
+-- such a command
 abbrev pub IsRefusedBlock : Command → Type 0
 IsRefusedBlock c = (r : SessionReply) × IsRefused c r

@@ -219,7 +219,7 @@ fn commit<L: Ledger, R: Wait, G: Gate>(
     }
 }
 
-// Does a command whose block can't be read or isn't well-formed: it changes nothing.
+// Does a command whose block is refused: it changes nothing.
 fn refuse(
     store: &Store,
     session: Session,
@@ -262,6 +262,7 @@ pub fn perform<L: Ledger, R: Wait, G: Gate>(
         Command::BadAdd { line: _, kind: _ }
         | Command::BadRemove { line: _, kind: _ }
         | Command::BadShapes { line: _, kind: _ }
-        | Command::BrokenShapes { rule: _, node: _ } => refuse(store, session, command, replies),
+        | Command::BrokenShapes { rule: _, node: _ }
+        | Command::RefusedPattern { node: _ } => refuse(store, session, command, replies),
     }
 }

@@ -80,7 +80,7 @@ pub fn abort_reply(aborted: bool) -> SessionReply
     }
 }
 
-/// The reply, within a transaction, to a command whose block can't be read or isn't well-formed.
+/// The reply, within a transaction, to a command whose block can't be read, isn't well-formed, or has a pattern that was refused.
 pub fn block_refusal(command: &Command) -> Result<SessionReply, AllocError>
     requires { IsRefusedBlock command.now }
     ensures { IfOk result (IsRefused command.now) }
@@ -100,6 +100,9 @@ pub fn block_refusal(command: &Command) -> Result<SessionReply, AllocError>
         }),
         Command::BrokenShapes { rule, node } => Ok(SessionReply::ShapesBroken {
             rule: *rule,
+            node: node.clone()?,
+        }),
+        Command::RefusedPattern { node } => Ok(SessionReply::PatternRefused {
             node: node.clone()?,
         }),
         _ => unreachable!(),

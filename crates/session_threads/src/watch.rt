@@ -72,7 +72,8 @@ pub fn next_event(session: &Session, command: &Command) -> Option<EventKind>
         | Command::BadAdd { line: _, kind: _ }
         | Command::BadRemove { line: _, kind: _ }
         | Command::BadShapes { line: _, kind: _ }
-        | Command::BrokenShapes { rule: _, node: _ } => None,
+        | Command::BrokenShapes { rule: _, node: _ }
+        | Command::RefusedPattern { node: _ } => None,
     }
 }
 

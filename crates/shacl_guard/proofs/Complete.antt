@@ -4,6 +4,7 @@ use Rattle.std.proofs.lemmas.List.{take_all}
 use Rattle.store_model.specs.declared.event.Limits.{Limits}
 use Rattle.session_reader.specs.declared.read_command.ReadCommand.{ReadCommand}
 use Rattle.session_reader.specs.SessionFile.{session_of}
+use Rattle.outside.specs.Faults.{Refusal}
 use Rattle.outside.specs.Files.{Contents, Loads}
 use Rattle.shacl_guard.specs.declared.status.Status.{Status}
 use Rattle.shacl_guard.specs.declared.status.Status.TheVariants.{Done, Usage, ReadFault, WriteFault, BadSession, Memory, TooLong, TooManyFiles, BadHistory}
@@ -37,46 +38,46 @@ never_bad held i n name h b =
     let no : Err n ≡ Ok h.1 = sym b.2.1 ∙ (ap (session_of i) e ∙ h.4) in cc
 
 -- no session file is too long
-never_long : (held : List ℕ → Option (List ℕ)) (names : List (List ℕ)) (i : ℕ) → AreThere held 1 names → FirstAt (Some held) names i (IsTooLong (Some held)) → ⊥
-never_long held names i there f =
+never_long : (held : List ℕ → Option (List ℕ)) (names : List (List ℕ)) (i : ℕ) (old new : List Refusal) → AreThere held 1 names → FirstAt (Some held) names i old new (IsTooLong (Some held)) → ⊥
+never_long held names i old new there f =
     let one = there_at held 1 names f.0 there f.2 in
     short_enough held (get_or names f.0 []) one.0 one.2 one.3 f.4
 
 -- nor is any file
-never_first_long : (held : List ℕ → Option (List ℕ)) (history : Option (List ℕ)) (names : List (List ℕ)) (i : ℕ) → IsHistoryThere held history → AreThere held 1 names → IsFirstLong (Some held) history names i → ⊥
-never_first_long held None names i h there f = never_long held names i there f
-never_first_long held (Some name) names i h there (inl f) = short_enough held name h.0 h.1 h.2 f.1
-never_first_long held (Some name) names i h there (inr f) = never_long held names f.0 there f.3
+never_first_long : (held : List ℕ → Option (List ℕ)) (history : Option (List ℕ)) (names : List (List ℕ)) (i : ℕ) (old new : List Refusal) → IsHistoryThere held history → AreThere held 1 names → IsFirstLong (Some held) history names i old new → ⊥
+never_first_long held None names i old new h there f = never_long held names i old new there f
+never_first_long held (Some name) names i old new h there (inl f) = short_enough held name h.0 h.1 h.2 f.1
+never_first_long held (Some name) names i old new h there (inr f) = never_long held names f.0 old new there f.3
 
 same_request : (words : List (List ℕ)) (r q : Request) → request_of words ≡ Some r → request_of words ≡ Some q → q ≡ r
 same_request words r q a b = let e : Some q ≡ Some r = sym b ∙ a in cc
 
 -- why such a request isn't refused, but for its history
-never_many : (held : List ℕ → Option (List ℕ)) (r : Request) → length r.files ≤ 64 → IsRefused (Some held) r TooManyFiles → ⊥
-never_many held r few h = omega (arith, few, h)
+never_many : (held : List ℕ → Option (List ℕ)) (r : Request) (old new : List Refusal) → length r.files ≤ 64 → IsRefused (Some held) r TooManyFiles old new → ⊥
+never_many held r old new few h = omega (arith, few, h.0)
 
-never_bad_session : (held : List ℕ → Option (List ℕ)) (r : Request) (i n : ℕ) → AreThere held 1 r.files → IsRefused (Some held) r (BadSession i n) → ⊥
-never_bad_session held r i n there h =
+never_bad_session : (held : List ℕ → Option (List ℕ)) (r : Request) (i n : ℕ) (old new : List Refusal) → AreThere held 1 r.files → IsRefused (Some held) r (BadSession i n) old new → ⊥
+never_bad_session held r i n old new there h =
     let f = h.2 in
     let one = there_at held 1 r.files f.0 there f.2 in
     never_bad held i n (get_or r.files f.0 []) (subst (λ (j : ℕ). IsThere held j (get_or r.files f.0 [])) (omega (arith, f.1)) one) f.4
 
 -- what is refused is the request of the words
-refused_request : (words : List (List ℕ)) (held : List ℕ → Option (List ℕ)) (s : Status) (r : Request) → request_of words ≡ Some r → IsRefusedRequest words (Some held) s → IsRefused (Some held) r s
-refused_request words held s r e d = subst (λ (q : Request). IsRefused (Some held) q s) (same_request words r d.0 e d.1) d.2
+refused_request : (words : List (List ℕ)) (held : List ℕ → Option (List ℕ)) (s : Status) (r : Request) (old new : List Refusal) → request_of words ≡ Some r → IsRefusedRequest words (Some held) s old new → IsRefused (Some held) r s old new
+refused_request words held s r old new e d = subst (λ (q : Request). IsRefused (Some held) q s old new) (same_request words r d.0 e d.1) d.2
 
-has_history : (held : Option Contents) (l : Limits) (history : Option (List ℕ)) (names : List (List ℕ)) (k : ℕ) → IsBadHistory held l history names k → history ≢ None
-has_history held l None names k h = absurd h
-has_history held l (Some name) names k h = λ no. cc
+has_history : (held : Option Contents) (l : Limits) (history : Option (List ℕ)) (names : List (List ℕ)) (k : ℕ) (old new : List Refusal) → IsBadHistory held l history names k old new → history ≢ None
+has_history held l None names k old new h = absurd h
+has_history held l (Some name) names k old new h = λ no. cc
 
-pub complete : (words : List (List ℕ)) (held : Option Contents) (s : Status) (text : List ℕ) → IsDue words held s text → HasSessions words held → IsRunOrMemory words s
-complete words None s text d h = absurd h
-complete words (Some held) Done text d h = tt
-complete words (Some held) Memory text d h = tt
-complete words (Some held) Usage text d h = let no : None ≡ Some h.0 = sym d.0 ∙ h.1 in cc
-complete words (Some held) ReadFault text d h = absurd d
-complete words (Some held) WriteFault text d h = absurd d
-complete words (Some held) TooManyFiles text d h = never_many held h.0 h.3 (refused_request words held TooManyFiles h.0 h.1 d.0)
-complete words (Some held) (BadSession i n) text d h = never_bad_session held h.0 i n h.4 (refused_request words held (BadSession i n) h.0 h.1 d.0)
-complete words (Some held) (TooLong i) text d h = never_first_long held h.0.history h.0.files i h.2 h.4 (refused_request words held (TooLong i) h.0 h.1 d.0).1
-complete words (Some held) (BadHistory k) text d h = (h.0, h.1, has_history (Some held) h.0.limits h.0.history h.0.files k (refused_request words held (BadHistory k) h.0 h.1 d.0).1)
+pub complete : (words : List (List ℕ)) (held : Option Contents) (s : Status) (old new : List Refusal) (text : List ℕ) → IsDue words held s old new text → HasSessions words held → IsRunOrMemory words s
+complete words None s old new text d h = absurd h
+complete words (Some held) Done old new text d h = tt
+complete words (Some held) Memory old new text d h = tt
+complete words (Some held) Usage old new text d h = let no : None ≡ Some h.0 = sym d.0.0 ∙ h.1 in cc
+complete words (Some held) ReadFault old new text d h = absurd d
+complete words (Some held) WriteFault old new text d h = absurd d
+complete words (Some held) TooManyFiles old new text d h = never_many held h.0 old new h.3 (refused_request words held TooManyFiles h.0 old new h.1 d.0)
+complete words (Some held) (BadSession i n) old new text d h = never_bad_session held h.0 i n old new h.4 (refused_request words held (BadSession i n) h.0 old new h.1 d.0)
+complete words (Some held) (TooLong i) old new text d h = never_first_long held h.0.history h.0.files i old new h.2 h.4 (refused_request words held (TooLong i) h.0 old new h.1 d.0).1
+complete words (Some held) (BadHistory k) old new text d h = (h.0, h.1, has_history (Some held) h.0.limits h.0.history h.0.files k old new (refused_request words held (BadHistory k) h.0 old new h.1 d.0).1)

@@ -1,24 +1,25 @@
 -- Why nothing is due, or no run.
 use Rattle.std.specs.Prelude.{◌≡◌, ◌⊎◌, ℕ, ◌+◌, ◌≤◌, List, [], ◌∷◌, ◌++◌, length, Option, Some, None}
+use Rattle.outside.specs.Faults.{Refusal}
 use Rattle.outside.specs.Files.{Contents}
 use Rattle.shacl_guard.specs.declared.status.Status.{Status}
 use Rattle.shacl_guard.specs.declared.status.Status.TheVariants.{Done, Usage, ReadFault, WriteFault, BadSession, Memory, TooLong, TooManyFiles, BadHistory}
 use Rattle.shacl_guard.specs.Requests.{Request, all_files, request_of, files_of}
 use Rattle.shacl_guard.specs.Loading.{FirstAt, HasBadLine, HoldsHistory, IsBadLine, IsTooLong, room}
-use Rattle.shacl_guard.specs.Due.{IsRefused, IsRefusedRequest}
-use Rattle.shacl_guard.specs.World.{Loads, LoadsOne, LoadsSome, LoadsFirst, LoadsUpTo, NoneFailed, count_loaded}
+use Rattle.shacl_guard.specs.Due.{IsCause, IsRefused, IsRefusedRequest}
+use Rattle.shacl_guard.specs.World.{Loads, LoadsOne, LoadsSome, LoadsFirst, LoadsUpTo, NoneFailed, NoneRefused, count_loaded}
 
 -- the load of one of the session files failed, after those before it, which hold sessions
 abbrev pub OneFailed : Option Contents → List (List ℕ) → Loads → Loads → Type 0
-OneFailed held names before after = (i : ℕ) × (length names ≤ 64) × FirstAt held names i (λ name. after.failed ≡ before.failed ++ name ∷ []) × LoadsSome i names before after
+OneFailed held names before after = (i : ℕ) × (length names ≤ 64) × FirstAt held names i before.refused after.refused (λ name. after.failed ≡ before.failed ++ name ∷ []) × LoadsSome i names before after
 
 -- the load of the history failed, or of one of the session files after it
 abbrev pub HistoryFailed : List ℕ → List (List ℕ) → Loads → Loads → Type 0
-HistoryFailed history names before after = (length names ≤ 64) × (after.failed ≡ before.failed ++ history ∷ []) × LoadsSome 1 (history ∷ names) before after
+HistoryFailed history names before after = (length names ≤ 64) × (after.failed ≡ before.failed ++ history ∷ []) × LoadsSome 1 (history ∷ names) before after × NoneRefused before after
 
 abbrev pub SessionFailed : Option Contents → List ℕ → List (List ℕ) → Loads → Loads → Type 0
 SessionFailed held history names before after =
-    (i : ℕ) × (length names ≤ 64) × HoldsHistory held (Some history) × FirstAt held names i (λ name. after.failed ≡ before.failed ++ name ∷ []) × LoadsSome (i + 1) (history ∷ names) before after
+    (i : ℕ) × (length names ≤ 64) × HoldsHistory held (Some history) × FirstAt held names i before.refused after.refused (λ name. after.failed ≡ before.failed ++ name ∷ []) × LoadsSome (i + 1) (history ∷ names) before after
 
 abbrev pub SomeFailed : Option Contents → Option (List ℕ) → List (List ℕ) → Loads → Loads → Type 0
 SomeFailed held None names before after = OneFailed held names before after
@@ -39,22 +40,22 @@ Fails TooManyFiles held words before after = ⊥
 Fails (BadHistory k) held words before after = ⊥
 
 -- why bytes are no file of session i
-abbrev pub Unread : Status → ℕ → List ℕ → Type 0
-Unread (BadSession j n) i bytes = (j ≡ i) × IsBadLine i n bytes
-Unread (TooLong j) i bytes = (j ≡ i) × (length bytes ≡ room)
-Unread Memory i bytes = Unit {0}
-Unread ReadFault i bytes = ⊥
-Unread Done i bytes = ⊥
-Unread Usage i bytes = ⊥
-Unread WriteFault i bytes = ⊥
-Unread TooManyFiles i bytes = ⊥
-Unread (BadHistory k) i bytes = ⊥
+abbrev pub Unread : Status → ℕ → List ℕ → List Refusal → List Refusal → Type 0
+Unread (BadSession j n) i bytes old new = (j ≡ i) × IsBadLine i n bytes × (new ≡ old)
+Unread (TooLong j) i bytes old new = (j ≡ i) × (length bytes ≡ room) × (new ≡ old)
+Unread Memory i bytes old new = Unit {0}
+Unread ReadFault i bytes old new = ⊥
+Unread Done i bytes old new = ⊥
+Unread Usage i bytes old new = ⊥
+Unread WriteFault i bytes old new = ⊥
+Unread TooManyFiles i bytes old new = ⊥
+Unread (BadHistory k) i bytes old new = ⊥
 
 -- why a load gave no session i
 abbrev pub Unloaded : Status → Option Contents → ℕ → List ℕ → Loads → Loads → Type 0
-Unloaded ReadFault held i name before after = (after.failed ≡ before.failed ++ name ∷ []) × LoadsOne name before after
-Unloaded (BadSession j n) held i name before after = (j ≡ i) × HasBadLine held i n name × LoadsOne name before after × NoneFailed before after
-Unloaded (TooLong j) held i name before after = (j ≡ i) × IsTooLong held name × LoadsOne name before after × NoneFailed before after
+Unloaded ReadFault held i name before after = (after.failed ≡ before.failed ++ name ∷ []) × LoadsOne name before after × NoneRefused before after
+Unloaded (BadSession j n) held i name before after = (j ≡ i) × HasBadLine held i n name × LoadsOne name before after × NoneFailed before after × NoneRefused before after
+Unloaded (TooLong j) held i name before after = (j ≡ i) × IsTooLong held name × LoadsOne name before after × NoneFailed before after × NoneRefused before after
 Unloaded Memory held i name before after = ((after.loaded ≡ before.loaded) ⊎ LoadsOne name before after) × NoneFailed before after
 Unloaded Done held i name before after = ⊥
 Unloaded Usage held i name before after = ⊥
@@ -82,8 +83,8 @@ NoHistory (BadHistory k) held name before after = ⊥
 abbrev pub Stops : Status → Option Contents → List (List ℕ) → Loads → Loads → Type 0
 Stops ReadFault held names before after = OneFailed held names before after
 Stops Memory held names before after = LoadsFirst names before after × NoneFailed before after
-Stops (BadSession i n) held names before after = (length names ≤ 64) × FirstAt held names i (HasBadLine held i n) × LoadsSome i names before after × NoneFailed before after
-Stops (TooLong i) held names before after = (length names ≤ 64) × FirstAt held names i (IsTooLong held) × LoadsSome i names before after × NoneFailed before after
+Stops (BadSession i n) held names before after = (length names ≤ 64) × FirstAt held names i before.refused after.refused (HasBadLine held i n) × LoadsSome i names before after × NoneFailed before after
+Stops (TooLong i) held names before after = (length names ≤ 64) × FirstAt held names i before.refused after.refused (IsTooLong held) × LoadsSome i names before after × NoneFailed before after
 Stops TooManyFiles held names before after = ⊥
 Stops Done held names before after = ⊥
 Stops Usage held names before after = ⊥
@@ -92,7 +93,7 @@ Stops (BadHistory k) held names before after = ⊥
 
 -- why a request gave no run
 abbrev pub IsStopped : Status → Option Contents → Request → Loads → Loads → Type 0
-IsStopped s held r before after = IsRefused held r s × LoadsSome (count_loaded s r) (all_files r.history r.files) before after × NoneFailed before after
+IsStopped s held r before after = IsRefused held r s before.refused after.refused × LoadsSome (count_loaded s r) (all_files r.history r.files) before after × NoneFailed before after
 
 abbrev pub StopsRequest : Status → Option Contents → Request → Loads → Loads → Type 0
 StopsRequest ReadFault held r before after = SomeFailed held r.history r.files before after
@@ -107,10 +108,10 @@ StopsRequest WriteFault held r before after = ⊥
 
 -- why words gave no run: they are no request, or it gave none
 abbrev pub StopsWith : Status → List (List ℕ) → Option Contents → Loads → Loads → Type 0
-StopsWith s words held before after = IsRefusedRequest words held s × LoadsUpTo s words before after × NoneFailed before after
+StopsWith s words held before after = IsRefusedRequest words held s before.refused after.refused × LoadsUpTo s words before after × NoneFailed before after
 
 abbrev pub StopsCall : Status → List (List ℕ) → Option Contents → Loads → Loads → Type 0
-StopsCall Usage words held before after = (request_of words ≡ None) × LoadsUpTo Usage words before after × NoneFailed before after
+StopsCall Usage words held before after = IsCause words held Usage before.refused after.refused × LoadsUpTo Usage words before after × NoneFailed before after
 StopsCall Memory words held before after = LoadsFirst (files_of words) before after × NoneFailed before after
 StopsCall ReadFault words held before after = FailsRequest held words before after
 StopsCall (BadSession i n) words held before after = StopsWith (BadSession i n) words held before after

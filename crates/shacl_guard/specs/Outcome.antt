@@ -14,12 +14,12 @@ use Rattle.shacl_guard.specs.World.{Call, LoadsUpTo, LoadsFirst, NoneFailed}
 -- the whole text that is due with the status was taken, the files were loaded as far as it took them, and no load failed
 abbrev pub PrintsAll : Status → Call → Type 0
 PrintsAll s c = LoadsUpTo s c.words c.before.loads c.after.loads × NoneFailed c.before.loads c.after.loads
-    × ((text : List ℕ) × IsDue c.words c.held s text × (c.after.taken ≡ grown c.before.taken text))
+    × ((text : List ℕ) × IsDue c.words c.held s c.before.loads.refused c.after.loads.refused text × (c.after.taken ≡ grown c.before.taken text))
 
 -- a part of what was due with some status was taken, and not all of it
 abbrev pub PrintsPart : Call → Type 0
 PrintsPart c = (s : Status) × LoadsUpTo s c.words c.before.loads c.after.loads × NoneFailed c.before.loads c.after.loads
-    × ((text : List ℕ) × (n : ℕ) × (n < length text) × IsDue c.words c.held s text × (c.after.taken ≡ grown c.before.taken (take n text)))
+    × ((text : List ℕ) × (n : ℕ) × (n < length text) × IsDue c.words c.held s c.before.loads.refused c.after.loads.refused text × (c.after.taken ≡ grown c.before.taken (take n text)))
 
 -- By the status: what the words and the files are, and what the sink took. Want of memory prints nothing.
 abbrev pub IsOutcome : Status → Call → Type 0

@@ -1,17 +1,19 @@
 -- What a call of the program tells of the files and the sink.
 use Rattle.std.specs.Prelude.{◌≡◌, ℕ, List, [], ◌∷◌, ◌++◌, length, take, Option, Some, None}
+use Rattle.outside.specs.Faults.{Refusal}
 use Rattle.outside.specs.Files.{Contents}
 use Rattle.shacl_guard.specs.declared.status.Status.{Status}
 use Rattle.shacl_guard.specs.declared.status.Status.TheVariants.{Done, Usage, ReadFault, WriteFault, BadSession, Memory, TooLong, TooManyFiles, BadHistory}
 use Rattle.shacl_guard.specs.Requests.{Request, all_files, files_of, request_of}
 use Rattle.shacl_guard.specs.Loading.{loaded_up_to}
 
--- the names that were loaded so far, and those whose loads failed
+-- the names that were loaded so far, those whose loads failed, and the patterns of loaded files that were refused
 pub record Loads : Type 0 where
   pub loaded : List (List ℕ)
   pub failed : List (List ℕ)
+  pub refused : List Refusal
 
--- at one moment: the loads so far, and all that the sink took, where it tells that
+-- at one moment: the loads so far with what was refused, and all that the sink took, where it tells that
 pub record Outside : Type 0 where
   pub loads : Loads
   pub taken : Option (List ℕ)
@@ -57,3 +59,7 @@ LoadsFirst names before after = (n : ℕ) × LoadsSome n names before after
 -- no load failed
 abbrev pub NoneFailed : Loads → Loads → Type 0
 NoneFailed before after = after.failed ≡ before.failed
+
+-- no pattern was refused
+abbrev pub NoneRefused : Loads → Loads → Type 0
+NoneRefused before after = after.refused ≡ before.refused

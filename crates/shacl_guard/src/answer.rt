@@ -2,6 +2,7 @@ ghost use Rattle.std.specs.Prelude.{◌≡◌, ◌≢◌, ℕ, List, None, Some,
 ghost use Rattle.std.specs.Fmt.{decimal};
 ghost use Rattle.session_model.specs.Print.{IsPrint, line};
 ghost use Rattle.history_reader.specs.History.{history_of};
+ghost use Rattle.session_reader.specs.Checking.{OnlyGrows};
 ghost use Rattle.shacl_guard.specs.Due.{IsBadPlace, IsDue, IsRun, error_line};
 ghost use Rattle.shacl_guard.specs.Faults;
 ghost use Rattle.shacl_guard.specs.Faults.{Fails, LoadsAll, Stops, StopsCall, StopsRequest, Unplayed};
@@ -62,11 +63,11 @@ fn run_sessions<R: Threads + Wait + Sync, F: Files, M: Maker, G: Gate>(
 ) -> Result<String, Status>
     requires terms { limits.terms ≤ 2000000 }
     requires few { length names.now ≤ 64 }
-    ensures answer { let before : Loads = record { loaded = F.loaded files.old; failed = F.failed files.old } in
-        let after : Loads = record { loaded = F.loaded files.new; failed = F.failed files.new } in
-        MatchResult result (λ text. IsRun (F.holds files.old) (record { limits = limits; history = None; files = names.now }) (string_bytes text) × LoadsAll names.now before after)
+    ensures answer { let before : Loads = record { loaded = F.loaded files.old; failed = F.failed files.old; refused = M.refused maker.old } in
+        let after : Loads = record { loaded = F.loaded files.new; failed = F.failed files.new; refused = M.refused maker.new } in
+        MatchResult result (λ text. IsRun (F.holds files.old) (record { limits = limits; history = None; files = names.now }) before.refused after.refused (string_bytes text) × LoadsAll names.now before after)
         (λ s. Stops s (F.holds files.old) names.now before after) }
-    ensures maker { maker.new ≡ maker.old }
+    ensures refused { OnlyGrows (M.refused maker.old) (M.refused maker.new) }
 {
     let all = load_all(alloc, files, maker, names)?;
     match print_sessions(rt, alloc, limits, all.as_slice(), gate) {
@@ -123,11 +124,11 @@ fn load_behind<F: Files, M: Maker>(
     maker: &mut M,
 ) -> Result<Sequence<Sequence<Command>>, Status>
     requires { length names.now ≤ 64 }
-    ensures answer { let before : Loads = record { loaded = F.loaded files.old; failed = F.failed files.old } in
-        let after : Loads = record { loaded = F.loaded files.new; failed = F.failed files.new } in
-        MatchResult result (λ all. HoldSessions (F.holds files.old) 1 names.now all × LoadsAll names.now before after)
+    ensures answer { let before : Loads = record { loaded = F.loaded files.old; failed = F.failed files.old; refused = M.refused maker.old } in
+        let after : Loads = record { loaded = F.loaded files.new; failed = F.failed files.new; refused = M.refused maker.new } in
+        MatchResult result (λ all. HoldSessions (F.holds files.old) 1 names.now all before.refused after.refused × LoadsAll names.now before after)
         (λ s. (t : Status) × (s ≡ Faults.behind_history t) × Stops t (F.holds files.old) names.now before after) }
-    ensures maker { maker.new ≡ maker.old }
+    ensures refused { OnlyGrows (M.refused maker.old) (M.refused maker.new) }
 {
     match load_all(alloc, files, maker, names) {
         Ok(all) => Ok(all),
@@ -146,12 +147,12 @@ fn replay_sessions<F: Files, M: Maker>(
 ) -> Result<String, Status>
     requires terms { limits.terms ≤ 2000000 }
     requires few { length names.now ≤ 64 }
-    ensures answer { let before : Loads = record { loaded = F.loaded files.old; failed = F.failed files.old } in
-        let after : Loads = record { loaded = F.loaded files.new; failed = F.failed files.new } in
+    ensures answer { let before : Loads = record { loaded = F.loaded files.old; failed = F.failed files.old; refused = M.refused maker.old } in
+        let after : Loads = record { loaded = F.loaded files.new; failed = F.failed files.new; refused = M.refused maker.new } in
         let asked : Requests.Request = record { limits = limits; history = Some history.now; files = names.now } in
-        MatchResult result (λ text. IsRun (F.holds files.old) asked (string_bytes text) × LoadsAll (history.now ∷ names.now) before after)
+        MatchResult result (λ text. IsRun (F.holds files.old) asked before.refused after.refused (string_bytes text) × LoadsAll (history.now ∷ names.now) before after)
         (λ s. StopsRequest s (F.holds files.old) asked before after) }
-    ensures maker { maker.new ≡ maker.old }
+    ensures refused { OnlyGrows (M.refused maker.old) (M.refused maker.new) }
 {
     let text = match load_history(alloc, files, history) {
         Ok(text) => text,
@@ -174,12 +175,12 @@ fn run_files<R: Threads + Wait + Sync, F: Files, M: Maker, G: Gate>(
     gate: &G,
 ) -> Result<String, Status>
     requires { request.now.limits.terms ≤ 2000000 }
-    ensures answer { let before : Loads = record { loaded = F.loaded files.old; failed = F.failed files.old } in
-        let after : Loads = record { loaded = F.loaded files.new; failed = F.failed files.new } in
+    ensures answer { let before : Loads = record { loaded = F.loaded files.old; failed = F.failed files.old; refused = M.refused maker.old } in
+        let after : Loads = record { loaded = F.loaded files.new; failed = F.failed files.new; refused = M.refused maker.new } in
         let asked : Requests.Request = record { limits = request.now.limits; history = request.now.history; files = request.now.files } in
-        MatchResult result (λ text. (length asked.files ≤ 64) × IsRun (F.holds files.old) asked (string_bytes text) × LoadsAll (Requests.all_files asked.history asked.files) before after)
+        MatchResult result (λ text. (length asked.files ≤ 64) × IsRun (F.holds files.old) asked before.refused after.refused (string_bytes text) × LoadsAll (Requests.all_files asked.history asked.files) before after)
         (λ s. StopsRequest s (F.holds files.old) asked before after) }
-    ensures maker { maker.new ≡ maker.old }
+    ensures refused { OnlyGrows (M.refused maker.old) (M.refused maker.new) }
 {
     if request.files.len() > MOST_FILES {
         return Err(Status::TooManyFiles);
@@ -241,11 +242,11 @@ fn run_text<R: Threads + Wait + Sync, F: Files, M: Maker, G: Gate>(
     gate: &G,
 ) -> Result<String, Status>
     ensures answer { let given = map (λ w. w.now) words.now in
-        let before : Loads = record { loaded = F.loaded files.old; failed = F.failed files.old } in
-        let after : Loads = record { loaded = F.loaded files.new; failed = F.failed files.new } in
-        MatchResult result (λ text. IsDue given (F.holds files.old) Status.Done (string_bytes text) × LoadsUpTo Status.Done given before after × NoneFailed before after)
+        let before : Loads = record { loaded = F.loaded files.old; failed = F.failed files.old; refused = M.refused maker.old } in
+        let after : Loads = record { loaded = F.loaded files.new; failed = F.failed files.new; refused = M.refused maker.new } in
+        MatchResult result (λ text. IsDue given (F.holds files.old) Status.Done before.refused after.refused (string_bytes text) × LoadsUpTo Status.Done given before after × NoneFailed before after)
         (λ s. StopsCall s given (F.holds files.old) before after) }
-    ensures maker { maker.new ≡ maker.old }
+    ensures refused { OnlyGrows (M.refused maker.old) (M.refused maker.new) }
 {
     let request = match read_request(alloc, words) {
         Ok(request) => request,
@@ -264,11 +265,11 @@ pub fn answer_to<R: Threads + Wait + Sync, F: Files, M: Maker, G: Gate>(
     gate: &G,
 ) -> Result<Answer, Status>
     ensures answer { let given = map (λ w. w.now) words.now in
-        let before : Loads = record { loaded = F.loaded files.old; failed = F.failed files.old } in
-        let after : Loads = record { loaded = F.loaded files.new; failed = F.failed files.new } in
-        MatchResult result (λ a. IsDue given (F.holds files.old) a.status (string_bytes a.text) × LoadsUpTo a.status given before after × NoneFailed before after)
+        let before : Loads = record { loaded = F.loaded files.old; failed = F.failed files.old; refused = M.refused maker.old } in
+        let after : Loads = record { loaded = F.loaded files.new; failed = F.failed files.new; refused = M.refused maker.new } in
+        MatchResult result (λ a. IsDue given (F.holds files.old) a.status before.refused after.refused (string_bytes a.text) × LoadsUpTo a.status given before after × NoneFailed before after)
         (λ s. Fails s (F.holds files.old) given before after) }
-    ensures maker { maker.new ≡ maker.old }
+    ensures refused { OnlyGrows (M.refused maker.old) (M.refused maker.new) }
 {
     let status = match run_text(rt, alloc, words, files, maker, gate) {
         Ok(text) => return Ok(Answer {

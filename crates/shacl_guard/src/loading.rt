@@ -1,5 +1,7 @@
 ghost use Rattle.std.specs.Prelude.{◌≡◌, ◌<◌, ◌≤◌, [], ◌∷◌, ◌++◌, List, MatchResult, length};
+ghost use Rattle.outside.specs.Faults.{Refusal};
 ghost use Rattle.session_model.specs.declared.command.Command.{Command};
+ghost use Rattle.session_reader.specs.Checking.{OnlyGrows};
 ghost use Rattle.shacl_guard.specs.Faults.{LoadsAll, NoHistory, Stops, Unloaded, Unread};
 ghost use Rattle.shacl_guard.specs.Loading;
 ghost use Rattle.shacl_guard.specs.Loading.{HoldsSession, HoldSessions, HoldsText};
@@ -25,8 +27,9 @@ fn session_in<M: Maker>(
 ) -> Result<Sequence<Command>, Status>
     requires session { (1 ≤ session) × (session ≤ 64) }
     requires room { length bytes.now ≤ Loading.room }
-    ensures answer { MatchResult result (λ commands. Loading.AreSession session bytes.now commands) (λ s. Unread s session bytes.now) }
-    ensures maker { maker.new ≡ maker.old }
+    ensures answer { MatchResult result (λ commands. Loading.AreSession session bytes.now commands (M.refused maker.old) (M.refused maker.new))
+        (λ s. Unread s session bytes.now (M.refused maker.old) (M.refused maker.new)) }
+    ensures refused { OnlyGrows (M.refused maker.old) (M.refused maker.new) }
 {
     if bytes.len() == ROOM {
         return Err(Status::TooLong { file: session });
@@ -51,8 +54,8 @@ fn within_length(bytes: Vec<u8>) -> Result<Vec<u8>, Status>
 
 /// The text of a history's file.
 pub fn load_history<F: Files>(alloc: Global, files: &mut F, name: &str) -> Result<Vec<u8>, Status>
-    ensures answer { let before : Loads = record { loaded = F.loaded files.old; failed = F.failed files.old } in
-        let after : Loads = record { loaded = F.loaded files.new; failed = F.failed files.new } in
+    ensures answer { (refused : List Refusal) → let before : Loads = record { loaded = F.loaded files.old; failed = F.failed files.old; refused = refused } in
+        let after : Loads = record { loaded = F.loaded files.new; failed = F.failed files.new; refused = refused } in
         MatchResult result (λ text. HoldsText (F.holds files.old) name.now text.items × LoadsOne name.now before after × NoneFailed before after)
         (λ s. NoHistory s (F.holds files.old) name.now before after) }
     ensures holds { F.holds files.new ≡ F.holds files.old }
@@ -73,12 +76,12 @@ fn load_session<F: Files, M: Maker>(
     name: &str,
 ) -> Result<Sequence<Command>, Status>
     requires { (1 ≤ session) × (session ≤ 64) }
-    ensures answer { let before : Loads = record { loaded = F.loaded files.old; failed = F.failed files.old } in
-        let after : Loads = record { loaded = F.loaded files.new; failed = F.failed files.new } in
-        MatchResult result (λ commands. HoldsSession (F.holds files.old) session name.now commands × LoadsOne name.now before after × NoneFailed before after)
+    ensures answer { let before : Loads = record { loaded = F.loaded files.old; failed = F.failed files.old; refused = M.refused maker.old } in
+        let after : Loads = record { loaded = F.loaded files.new; failed = F.failed files.new; refused = M.refused maker.new } in
+        MatchResult result (λ commands. HoldsSession (F.holds files.old) session name.now commands before.refused after.refused × LoadsOne name.now before after × NoneFailed before after)
         (λ s. Unloaded s (F.holds files.old) session name.now before after) }
     ensures holds { F.holds files.new ≡ F.holds files.old }
-    ensures maker { maker.new ≡ maker.old }
+    ensures refused { OnlyGrows (M.refused maker.old) (M.refused maker.new) }
 {
     match files.load(alloc, name, ROOM) {
         Ok(bytes) => session_in(alloc, maker, session, &bytes),
@@ -97,12 +100,12 @@ fn load_next<F: Files, M: Maker>(
     all: &mut Sequence<Sequence<Command>>,
 ) -> Result<(), Status>
     requires { (1 ≤ session) × (session ≤ 64) }
-    ensures answer { let before : Loads = record { loaded = F.loaded files.old; failed = F.failed files.old } in
-        let after : Loads = record { loaded = F.loaded files.new; failed = F.failed files.new } in
-        MatchResult result (λ _. (commands : List Command) × (all.new ≡ all.old ++ commands ∷ []) × HoldsSession (F.holds files.old) session name.now commands × LoadsOne name.now before after × NoneFailed before after)
+    ensures answer { let before : Loads = record { loaded = F.loaded files.old; failed = F.failed files.old; refused = M.refused maker.old } in
+        let after : Loads = record { loaded = F.loaded files.new; failed = F.failed files.new; refused = M.refused maker.new } in
+        MatchResult result (λ _. (commands : List Command) × (all.new ≡ all.old ++ commands ∷ []) × HoldsSession (F.holds files.old) session name.now commands before.refused after.refused × LoadsOne name.now before after × NoneFailed before after)
         (λ s. Unloaded s (F.holds files.old) session name.now before after) }
     ensures holds { F.holds files.new ≡ F.holds files.old }
-    ensures maker { maker.new ≡ maker.old }
+    ensures refused { OnlyGrows (M.refused maker.old) (M.refused maker.new) }
 {
     let commands = load_session(alloc, files, maker, session, name)?;
     all.push(commands)?;
@@ -117,11 +120,11 @@ pub fn load_all<F: Files, M: Maker>(
     names: &[Text],
 ) -> Result<Sequence<Sequence<Command>>, Status>
     requires { length names.now ≤ 64 }
-    ensures answer { let before : Loads = record { loaded = F.loaded files.old; failed = F.failed files.old } in
-        let after : Loads = record { loaded = F.loaded files.new; failed = F.failed files.new } in
-        MatchResult result (λ all. HoldSessions (F.holds files.old) 1 names.now all × LoadsAll names.now before after)
+    ensures answer { let before : Loads = record { loaded = F.loaded files.old; failed = F.failed files.old; refused = M.refused maker.old } in
+        let after : Loads = record { loaded = F.loaded files.new; failed = F.failed files.new; refused = M.refused maker.new } in
+        MatchResult result (λ all. HoldSessions (F.holds files.old) 1 names.now all before.refused after.refused × LoadsAll names.now before after)
         (λ s. Stops s (F.holds files.old) names.now before after) }
-    ensures maker { maker.new ≡ maker.old }
+    ensures refused { OnlyGrows (M.refused maker.old) (M.refused maker.new) }
 {
     let mut all = Sequence::new(alloc);
     let mut session = 0;

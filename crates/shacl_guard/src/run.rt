@@ -1,5 +1,6 @@
 ghost use Rattle.std.specs.Prelude.{◌≡◌, map};
 ghost use Rattle.outside.specs.Counts.{Rose};
+ghost use Rattle.session_reader.specs.Checking.{OnlyGrows};
 ghost use Rattle.shacl_guard.specs.Outcome.{IsOutcome, HasSessions, IsRunOrMemory};
 
 use crate::Status;
@@ -24,12 +25,13 @@ pub fn run_command<R: Threads + Wait + Sync, F: Files, K: Sink, M: Maker, G: Gat
     maker: &mut M,
     gate: &G,
 ) -> Status
-    // By the status: what the words and the files are, which files were loaded, and exactly what the sink took.
+    // By the status: what the words and the files are, which files were loaded, which patterns were refused, and exactly what
+    // the sink took.
     ensures outcome { IsOutcome result (record {
       words = map (λ w. w.now) words.now;
       held = F.holds files.old;
-      before = record { loads = record { loaded = F.loaded files.old; failed = F.failed files.old }; taken = K.taken out.old };
-      after = record { loads = record { loaded = F.loaded files.new; failed = F.failed files.new }; taken = K.taken out.new };
+      before = record { loads = record { loaded = F.loaded files.old; failed = F.failed files.old; refused = M.refused maker.old }; taken = K.taken out.old };
+      after = record { loads = record { loaded = F.loaded files.new; failed = F.failed files.new; refused = M.refused maker.new }; taken = K.taken out.new };
     }) }
     ensures write_fault { result ≡ Status.WriteFault → Rose (K.faults out.old) (K.faults out.new) }
 
@@ -38,8 +40,8 @@ pub fn run_command<R: Threads + Wait + Sync, F: Files, K: Sink, M: Maker, G: Gat
     ensures complete { HasSessions (map (λ w. w.now) words.now) (F.holds files.old) → F.failed files.new ≡ F.failed files.old
         → (Rose (K.faults out.old) (K.faults out.new) → ⊥) → IsRunOrMemory (map (λ w. w.now) words.now) result }
 
-    // No pattern is made so far.
-    ensures maker { maker.new ≡ maker.old }
+    // The patterns that the maker refused stay, and those of the session files join them.
+    ensures refused { OnlyGrows (M.refused maker.old) (M.refused maker.new) }
 {
     match answer_to(rt, alloc, words, files, maker, gate) {
         Ok(answer) => match write_all(out, answer.text.as_bytes()) {

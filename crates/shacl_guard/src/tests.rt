@@ -1,15 +1,19 @@
-// Devices that fail, and how often the sink is asked, through `run` with the forms in memory. What session files print is
-// shown by runs of the program.
+// Devices that fail, how often the sink is asked, and sessions that a gate holds, through `run` with the forms in memory. What
+// session files print is shown by runs of the program.
 ghost use Rattle.std.specs.Prelude.{◌<◌};
 
 use crate::{Status, run};
-use outside::{MemFile, MemFiles, MemSink, OpenGate, RegexMaker};
+use outside::{EventKind, Gate, MemFile, MemFiles, MemSink, OpenGate, Place, RegexMaker};
 use std::alloc::{AllocError, Global};
 use std::sync::Wait;
+use std::sync::atomic::{AtomicBool, AtomicU64, Ordering};
 use std::test::Fail;
+use std::thread;
 use std::thread::Threads;
 
 const FIRST_RUN: &[u8] = b"begin\nadd ntriples\n<e:a> <e:p> <e:b> .\n%%\ncommit\n";
+
+const SECOND_RUN: &[u8] = b"begin\nadd ntriples\n<e:b> <e:p> <e:b> .\n%%\ncommit\n";
 
 const PRINTED: &[u8] = b"session 1\nbegin 0\nadd 1\ncommit 1\nsession 2\nhistory 1 2 1 1 1 1\n";
 
@@ -66,5 +70,104 @@ fn prints_what_the_devices_allow(rt: HostRuntime) -> Result<(), Fail> {
         );
         assert_eq!(rt; out.calls(), calls, "load {load}, write {write}");
     }
+    Ok(())
+}
+
+// So often a hold looks for what it waits for, at most; between looks it gives way now and then.
+const TURNS: u64 = 200_000_000;
+
+const TURNS_BETWEEN: u64 = 100_000;
+
+// Holds session 2 before its Begin until session 1's Name was answered, and session 1 before its Commit until session 2's
+// Commit was answered.
+#[derive(Drop)]
+struct HoldingGate {
+    named: AtomicBool,
+    committed: AtomicBool,
+    // How often it was called, how often where a commit is ready, and how often a hold spent its turns.
+    calls: AtomicU64,
+    ready: AtomicU64,
+    spent: AtomicU64,
+}
+
+impl HoldingGate {
+    fn hold_until(&self, reached: &AtomicBool) {
+        for turn in 0..TURNS {
+            if reached.load(Ordering::SeqCst) {
+                return;
+            }
+            if turn % TURNS_BETWEEN == 0 {
+                thread::yield_now();
+            }
+        }
+        self.spent.fetch_add(1, Ordering::SeqCst);
+    }
+
+    fn before(&self, session: u32, kind: EventKind) {
+        if session == 2 && kind == EventKind::Begin {
+            self.hold_until(&self.named);
+        }
+        if session == 1 && kind == EventKind::Commit {
+            self.hold_until(&self.committed);
+        }
+    }
+
+    fn after(&self, session: u32, kind: EventKind) {
+        if session == 1 && kind == EventKind::Name {
+            self.named.store(true, Ordering::SeqCst);
+        }
+        if session == 2 && kind == EventKind::Commit {
+            self.committed.store(true, Ordering::SeqCst);
+        }
+    }
+}
+
+impl Gate for HoldingGate {
+    fn at(&self, session: u32, place: Place) {
+        self.calls.fetch_add(1, Ordering::SeqCst);
+        match place {
+            Place::Before { kind, number: _ } => self.before(session, kind),
+            Place::After {
+                kind,
+                number: _,
+                ready,
+            } => {
+                if ready {
+                    self.ready.fetch_add(1, Ordering::SeqCst);
+                }
+                self.after(session, kind);
+            }
+        }
+    }
+}
+
+// Both sessions' four events are told before and after; no commit is ready, since none is checked before its turn.
+#[test]
+fn sessions_are_held(rt: HostRuntime) -> Result<(), Fail> {
+    let alloc = rt.alloc();
+    let held = vec![in alloc;
+        file_of(alloc, "f", FIRST_RUN)?,
+        file_of(alloc, "g", SECOND_RUN)?,
+    ]?;
+    let mut files = MemFiles::new(alloc, held, Vec::new(alloc));
+    let mut out = MemSink::new(alloc, 1000, 1000, Vec::new(alloc))?;
+    let mut maker = RegexMaker::new(alloc);
+    let gate = HoldingGate {
+        named: AtomicBool::new(false),
+        committed: AtomicBool::new(false),
+        calls: AtomicU64::new(0),
+        ready: AtomicU64::new(0),
+        spent: AtomicU64::new(0),
+    };
+    let words = ["shacl_guard", "run", "f", "g"];
+    let status = run(&rt, alloc, &words, &mut files, &mut out, &mut maker, &gate);
+    assert_eq!(rt; status, Status::Done);
+    assert_eq!(rt; gate.spent.load(Ordering::SeqCst), 0);
+    assert_eq!(rt; gate.calls.load(Ordering::SeqCst), 16);
+    assert_eq!(rt; gate.ready.load(Ordering::SeqCst), 0);
+    let sessions =
+        b"session 1\nbegin 0\nadd 1\ncommit 2\nsession 2\nbegin 0\nadd 1\ncommit 1\nhistory 1 2 ";
+    assert!(rt; out.taken().starts_with(sessions.as_slice()));
+    assert!(rt; out.taken().ends_with(b" 1\n".as_slice()));
     Ok(())
 }

@@ -1,6 +1,1 @@
-pub mod Rows
-pub mod Parts
-pub mod Sizes
-pub mod ReadItems
-pub mod Names
-pub mod HasTerms
+pub mod Alike

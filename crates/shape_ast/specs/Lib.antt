@@ -1,5 +1,4 @@
-pub mod Kinds
-pub mod TermComponents
-pub mod PathReadings
-pub mod Naming
+pub mod Components
+pub mod Readings
 pub mod Standing
+pub mod Binding

@@ -1,26 +1,31 @@
-use crate::{NodeKind, TermComponent};
+use crate::{ListComponent, ShapeComponent, ShapesComponent, TermComponent};
+use collections::Sequence;
 
-/// A component at a value of its parameter (SHACL section 4), over terms or numbers of terms.
+/// A component at a value of its parameter (SHACL section 4), over terms or numbers of terms. Shapes are named by their
+/// places in the list of all shapes. The one pattern of a shape stands apart.
 #[derive(Debug, Drop)]
 pub enum Constraint<T> {
-    /// Each value node is of the kind (section 4.1.3).
-    NodeKind {
-        kind: NodeKind,
-        parameter: T,
-    },
-    /// There are at least so many value nodes (section 4.2.1).
-    MinCount {
-        count: i128,
-        parameter: T,
-    },
-    /// There are at most so many value nodes (section 4.2.2).
-    MaxCount {
-        count: i128,
-        parameter: T,
-    },
     /// The component holds for the parameter.
     ByTerm {
         component: TermComponent,
         parameter: T,
+    },
+    /// It holds for the members of the list whose head is the parameter.
+    ByList {
+        component: ListComponent,
+        parameter: T,
+        members: Sequence<T>,
+    },
+    /// It holds for the shape that the parameter is.
+    ByShape {
+        component: ShapeComponent,
+        parameter: T,
+        shape: usize,
+    },
+    /// It holds for the shapes that are the members of the list whose head is the parameter.
+    ByShapes {
+        component: ShapesComponent,
+        parameter: T,
+        shapes: Sequence<usize>,
     },
 }

@@ -1,24 +1,23 @@
-//! Shapes of SHACL Core as they are compiled, by terms or by the numbers of terms.
+//! Shapes of SHACL Core as they are compiled, with all of its constraint components, by terms or by the numbers of terms.
 //!
-//! `Shapes` holds the shapes of a shapes graph; `specs/Standing.antt` says when they stand for its
-//! triples. `bind` ensures shapes that read the same by the numbers of their terms among the names,
-//! and `bind_path` a path that does. The components, their constraints and the rows of results are
-//! named here for the crates above.
+//! `specs/Standing.antt` says when `Shapes` stand for a shapes graph: what each says is, for a validation, what the
+//! triples say of its node. `bind` ensures shapes that read the same by the numbers of their terms among the names. The
+//! components of constraints, the rows of results and the paths are named here for the crates above.
 #![tactic(auto)]
 
-mod binding;
 mod bound;
+mod component;
 mod constraint;
-mod node_kind;
-mod path;
+mod parts;
+mod pattern;
 mod shape;
-mod term_component;
+mod target;
 
-pub use binding::bind_path;
 pub use bound::{Bound, bind};
+pub use compiled_paths::{Path, bind_path};
+pub use component::{ListComponent, ShapeComponent, ShapesComponent, TermComponent};
 pub use constraint::Constraint;
-pub use node_kind::NodeKind;
-pub use path::Path;
-pub use shape::{Shape, Shapes, Target};
+pub use pattern::Pattern;
+pub use shape::{Shape, Shapes};
 pub use shape_model::{Component, ResultRow};
-pub use term_component::TermComponent;
+pub use target::Target;

@@ -1,28 +1,36 @@
-use crate::{Constraint, Path};
+use crate::{Constraint, Pattern, Target};
 use collections::Sequence;
+use compiled_paths::Path;
 use rdf_model::Term;
 
-/// A declaration of targets (SHACL section 2.1.3), over terms or numbers of terms.
-#[derive(Debug, Drop)]
-pub enum Target<T> {
-    /// The node itself (section 2.1.3.1).
-    Node(T),
-    /// The subjects of triples with this predicate (section 2.1.3.4).
-    SubjectsOf(T),
-}
-
-/// A shape (SHACL section 2), over terms or numbers of terms.
+/// A shape (SHACL section 2), over terms or numbers of terms. Other shapes are named by their places in the list of all
+/// shapes.
 #[derive(Debug, Drop)]
 pub struct Shape<T> {
     /// The node of the shapes graph that is the shape.
     pub node: T,
     /// The path of a property shape; a node shape has none.
     pub path: Option<Path<T>>,
+    /// Whether its sh:deactivated is true (section 2.1.6).
+    pub is_deactivated: bool,
+    /// Its sh:severity, if it declares one (section 2.1.4).
+    pub severity: Option<T>,
+    /// Its sh:message values, in the order of terms (section 2.1.5).
+    pub messages: Sequence<T>,
     pub targets: Sequence<Target<T>>,
     pub constraints: Sequence<Constraint<T>>,
-    /// The property shapes that are values of its sh:property, by their places in the list of all
-    /// shapes.
+    /// Its sh:pattern, if it has one (section 4.4.3).
+    pub pattern: Option<Pattern<T>>,
+    /// Its sh:flags, if it has some (section 4.4.3).
+    pub flags: Option<T>,
+    /// The property shapes that are values of its sh:property (section 4.7.2).
     pub properties: Sequence<usize>,
+    /// The shape that is its sh:qualifiedValueShape (section 4.7.3).
+    pub qualified: Option<usize>,
+    /// Its sibling shapes, each at least once (section 4.7.3).
+    pub siblings: Sequence<usize>,
+    /// The members of its sh:ignoredProperties (section 4.8.1).
+    pub ignored: Sequence<T>,
 }
 
 /// The shapes of a shapes graph, in the order of their nodes.

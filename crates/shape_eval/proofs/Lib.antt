@@ -1,5 +1,11 @@
-pub mod KindTests
-pub mod Unfolding
-pub mod Numbers
-pub mod Rows
+pub mod Values
+pub mod Constraints
+pub mod Lookups
+pub mod Growing
+pub mod Closings
+pub mod Telling
+pub mod Texts
+pub mod Depths
+pub mod Asking
+pub mod Owning
 pub mod Evaluations

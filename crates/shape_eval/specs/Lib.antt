@@ -1,4 +1,6 @@
 pub mod ValueNodes
-pub mod CompiledRows
-pub mod Bounds
+pub mod Told
+pub mod Around
+pub mod ShapeRows
+pub mod Predicates
 pub mod Results

@@ -7,8 +7,9 @@ use Rattle.rdf_model.specs.Numbers.{term_at, graph_of, IsNumbering, AreNumbered}
 use Rattle.shape_model.specs.Paths.{Path as DefinedPath}
 use Rattle.shape_model.specs.Walks.{Walk}
 use Rattle.component_rows.specs.Nodes.{AreNodes, HasNode}
-use Rattle.shape_ast.specs.declared.path.Path.{Path}
-use Rattle.shape_ast.specs.PathReadings.{IsBoundOptional, optional_path_of}
+use Rattle.compiled_paths.specs.declared.path.Path.{Path}
+use Rattle.compiled_paths.specs.PathReadings.{IsBoundOptional}
+use Rattle.shape_ast.specs.Readings.{read_optional_path}
 
 -- the focus node itself without a path, else the nodes to which it walks along the path
 abbrev pub IsValueNode : List Triple → Option DefinedPath → Term → Term → Type 0
@@ -18,7 +19,7 @@ IsValueNode g (Some p) f v = Walk g p f v
 -- the numbers are those of just the value nodes at the focus node
 pub record AreValueNodes (terms : List Term) (ids : List Ids) (path : Option (Path ℕ)) (f : ℕ) (numbers : List ℕ) : Type 0 where
   pub nodes : AreNodes terms numbers
-  pub each : (v : Term) → HasNode terms numbers v ↔ IsValueNode (graph_of terms ids) (optional_path_of terms path) (term_at terms f) v
+  pub each : (v : Term) → HasNode terms numbers v ↔ IsValueNode (graph_of terms ids) (read_optional_path (term_at terms) path) (term_at terms f) v
 
 -- in whatever way the graph, the path and the focus node are numbered
 abbrev pub AtNumbers : List Ids → Option (Path ℕ) → ℕ → (List Term → Type 0) → Type 0

@@ -1,14 +1,23 @@
-//! The results that a shape gives at a focus node, by compiled shapes over the numbers of terms.
+//! The results that a shape gives at a focus node, by compiled shapes over the numbers of terms, for all components of
+//! SHACL Core.
 //!
-//! `eval` lists exactly the results of SHACL's validation of one focus node by one shape, for each
-//! well-formed shapes graph that the compiled shapes stand for. A `Permit` allows one evaluation, and
-//! `permit` counts it among the `Steps`, which take no memory.
+//! `eval` lists exactly the results of SHACL's validation of one focus node by one shape, for each shapes graph that the
+//! compiled shapes stand for, as long as no shape refers to itself and no chain of references is longer than 256. Whether
+//! value nodes conform to another shape is found by the results of that shape at each of them. A `Permit` allows one
+//! evaluation, and `permit` counts it among the `Steps`, which take no memory.
 #![tactic(auto)]
 
-mod components;
+mod asked;
+mod by_list;
+mod by_shape;
+mod by_term;
+mod closing;
 mod evaluation;
+mod own_rows;
+mod qualified;
 mod rights;
 mod steps;
+mod told;
 mod value_nodes;
 
 pub use evaluation::eval;

@@ -3,9 +3,9 @@ ghost use Rattle.std.specs.Ordering.{nat_cmp};
 ghost use Rattle.collections.specs.Listings.{IsListing};
 ghost use Rattle.shape_eval.specs.ValueNodes.{AreValueNodes, AtNumbers};
 
+use compiled_paths::Path;
 use path_eval::values;
 use rdf_model::{Footprint, Triples};
-use shape_ast::Path;
 use std::alloc::{AllocError, Global};
 
 /// The value nodes at a focus node (SHACL section 3.7), ascending by number, for a shape with this

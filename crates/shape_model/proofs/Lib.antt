@@ -10,5 +10,4 @@ pub mod Listings
 pub mod Bridges
 pub mod NodeLooks
 pub mod Looks
-pub mod WellFormed
 pub mod Declarations

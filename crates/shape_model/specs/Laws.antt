@@ -22,8 +22,6 @@ use Rattle.shape_model.specs.Touching.{IsFootprint, Touched}
 use Rattle.shape_model.specs.Validation.{At, AtDepth, IsResult, Listing, NoResult, surroundings}
 use Rattle.shape_model.specs.Walks.{Walk}
 use Rattle.shape_model.specs.declared.result_row.ResultRow.{ResultRow}
-use Rattle.shape_model.specs.declared.broken_rule.BrokenRule.{BrokenRule}
-use Rattle.shape_model.specs.WellFormed.{IsWellFormed, IsLeastBroken}
 use Rattle.collections.specs.Listings.{IsListing}
 use Rattle.rdf_model.specs.Terms.{term_cmp, triple_cmp}
 use Rattle.shape_model.specs.Triples.{Has}
@@ -103,14 +101,6 @@ CountLaw = (g s : List Triple) (shape f : Term) (n m : ℕ) → Counts (ValueNod
 -- The looks of a shape from node to node are those of its rows.
 abbrev pub ReadsLaw : Type 0
 ReadsLaw = (g s : List Triple) (shape f : Term) (look : Look Term) → ShapeReads (suc (length s)) g (reading s) shape f look ↔ IsLook g (ResultLook s shape) f look
-
--- A shapes graph has at most one least broken rule.
-abbrev pub LeastLaw : Type 0
-LeastLaw = (s : List Triple) (b c : BrokenRule) → IsLeastBroken s b → IsLeastBroken s c → b ≡ c
-
--- In a well-formed shapes graph no shape refers to itself.
-abbrev pub AcyclicLaw : Type 0
-AcyclicLaw = (s : List Triple) → IsWellFormed s → IsAcyclic s
 
 -- The values of a property of a node are listed each once, in the order of terms.
 abbrev pub ValuesLaw : Type 0

@@ -22,6 +22,5 @@ pub mod Agreement
 pub mod Touching
 pub mod CompiledShapes
 pub mod NodeLooks
-pub mod WellFormed
 pub mod Declarations
 pub mod Laws

@@ -1,5 +1,5 @@
--- The orders of components, of validation results and of broken rules are total, and find no difference only between equals.
-use Rattle.std.specs.Prelude.{◌≡◌, ℕ, ◌==◌, if◌then◌else◌, List, [], ◌∷◌, Option, Some, None, refl}
+-- The orders of components and of validation results are total, and find no difference only between equals.
+use Rattle.std.specs.Prelude.{◌≡◌, List, [], ◌∷◌, Option, Some, None, refl}
 use Rattle.std.proofs.Common.{sym, ◌∙◌, ap, subst, get_or}
 use Rattle.std.specs.declared.cmp.Ordering.{Ordering}
 use Rattle.std.specs.declared.cmp.Ordering.TheVariants.{Less, Equal, Greater}
@@ -14,10 +14,7 @@ use Rattle.rdf_model.specs.Orders.{term_total, term_exact}
 use Rattle.shape_model.specs.declared.component.Component.{Component}
 use Rattle.shape_model.specs.declared.component.Component.TheVariants as components
 use Rattle.shape_model.specs.declared.result_row.ResultRow.{ResultRow}
-use Rattle.shape_model.specs.declared.rule.Rule.{Rule}
-use Rattle.shape_model.specs.declared.rule.Rule.TheVariants as rules
-use Rattle.shape_model.specs.declared.broken_rule.BrokenRule.{BrokenRule}
-use Rattle.shape_model.specs.Rows.{component_number, component_cmp, optional_term_cmp, result_row_cmp, rule_number, rule_cmp, broken_rule_cmp}
+use Rattle.shape_model.specs.Rows.{component_number, component_cmp, optional_term_cmp, result_row_cmp}
 
 pub component_total : IsTotalOrder component_cmp
 component_total = on_total component_number nat_cmp_total
@@ -121,37 +118,3 @@ result_row_exact a b h =
     let value = optional_term_exact a.value b.value x.0 in
     let other = optional_term_exact a.other b.other x.1 in
     λ i. record { source_shape = source_shape i; focus_node = focus_node i; component = component i; parameter = parameter i; about = about i; value = value i; other = other i }
-
-pub rule_total : IsTotalOrder rule_cmp
-rule_total = on_total rule_number nat_cmp_total
-
-abbrev rule_numbered : ℕ → Rule
-rule_numbered n = if n == 1 then rules.SeveralValues else (if n == 2 then rules.BlankTargetNode else (if n == 5 then rules.TargetSubjectsOf else (if n == 12 then rules.Path else (if n == 15 then rules.NodeKind else (if n == 16 then rules.Count else (if n == 17 then rules.MissingPath else (if n == 32 then rules.Property else rules.Unsupported)))))))
-
-by_rule_number : (r : Rule) → rule_numbered (rule_number r) ≡ r
-by_rule_number rules.SeveralValues = refl
-by_rule_number rules.BlankTargetNode = refl
-by_rule_number rules.TargetSubjectsOf = refl
-by_rule_number rules.Path = refl
-by_rule_number rules.NodeKind = refl
-by_rule_number rules.Count = refl
-by_rule_number rules.MissingPath = refl
-by_rule_number rules.Property = refl
-by_rule_number rules.Unsupported = refl
-
--- rules of one number are one
-pub rule_exact : (a b : Rule) → rule_cmp a b ≡ Equal → a ≡ b
-rule_exact a b h = sym (by_rule_number a) ∙ ap rule_numbered (nat_cmp-IsAntisymmetric (rule_number a) (rule_number b) h) ∙ by_rule_number b
-
-pub broken_rule_total : IsTotalOrder broken_rule_cmp
-broken_rule_total = then_total (on_total (λ (b : BrokenRule). b.node) term_total) (then_total (on_total (λ (b : BrokenRule). b.rule) rule_total) (on_total (λ (b : BrokenRule). b.value) optional_term_total))
-
--- broken rules that compare alike are one
-pub broken_rule_exact : (a b : BrokenRule) → broken_rule_cmp a b ≡ Equal → a ≡ b
-broken_rule_exact a b h =
-    let p = both_equal (term_cmp a.node b.node) (ordering_then (rule_cmp a.rule b.rule) (optional_term_cmp a.value b.value)) h in
-    let q = both_equal (rule_cmp a.rule b.rule) (optional_term_cmp a.value b.value) p.1 in
-    let node = term_exact a.node b.node p.0 in
-    let rule = rule_exact a.rule b.rule q.0 in
-    let value = optional_term_exact a.value b.value q.1 in
-    λ i. record { node = node i; rule = rule i; value = value i }

@@ -1,4 +1,4 @@
--- The order of components, of validation results and of broken rules.
+-- The order of components and of validation results.
 use Rattle.std.specs.Prelude.{ℕ, Option, Some, None}
 use Rattle.std.specs.declared.cmp.Ordering.{Ordering}
 use Rattle.std.specs.declared.cmp.Ordering.TheVariants.{Less, Equal, Greater}
@@ -8,9 +8,6 @@ use Rattle.rdf_model.specs.Terms.{term_cmp}
 use Rattle.shape_model.specs.declared.component.Component.{Component}
 use Rattle.shape_model.specs.declared.component.Component.TheVariants as components
 use Rattle.shape_model.specs.declared.result_row.ResultRow.{ResultRow}
-use Rattle.shape_model.specs.declared.rule.Rule.{Rule}
-use Rattle.shape_model.specs.declared.rule.Rule.TheVariants as rules
-use Rattle.shape_model.specs.declared.broken_rule.BrokenRule.{BrokenRule}
 
 -- the components are numbered from 1 to 28
 abbrev pub component_number : Component → ℕ
@@ -64,23 +61,3 @@ result_row_cmp a b =
     (ordering_then (optional_term_cmp a.about b.about)
     (ordering_then (optional_term_cmp a.value b.value)
     (optional_term_cmp a.other b.other))))))
-
--- the rules have these numbers
-abbrev pub rule_number : Rule → ℕ
-rule_number rules.SeveralValues = 1
-rule_number rules.BlankTargetNode = 2
-rule_number rules.TargetSubjectsOf = 5
-rule_number rules.Path = 12
-rule_number rules.NodeKind = 15
-rule_number rules.Count = 16
-rule_number rules.MissingPath = 17
-rule_number rules.Property = 32
-rule_number rules.Unsupported = 39
-
--- rules by number
-abbrev pub rule_cmp : Rule → Rule → Ordering
-rule_cmp a b = nat_cmp (rule_number a) (rule_number b)
-
--- broken rules by node, rule and value
-abbrev pub broken_rule_cmp : BrokenRule → BrokenRule → Ordering
-broken_rule_cmp a b = ordering_then (term_cmp a.node b.node) (ordering_then (rule_cmp a.rule b.rule) (optional_term_cmp a.value b.value))

@@ -1,5 +1,5 @@
 // Each function promises a theorem on the definitions, and does nothing.
-ghost use Rattle.shape_model.specs.Laws.{AcyclicLaw, BesideLaw, BridgeLaw, ClassPathLaw, CompiledLaw, ConformsLaw, CountLaw, CoverLaw, DepthLaw, FuelLaw, LeastLaw, ListingLaw, LookLaw, NoShapesLaw, ReadsLaw, TouchedLaw, UnfoldLaw, ValuesLaw, VerdictLaw, WalkLaw};
+ghost use Rattle.shape_model.specs.Laws.{BesideLaw, BridgeLaw, ClassPathLaw, CompiledLaw, ConformsLaw, CountLaw, CoverLaw, DepthLaw, FuelLaw, ListingLaw, LookLaw, NoShapesLaw, ReadsLaw, TouchedLaw, UnfoldLaw, ValuesLaw, VerdictLaw, WalkLaw};
 
 /// A node walks along the class path to just the classes that it is an instance of.
 pub fn class_path_law()
@@ -84,16 +84,6 @@ pub fn count_law()
 /// The looks of a shape from node to node are those of its rows.
 pub fn reads_law()
     ensures { ReadsLaw }
-{}
-
-/// A shapes graph has at most one least broken rule.
-pub fn least_law()
-    ensures { LeastLaw }
-{}
-
-/// In a well-formed shapes graph no shape refers to itself.
-pub fn acyclic_law()
-    ensures { AcyclicLaw }
 {}
 
 /// The values of a property of a node are listed each once, in the order of terms.

@@ -2,21 +2,17 @@
 //! data graph and a shapes graph.
 //!
 //! `specs/` says which nodes a shape targets, which results it gives there, which listing a graph has,
-//! which triples such an answer reads, and which shapes graphs are well-formed. `Component`,
-//! `ResultRow`, `Rule` and `BrokenRule` are the data of the answers, each with exactly the order of
-//! `specs/Rows.antt`. Each function of `laws` promises a theorem about those definitions.
+//! and which triples such an answer reads. `Component` and `ResultRow` are the data of the answers, each
+//! with exactly the order of `specs/Rows.antt`. Each function of `laws` promises a theorem about those
+//! definitions.
 #![tactic(auto)]
 
-mod broken_rule;
 mod component;
 mod count;
 pub mod laws;
 mod optional_term;
 mod result_row;
-mod rule;
 
-pub use broken_rule::BrokenRule;
 pub use component::Component;
 pub use count::{count_of, is_fewer, is_more};
 pub use result_row::ResultRow;
-pub use rule::Rule;

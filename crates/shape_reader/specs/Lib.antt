@@ -1,5 +1,3 @@
-pub mod Scans
-pub mod Shapes
-pub mod Rules
+pub mod Kinds
 pub mod Parts
 pub mod Faults

@@ -1,74 +1,183 @@
--- The parts of a compiled shape that a triple of the shapes graph says.
-use Rattle.std.specs.Prelude.{◌≡◌, ◌⊎◌, ◌↔◌, ℕ, ℤ, List, Some, MatchOption, slice_get}
-use Rattle.std.specs.List.{Contains}
+-- The parts of a compiled shape, as the triples of its node say them.
+use Rattle.std.specs.Prelude.{◌≡◌, ◌⊎◌, ◌↔◌, ℕ, IsTrue, List, [], ◌∷◌, ◌++◌, Option, Some, None, MatchOption, length, map, slice_get}
+use Rattle.std.specs.List.{All, Contains}
+use Rattle.collections.specs.Listings.{IsListing}
+use Rattle.literal_order.specs.Texts.{string_value}
 use Rattle.rdf_model.specs.declared.term.Term.{Term}
 use Rattle.rdf_model.specs.declared.triple.Triple.{Triple}
-use Rattle.shape_model.specs.Vocabulary.{ShMaxCount, ShMinCount, ShNodeKind, ShPath, ShProperty, ShTargetNode, ShTargetSubjectsOf, ShapeProperty, property_iri}
-use Rattle.shape_model.specs.Paths.{Path, Predicate}
-use Rattle.shape_model.specs.ShapeSyntax.{HasProperty, MakesShape, TakesShape}
-use Rattle.shape_model.specs.Readings.{IsNodeShape}
-use Rattle.shape_model.specs.TermTests.{count_of}
+use Rattle.rdf_model.specs.Terms.{term_cmp}
+use Rattle.shape_model.specs.Instances.{Instance}
+use Rattle.shape_model.specs.Paths.{Path}
+use Rattle.shape_model.specs.Readings.{Sibling}
+use Rattle.shape_model.specs.ShapeSyntax.{ListOf, PathOf}
+use Rattle.shape_model.specs.Vocabulary.{rdfs_class, true_literal}
+use Rattle.shape_rules.specs.declared.property.ShapeProperty.{ShapeProperty}
+use Rattle.shape_rules.specs.declared.property.ShapeProperty.TheVariants as vocabulary
+use Rattle.shape_rules.specs.Syntax.{HasProperty, IsListed, SomeValue, IsShape as IsRuleShape}
 use Rattle.shape_ast.specs.declared.constraint.Constraint.{Constraint}
-use Rattle.shape_ast.specs.declared.constraint.Constraint.TheVariants.{NodeKind, MinCount, MaxCount}
-use Rattle.shape_ast.specs.declared.node_kind.NodeKind.{NodeKind as Kind}
-use Rattle.shape_ast.specs.declared.shape.Target.{Target}
-use Rattle.shape_ast.specs.declared.shape.Target.TheVariants.{Node, SubjectsOf}
-use Rattle.shape_ast.specs.Kinds.{kind_iri}
-use Rattle.shape_ast.specs.Naming.{ReadShape}
-use Rattle.shape_reader.specs.Shapes.{IsPropertyOf}
+use Rattle.shape_ast.specs.declared.constraint.Constraint.TheVariants.{ByTerm, ByList, ByShape, ByShapes}
+use Rattle.shape_ast.specs.declared.pattern.Pattern.{Pattern}
+use Rattle.shape_ast.specs.declared.target.Target.{Target}
+use Rattle.shape_ast.specs.declared.target.Target.TheVariants.{Node, Class, ImplicitClass, SubjectsOf, ObjectsOf}
+use Rattle.shape_ast.specs.declared.shape.Shape.{Shape}
+use Rattle.shape_ast.specs.Readings.{HoldsOfShape, ReadShape, read_shape, read_shapes}
+use Rattle.shape_ast.specs.Standing.{AreBuilt, IsBuilt, StandsIn}
+use Rattle.shape_reader.specs.declared.fault.CompileFault.{CompileFault}
+use Rattle.shape_reader.specs.declared.fault.CompileFault.TheVariants as faults
+use Rattle.outside.specs.declared.maker.MakeFault.{MakeFault}
+use Rattle.outside.specs.declared.maker.MakeFault.TheVariants as make
+use Rattle.outside.specs.Faults.{Refusal}
+use Rattle.std.specs.Arc.{arc_value}
+use Rattle.shape_model.specs.Patterns.{IsPatternOf}
+use Rattle.shape_reader.specs.declared.kind.Kind.{Kind}
+use Rattle.shape_reader.specs.declared.kind.Kind.TheVariants as kinds
+use Rattle.shape_reader.specs.Kinds.{kind}
 
--- some triple of the graph says the part
-abbrev pub IsSaid : {X : Type 0} → (Triple → X → Type 0) → List Triple → X → Type 0
-IsSaid At s x = (t : Triple) × Contains s t × At t x
+-- n is this node, which is a shape
+abbrev pub IsShapeAt : List Triple → Term → Term → Type 0
+IsShapeAt s m n = (m ≡ n) × IsRuleShape s n
 
--- the triple has a value of the property at the node
-abbrev pub Says : Term → ShapeProperty → Triple → Type 0
-Says n p t = (t.subject ≡ n) × (t.predicate ≡ property_iri p)
+-- the term stands at this place of the nodes
+abbrev pub IsPlace : List Term → ℕ → Term → Type 0
+IsPlace nodes n t = slice_get nodes n ≡ Some t
 
--- the path of the node, which is an IRI so far (SHACL 2.3.1.1)
+-- the terms stand at these places, in turn
+abbrev pub ArePlaces : List Term → List ℕ → List Term → Type 0
+ArePlaces nodes [] [] = Unit {0}
+ArePlaces nodes [] (t ∷ ts) = ⊥
+ArePlaces nodes (n ∷ ns) [] = ⊥
+ArePlaces nodes (n ∷ ns) (t ∷ ts) = IsPlace nodes n t × ArePlaces nodes ns ts
+
+-- the members of the list at the head stand at these places
+abbrev pub AreShapesOf : List Triple → List Term → Term → List ℕ → Type 0
+AreShapesOf s nodes head places = (members : List Term) × ListOf s head members × ArePlaces nodes places members
+
+-- the constraint of this kind by the value v of its parameter
+abbrev pub IsConstraint : List Triple → List Term → Kind → Term → Constraint Term → Type 0
+IsConstraint s nodes (kinds.Term component) v k = k ≡ ByTerm component v
+IsConstraint s nodes (kinds.List component) v k = (members : List Term) × ListOf s v members × (k ≡ ByList component v members)
+IsConstraint s nodes (kinds.Shape component) v k = (n : ℕ) × IsPlace nodes n v × (k ≡ ByShape component v n)
+IsConstraint s nodes (kinds.Shapes component) v k = (places : List ℕ) × AreShapesOf s nodes v places × (k ≡ ByShapes component v places)
+IsConstraint s nodes kinds.Nothing v k = ⊥
+
+-- the value v of the property says the constraint
+abbrev pub SaysConstraint : List Triple → List Term → ShapeProperty → Term → Constraint Term → Type 0
+SaysConstraint s nodes p v k = IsConstraint s nodes (kind p) v k
+
+-- the target that the value declares (SHACL 2.1.3)
+abbrev pub target_of : ShapeProperty → Term → Option (Target Term)
+target_of vocabulary.TargetNode v = Some (Node v)
+target_of vocabulary.TargetClass v = Some (Class v)
+target_of vocabulary.TargetSubjectsOf v = Some (SubjectsOf v)
+target_of vocabulary.TargetObjectsOf v = Some (ObjectsOf v)
+target_of p v = None
+
+abbrev pub SaysTarget : List Triple → List Term → ShapeProperty → Term → Target Term → Type 0
+SaysTarget s nodes p v x = target_of p v ≡ Some x
+
+-- a target of the node: a declared one, or that of a class that is a shape (SHACL 2.1.3.3)
+abbrev pub IsTarget : List Triple → List Term → Term → Target Term → Type 0
+IsTarget s nodes n x = SomeValue s n (λ p v. SaysTarget s nodes p v x) ⊎ ((ImplicitClass ≡ x) × Instance s n rdfs_class)
+
+-- a value of the property, if there is one
+abbrev pub IsValue : List Triple → Term → ShapeProperty → Option Term → Type 0
+IsValue s n p found = MatchOption found ((v : Term) → HasProperty s n p v → ⊥) (HasProperty s n p)
+
+-- the values of the property are one
+abbrev pub HasOne : List Triple → Term → ShapeProperty → Type 0
+HasOne s n p = (v w : Term) → HasProperty s n p v → HasProperty s n p w → v ≡ w
+
+-- a value of the property stands at this place
+abbrev pub HasPlace : List Triple → List Term → Term → ShapeProperty → ℕ → Type 0
+HasPlace s nodes n p k = (v : Term) × HasProperty s n p v × IsPlace nodes k v
+
+-- a sibling of the node does (SHACL 4.7.3)
+abbrev pub HasSibling : List Triple → List Term → Term → ℕ → Type 0
+HasSibling s nodes n k = (v : Term) × Sibling s n v × IsPlace nodes k v
+
+-- a term that the node ignores where it is closed (SHACL 4.8.1)
+abbrev pub IsIgnored : List Triple → Term → Term → Type 0
+IsIgnored s n t = (head : Term) × HasProperty s n vocabulary.IgnoredProperties head × IsListed s head t
+
+-- its path (SHACL 2.3.1)
 abbrev pub IsPathAt : List Triple → Term → Path → Type 0
-IsPathAt s n p = (q : Term) × (p ≡ Predicate q) × HasProperty s n ShPath q
+IsPathAt s n p = (v : Term) × HasProperty s n vocabulary.Path v × PathOf s v p
 
--- a target of the node (SHACL 2.1.3.1, 2.1.3.4)
-abbrev pub IsNodeTargetAt : Term → Triple → Target Term → Type 0
-IsNodeTargetAt n t x = Says n ShTargetNode t × (x ≡ Node t.object)
+abbrev pub IsOptionalPath : List Triple → Term → Option Path → Type 0
+IsOptionalPath s n found = MatchOption found ((v : Term) → HasProperty s n vocabulary.Path v → ⊥) (IsPathAt s n)
 
-abbrev pub IsSubjectsTargetAt : Term → Triple → Target Term → Type 0
-IsSubjectsTargetAt n t x = Says n ShTargetSubjectsOf t × (x ≡ SubjectsOf t.object)
-
-abbrev pub IsTargetAt : Term → Triple → Target Term → Type 0
-IsTargetAt n t x = IsNodeTargetAt n t x ⊎ IsSubjectsTargetAt n t x
-
--- a constraint of the node (SHACL 4.1.3, 4.2)
-abbrev pub IsKindAt : Term → Triple → Constraint Term → Type 0
-IsKindAt n t x = Says n ShNodeKind t × ((kind : Kind) × (t.object ≡ kind_iri kind) × (x ≡ NodeKind kind t.object))
-
-abbrev pub IsMinCountAt : Term → Triple → Constraint Term → Type 0
-IsMinCountAt n t x = Says n ShMinCount t × ((count : ℤ) × (count_of t.object ≡ Some count) × (x ≡ MinCount count t.object))
-
-abbrev pub IsMaxCountAt : Term → Triple → Constraint Term → Type 0
-IsMaxCountAt n t x = Says n ShMaxCount t × ((count : ℤ) × (count_of t.object ≡ Some count) × (x ≡ MaxCount count t.object))
-
-abbrev pub IsConstraintAt : Term → Triple → Constraint Term → Type 0
-IsConstraintAt n t x = IsKindAt n t x ⊎ IsMinCountAt n t x ⊎ IsMaxCountAt n t x
-
--- the place among the nodes of a value of sh:property (SHACL 4.7.2)
-abbrev pub IsPropertyAt : List Term → Term → Triple → ℕ → Type 0
-IsPropertyAt nodes n t k = Says n ShProperty t × (slice_get nodes k ≡ Some t.object)
-
--- a node that the triple makes a shape, or takes as one (SHACL 2.1)
-abbrev pub IsMadeAt : Triple → Term → Type 0
-IsMadeAt t n = IsPropertyOf MakesShape t.predicate × (n ≡ t.subject)
-
-abbrev pub IsTakenAt : Triple → Term → Type 0
-IsTakenAt t n = IsPropertyOf TakesShape t.predicate × (n ≡ t.object)
-
-abbrev pub IsShapeAt : Triple → Term → Type 0
-IsShapeAt t n = IsMadeAt t n ⊎ IsTakenAt t n
-
--- the shape's parts are those that the graph says of its node
+-- the shape's parts are what the triples say of its node, where shapes are named by their places among the nodes
 pub record IsCompiled (s : List Triple) (nodes : List Term) (c : ReadShape) : Type 0 where
-  pub path : MatchOption c.path (IsNodeShape s c.node) (IsPathAt s c.node)
-  pub targets : (x : Target Term) → Contains c.targets x ↔ IsSaid (IsTargetAt c.node) s x
-  pub constraints : (x : Constraint Term) → Contains c.constraints x ↔ IsSaid (IsConstraintAt c.node) s x
-  pub properties : (k : ℕ) → Contains c.properties k ↔ IsSaid (IsPropertyAt nodes c.node) s k
+  pub path : IsOptionalPath s c.node c.path
+  pub is_deactivated : IsTrue c.is_deactivated ↔ HasProperty s c.node vocabulary.Deactivated true_literal
+  pub severity : IsValue s c.node vocabulary.Severity c.severity
+  pub messages : IsListing term_cmp (HasProperty s c.node vocabulary.Message) c.messages
+  pub targets : (x : Target Term) → Contains c.targets x ↔ IsTarget s nodes c.node x
+  pub constraints : (x : Constraint Term) → Contains c.constraints x ↔ SomeValue s c.node (λ p v. SaysConstraint s nodes p v x)
+  pub pattern : IsValue s c.node vocabulary.Pattern c.pattern
+  pub flags : IsValue s c.node vocabulary.Flags c.flags
+  pub properties : (k : ℕ) → Contains c.properties k ↔ HasPlace s nodes c.node vocabulary.Property k
+  pub qualified : (k : ℕ) → (c.qualified ≡ Some k) ↔ HasPlace s nodes c.node vocabulary.QualifiedValueShape k
+  pub siblings : (k : ℕ) → Contains c.siblings k ↔ HasSibling s nodes c.node k
+  pub ignored : (t : Term) → Contains c.ignored t ↔ IsIgnored s c.node t
+
+-- the text of its flags, and none where it has no flags (SHACL 4.4.3)
+abbrev pub IsFlagsText : List Triple → Term → List ℕ → Type 0
+IsFlagsText s n text =
+    ((q : Term) × HasProperty s n vocabulary.Flags q × (string_value q ≡ Some text))
+    ⊎ (((q : Term) → HasProperty s n vocabulary.Flags q → ⊥) × (text ≡ []))
+
+-- each value of the property has a text
+abbrev pub HasTexts : List Triple → Term → ShapeProperty → Type 0
+HasTexts s n p = (v : Term) → HasProperty s n p v → string_value v ≡ None → ⊥
+
+-- its pattern, built under its flags
+abbrev pub IsPatternAt : List Triple → Term → Pattern Term → Type 0
+IsPatternAt s n p =
+    HasProperty s n vocabulary.Pattern p.parameter
+    × ((text : List ℕ) × IsFlagsText s n text × IsPatternOf p.parameter text (arc_value p.regex))
+
+abbrev pub IsOptionalPattern : List Triple → Term → Option (Pattern Term) → Type 0
+IsOptionalPattern s n found = MatchOption found ((v : Term) → HasProperty s n vocabulary.Pattern v → ⊥) (IsPatternAt s n)
+
+-- its pattern joined those that were refused, with its flags
+abbrev pub IsRefused : List Triple → Term → List Refusal → List Refusal → Type 0
+IsRefused s n old new =
+    (v : Term) × (pattern : List ℕ) × (flags : List ℕ) × HasProperty s n vocabulary.Pattern v × (string_value v ≡ Some pattern)
+    × IsFlagsText s n flags × (new ≡ old ++ (pattern, flags) ∷ [])
+
+-- why no pattern was made: it was refused, or memory ran out
+abbrev pub IsMakeFault : List Triple → Term → MakeFault → List Refusal → List Refusal → Type 0
+IsMakeFault s n make.Refused old new = IsRefused s n old new
+IsMakeFault s n make.Memory old new = new ≡ old
+
+-- the parts of the node but for its path and its pattern, with the node
+pub record ArePartsOf (s : List Triple) (nodes : List Term) (n own : Term) (targets : List (Target Term)) (constraints : List (Constraint Term)) (properties siblings : List ℕ) (severity flags : Option Term) (messages ignored : List Term) : Type 0 where
+  pub node : own ≡ n
+  pub targets_said : (x : Target Term) → Contains targets x ↔ IsTarget s nodes n x
+  pub constraints_said : (x : Constraint Term) → Contains constraints x ↔ SomeValue s n (λ p v. SaysConstraint s nodes p v x)
+  pub properties_said : (k : ℕ) → Contains properties k ↔ HasPlace s nodes n vocabulary.Property k
+  pub siblings_said : (k : ℕ) → Contains siblings k ↔ HasSibling s nodes n k
+  pub severity_said : IsValue s n vocabulary.Severity severity
+  pub flags_said : IsValue s n vocabulary.Flags flags
+  pub messages_said : IsListing term_cmp (HasProperty s n vocabulary.Message) messages
+  pub ignored_said : (t : Term) → Contains ignored t ↔ IsIgnored s n t
+
+-- the compiled shape of the node
+pub record IsShapeOf (s : List Triple) (nodes : List Term) (n : Term) (shape : Shape Term) : Type 0 where
+  pub node : shape.node ≡ n
+  pub compiled : IsCompiled s nodes (read_shape (λ t. t) shape)
+  pub built : IsBuilt (λ t. t) shape
+  pub named : HoldsOfShape (StandsIn s) (length nodes) shape
+
+-- the first of the nodes have these compiled shapes, in turn
+pub record AreShapes (s : List Triple) (nodes : List Term) (first : List Term) (shapes : List (Shape Term)) : Type 0 where
+  pub at : map (λ (c : ReadShape). c.node) (read_shapes shapes) ≡ first
+  pub compiled : (c : ReadShape) → Contains (read_shapes shapes) c → IsCompiled s nodes c
+  pub built : AreBuilt (λ t. t) shapes
+  pub named : All (HoldsOfShape (StandsIn s) (length nodes)) shapes
+
+-- the fault of its pattern
+abbrev pub IsPatternFault : Term → MakeFault → CompileFault → Type 0
+IsPatternFault n make.Refused fault = fault ≡ faults.Pattern n
+IsPatternFault n make.Memory fault = fault ≡ faults.Memory

@@ -1,25 +1,25 @@
-//! Reads a shapes graph: whether it is well-formed, what it compiles to, or which broken rule is reported.
+//! The shapes of a shapes graph as they are compiled (SHACL section 2).
 //!
-//! `read_shapes` ensures compiled shapes that stand for the triples of a well-formed graph, or exactly
-//! the least broken rule; `least_broken` answers that alone. Below them, `list` and `instance` decide
-//! what a list's members are and what a node is an instance of, for any graph.
+//! `read_shapes` ensures that the graph is well-formed and the shapes were compiled of it, or says exactly why not: the
+//! least row of its broken rules, or whose pattern was refused. `compile` does so of a graph that is known to be
+//! well-formed. Each part of a shape is read from the triples of its node, which are found by binary search. Shapes are
+//! named by their places in the ascending list of the nodes that are shapes.
 #![tactic(auto)]
 
+mod constraint;
 mod fault;
-mod graph;
-pub mod instance;
-mod kinds;
-mod least;
-pub mod list;
+mod kind;
 mod nodes;
-mod parts;
-mod properties;
+mod part;
+mod path;
+mod pattern;
+mod place;
 mod read;
-mod rules;
 mod shape;
-mod terms;
-mod words;
+mod shapes;
+mod target;
+mod values;
 
-pub use fault::ShapeFault;
-pub use least::least_broken;
+pub use fault::{CompileFault, ShapeFault};
 pub use read::read_shapes;
+pub use shapes::compile;

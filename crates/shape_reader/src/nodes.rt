@@ -1,54 +1,80 @@
-// The nodes of a shapes graph that are shapes, as far as well-formed graphs can make them (SHACL section 2.1).
-ghost use Rattle.std.specs.Prelude.{◌⊎◌, ◌↔◌, IfOk, OnOk};
+//! The nodes that are shapes (SHACL section 2.1).
+ghost use Rattle.std.specs.Prelude.{◌≡◌, ◌⊎◌, ◌↔◌, IfOk, OnOk};
 ghost use Rattle.std.specs.List.{Contains};
 ghost use Rattle.collections.specs.Listings.{IsListing};
-ghost use Rattle.rdf_model.specs.declared.term.Term.{Term};
-ghost use Rattle.rdf_model.specs.Terms.{term_cmp};
-ghost use Rattle.shape_reader.specs.Parts.{IsMadeAt, IsSaid, IsShapeAt, IsTakenAt};
-ghost use Rattle.shape_reader.specs.Shapes.{IsMadeShape, IsTakenShape};
+ghost use Rattle.collections.specs.Ordered.{IsAscending};
+ghost use Rattle.rdf_model.specs.declared.term.Term.{Term as TermData};
+ghost use Rattle.rdf_model.specs.Terms.{term_cmp, triple_cmp};
+ghost use Rattle.shape_model.specs.ShapeSyntax.{IsShape};
+ghost use Rattle.shape_rules.specs.Syntax.{IsTaken};
+ghost use Rattle.shape_syntax.specs.Gathering.{HasGathered};
+ghost use Rattle.shape_reader.specs.Parts.{IsShapeAt};
 
-use crate::properties::{makes_shape, takes_shape};
 use collections::{Sequence, sorted_once};
 use rdf_model::{Term, Triple};
+use shape_rules::shapes::{is_shape, taken_shapes};
+use shape_syntax::instance::classes_of;
+use shape_syntax::lookup::triples_of;
+use shape_syntax::subjects::subjects;
 use std::alloc::{AllocError, Global};
 
-fn push_made(triple: &Triple, nodes: &mut Sequence<Term>) -> Result<(), AllocError>
-    ensures { OnOk result ((n : Term) → Contains nodes.new n ↔ (Contains nodes.old n ⊎ IsMadeAt triple.now n)) }
+// Adds the node, if it is a shape.
+fn push_shape(
+    alloc: Global,
+    graph: &[Triple],
+    taken: &[Term],
+    node: &Term,
+    nodes: &mut Sequence<Term>,
+) -> Result<(), AllocError>
+    requires graph { IsAscending triple_cmp graph.now }
+    requires taken { IsListing term_cmp (IsTaken graph.now) taken.now }
+    ensures { OnOk result ((n : TermData) → Contains nodes.new n ↔ (Contains nodes.old n ⊎ IsShapeAt graph.now node.now n)) }
 {
-    if makes_shape(&triple.predicate) {
-        let node = triple.subject.clone()?;
-        nodes.push(node)?;
+    let classes = classes_of(alloc, graph, node)?;
+    let own = triples_of(graph, node);
+    if is_shape(graph, taken, classes.as_slice(), own, node) {
+        nodes.push(node.clone()?)?;
+        return Ok(());
     }
     Ok(())
 }
 
-fn push_taken(triple: &Triple, nodes: &mut Sequence<Term>) -> Result<(), AllocError>
-    ensures { OnOk result ((n : Term) → Contains nodes.new n ↔ (Contains nodes.old n ⊎ IsTakenAt triple.now n)) }
+// Adds those of the nodes that are shapes.
+fn push_shapes(
+    alloc: Global,
+    graph: &[Triple],
+    taken: &[Term],
+    found: &[Term],
+    nodes: &mut Sequence<Term>,
+) -> Result<(), AllocError>
+    requires graph { IsAscending triple_cmp graph.now }
+    requires taken { IsListing term_cmp (IsTaken graph.now) taken.now }
+    ensures { OnOk result (HasGathered (IsShapeAt graph.now) found.now nodes.old nodes.new) }
 {
-    if takes_shape(&triple.predicate) {
-        let node = triple.object.clone()?;
-        nodes.push(node)?;
+    for node in found {
+        push_shape(alloc, graph, taken, node, nodes)?;
     }
     Ok(())
 }
 
-// Each node that a triple makes or takes as a shape, some of them more than once.
-fn found_nodes(alloc: Global, shapes: &[Triple]) -> Result<Sequence<Term>, AllocError>
-    ensures { IfOk result (λ nodes. (n : Term) → Contains nodes n ↔ IsSaid IsShapeAt shapes.now n) }
+// The nodes that are shapes, some of them more than once.
+fn found_nodes(alloc: Global, graph: &[Triple]) -> Result<Sequence<Term>, AllocError>
+    requires { IsAscending triple_cmp graph.now }
+    ensures { IfOk result (λ nodes. (n : TermData) → Contains nodes n ↔ IsShape graph.now n) }
 {
-    let mut nodes = Sequence::new(alloc);
-    for triple in shapes {
-        push_made(triple, &mut nodes)?;
-        push_taken(triple, &mut nodes)?;
-    }
+    let taken = taken_shapes(alloc, graph)?;
+    let found = subjects(alloc, graph)?;
+    let mut nodes = Sequence::copied_from(alloc, taken.as_slice())?;
+    push_shapes(alloc, graph, taken.as_slice(), found.as_slice(), &mut nodes)?;
     Ok(nodes)
 }
 
-// The subjects that their properties make shapes, and the values that are taken as shapes, in order.
-pub(crate) fn shape_nodes(alloc: Global, shapes: &[Triple]) -> Result<Vec<Term>, AllocError>
-    ensures { IfOk result (λ nodes. IsListing term_cmp (λ n. IsMadeShape shapes.now n ⊎ IsTakenShape shapes.now n) nodes.items) }
+/// The nodes of the graph that are shapes, in order.
+pub(crate) fn shape_nodes(alloc: Global, graph: &[Triple]) -> Result<Vec<Term>, AllocError>
+    requires { IsAscending triple_cmp graph.now }
+    ensures { IfOk result (λ nodes. IsListing term_cmp (IsShape graph.now) nodes.items) }
 {
-    let found = found_nodes(alloc, shapes)?;
+    let found = found_nodes(alloc, graph)?;
     let nodes = sorted_once(found.into_vec())?;
     Ok(nodes)
 }

@@ -1,129 +1,231 @@
-// Which nodes of a shapes graph are shapes (SHACL section 2.1).
-ghost use Rattle.std.specs.Prelude.{◌≡◌, ◌↔◌, IsTrue, IfOk};
-ghost use Rattle.rdf_model.specs.declared.term.Term.{Term};
-ghost use Rattle.shape_model.specs.Triples.{IsMember};
-ghost use Rattle.shape_model.specs.Vocabulary.{sh};
-ghost use Rattle.shape_model.specs.ShapeSyntax.{IsShape, MakesShape, TakesShape, TakesShapes};
-ghost use Rattle.shape_reader.specs.Shapes.{IsListed, IsListedShape, IsMadeShape, IsPropertyOf, IsTakenShape, IsTypedShape};
+//! One shape, compiled (SHACL section 2).
+ghost use Rattle.std.specs.Prelude.{◌≡◌, ◌↔◌, ℕ, IfOk, MatchResult};
+ghost use Rattle.std.specs.List.{Contains};
+ghost use Rattle.collections.specs.Listings.{IsListing};
+ghost use Rattle.collections.specs.Ordered.{IsAscending};
+ghost use Rattle.rdf_model.specs.declared.term.Term.{Term as TermData};
+ghost use Rattle.rdf_model.specs.Terms.{term_cmp, triple_cmp};
+ghost use Rattle.shape_references.specs.Siblings.{IsTurned};
+ghost use Rattle.shape_rules.specs.declared.property.ShapeProperty.TheVariants as properties;
+ghost use Rattle.shape_rules.specs.Broken.{IsWellFormed};
+ghost use Rattle.shape_rules.specs.Syntax.{HasProperty, IsShape, SomeValue};
+ghost use Rattle.shape_syntax.specs.PathNodes.{ArePathNodes};
+ghost use Rattle.shape_ast.specs.declared.constraint.Constraint.{Constraint as ConstraintData};
+ghost use Rattle.shape_ast.specs.declared.target.Target.{Target as TargetData};
+ghost use Rattle.shape_ast.specs.Readings.{read_optional_path};
+ghost use Rattle.shape_reader.specs.Faults.{IsCompileCause};
+ghost use Rattle.shape_reader.specs.Parts.{ArePartsOf, HasOne, HasPlace, HasSibling, HasTexts, IsIgnored, IsOptionalPath, IsOptionalPattern, IsPatternFault, IsShapeOf, IsTarget, IsValue, SaysConstraint};
 
-use crate::graph::is_member;
-use crate::instance::classes_of;
-use crate::list::list_members;
-use crate::properties::{makes_shape, takes_shape, takes_shapes};
-use crate::terms::is_same;
-use crate::words::is_word;
+use crate::CompileFault;
+use crate::part::parts_of;
+use crate::path::path_of;
+use crate::pattern::pattern_of;
+use crate::target::targets_of;
+use crate::values::{
+    copied_value, ignored_of, is_deactivated, messages_of, properties_of, qualified_of, siblings_of,
+};
+use collections::{Sequence, both};
+use compiled_paths::Path;
+use outside::{MakeFault, Maker};
 use rdf_model::{Term, Triple};
+use shape_ast::{Constraint, Pattern, Shape, Target};
+use shape_rules::ShapeProperty;
 use std::alloc::{AllocError, Global};
+use std::collections::BTreeSet;
 
-// Whether the triple makes the node a shape as its subject.
-fn makes_node(triple: &Triple, node: &Term) -> bool
-    ensures { IsTrue result ↔ ((triple.now.subject ≡ node.now) × IsPropertyOf MakesShape triple.now.predicate) }
-{
-    is_same(&triple.subject, node) && makes_shape(&triple.predicate)
-}
+// The targets and the constraints; the property shapes and the siblings.
+type Lists = (
+    (Sequence<Target<Term>>, Sequence<Constraint<Term>>),
+    (Sequence<usize>, Sequence<usize>),
+);
 
-fn is_made_shape(shapes: &[Triple], node: &Term) -> bool
-    ensures { IsTrue result ↔ IsMadeShape shapes.now node.now }
-{
-    for triple in shapes {
-        if makes_node(triple, node) {
-            return true;
-        }
-    }
-    false
-}
+// The severity and the flags; the messages and the ignored terms.
+type Words = (
+    (Option<Term>, Option<Term>),
+    (Sequence<Term>, Sequence<Term>),
+);
 
-// Whether the triple takes the node as a shape.
-fn takes_node(triple: &Triple, node: &Term) -> bool
-    ensures { IsTrue result ↔ ((triple.now.object ≡ node.now) × IsPropertyOf TakesShape triple.now.predicate) }
-{
-    is_same(&triple.object, node) && takes_shape(&triple.predicate)
-}
-
-fn is_taken_shape(shapes: &[Triple], node: &Term) -> bool
-    ensures { IsTrue result ↔ IsTakenShape shapes.now node.now }
-{
-    for triple in shapes {
-        if takes_node(triple, node) {
-            return true;
-        }
-    }
-    false
-}
-
-// Whether the node is a member of the list at the head.
-fn is_listed(alloc: Global, shapes: &[Triple], head: &Term, node: &Term) -> Result<bool, AllocError>
-    ensures { IfOk result (λ found. IsTrue found ↔ IsListed shapes.now head.now node.now) }
-{
-    match list_members(alloc, shapes, head)? {
-        Some(members) => Ok(is_member(members.as_slice(), node)),
-        None => Ok(false),
-    }
-}
-
-// Whether the triple takes a list that has the node as a member.
-fn lists_node(
+fn lists_of(
     alloc: Global,
-    shapes: &[Triple],
-    triple: &Triple,
+    graph: &[Triple],
+    turned: &[Triple],
+    nodes: &[Term],
     node: &Term,
-) -> Result<bool, AllocError>
-    ensures { IfOk result (λ found. IsTrue found ↔ (IsPropertyOf TakesShapes triple.now.predicate × IsListed shapes.now triple.now.object node.now)) }
+) -> Result<Lists, AllocError>
+    requires graph { IsAscending triple_cmp graph.now }
+    requires turned { IsListing triple_cmp (IsTurned graph.now) turned.now }
+    requires nodes { IsAscending term_cmp nodes.now }
+    ensures targets { IfOk result (λ lists. (x : TargetData TermData) → Contains lists.0.0 x ↔ IsTarget graph.now nodes.now node.now x) }
+    ensures constraints { IfOk result (λ lists. (x : ConstraintData TermData) → Contains lists.0.1 x
+        ↔ SomeValue graph.now node.now (λ p v. SaysConstraint graph.now nodes.now p v x)) }
+    ensures properties { IfOk result (λ lists. (k : ℕ) → Contains lists.1.0 k ↔ HasPlace graph.now nodes.now node.now properties.Property k) }
+    ensures siblings { IfOk result (λ lists. (k : ℕ) → Contains lists.1.1 k ↔ HasSibling graph.now nodes.now node.now k) }
 {
-    if takes_shapes(&triple.predicate) {
-        is_listed(alloc, shapes, &triple.object, node)
-    } else {
-        Ok(false)
+    let parts = both(
+        targets_of(alloc, graph, nodes, node),
+        parts_of(alloc, graph, nodes, node),
+    );
+    let places = both(
+        properties_of(alloc, graph, nodes, node),
+        siblings_of(alloc, graph, turned, nodes, node),
+    );
+    both(parts, places)
+}
+
+fn words_of(alloc: Global, graph: &[Triple], node: &Term) -> Result<Words, AllocError>
+    requires graph { IsAscending triple_cmp graph.now }
+    requires one { HasOne graph.now node.now properties.IgnoredProperties }
+    ensures severity { IfOk result (λ words. IsValue graph.now node.now properties.Severity words.0.0) }
+    ensures flags { IfOk result (λ words. IsValue graph.now node.now properties.Flags words.0.1) }
+    ensures messages { IfOk result (λ words. IsListing term_cmp (HasProperty graph.now node.now properties.Message) words.1.0) }
+    ensures ignored { IfOk result (λ words. (t : TermData) → Contains words.1.1 t ↔ IsIgnored graph.now node.now t) }
+{
+    let singles = both(
+        copied_value(graph, node, ShapeProperty::Severity),
+        copied_value(graph, node, ShapeProperty::Flags),
+    );
+    let lists = both(
+        messages_of(alloc, graph, node),
+        ignored_of(alloc, graph, node),
+    );
+    both(singles, lists)
+}
+
+// The fault of the shape at the node whose pattern was not built.
+fn pattern_fault(node: Term, fault: MakeFault) -> CompileFault
+    ensures { IsPatternFault node fault result }
+{
+    match fault {
+        MakeFault::Refused => CompileFault::Pattern { node },
+        MakeFault::Memory => CompileFault::Memory,
     }
 }
 
-fn is_listed_shape(alloc: Global, shapes: &[Triple], node: &Term) -> Result<bool, AllocError>
-    ensures { IfOk result (λ found. IsTrue found ↔ IsListedShape shapes.now node.now) }
+// The node of the fault is made first, so that a refusal is always told.
+fn pattern_at<M: Maker>(
+    alloc: Global,
+    maker: &mut M,
+    graph: &[Triple],
+    node: &Term,
+) -> Result<Option<Pattern<Term>>, CompileFault>
+    requires graph { IsAscending triple_cmp graph.now }
+    requires patterns { HasTexts graph.now node.now properties.Pattern }
+    requires flags { HasTexts graph.now node.now properties.Flags }
+    ensures { MatchResult result (λ found. IsOptionalPattern graph.now node.now found × (M.refused maker.new ≡ M.refused maker.old))
+        (λ fault. IsCompileCause graph.now fault (M.refused maker.old) (M.refused maker.new)) }
 {
-    for triple in shapes {
-        let found = lists_node(alloc, shapes, triple, node)?;
-        if found {
-            return Ok(true);
-        }
+    let own = node.clone()?;
+    match pattern_of(alloc, maker, graph, node) {
+        Ok(found) => Ok(found),
+        Err(fault) => Err(pattern_fault(own, fault)),
     }
-    Ok(false)
 }
 
-// Whether the word of SHACL with this local name is among the terms.
-fn has_word(terms: &[Term], name: &str) -> bool
-    ensures { IsTrue result ↔ IsMember terms.now (sh name.now) }
+// The path and the pattern.
+fn made_of<M: Maker>(
+    alloc: Global,
+    maker: &mut M,
+    graph: &[Triple],
+    paths: &BTreeSet<Term>,
+    node: &Term,
+) -> Result<(Option<Path<Term>>, Option<Pattern<Term>>), CompileFault>
+    requires graph { IsAscending triple_cmp graph.now }
+    requires well_formed { IsWellFormed graph.now }
+    requires paths { ArePathNodes graph.now paths.now.keys }
+    requires shape { IsShape graph.now node.now }
+    requires patterns { HasTexts graph.now node.now properties.Pattern }
+    requires flags { HasTexts graph.now node.now properties.Flags }
+    ensures { MatchResult result
+        (λ made. IsOptionalPath graph.now node.now (read_optional_path (λ t. t) made.0) × (IsOptionalPattern graph.now node.now made.1 × (M.refused maker.new ≡ M.refused maker.old)))
+        (λ fault. IsCompileCause graph.now fault (M.refused maker.old) (M.refused maker.new)) }
 {
-    for term in terms {
-        if is_word(term, name) {
-            return true;
-        }
-    }
-    false
+    let path = path_of(alloc, graph, paths, node)?;
+    let pattern = pattern_at(alloc, maker, graph, node)?;
+    Ok((path, pattern))
 }
 
-fn is_typed_shape(alloc: Global, shapes: &[Triple], node: &Term) -> Result<bool, AllocError>
-    ensures { IfOk result (λ found. IsTrue found ↔ IsTypedShape shapes.now node.now) }
+// What is made of the node's triples but for the path and the pattern, with a copy of the node.
+type Parts = ((Term, Lists), Words);
+
+fn parts_at(
+    alloc: Global,
+    graph: &[Triple],
+    turned: &[Triple],
+    nodes: &[Term],
+    node: &Term,
+) -> Result<Parts, AllocError>
+    requires graph { IsAscending triple_cmp graph.now }
+    requires turned { IsListing triple_cmp (IsTurned graph.now) turned.now }
+    requires nodes { IsAscending term_cmp nodes.now }
+    requires one { HasOne graph.now node.now properties.IgnoredProperties }
+    ensures { IfOk result (λ parts. ArePartsOf graph.now nodes.now node.now parts.0.0 parts.0.1.0.0 parts.0.1.0.1
+        parts.0.1.1.0 parts.0.1.1.1 parts.1.0.0 parts.1.0.1 parts.1.1.0 parts.1.1.1) }
 {
-    let classes = classes_of(alloc, shapes, node)?;
-    if has_word(classes.as_slice(), "NodeShape") {
-        return Ok(true);
-    }
-    Ok(has_word(classes.as_slice(), "PropertyShape"))
+    let lists = lists_of(alloc, graph, turned, nodes, node);
+    let words = words_of(alloc, graph, node);
+    both(both(node.clone(), lists), words)
 }
 
-/// Whether the node is a shape (SHACL section 2.1).
-pub(crate) fn is_shape(alloc: Global, shapes: &[Triple], node: &Term) -> Result<bool, AllocError>
-    ensures { IfOk result (λ found. IsTrue found ↔ IsShape shapes.now node.now) }
+// The shape of its parts.
+fn assembled(
+    graph: &[Triple],
+    nodes: &[Term],
+    node: &Term,
+    path: Option<Path<Term>>,
+    pattern: Option<Pattern<Term>>,
+    parts: Parts,
+) -> Shape<Term>
+    requires graph { IsAscending triple_cmp graph.now }
+    requires well_formed { IsWellFormed graph.now }
+    requires nodes { IsAscending term_cmp nodes.now }
+    requires shape { IsShape graph.now node.now }
+    requires path { IsOptionalPath graph.now node.now (read_optional_path (λ t. t) path) }
+    requires pattern { IsOptionalPattern graph.now node.now pattern }
+    requires parts { ArePartsOf graph.now nodes.now node.now parts.0.0 parts.0.1.0.0 parts.0.1.0.1
+        parts.0.1.1.0 parts.0.1.1.1 parts.1.0.0 parts.1.0.1 parts.1.1.0 parts.1.1.1 }
+    ensures { IsShapeOf graph.now nodes.now node.now result }
 {
-    if is_made_shape(shapes, node) {
-        return Ok(true);
+    let ((own, lists), words) = parts;
+    let ((targets, constraints), (properties, siblings)) = lists;
+    let ((severity, flags), (messages, ignored)) = words;
+    Shape {
+        node: own,
+        path,
+        is_deactivated: is_deactivated(graph, node),
+        severity,
+        messages,
+        targets,
+        constraints,
+        pattern,
+        flags,
+        properties,
+        qualified: qualified_of(graph, nodes, node),
+        siblings,
+        ignored,
     }
-    if is_taken_shape(shapes, node) {
-        return Ok(true);
-    }
-    let listed = is_listed_shape(alloc, shapes, node)?;
-    if listed {
-        return Ok(true);
-    }
-    is_typed_shape(alloc, shapes, node)
+}
+
+/// The shape at the node. The graph's `path_nodes` and `turned_properties` are given, and the nodes that are shapes.
+pub(crate) fn compile_shape<M: Maker>(
+    alloc: Global,
+    maker: &mut M,
+    graph: &[Triple],
+    paths: &BTreeSet<Term>,
+    turned: &[Triple],
+    nodes: &[Term],
+    node: &Term,
+) -> Result<Shape<Term>, CompileFault>
+    requires graph { IsAscending triple_cmp graph.now }
+    requires well_formed { IsWellFormed graph.now }
+    requires paths { ArePathNodes graph.now paths.now.keys }
+    requires turned { IsListing triple_cmp (IsTurned graph.now) turned.now }
+    requires nodes { IsAscending term_cmp nodes.now }
+    requires shape { IsShape graph.now node.now }
+    ensures { MatchResult result
+        (λ shape. IsShapeOf graph.now nodes.now node.now shape × (M.refused maker.new ≡ M.refused maker.old))
+        (λ fault. IsCompileCause graph.now fault (M.refused maker.old) (M.refused maker.new)) }
+{
+    let (path, pattern) = made_of(alloc, maker, graph, paths, node)?;
+    let parts = parts_at(alloc, graph, turned, nodes, node)?;
+    Ok(assembled(graph, nodes, node, path, pattern, parts))
 }

@@ -1,4 +1,5 @@
 pub mod Asked
+pub mod LeastChain
 pub mod LeastLoop
 pub mod RankedNodes
 pub mod SiblingValues

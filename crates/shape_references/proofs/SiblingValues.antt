@@ -9,7 +9,7 @@ use Rattle.rdf_model.specs.Terms.{triple_cmp}
 use Rattle.shape_model.specs.Vocabulary.{ShapeProperty, ShProperty, property_iri}
 use Rattle.shape_model.specs.ShapeSyntax.{HasProperty}
 use Rattle.shape_model.specs.Readings.{Sibling}
-use Rattle.shape_reader.proofs.Values.{value_of}
+use Rattle.shape_syntax.proofs.Values.{value_of}
 use Rattle.shape_syntax.specs.Gathering.{Gives}
 use Rattle.shape_references.specs.Siblings.{AreValues, IsBeside, IsTurned, IsTurnOf, IsUnder, MayHaveSiblings}
 

@@ -1,5 +1,6 @@
 -- Chains of references, from node to node.
-use Rattle.std.specs.Prelude.{◌≢◌, List, [], ◌∷◌}
+use Rattle.std.specs.Prelude.{◌≢◌, ◌↔◌, ℕ, zero, suc, List, [], ◌∷◌}
+use Rattle.std.specs.List.{Contains}
 use Rattle.std.specs.declared.cmp.Ordering.TheVariants.{Greater}
 use Rattle.rdf_model.specs.declared.term.Term.{Term}
 use Rattle.rdf_model.specs.declared.triple.Triple.{Triple}
@@ -19,6 +20,11 @@ LeadsTo R a b = (ms : List Term) × Chain R a ms b
 abbrev pub IsOnLoop : (Term → Term → Type 0) → Term → Type 0
 IsOnLoop R n = LeadsTo R n n
 
+-- a chain of so many references leads from the node
+abbrev pub HasChain : (Term → Term → Type 0) → ℕ → Term → Type 0
+HasChain R zero a = Unit {0}
+HasChain R (suc n) a = (b : Term) × R a b × HasChain R n b
+
 -- In a graph whose triples are references: the subject of a triple refers to its object.
 abbrev pub IsJoined : List Triple → Term → Term → Type 0
 IsJoined g a b = (p : Term) × Has g a p b
@@ -29,3 +35,11 @@ HasLoopAt g n = IsOnLoop (IsJoined g) n
 -- the first of the nodes from which a chain leads to themselves
 abbrev pub IsLeastOnLoop : List Triple → Term → Type 0
 IsLeastOnLoop g n = HasLoopAt g n × ((m : Term) → HasLoopAt g m → term_cmp n m ≢ Greater)
+
+-- the nodes from which a chain of so many references leads
+abbrev pub AreWithChain : List Triple → ℕ → List Term → Type 0
+AreWithChain g n nodes = (a : Term) → Contains nodes a ↔ HasChain (IsJoined g) n a
+
+-- the first of them
+abbrev pub IsLeastWithChain : List Triple → ℕ → Term → Type 0
+IsLeastWithChain g n a = HasChain (IsJoined g) n a × ((m : Term) → HasChain (IsJoined g) n m → term_cmp a m ≢ Greater)

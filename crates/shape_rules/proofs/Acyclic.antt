@@ -10,7 +10,7 @@ use Rattle.shape_rules.specs.Laws.{AcyclicLaw}
 use Rattle.shape_rules.specs.References.{Refers}
 use Rattle.shape_rules.specs.Rows.{row}
 
-refers : (s : List Triple) (a t : Term) → read.Refers (reading s a) t → Refers s a t
+pub refers : (s : List Triple) (a t : Term) → read.Refers (reading s a) t → Refers s a t
 refers s a t = elim [
   | inl h ↦ inl (properties.Not, t, h, refl)
   | inr (inl h) ↦ inl (properties.Node, t, h, refl)
@@ -27,4 +27,4 @@ chain s a [] b h = refers s a b h.0
 chain s a (m ∷ ms) b h = (refers s a m h.0, chain s m ms b h.1)
 
 pub acyclic : AcyclicLaw
-acyclic s well a ms h = well (row a 38 None) (inr ((ms, chain s a ms a h), refl))
+acyclic s well a ms h = well (row a 38 None) (inl (inr ((ms, chain s a ms a h), refl)))

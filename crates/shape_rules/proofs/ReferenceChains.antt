@@ -1,5 +1,5 @@
 -- Chains of references by the triples that are references.
-use Rattle.std.proofs.Common.{List, [], ◌∷◌, Option, Some, None, refl, sym, subst, inl, inr}
+use Rattle.std.proofs.Common.{ℕ, zero, suc, List, [], ◌∷◌, Option, Some, None, refl, sym, subst, inl, inr}
 use Rattle.std.specs.Prelude.{◌↔◌, MatchOption}
 use Rattle.std.specs.List.{Contains}
 use Rattle.collections.specs.Listings.{IsListing}
@@ -7,12 +7,12 @@ use Rattle.rdf_model.specs.declared.term.Term.{Term}
 use Rattle.rdf_model.specs.declared.triple.Triple.{Triple}
 use Rattle.rdf_model.specs.Terms.{triple_cmp}
 use Rattle.shape_model.specs.Vocabulary.{true_literal}
-use Rattle.shape_reader.proofs.Values.{value_of}
+use Rattle.shape_syntax.proofs.Values.{value_of}
 use Rattle.shape_syntax.specs.Gathering.{Gives}
-use Rattle.shape_references.specs.Chains.{Chain, HasLoopAt, IsJoined, IsLeastOnLoop}
+use Rattle.shape_references.specs.Chains.{Chain, HasChain, HasLoopAt, IsJoined, IsLeastOnLoop, IsLeastWithChain}
 use Rattle.shape_rules.specs.declared.property.ShapeProperty.TheVariants as properties
 use Rattle.shape_rules.specs.Properties.{property_iri}
-use Rattle.shape_rules.specs.References.{AreReferences, IsLeastRecursive, IsRecursive, Refers}
+use Rattle.shape_rules.specs.References.{AreReferences, HasLongChain, IsLeastRecursive, IsLeastWithLongChain, IsRecursive, Refers, chain_limit}
 use Rattle.shape_rules.specs.Steps.{IsReferenceBy, IsReferredBy}
 
 referred : (s : List Triple) (t : Triple) (n : Term) → Contains s t → IsReferredBy s t n → Refers s t.subject n
@@ -62,3 +62,18 @@ pub found_as : (s references : List Triple) → AreReferences s references → (
     → MatchOption found ((n : Term) → IsRecursive s n → ⊥) (λ n. IsLeastRecursive s n)
 found_as s references are None h = λ n k. h n ((loop_as s references are n).1 k)
 found_as s references are (Some n) h = least_as s references are n h
+
+counted_as : (R S : Term → Term → Type 0) → ((a b : Term) → R a b → S a b) → (n : ℕ) (a : Term) → HasChain R n a → HasChain S n a
+counted_as R S f zero a h = tt
+counted_as R S f (suc n) a h = (h.0, f a h.0 h.1, counted_as R S f n h.0 h.2)
+
+pub long_as : (s references : List Triple) → AreReferences s references → (n : Term) → HasChain (IsJoined references) chain_limit n ↔ HasLongChain s n
+long_as s references are n = (
+  counted_as (IsJoined references) (Refers s) (λ a b j. (are.exact a b).0 j) chain_limit n,
+  counted_as (Refers s) (IsJoined references) (λ a b k. (are.exact a b).1 k) chain_limit n,
+)
+
+pub found_long_as : (s references : List Triple) → AreReferences s references → (found : Option Term) → MatchOption found ((n : Term) → HasChain (IsJoined references) chain_limit n → ⊥) (λ n. IsLeastWithChain references chain_limit n)
+    → MatchOption found ((n : Term) → HasLongChain s n → ⊥) (λ n. IsLeastWithLongChain s n)
+found_long_as s references are None h = λ n k. h n ((long_as s references are n).1 k)
+found_long_as s references are (Some n) h = ((long_as s references are n).0 h.0, λ m k. h.1 m ((long_as s references are m).1 k))

@@ -1,11 +1,12 @@
 -- What the rules ask of a term alone.
-use Rattle.std.specs.Prelude.{ℕ, Bool, true, false, ◌&&◌, ◌||◌, List, Some, None, bytes_eq, nat_eq, codes}
+use Rattle.std.specs.Prelude.{◌≡◌, ◌⊎◌, ℕ, Bool, true, false, ◌&&◌, ◌||◌, List, Some, None, bytes_eq, nat_eq, codes}
 use Rattle.std.specs.List.{list_all}
 use Rattle.rdf_model.specs.declared.term.Term.{Term}
 use Rattle.rdf_model.specs.declared.term.Term.TheVariants.{Blank, Iri, Literal}
 use Rattle.literal_order.specs.Values.{lexical}
 use Rattle.literal_order.specs.declared.literal_value.Lexical.{Lexical}
 use Rattle.literal_order.specs.declared.literal_value.Lexical.TheVariants as lexicals
+use Rattle.shape_model.specs.Vocabulary.{sh}
 
 -- the literal stands for a value of its datatype
 abbrev pub is_value : Lexical → Bool
@@ -50,3 +51,13 @@ is_tagged (Blank session number) = false
 is_tagged (Iri text) = false
 is_tagged (Literal text datatype None) = false
 is_tagged (Literal text datatype (Some tag)) = true
+
+-- the six node kinds (SHACL 4.1.3)
+abbrev pub IsNodeKind : Term → Type 0
+IsNodeKind k =
+    (k ≡ sh (codes "BlankNode"))
+    ⊎ (k ≡ sh (codes "IRI"))
+    ⊎ (k ≡ sh (codes "Literal"))
+    ⊎ (k ≡ sh (codes "BlankNodeOrIRI"))
+    ⊎ (k ≡ sh (codes "BlankNodeOrLiteral"))
+    ⊎ (k ≡ sh (codes "IRIOrLiteral"))

@@ -2,9 +2,11 @@
 //!
 //! `least_broken` ensures exactly the least broken rule, or that none is broken. What a property asks of a shape
 //! stands in one table, in `table`; `references` has what shapes refer to. Lists, instances and shapes are found by
-//! binary search in a graph that ascends. Rule 40 isn't asked so far.
+//! binary search in a graph that ascends. How deep shapes and their paths may be (rule 41) is asked where no other rule
+//! is broken. Rules 40 and 42 aren't asked so far.
 #![tactic(auto)]
 
+mod deep;
 pub mod laws;
 mod least;
 mod passes;
@@ -18,6 +20,6 @@ mod terms;
 
 pub use least::least_broken;
 pub use property::{ShapeProperty, property_of};
-pub use referring::{least_recursive, references};
+pub use referring::{least_recursive, least_with_long_chain, references};
 pub use rule_row::RuleRow;
 pub use table::{Demand, Role, Test};

@@ -1,5 +1,6 @@
-//! References between shapes, and the shapes from which they lead to themselves (SHACL section 3.4.3).
-ghost use Rattle.std.specs.Prelude.{◌≡◌, ◌⊎◌, ◌↔◌, IsTrue, IfOk, OnOk, MatchOption};
+//! References between shapes, the shapes from which they lead to themselves (SHACL section 3.4.3), and those from which
+//! too many lead in a row.
+ghost use Rattle.std.specs.Prelude.{◌≡◌, ◌⊎◌, ◌↔◌, ◌<◌, IsTrue, IfOk, OnOk, MatchOption};
 ghost use Rattle.std.specs.List.{Contains};
 ghost use Rattle.collections.specs.Listings.{IsListing};
 ghost use Rattle.collections.specs.Ordered.{IsAscending};
@@ -11,14 +12,14 @@ ghost use Rattle.shape_syntax.specs.Gathering.{Gives, HasGathered};
 ghost use Rattle.shape_references.specs.Siblings.{IsTurned};
 ghost use Rattle.shape_rules.specs.declared.property.ShapeProperty.TheVariants as property_data;
 ghost use Rattle.shape_rules.specs.Properties.{property_iri};
-ghost use Rattle.shape_rules.specs.References.{AreReferences, IsLeastRecursive, IsRecursive};
+ghost use Rattle.shape_rules.specs.References.{AreReferences, HasLongChain, IsLeastRecursive, IsLeastWithLongChain, IsRecursive, chain_limit};
 ghost use Rattle.shape_rules.specs.Steps.{IsReferenceBy, IsReferenceTo, IsReferredBy};
 
 use crate::ShapeProperty;
 use crate::shapes::push_taken;
 use collections::{Sequence, sorted_once};
 use rdf_model::{Term, Triple};
-use shape_references::{least_on_loop, push_siblings, turned_properties};
+use shape_references::{least_on_loop, least_with_chain, push_siblings, turned_properties};
 use shape_syntax::terms::is_named;
 use std::alloc::{AllocError, Global};
 
@@ -140,5 +141,24 @@ pub fn least_recursive(alloc: Global, graph: &[Triple]) -> Result<Option<Term>, 
 {
     let joined = references(alloc, graph)?;
     let found = least_on_loop(alloc, joined.as_slice())?;
+    Ok(found)
+}
+
+// So many references in a row are too many.
+#[tactic(auto, unfolding(crate::specs::References::chain_limit))]
+fn too_many() -> usize
+    ensures limit { result ≡ chain_limit }
+    ensures some { 0 < result }
+{
+    257
+}
+
+/// The least shape from which a chain of more than 256 references leads, if there is one.
+pub fn least_with_long_chain(alloc: Global, graph: &[Triple]) -> Result<Option<Term>, AllocError>
+    requires { IsAscending triple_cmp graph.now }
+    ensures { IfOk result (λ found. MatchOption found ((n : TermData) → HasLongChain graph.now n → ⊥) (λ n. IsLeastWithLongChain graph.now n)) }
+{
+    let joined = references(alloc, graph)?;
+    let found = least_with_chain(alloc, joined.as_slice(), too_many())?;
     Ok(found)
 }

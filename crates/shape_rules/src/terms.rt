@@ -3,7 +3,7 @@ ghost use Rattle.std.specs.Prelude.{◌≡◌, ◌⊎◌, ◌↔◌, IsTrue, Opt
 ghost use Rattle.std.specs.List.{list_all};
 ghost use Rattle.rdf_model.specs.declared.term.Term.TheVariants as data_terms;
 ghost use Rattle.shape_model.specs.Triples.{IsMember};
-ghost use Rattle.shape_model.specs.WellFormed.{IsNodeKind};
+ghost use Rattle.shape_rules.specs.Tests.{IsNodeKind};
 ghost use Rattle.shape_rules.specs.Tests;
 ghost use Rattle.shape_rules.specs.Tests.{xsd_boolean, xsd_integer, xsd_string};
 

@@ -6,7 +6,7 @@ use Rattle.std.proofs.lemmas.List.{length_push, take_all}
 use Rattle.std.proofs.lemmas.List.Elements.{Contains-append_left, Contains-push}
 use Rattle.rdf_model.specs.declared.term.Term.{Term}
 use Rattle.rdf_model.specs.declared.triple.Triple.{Triple}
-use Rattle.shape_reader.proofs.Scans.{cases_more}
+use Rattle.shape_syntax.proofs.Scans.{cases_more}
 use Rattle.shape_syntax.specs.declared.claim.Claim.{Claim}
 use Rattle.shape_syntax.specs.declared.claim.Claim.TheVariants as claims
 use Rattle.shape_syntax.specs.Subjects.{IsSubject}

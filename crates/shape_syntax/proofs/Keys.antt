@@ -9,7 +9,7 @@ use Rattle.collections.proofs.Members.{has_cases, has_equal, has_tail}
 use Rattle.rdf_model.specs.declared.term.Term.{Term}
 use Rattle.rdf_model.specs.Terms.{term_cmp}
 use Rattle.rdf_model.specs.Orders.{term_exact}
-use Rattle.shape_reader.proofs.Equals.{same_term}
+use Rattle.shape_syntax.proofs.Equals.{same_term}
 use Rattle.shape_syntax.specs.PathSteps.{Adds}
 
 pub key_from : (t : Term) (ks : List Term) → list_any (λ k. is_eq (term_cmp t k)) ks ≡ true → Contains ks t

@@ -1,3 +1,10 @@
+pub mod Classes
+pub mod Equals
+pub mod Lists
+pub mod Pigeonholes
+pub mod Items
+pub mod Scans
+pub mod Values
 pub mod Ranges
 pub mod Places
 pub mod Loops

@@ -7,7 +7,7 @@ use Rattle.shape_model.specs.Vocabulary.{sh}
 use Rattle.shape_model.specs.Triples.{IsBlank, IsIri}
 use Rattle.shape_model.specs.Paths.{Path, Predicate, Inverse, Sequence, Alternative, ZeroOrMore, OneOrMore, ZeroOrOne, Paths, Last, Also}
 use Rattle.shape_model.specs.ShapeSyntax.{IsListEnd, HasAlone, PathOf, PathsOf}
-use Rattle.shape_reader.proofs.Lists.{end_no_cell}
+use Rattle.shape_syntax.proofs.Lists.{end_no_cell}
 use Rattle.shape_syntax.specs.declared.way.Turn.{Turn}
 use Rattle.shape_syntax.specs.declared.way.Turn.TheVariants as turns
 use Rattle.shape_syntax.specs.PathSteps.{IsAlone}

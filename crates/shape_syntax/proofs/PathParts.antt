@@ -8,16 +8,16 @@ use Rattle.shape_model.specs.Vocabulary.{sh}
 use Rattle.shape_model.specs.Triples.{IsBlank, IsMember}
 use Rattle.shape_model.specs.ShapeSyntax.{ListOf}
 use Rattle.shape_model.specs.Paths as defined
-use Rattle.shape_ast.specs.declared.path.Path.{Path, Sequence, Alternative}
-use Rattle.shape_ast.specs.PathReadings.{defined_path, members}
-use Rattle.shape_ast.proofs.Rows.{sequence_read, alternative_read}
+use Rattle.compiled_paths.specs.declared.path.Path.{Path, Sequence, Alternative}
+use Rattle.compiled_paths.specs.PathReadings.{defined_path, members}
+use Rattle.compiled_paths.proofs.Rows.{sequence_read, alternative_read}
 use Rattle.shape_syntax.specs.declared.way.Turn.{Turn}
 use Rattle.shape_syntax.specs.PathNodes.{IsPath}
 use Rattle.shape_syntax.specs.PathSteps.{IsAlone}
 use Rattle.shape_syntax.specs.PathDepth.{IsRead, IsDeep}
 use Rattle.shape_syntax.specs.declared.way.Join.TheVariants as joins
 use Rattle.shape_syntax.specs.PathWays.{turn_name, turned, joined, AreDeep, AreRead, AreReadPaths, IsPathList}
-use Rattle.shape_reader.proofs.Lists.{one_list}
+use Rattle.shape_syntax.proofs.Lists.{one_list}
 use Rattle.shape_syntax.proofs.PathWays.{listed_read, offered_read, read_push, path_nodes_of, turned_read, turned_deep, listed_deep, offered_deep}
 
 pub sequence_made : (box : Box (Path Term) Global) (first : Path Term) (others : Vec (Path Term) Global) → box.value ≡ first → defined_path (Sequence box others) ≡ defined.Sequence (members (defined_path first) (map defined_path others.items))

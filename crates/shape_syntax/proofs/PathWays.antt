@@ -8,7 +8,7 @@ use Rattle.shape_model.specs.Vocabulary.{sh, rdf, rdf_first, rdf_rest}
 use Rattle.shape_model.specs.Triples.{IsBlank, IsIri, IsMember}
 use Rattle.shape_model.specs.Paths.{Path, Predicate, Inverse, Sequence, Alternative, ZeroOrMore, OneOrMore, ZeroOrOne, Paths, Last, Also, AreSeveral}
 use Rattle.shape_model.specs.ShapeSyntax.{IsCell, ListOf, HasAlone, PathOf, PathsOf}
-use Rattle.shape_ast.specs.PathReadings.{members}
+use Rattle.compiled_paths.specs.PathReadings.{members}
 use Rattle.shape_syntax.specs.declared.way.Turn.{Turn}
 use Rattle.shape_syntax.specs.declared.way.Turn.TheVariants as turns
 use Rattle.shape_syntax.specs.PathNodes.{IsPath}

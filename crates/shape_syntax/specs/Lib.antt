@@ -1,3 +1,4 @@
+pub mod Scans
 pub mod Gathering
 pub mod Subjects
 pub mod PathNodes

@@ -6,7 +6,7 @@ ghost use Rattle.rdf_model.specs.declared.term.Term.{Term as TermData};
 ghost use Rattle.rdf_model.specs.Terms.{triple_cmp};
 ghost use Rattle.shape_model.specs.Paths.{Path as DefinedPath, Paths as DefinedPaths};
 ghost use Rattle.shape_model.specs.Triples.{IsBlank};
-ghost use Rattle.shape_ast.specs.PathReadings.{defined_path};
+ghost use Rattle.compiled_paths.specs.PathReadings.{defined_path};
 ghost use Rattle.shape_syntax.specs.PathNodes.{ArePathNodes, IsPath};
 ghost use Rattle.shape_syntax.specs.PathDepth.{IsDeep, IsRead, IsTooDeep};
 ghost use Rattle.shape_syntax.specs.PathWays.{AreDeep, AreRead, AreReadPaths, IsPathList, joined, turned};
@@ -16,8 +16,8 @@ use crate::paths::is_path;
 use crate::steps::only_triple;
 use crate::terms::is_iri;
 use crate::way::{Join, Turn, joined_path, turn_of, turned_path};
+use compiled_paths::Path;
 use rdf_model::{Term, Triple};
-use shape_ast::Path;
 use std::alloc::{AllocError, Global};
 use std::collections::BTreeSet;
 

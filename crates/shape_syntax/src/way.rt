@@ -1,13 +1,13 @@
 ghost use Rattle.std.specs.Prelude.{◌≡◌, IfOk, MatchOption, map};
 ghost use Rattle.rdf_model.specs.declared.term.Term.{Term as TermData};
 ghost use Rattle.shape_model.specs.Vocabulary.{sh};
-ghost use Rattle.shape_ast.specs.PathReadings.{defined_path, members};
+ghost use Rattle.compiled_paths.specs.PathReadings.{defined_path, members};
 ghost use Rattle.shape_syntax.specs.declared.way.Turn.{Turn as TurnData};
 ghost use Rattle.shape_syntax.specs.PathWays.{joined, turn_name, turned};
 
 use crate::terms::is_named;
+use compiled_paths::Path;
 use rdf_model::Term;
-use shape_ast::Path;
 use std::alloc::{AllocError, Global};
 
 /// What a property of SHACL makes of the path that is its value.

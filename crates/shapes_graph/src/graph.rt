@@ -1,7 +1,6 @@
 ghost use Rattle.std.specs.Prelude.{◌≡◌, [], IfOk};
-ghost use Rattle.shape_ast.specs.Naming.{read_shapes};
-ghost use Rattle.shape_ast.specs.Standing.{StandFor};
-ghost use Rattle.shape_model.specs.WellFormed.{IsWellFormed};
+ghost use Rattle.shape_ast.specs.Standing.{AreCompiled};
+ghost use Rattle.shape_rules.specs.Broken.{IsWellFormed};
 
 use collections::Sequence;
 use rdf_model::Triple;
@@ -26,27 +25,26 @@ impl Model for ShapesGraph {
     ghost use Rattle.std.specs.Prelude.{List};
     ghost use Rattle.std.specs.Arc.{arc_value};
     ghost use Rattle.rdf_model.specs.declared.triple.Triple.{Triple};
-    ghost use Rattle.shape_ast.specs.Naming.{read_shapes};
-    ghost use Rattle.shape_ast.specs.Standing.{StandFor};
-    ghost use Rattle.shape_model.specs.WellFormed.{IsWellFormed};
+    ghost use Rattle.shape_ast.specs.Standing.{AreCompiled};
+    ghost use Rattle.shape_rules.specs.Broken.{IsWellFormed};
     ghost use Rattle.shapes_graph.specs.declared.graph.Content.{Content};
 
     ghost Value = { List Triple };
 
     ghost view = { λ g. (arc_value g.content).triples };
 
-    ghost invariant = { λ g. IsWellFormed (arc_value g.content).triples × StandFor (read_shapes (arc_value g.content).shapes.shapes) (arc_value g.content).triples };
+    ghost invariant = { λ g. IsWellFormed (arc_value g.content).triples × AreCompiled (arc_value g.content).shapes.shapes (arc_value g.content).triples };
 }
 
 impl ShapesGraph {
-    /// The graph of these triples, for which the shapes stand.
+    /// The graph of these triples, of which the shapes were compiled.
     pub fn new(
         alloc: Global,
         triples: Sequence<Triple>,
         shapes: Shapes,
     ) -> Result<ShapesGraph, AllocError>
         requires well_formed { IsWellFormed triples }
-        requires shapes { StandFor (read_shapes shapes.shapes) triples }
+        requires shapes { AreCompiled shapes.shapes triples }
         ensures { IfOk result (λ graph. graph ≡ triples) }
     {
         Ok(ShapesGraph {
@@ -74,10 +72,10 @@ impl ShapesGraph {
         self.content.triples.as_slice()
     }
 
-    /// The compiled shapes.
+    /// The shapes that were compiled of the triples.
     pub fn shapes(&self) -> &Shapes
         ensures well_formed { IsWellFormed self.now }
-        ensures shapes { StandFor (read_shapes result.now.shapes) self.now }
+        ensures shapes { AreCompiled result.now.shapes self.now }
     {
         &self.content.shapes
     }

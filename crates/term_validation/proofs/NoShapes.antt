@@ -10,7 +10,7 @@ use Rattle.shape_model.specs.Validation.{IsResult, Listing}
 use Rattle.shape_model.proofs.Bridges.{makes_shape}
 use Rattle.shape_model.proofs.Covers.{has_target}
 use Rattle.shape_ast.specs.declared.shape.Shape.{Shape}
-use Rattle.shape_ast.specs.Naming.{ReadShape, read_shapes}
+use Rattle.shape_ast.specs.Readings.{ReadShape, read_shapes}
 use Rattle.shape_ast.specs.Standing.{StandFor}
 
 none_in : {X : Type 0} → (x : X) → Contains [] x → ⊥

@@ -4,7 +4,7 @@ use Rattle.std.specs.List.{All}
 use Rattle.rdf_model.specs.declared.term.Term.{Term}
 use Rattle.rdf_model.specs.declared.triple.Triple.{Triple}
 use Rattle.rdf_model.specs.declared.ids.Ids.{Ids}
-use Rattle.shape_ast.specs.PathReadings.{IsNamed}
+use Rattle.compiled_paths.specs.PathReadings.{IsNamed}
 
 -- its subject, its predicate and its object are among the names
 abbrev pub IsNamedTriple : List Term → Triple → Type 0

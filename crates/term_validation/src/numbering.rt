@@ -1,6 +1,6 @@
 ghost use Rattle.std.specs.Prelude.{◌≡◌, ◌<◌, IfOk, length};
 ghost use Rattle.rdf_model.specs.Numbers.{AreNumbered, graph_of, term_at, triple_at};
-ghost use Rattle.shape_ast.specs.PathReadings.{IsNamed};
+ghost use Rattle.compiled_paths.specs.PathReadings.{IsNamed};
 ghost use Rattle.term_validation.specs.Named.{AreNamedTriples, IsNamedTriple, IsNumbered};
 
 use collections::Sequence;

@@ -3,13 +3,16 @@ ghost use Rattle.rdf_model.specs.Numbers.{AreNumbered, IsNumbering, graph_of};
 ghost use Rattle.rdf_model.specs.declared.term.Term.{Term as TermData};
 ghost use Rattle.shape_model.specs.ShapeSyntax.{IsShape};
 ghost use Rattle.shape_model.specs.Validation.{Listing};
+ghost use Rattle.path_eval.specs.Instances.{AreClassWords};
 ghost use Rattle.term_validation.specs.Named.{AreNamedTriples};
 
 use crate::numbering::number_triples;
 use graph_validation::whole;
+use path_eval::ClassWords;
 use rdf_model::{Names, Term, Triple, Triples};
-use shape_ast::{ResultRow, Shape, bind};
+use shape_ast::{Shape, bind};
 use shape_eval::Steps;
+use shape_model::ResultRow;
 use shapes_graph::ShapesGraph;
 use std::alloc::{AllocError, Global};
 use std::sync::ledger::Ledger;
@@ -29,23 +32,25 @@ pub fn is_without_shapes(shapes: &ShapesGraph) -> bool
 }
 
 /// The results of validating the data graph by the shapes graph (SHACL section 3.6), each once, in
-/// the order of results. The graph is given by the numbers of its terms; all terms of the shapes are
-/// among the names. `steps` is the ledger in which the evaluations are allowed; how many they are is
-/// not promised. It fails only for want of memory.
+/// the order of results. The graph is given by the numbers of its terms; all terms of the shapes, rdf:type
+/// and rdfs:subClassOf are among the names. `steps` is the ledger in which the evaluations are allowed; how
+/// many they are is not promised. It fails only for want of memory.
 pub fn listing_over<R: Triples, N: Names, L: Ledger>(
     alloc: Global,
     graph: &R,
     names: &N,
+    words: ClassWords,
     shapes: &ShapesGraph,
     steps: &mut Steps<L>,
 ) -> Result<Vec<ResultRow>, AllocError>
     requires numbering { IsNumbering (N.terms names.now) }
+    requires words { AreClassWords (N.terms names.now) words }
     requires graph { AreNumbered (N.terms names.now) (R.triples graph.now) }
     requires shapes { AreNamedTriples (N.terms names.now) shapes.now }
     ensures { IfOk result (λ rows. Listing (graph_of (N.terms names.now) (R.triples graph.now)) shapes.now rows.items) }
 {
     let bound = bind(alloc, shapes.shapes(), names)?;
-    Ok(whole(alloc, graph, names, &bound, steps)?)
+    Ok(whole(alloc, graph, names, words, &bound, steps)?)
 }
 
 /// The same of a data graph that is given by its terms, which are all among the names. Without shapes
@@ -53,11 +58,13 @@ pub fn listing_over<R: Triples, N: Names, L: Ledger>(
 pub fn listing<N: Names, L: Ledger>(
     alloc: Global,
     names: &N,
+    words: ClassWords,
     graph: &[Triple],
     shapes: &ShapesGraph,
     steps: &mut Steps<L>,
 ) -> Result<Vec<ResultRow>, AllocError>
     requires numbering { IsNumbering (N.terms names.now) }
+    requires words { AreClassWords (N.terms names.now) words }
     requires graph { AreNamedTriples (N.terms names.now) graph.now }
     requires shapes { AreNamedTriples (N.terms names.now) shapes.now }
     ensures { IfOk result (λ rows. Listing graph.now shapes.now rows.items) }
@@ -67,5 +74,5 @@ pub fn listing<N: Names, L: Ledger>(
     }
     let ids = number_triples(alloc, names, graph)?;
     let index = Index::from_triples(alloc, ids.as_slice())?;
-    Ok(listing_over(alloc, &index, names, shapes, steps)?)
+    Ok(listing_over(alloc, &index, names, words, shapes, steps)?)
 }

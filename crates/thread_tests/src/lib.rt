@@ -5,3 +5,7 @@
 mod by_hand;
 #[cfg(test)]
 mod files;
+#[cfg(test)]
+mod held;
+#[cfg(test)]
+mod holding_gate;

@@ -14,7 +14,8 @@ use Rattle.collections.specs.Ordered.{AllAbove, IsAscending, with_item}
 use Rattle.collections.proofs.Ascending.{IsAscending-with_item}
 use Rattle.collections.proofs.Members.{below, has_cases, has_head, has_tail, with_new, with_old}
 use Rattle.term_validation.specs.Named.{AreNamedTriples, IsNamedTriple}
-use Rattle.validation_rows.specs.Names.{with_triple, with_terms}
+use Rattle.shape_model.specs.Vocabulary.{rdf_type, sub_class_of}
+use Rattle.validation_rows.specs.Names.{class_names, with_triple, with_terms}
 
 -- the place of a term among these
 placed : (ns : List Term) (n : ℕ) → n < length ns → Contains ns (term_at ns n)
@@ -65,7 +66,7 @@ triple_stays ns t u c =
     let with_predicate = with_item term_cmp t.predicate with_subject in
     with_old term_cmp t.object with_predicate u (with_old term_cmp t.predicate with_subject u (with_old term_cmp t.subject ns u c))
 
-stays : (ns : List Term) (ts : List Triple) (u : Term) → Contains ns u → Contains (with_terms ns ts) u
+pub stays : (ns : List Term) (ts : List Triple) (u : Term) → Contains ns u → Contains (with_terms ns ts) u
 stays ns [] u c = c
 stays ns (t ∷ ts) u c = stays (with_triple ns t) ts u (triple_stays ns t u c)
 
@@ -93,3 +94,16 @@ named ns ts k d lt = member_named ns ts _ (All-contains_itself ts k d lt)
 
 pub named_after : (ns : List Term) (gs ts : List Triple) → AreNamedTriples (with_terms (with_terms ns gs) ts) gs
 named_after ns gs ts k d lt = named_stays (with_terms ns gs) ts _ (member_named ns gs _ (All-contains_itself gs k d lt))
+
+-- the names of the words
+pub class_names_ascend : IsAscending term_cmp class_names
+class_names_ascend = IsAscending-with_item term_total sub_class_of (with_item term_cmp rdf_type []) (IsAscending-with_item term_total rdf_type [] tt)
+
+pub class_names_few : length class_names ≤ 2
+class_names_few = omega (arith, one_more sub_class_of (with_item term_cmp rdf_type []), one_more rdf_type [])
+
+pub type_named : Contains class_names rdf_type
+type_named = with_old term_cmp sub_class_of (with_item term_cmp rdf_type []) rdf_type (with_new term_cmp term_total term_exact rdf_type [])
+
+pub super_named : Contains class_names sub_class_of
+super_named = with_new term_cmp term_total term_exact sub_class_of (with_item term_cmp rdf_type [])

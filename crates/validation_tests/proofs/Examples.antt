@@ -10,14 +10,15 @@ use Rattle.rdf_model.specs.declared.term.Term.{Term}
 use Rattle.rdf_model.specs.declared.term.Term.TheVariants.{Blank, Iri, Literal}
 use Rattle.rdf_model.specs.declared.triple.Triple.{Triple}
 use Rattle.shape_model.specs.declared.component.Component.TheVariants as components
-use Rattle.validation_tests.specs.Examples.{CountExample, MinCountExample, NodeKindExample, UnreadExample, count_shapes, example, example_shapes, integer, asks_for_iri, asks_for_one, letter, along_p, from_subjects, from_a}
+use Rattle.validation_tests.specs.Examples.{CountExample, ForbiddenExample, MinCountExample, NodeKindExample, count_shapes, example, example_shapes, integer, asks_for_iri, asks_for_one, letter, along_p, from_subjects, from_a}
 use Rattle.shape_model.specs.Paths.{Alternative, Inverse, OneOrMore, Path, Predicate, Sequence, ZeroOrMore, ZeroOrOne}
 use Rattle.shape_model.specs.Readings.{IsDeactivated, ValueNode, reading}
 use Rattle.shape_model.specs.ShapeSyntax.{PathOf}
 use Rattle.shape_model.specs.TermTests.{IsOfKind, count_of}
 use Rattle.shape_model.specs.Triples.{IsBlank}
-use Rattle.shape_model.specs.Vocabulary.{ShDeactivated, ShMaxLength, ShMinCount, ShPath, ShTargetNode, property_iri, sh, true_literal, xsd_integer}
+use Rattle.shape_model.specs.Vocabulary.{ShDeactivated, ShMinCount, ShPath, ShTargetNode, property_iri, sh, true_literal, xsd_integer}
 use Rattle.shape_model.specs.Walks.{Walk}
+use Rattle.shape_rules.specs.declared.property.ShapeProperty.TheVariants as properties
 use Rattle.collections.proofs.Members.{has_cases}
 
 not_kind : sh (codes "IRI") ≡ true_literal → ⊥
@@ -158,5 +159,5 @@ min_count_example = (
   ),
 )
 
-pub unread_example : UnreadExample
-unread_example = inl (property_iri ShMaxLength, integer (codes "1"), inr (inr (inr (inr (inr (inr (inr (inl refl))))))), (0, omega arith, refl), refl)
+pub forbidden_example : ForbiddenExample
+forbidden_example = inl (inl (inr (inl (properties.Sparql, letter, (0, omega arith, refl), (refl, refl)))))

@@ -3,12 +3,15 @@ use Rattle.std.specs.Prelude.{◌≡◌, ℕ, pos, negsuc, List, [], ◌∷◌, 
 use Rattle.rdf_model.specs.declared.term.Term.{Term}
 use Rattle.rdf_model.specs.declared.term.Term.TheVariants.{Iri, Literal}
 use Rattle.rdf_model.specs.declared.triple.Triple.{Triple}
-use Rattle.shape_model.specs.declared.rule.Rule.TheVariants as rules
 use Rattle.shape_model.specs.declared.component.Component.TheVariants as components
 use Rattle.shape_model.specs.TermTests.{count_of}
 use Rattle.shape_model.specs.Validation.{IsResult}
-use Rattle.shape_model.specs.Vocabulary.{ShMaxLength, ShMinCount, ShNodeKind, ShPath, ShTargetNode, ShTargetSubjectsOf, property_iri, sh, xsd_integer}
-use Rattle.shape_model.specs.WellFormed.{IsBroken}
+use Rattle.shape_model.specs.Vocabulary as vocabulary
+use Rattle.shape_model.specs.Vocabulary.{ShMinCount, ShNodeKind, ShPath, ShTargetNode, ShTargetSubjectsOf, sh, xsd_integer}
+use Rattle.shape_rules.specs.Broken.{IsBroken}
+use Rattle.shape_rules.specs.Properties.{property_iri}
+use Rattle.shape_rules.specs.Rows.{row}
+use Rattle.shape_rules.specs.declared.property.ShapeProperty.TheVariants as properties
 use Rattle.shape_model.specs.declared.result_row.ResultRow.{ResultRow}
 
 abbrev pub example : List ℕ → Term
@@ -20,13 +23,13 @@ letter = Literal (codes "x") (codes "http://www.w3.org/2001/XMLSchema#string") N
 -- A property shape whose targets are the subjects of e:p, whose path is e:p and whose values are to be IRIs, and a
 -- graph in which a value is a literal.
 abbrev pub asks_for_iri : Triple
-asks_for_iri = record { subject = example (codes "P"); predicate = property_iri ShNodeKind; object = sh (codes "IRI") }
+asks_for_iri = record { subject = example (codes "P"); predicate = vocabulary.property_iri ShNodeKind; object = sh (codes "IRI") }
 
 abbrev pub along_p : Triple
-along_p = record { subject = example (codes "P"); predicate = property_iri ShPath; object = example (codes "p") }
+along_p = record { subject = example (codes "P"); predicate = vocabulary.property_iri ShPath; object = example (codes "p") }
 
 abbrev pub from_subjects : Triple
-from_subjects = record { subject = example (codes "P"); predicate = property_iri ShTargetSubjectsOf; object = example (codes "p") }
+from_subjects = record { subject = example (codes "P"); predicate = vocabulary.property_iri ShTargetSubjectsOf; object = example (codes "p") }
 
 abbrev pub example_shapes : List Triple
 example_shapes = asks_for_iri ∷ along_p ∷ from_subjects ∷ []
@@ -46,10 +49,10 @@ abbrev pub integer : List ℕ → Term
 integer lexical = Literal lexical xsd_integer None
 
 abbrev pub asks_for_one : Triple
-asks_for_one = record { subject = example (codes "P"); predicate = property_iri ShMinCount; object = integer (codes "1") }
+asks_for_one = record { subject = example (codes "P"); predicate = vocabulary.property_iri ShMinCount; object = integer (codes "1") }
 
 abbrev pub from_a : Triple
-from_a = record { subject = example (codes "P"); predicate = property_iri ShTargetNode; object = example (codes "a") }
+from_a = record { subject = example (codes "P"); predicate = vocabulary.property_iri ShTargetNode; object = example (codes "a") }
 
 abbrev pub count_shapes : List Triple
 count_shapes = asks_for_one ∷ along_p ∷ from_a ∷ []
@@ -74,9 +77,9 @@ CountExample =
     × (count_of (Literal (codes "1") (codes "http://www.w3.org/2001/XMLSchema#int") None) ≡ None)
     × (count_of (example (codes "1")) ≡ None)
 
--- A shapes graph that uses what isn't read so far breaks rule 39.
-abbrev pub unread_shapes : List Triple
-unread_shapes = record { subject = example (codes "P"); predicate = property_iri ShMaxLength; object = integer (codes "1") } ∷ []
+-- A node with a property that is beyond SHACL Core breaks rule 39.
+abbrev pub forbidden_shapes : List Triple
+forbidden_shapes = record { subject = example (codes "P"); predicate = property_iri properties.Sparql; object = letter } ∷ []
 
-abbrev pub UnreadExample : Type 0
-UnreadExample = IsBroken unread_shapes (record { node = example (codes "P"); rule = rules.Unsupported; value = Some (property_iri ShMaxLength) })
+abbrev pub ForbiddenExample : Type 0
+ForbiddenExample = IsBroken forbidden_shapes (row (example (codes "P")) 39 (Some (property_iri properties.Sparql)))

@@ -1,5 +1,5 @@
 ghost use Rattle.validation_tests.specs.Components.{BoundExamples, CountExamples, LanguageExamples, LogicExamples, OtherExamples, PairExamples, PropertyExample, QualifiedExamples, TextExamples, TypeExamples};
-ghost use Rattle.validation_tests.specs.Examples.{CountExample, MinCountExample, NodeKindExample, UnreadExample};
+ghost use Rattle.validation_tests.specs.Examples.{CountExample, ForbiddenExample, MinCountExample, NodeKindExample};
 
 use crate::short_forms::{optional_term, term};
 use shape_model::{Component, ResultRow};
@@ -7,12 +7,12 @@ use std::alloc::{AllocError, Global};
 use std::test::Fail;
 
 // The definitions give the worked rows: a literal where an IRI is asked for, a missing value, the
-// literals that say a count, and a shape that uses what isn't read.
+// literals that say a count, and a node that has what is beyond SHACL Core.
 fn worked_rows()
     ensures node_kind { NodeKindExample }
     ensures min_count { MinCountExample }
     ensures count { CountExample }
-    ensures unread { UnreadExample }
+    ensures forbidden { ForbiddenExample }
 {}
 
 // So they do for each component, by its section of the Recommendation.

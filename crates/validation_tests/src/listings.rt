@@ -1,5 +1,7 @@
 use crate::short_forms::{push_optional, text_of_rows};
+use collections::Sequence;
 use outside::RegexMaker;
+use shape_model::ResultRow;
 use std::alloc::{AllocError, Global};
 use std::process::Abort;
 use std::test::Fail;
@@ -260,6 +262,22 @@ _:r <sh:nodeKind> <sh:BlankNodeOrLiteral> .
         answer: "",
     },
     Case {
+        name: "a value of a class by a subclass, and one of none (4.1.1)",
+        graph: "<e:a> <e:p> <e:b> .
+<e:a> <e:p> \"x\" .
+<e:b> <http://www.w3.org/1999/02/22-rdf-syntax-ns#type> <e:C> .
+<e:C> <http://www.w3.org/2000/01/rdf-schema#subClassOf> <e:D> .
+",
+        shapes: "<e:P> <sh:targetNode> <e:a> .\n<e:P> <sh:path> <e:p> .\n<e:P> <sh:class> <e:D> .\n",
+        answer: "<e:P> <e:a> Class <e:D> \"x\" \"x\" -\n",
+    },
+    Case {
+        name: "a pattern that is refused",
+        graph: "",
+        shapes: "<e:P> <sh:targetNode> <e:a> .\n<e:P> <sh:pattern> \"(\" .\n",
+        answer: "pattern <e:P>\n",
+    },
+    Case {
         name: "data that is refused, before shapes that are",
         graph: "<e:a> <e:p> <e:b> .\n<e:a> <e:p> <b> .\n",
         shapes: "<a>\n",
@@ -274,8 +292,8 @@ _:r <sh:nodeKind> <sh:BlankNodeOrLiteral> .
     Case {
         name: "a broken rule",
         graph: "",
-        shapes: "<e:P> <sh:path> <e:p> .\n<e:P> <sh:maxLength> \"3\"^^<xsd:integer> .\n",
-        answer: "rule 39 <e:P> <sh:maxLength>\n",
+        shapes: "<e:P> <sh:path> <e:p> .\n<e:P> <sh:maxLength> \"x\"^^<xsd:integer> .\n",
+        answer: "rule 19 <e:P> \"x\"^^<xsd:integer>\n",
     },
 ];
 
@@ -302,14 +320,27 @@ fn text_of_fault(alloc: Global, fault: &RowsFault) -> Result<String, AllocError>
         RowsFault::Data { line, kind } => format!(in alloc; "data {line} {kind:?}\n"),
         RowsFault::Shapes { line, kind } => format!(in alloc; "shapes {line} {kind:?}\n"),
         RowsFault::Rule(broken) => {
-            let number = broken.rule.number();
+            let number = broken.rule;
             let node = &broken.node;
             let mut text = format!(in alloc; "rule {number} {node}")?;
             push_optional(&mut text, &broken.value)?;
             text.push('\n')?;
             Ok(text)
         }
+        RowsFault::Pattern { node } => format!(in alloc; "pattern {node}\n"),
         RowsFault::Memory => format!(in alloc; "memory\n"),
+    }
+}
+
+// The rows of the plain program, or those by compiled shapes where it doesn't read all that the shapes have.
+fn text_of_plain(
+    alloc: Global,
+    plain: &Option<Sequence<ResultRow>>,
+    compiled: &str,
+) -> Result<String, AllocError> {
+    match plain {
+        Some(rows) => text_of_rows(alloc, rows.as_slice()),
+        None => String::from_str(alloc, compiled),
     }
 }
 
@@ -320,10 +351,11 @@ fn answers(rt: &impl Abort, alloc: Global, case: &Case) -> Result<(String, Strin
     assert!(rt; graph.len() < 1000 && shapes.len() < 2000);
     let mut maker = RegexMaker::new(alloc);
     match both_listings(alloc, &mut maker, graph.as_bytes(), shapes.as_bytes()) {
-        Ok(BothListings { plain, compiled }) => Ok((
-            text_of_rows(alloc, plain.as_slice())?,
-            text_of_rows(alloc, compiled.as_slice())?,
-        )),
+        Ok(BothListings { plain, compiled }) => {
+            let compiled = text_of_rows(alloc, compiled.as_slice())?;
+            let plain = text_of_plain(alloc, &plain, compiled.as_str())?;
+            Ok((plain, compiled))
+        }
         Err(fault) => Ok((text_of_fault(alloc, &fault)?, text_of_fault(alloc, &fault)?)),
     }
 }

@@ -167,29 +167,31 @@ fn refers(alloc: Global, from: usize, to: usize) -> Result<Triple, AllocError> {
     })
 }
 
-// 300 references, each shape to the next, and one from the last to this shape.
-fn chain_to(alloc: Global, back: usize) -> Result<Vec<Triple>, AllocError> {
+// So many references, each shape to the next, and one from the last to this shape.
+fn chain_to(alloc: Global, last: u16, back: usize) -> Result<Vec<Triple>, AllocError> {
+    let last = last as usize;
     let mut graph = Vec::new(alloc);
-    for number in 0..300 {
+    for number in 0..last {
         graph.push(refers(alloc, number, number + 1)?)?;
     }
-    graph.push(refers(alloc, 300, back)?)?;
+    graph.push(refers(alloc, last, back)?)?;
     Ok(graph)
 }
 
-// Long chains that end, that lead to themselves as a whole, and that lead to the end of themselves; the nodes in the order
-// of their texts.
+// Chains of 256 and of 257 references, and longer ones that lead to themselves as a whole, or to the end of themselves; the
+// nodes in the order of their texts.
 #[test]
 fn long_chains(rt: HostRuntime) -> Result<(), Fail> {
     let alloc = rt.alloc();
-    for (back, expected) in [
-        (301, ""),
-        (0, "<e:n0> 38 -"),
-        (250, "<e:n250> 38 -"),
-        (300, "<e:n300> 38 -"),
+    for (last, back, expected) in [
+        (255, 256, ""),
+        (256, 257, "<e:n0> 41 -"),
+        (300, 0, "<e:n0> 38 -"),
+        (300, 250, "<e:n250> 38 -"),
+        (300, 300, "<e:n300> 38 -"),
     ] {
-        let found = text_of(alloc, &least(alloc, chain_to(alloc, back)?)?)?;
-        assert_eq!(rt; found.as_str(), expected, "{back}");
+        let found = text_of(alloc, &least(alloc, chain_to(alloc, last, back)?)?)?;
+        assert_eq!(rt; found.as_str(), expected, "{last} {back}");
     }
     Ok(())
 }

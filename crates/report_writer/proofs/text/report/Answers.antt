@@ -1,7 +1,7 @@
 use Rattle.std.proofs.Common.{◌∙◌, List, ap, subst, sym}
 use Rattle.rdf_model.specs.declared.term.Term.{Term}
 use Rattle.shape_ast.specs.declared.shape.Shape.{Shape}
-use Rattle.shape_ast.specs.Naming.{read_shapes}
+use Rattle.shape_ast.specs.Readings.{read_shapes}
 use Rattle.report_writer.specs.CompiledReport.{compiled_report}
 use Rattle.report_writer.specs.Sources.{HaveSources}
 use Rattle.report_writer.proofs.Graphs.{by_graph}

@@ -1,7 +1,7 @@
 use Rattle.std.proofs.Common.{◌≡◌, ◌∙◌, ◌++◌, ◌+◌, [], ap, append-nil, arith, drop, string_bytes, sym}
 use Rattle.std.proofs.Math.ListN.{drop_of_length-le}
 use Rattle.shape_model.specs.declared.result_row.ResultRow.{ResultRow}
-use Rattle.shape_ast.specs.Naming.{read_shapes}
+use Rattle.shape_ast.specs.Readings.{read_shapes}
 use Rattle.report_writer.specs.Report.{results_by}
 use Rattle.report_writer.specs.CompiledReport.{compiled_text}
 use Rattle.report_writer.proofs.Results.{one_more}

@@ -1,5 +1,5 @@
 use Rattle.std.proofs.Common.{◌≡◌, ◌++◌, ◌+◌, string_bytes, drop}
-use Rattle.shape_ast.specs.Naming.{read_shapes}
+use Rattle.shape_ast.specs.Readings.{read_shapes}
 use Rattle.report_writer.specs.Report.{results_by}
 use Rattle.report_writer.specs.CompiledReport.{compiled_report, compiled_text}
 use Rattle.report_writer.proofs.text.written.Given as goal

@@ -1,4 +1,5 @@
 use Rattle.std.proofs.Common.{◌+◌, ap, ◌∙◌}
+use Rattle.session_reader.proofs.Checks.{grows_on}
 use Rattle.shacl_guard.proofs.SoFar.{SoFar-loaded, SoFar-unloaded}
 use Rattle.shacl_guard.proofs.loading.load_all.Goals as goal
 
@@ -8,7 +9,7 @@ loop-name-preserved g c =
     record {
       session = ap (λ n. n + 1) c.loop-name.invariant.session;
       holds = c.load_next.ensures.holds ∙ c.loop-name.invariant.holds;
-      maker = c.load_next.ensures.maker ∙ c.loop-name.invariant.maker;
+      refused = grows_on _ _ _ c.loop-name.invariant.refused c.load_next.ensures.refused;
       so_far = SoFar-loaded _ _ _ _ _ _ _ _ c.name-item.result _ _ _ h.0 c.loop-name.invariant.holds c.loop-name.invariant.session c.as_str.ensures c.loop-name-test.true c.name-item.is c.loop-name.invariant.so_far h.1 h.2 h.3 h.4;
     }
 

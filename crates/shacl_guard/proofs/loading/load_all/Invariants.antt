@@ -1,4 +1,5 @@
 use Rattle.std.proofs.Common.{◌≡◌}
+use Rattle.session_reader.specs.Checking.{OnlyGrows}
 use Rattle.shacl_guard.specs.Progress.{LoadedSoFar}
 use Rattle.shacl_guard.proofs.loading.load_all.Given as goal
 
@@ -6,6 +7,6 @@ abbrev pub invariant-loop-name : goal.invariant-loop-name
 invariant-loop-name g l = record {
   session : l.session ≡ l.name-index;
   holds : g.F.Files.holds l.files ≡ g.F.Files.holds l.fn.files;
-  maker : l.maker ≡ l.fn.maker;
-  so_far : LoadedSoFar (g.F.Files.holds l.fn.files) l.names l.name-index (record { loaded = g.F.Files.loaded l.fn.files; failed = g.F.Files.failed l.fn.files }) (record { loaded = g.F.Files.loaded l.files; failed = g.F.Files.failed l.files }) l.all;
+  refused : OnlyGrows (g.M.Maker.refused l.fn.maker) (g.M.Maker.refused l.maker);
+  so_far : LoadedSoFar (g.F.Files.holds l.fn.files) l.names l.name-index (record { loaded = g.F.Files.loaded l.fn.files; failed = g.F.Files.failed l.fn.files; refused = g.M.Maker.refused l.fn.maker }) (record { loaded = g.F.Files.loaded l.files; failed = g.F.Files.failed l.files; refused = g.M.Maker.refused l.maker }) l.all;
 }

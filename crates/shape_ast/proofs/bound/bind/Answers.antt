@@ -1,29 +1,42 @@
-use Rattle.std.proofs.Common.{◌≡◌, ◌<◌, ℕ, List, length, arith, sym, subst}
-use Rattle.std.proofs.lemmas.List.{length-map}
-use Rattle.std.proofs.lemmas.List.Elements.{All-push}
+use Rattle.std.proofs.Common.{◌∙◌, List, length, ap, sym, subst}
+use Rattle.std.specs.List.{All}
+use Rattle.std.proofs.lemmas.List.{take_all}
 use Rattle.rdf_model.specs.declared.term.Term.{Term}
+use Rattle.compiled_paths.specs.PathReadings.{IsNamed}
 use Rattle.shape_ast.specs.declared.shape.Shape.{Shape}
-use Rattle.shape_ast.specs.Naming.{AreNamed, IsBoundShape, IsNamedShape, named_shape, read_shape, read_shapes}
-use Rattle.shape_ast.proofs.ReadItems.{all_read, map_more, read_at}
+use Rattle.shape_ast.specs.Readings.{HoldsOfShape, read_shapes}
+use Rattle.shape_ast.specs.Standing.{AreBuilt}
+use Rattle.shape_ast.specs.Binding.{AreBoundFrom}
+use Rattle.shape_ast.proofs.Alike.{all_built, all_same, are_bound, bound_more}
 use Rattle.shape_ast.proofs.bound.bind.Goals as goal
 
 pub bind_shape-requires : goal.bind_shape-requires
 bind_shape-requires g c =
-    let terms = g.N.Names.terms c.args.names.now in
     let all = c.as_slice-all.result.now in
-    let named : AreNamed terms (read_shapes all) = subst (λ (shapes : List (Shape Term)). AreNamed terms (read_shapes shapes)) (sym c.as_slice-all.ensures) c.requires in
-    let same : length (read_shapes all) ≡ length all = length-map all read_shape in
-    subst (λ (n : ℕ). IsNamedShape terms n (read_shape c.shape-item.result)) same
-    (all_read (IsNamedShape terms (length (read_shapes all))) read_shape all c.loop-shape.shape-index c.shape-item.result named c.loop-shape-test.true c.shape-item.is)
+    let holds = HoldsOfShape (IsNamed (g.N.Names.terms c.args.names.now)) (length all) in
+    let named = subst (λ (ss : List (Shape Term)). All (HoldsOfShape (IsNamed (g.N.Names.terms c.args.names.now)) (length ss)) ss) (sym c.as_slice-all.ensures) c.requires in
+    subst (λ (s : Shape Term). holds s) (sym c.shape-item.is) (named c.loop-shape.shape-index c.shape-item.result c.loop-shape-test.true)
 
 pub loop-shape-preserved : goal.loop-shape-preserved
 loop-shape-preserved g c =
     let terms = g.N.Names.terms c.args.names.now in
     let all = c.as_slice-all.result.now in
-    let i = c.loop-shape.shape-index in
-    let shape = c.shape-item.result in
-    let within : i < length (read_shapes all) = omega (arith, c.loop-shape-test.true, length-map all read_shape) in
-    rw c.in_ok-push.ensures.ok (
-      All-push (IsBoundShape (length terms) (length all)) c.loop-shape.bound c.in_ok-bind_shape.field-0 c.loop-shape.invariant.0 c.in_ok-bind_shape.ensures.0,
-      map_more (named_shape terms) c.loop-shape.bound (read_shapes all) i c.in_ok-bind_shape.field-0 (read_shape shape) c.loop-shape.invariant.1 within (read_at read_shape all i shape c.loop-shape-test.true c.shape-item.is) c.in_ok-bind_shape.ensures.1,
-    )
+    rw c.in_ok-push.ensures.ok
+    (bound_more terms (length all) all c.loop-shape.shape-index c.loop-shape.bound c.shape-item.result c.in_ok-bind_shape.field-0 c.loop-shape-test.true c.shape-item.is c.loop-shape.invariant c.in_ok-bind_shape.ensures)
+
+whole : (g : _) (c : goal.After-loop-shape g) → AreBoundFrom (g.N.Names.terms c.args.names.now) (length c.as_slice-all.result.now) c.as_slice-all.result.now c.loop-shape.bound
+whole g c =
+    let terms = g.N.Names.terms c.args.names.now in
+    let all = c.as_slice-all.result.now in
+    subst (λ (ss : List (Shape Term)). AreBoundFrom terms (length all) ss c.loop-shape.bound) (take_all c.loop-shape.shape-index all c.loop-shape-test.false) c.loop-shape.invariant
+
+pub returns-clause-bound : goal.returns-clause-bound
+returns-clause-bound g c = are_bound (g.N.Names.terms c.args.names.now) c.as_slice-all.result.now c.loop-shape.bound (whole g c)
+
+pub returns-clause-same : goal.returns-clause-same
+returns-clause-same g c = all_same (g.N.Names.terms c.args.names.now) (length c.as_slice-all.result.now) c.as_slice-all.result.now c.loop-shape.bound (whole g c) ∙ ap read_shapes c.as_slice-all.ensures
+
+pub returns-clause-built : goal.returns-clause-built
+returns-clause-built g c = λ built.
+    all_built (g.N.Names.terms c.args.names.now) (length c.as_slice-all.result.now) c.as_slice-all.result.now c.loop-shape.bound (whole g c)
+    (subst (λ (ss : List (Shape Term)). AreBuilt (λ (t : Term). t) ss) (sym c.as_slice-all.ensures) built)

@@ -2,10 +2,10 @@ use Rattle.std.proofs.Common.{◌≡◌, ℕ, IfOk, Option, Some, None, false, s
 use Rattle.std.proofs.lemmas.Result.{IfOk-weaker}
 use Rattle.std.specs.Ordering.{nat_cmp}
 use Rattle.collections.specs.Listings.{IsListing}
-use Rattle.shape_ast.specs.declared.path.Path.{Path}
+use Rattle.compiled_paths.specs.declared.path.Path.{Path}
 use Rattle.path_eval.specs.Naming.{AreValues, Numbered}
 use Rattle.shape_eval.specs.ValueNodes.{AreValueNodes, AtNumbers}
-use Rattle.shape_eval.proofs.Numbers.{alone_is, walked_are}
+use Rattle.shape_eval.proofs.Values.{alone_is, walked_are}
 use Rattle.shape_eval.proofs.value_nodes.value_nodes.Goals as goal
 
 pub returns-in-None : goal.returns-in-None

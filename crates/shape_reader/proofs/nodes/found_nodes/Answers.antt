@@ -1,13 +1,13 @@
-use Rattle.std.proofs.Common.{arith}
-use Rattle.shape_reader.specs.Parts.{IsMadeAt, IsShapeAt, IsTakenAt}
-use Rattle.shape_reader.proofs.SaidParts.{said_all, said_more, then_either}
+use Rattle.std.proofs.Common.{◌∙◌, List, subst}
+use Rattle.rdf_model.specs.declared.term.Term.{Term}
+use Rattle.shape_syntax.specs.Gathering.{HasGathered}
+use Rattle.shape_reader.specs.Parts.{IsShapeAt}
+use Rattle.shape_reader.proofs.Gathered.{all_nodes}
 use Rattle.shape_reader.proofs.nodes.found_nodes.Goals as goal
 
-pub loop-triple-preserved : goal.loop-triple-preserved
-loop-triple-preserved c =
-    let t = c.triple-item.result in
-    said_more IsShapeAt c.args.shapes.now c.loop-triple.triple-index t c.loop-triple.nodes c.push_taken.new.nodes (omega arith) c.triple-item.is c.loop-triple.invariant
-    (then_either (IsMadeAt t) (IsTakenAt t) c.loop-triple.nodes c.push_made.new.nodes c.push_taken.new.nodes c.in_ok-push_made.ensures c.in_ok-push_taken.ensures)
-
 pub returns : goal.returns
-returns c = said_all IsShapeAt c.args.shapes.now c.loop-triple.triple-index c.loop-triple.nodes (omega arith) c.loop-triple.invariant
+returns c =
+    let s = c.args.graph.now in
+    let all = subst (λ (xs : List Term). HasGathered (IsShapeAt s) xs c.in_ok-nodes.nodes c.push_shapes.new.nodes) c.as_slice-3.ensures c.in_ok-push_shapes.ensures in
+    all_nodes s c.in_ok-taken.taken.items c.in_ok-found.found c.push_shapes.new.nodes c.in_ok-taken.ensures.members c.in_ok-found.ensures
+    (subst (λ (old : List Term). HasGathered (IsShapeAt s) c.in_ok-found.found old c.push_shapes.new.nodes) (c.in_ok-nodes.ensures ∙ c.as_slice.ensures.value) all)

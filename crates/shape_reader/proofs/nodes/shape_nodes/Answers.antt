@@ -1,14 +1,9 @@
-use Rattle.std.proofs.Common.{List, sym, subst}
 use Rattle.std.specs.List.{Contains}
 use Rattle.rdf_model.specs.declared.term.Term.{Term}
-use Rattle.shape_reader.proofs.ShapeWays.{node_ways}
+use Rattle.rdf_model.specs.Terms.{term_cmp}
+use Rattle.shape_model.proofs.Listings.{listing_same}
+use Rattle.shape_model.specs.ShapeSyntax.{IsShape}
 use Rattle.shape_reader.proofs.nodes.shape_nodes.Goals as goal
 
 pub returns : goal.returns
-returns c = record {
-  ascending = c.in_ok-nodes.ensures.ascending;
-  members = λ n. (
-    λ d. (node_ways c.args.shapes.now n).0 ((c.in_ok-found.ensures n).0 (subst (λ (ns : List Term). Contains ns n) c.into_vec.ensures ((c.in_ok-nodes.ensures.members n).0 d))),
-    λ h. (c.in_ok-nodes.ensures.members n).1 (subst (λ (ns : List Term). Contains ns n) (sym c.into_vec.ensures) ((c.in_ok-found.ensures n).1 ((node_ways c.args.shapes.now n).1 h))),
-  );
-}
+returns c = listing_same term_cmp (λ (n : Term). Contains c.in_ok-found.found n) (IsShape c.args.graph.now) c.in_ok-found.ensures c.in_ok-nodes.nodes.items (rw c.into_vec.ensures at c.in_ok-nodes.ensures)

@@ -2,7 +2,7 @@ use Rattle.std.proofs.Common.{◌≡◌, refl, arith}
 use Rattle.std.specs.Prelude.{◌⊎◌}
 use Rattle.std.specs.List.{Contains}
 use Rattle.rdf_model.specs.declared.triple.Triple.{Triple}
-use Rattle.shape_reader.proofs.Scans.{read_in, none_more, in_all}
+use Rattle.shape_syntax.proofs.Scans.{read_in, none_more, in_all}
 use Rattle.shape_references.proofs.leading.one_leads.Goals as goal
 
 pub returns-then-is_goal_or_known : goal.returns-then-is_goal_or_known

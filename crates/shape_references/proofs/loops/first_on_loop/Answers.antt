@@ -1,5 +1,5 @@
 use Rattle.std.proofs.Common.{arith}
-use Rattle.shape_reader.proofs.Scans.{none_more, in_all}
+use Rattle.shape_syntax.proofs.Scans.{none_more, in_all}
 use Rattle.shape_references.specs.Chains.{HasLoopAt}
 use Rattle.shape_references.proofs.LeastLoop.{first_is_least, none_on_loop}
 use Rattle.shape_references.proofs.loops.first_on_loop.Goals as goal

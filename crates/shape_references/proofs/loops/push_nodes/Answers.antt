@@ -1,6 +1,6 @@
 use Rattle.std.proofs.Common.{◌≡◌, refl, sym, arith, inl, inr}
 use Rattle.rdf_model.specs.declared.term.Term.{Term}
-use Rattle.shape_reader.proofs.Scans.{cases_more, in_all}
+use Rattle.shape_syntax.proofs.Scans.{cases_more, in_all}
 use Rattle.shape_syntax.proofs.Loops.{gave}
 use Rattle.shape_references.proofs.loops.push_nodes.Goals as goal
 

@@ -1,6 +1,6 @@
 use Rattle.std.proofs.Common.{◌≤◌, arith, subst, inl, inr}
 use Rattle.rdf_model.specs.declared.triple.Triple.{Triple}
-use Rattle.shape_reader.proofs.Scans.{in_all, cases_more}
+use Rattle.shape_syntax.proofs.Scans.{in_all, cases_more}
 use Rattle.shape_references.specs.Ranks.{rank_in}
 use Rattle.shape_references.proofs.ranks.are_level.Goals as goal
 

@@ -1,6 +1,6 @@
 use Rattle.std.proofs.Common.{◌≡◌, refl, arith}
 use Rattle.rdf_model.specs.declared.triple.Triple.{Triple}
-use Rattle.shape_reader.proofs.Scans.{read_in, none_more, in_all}
+use Rattle.shape_syntax.proofs.Scans.{read_in, none_more, in_all}
 use Rattle.shape_references.proofs.siblings.has_object.Goals as goal
 
 pub returns-then-is_same : goal.returns-then-is_same

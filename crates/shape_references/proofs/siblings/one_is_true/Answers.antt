@@ -1,7 +1,7 @@
 use Rattle.std.proofs.Common.{◌≡◌, refl, arith}
 use Rattle.rdf_model.specs.declared.triple.Triple.{Triple}
 use Rattle.shape_model.specs.Vocabulary.{true_literal}
-use Rattle.shape_reader.proofs.Scans.{read_in, none_more, in_all}
+use Rattle.shape_syntax.proofs.Scans.{read_in, none_more, in_all}
 use Rattle.shape_references.proofs.siblings.one_is_true.Goals as goal
 
 pub returns-then-is_true : goal.returns-then-is_true

@@ -2,7 +2,7 @@ use Rattle.std.proofs.Common.{arith, ap, subst, inl, inr}
 use Rattle.std.specs.List.{Contains}
 use Rattle.rdf_model.specs.declared.term.Term.{Term}
 use Rattle.rdf_model.specs.declared.triple.Triple.{Triple}
-use Rattle.shape_reader.proofs.Scans.{cases_more, in_all}
+use Rattle.shape_syntax.proofs.Scans.{cases_more, in_all}
 use Rattle.shape_syntax.proofs.below.from_below.Goals as goal
 
 pub loop-triple-preserved : goal.loop-triple-preserved

@@ -1,7 +1,7 @@
 use Rattle.std.proofs.Common.{◌≡◌, ◌<◌, ◌+◌, length, ap, ◌∙◌, arith}
 use Rattle.std.proofs.lemmas.List.{length_push}
-use Rattle.shape_reader.proofs.Classes.{all_classes, classes_push, few_classes}
-use Rattle.shape_reader.proofs.Pigeonholes.{distinct_push}
+use Rattle.shape_syntax.proofs.Classes.{all_classes, classes_push, few_classes}
+use Rattle.shape_syntax.proofs.Pigeonholes.{distinct_push}
 use Rattle.shape_syntax.proofs.instance.classes_of.Goals as goal
 
 pub loop-class-smaller : goal.loop-class-smaller

@@ -1,6 +1,6 @@
 use Rattle.std.proofs.Common.{◌-◌, length}
-use Rattle.shape_reader.proofs.Classes.{AreClasses}
-use Rattle.shape_reader.proofs.Pigeonholes.{AreDistinct}
+use Rattle.shape_syntax.proofs.Classes.{AreClasses}
+use Rattle.shape_syntax.proofs.Pigeonholes.{AreDistinct}
 use Rattle.shape_syntax.proofs.instance.classes_of.Given as goal
 
 abbrev pub invariant-loop-class : goal.invariant-loop-class

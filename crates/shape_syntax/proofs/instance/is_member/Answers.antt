@@ -1,6 +1,6 @@
 use Rattle.std.proofs.Common.{◌≡◌, refl, arith}
 use Rattle.rdf_model.specs.declared.term.Term.{Term}
-use Rattle.shape_reader.proofs.Scans.{read_in, none_more, in_all, member_contains, equal_in}
+use Rattle.shape_syntax.proofs.Scans.{read_in, none_more, in_all, member_contains, equal_in}
 use Rattle.shape_syntax.proofs.instance.is_member.Goals as goal
 
 pub returns-then-is_same : goal.returns-then-is_same

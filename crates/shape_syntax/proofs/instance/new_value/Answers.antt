@@ -1,9 +1,9 @@
 use Rattle.std.proofs.Common.{refl, arith}
 use Rattle.rdf_model.specs.declared.triple.Triple.{Triple}
-use Rattle.shape_reader.proofs.Scans.{read_in, in_all}
+use Rattle.shape_syntax.proofs.Scans.{read_in, in_all}
 use Rattle.rdf_model.specs.declared.term.Term.TheVariants.{Iri}
-use Rattle.shape_reader.proofs.Values.{value_of}
-use Rattle.shape_reader.proofs.Equals.{member_unless}
+use Rattle.shape_syntax.proofs.Values.{value_of}
+use Rattle.shape_syntax.proofs.Equals.{member_unless}
 use Rattle.shape_syntax.proofs.instance.new_value.Goals as goal
 
 pub returns-then-not-is_member : goal.returns-then-not-is_member

@@ -1,7 +1,7 @@
 use Rattle.std.proofs.Common.{subst, arith, inl, inr}
 use Rattle.rdf_model.specs.declared.term.Term.{Term}
 use Rattle.shape_model.specs.Triples.{IsMember}
-use Rattle.shape_reader.proofs.Scans.{contains_member, member_contains, read_in, in_all, cases_more}
+use Rattle.shape_syntax.proofs.Scans.{contains_member, member_contains, read_in, in_all, cases_more}
 use Rattle.shape_model.specs.Triples.{Has}
 use Rattle.shape_model.specs.Vocabulary.{sub_class_of}
 use Rattle.shape_syntax.proofs.instance.next_super.Goals as goal

@@ -2,7 +2,7 @@ use Rattle.std.proofs.Common.{refl}
 use Rattle.rdf_model.specs.declared.triple.Triple.{Triple}
 use Rattle.shape_syntax.proofs.Loops.{is_none}
 use Rattle.rdf_model.specs.declared.term.Term.TheVariants.{Iri}
-use Rattle.shape_reader.proofs.Values.{value_of}
+use Rattle.shape_syntax.proofs.Values.{value_of}
 use Rattle.shape_syntax.proofs.list.has_none.Goals as goal
 
 pub returns : goal.returns

@@ -1,6 +1,6 @@
 use Rattle.std.proofs.Common.{refl, arith}
 use Rattle.rdf_model.specs.declared.triple.Triple.{Triple}
-use Rattle.shape_reader.proofs.Scans.{read_in, none_more, in_all}
+use Rattle.shape_syntax.proofs.Scans.{read_in, none_more, in_all}
 use Rattle.shape_syntax.proofs.list.is_other_there.Goals as goal
 use Rattle.std.specs.Prelude.{◌≢◌}
 

@@ -1,5 +1,5 @@
 use Rattle.std.proofs.Common.{arith}
-use Rattle.shape_reader.proofs.Lists.{list_from, no_broken_list, no_long_list, segment_push}
+use Rattle.shape_syntax.proofs.Lists.{list_from, no_broken_list, no_long_list, segment_push}
 use Rattle.shape_syntax.proofs.list.list_members.Goals as goal
 
 pub returns-then-is_list_end : goal.returns-then-is_list_end

@@ -1,5 +1,5 @@
 use Rattle.std.proofs.Common.{◌-◌, ◌+◌, length}
-use Rattle.shape_reader.proofs.Lists.{Segment}
+use Rattle.shape_syntax.proofs.Lists.{Segment}
 use Rattle.shape_syntax.proofs.list.list_members.Given as goal
 
 abbrev pub invariant-loop-node : goal.invariant-loop-node

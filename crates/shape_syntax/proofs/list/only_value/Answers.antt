@@ -2,9 +2,9 @@ use Rattle.std.proofs.Common.{◌∙◌, refl, sym}
 use Rattle.rdf_model.specs.declared.triple.Triple.{Triple}
 use Rattle.shape_syntax.proofs.Loops.{none_first}
 use Rattle.rdf_model.specs.declared.term.Term.TheVariants.{Iri}
-use Rattle.shape_reader.proofs.Values.{value_of}
-use Rattle.shape_reader.proofs.Equals.{same_unless}
-use Rattle.shape_reader.proofs.SaidParts.{get_in}
+use Rattle.shape_syntax.proofs.Values.{value_of}
+use Rattle.shape_syntax.proofs.Equals.{same_unless}
+use Rattle.shape_syntax.proofs.Items.{get_in}
 use Rattle.shape_syntax.proofs.list.only_value.Goals as goal
 
 pub returns-then-is_other_there : goal.returns-then-is_other_there

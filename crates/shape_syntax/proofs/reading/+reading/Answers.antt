@@ -5,9 +5,9 @@ use Rattle.std.specs.Prelude.{MatchOption}
 use Rattle.std.proofs.lemmas.Result.{IfOk-weaker}
 use Rattle.std.specs.List.{Contains}
 use Rattle.rdf_model.specs.declared.term.Term.{Term}
-use Rattle.shape_reader.proofs.Scans.{contains_member}
+use Rattle.shape_syntax.proofs.Scans.{contains_member}
 use Rattle.shape_model.specs.Paths as defined
-use Rattle.shape_ast.specs.PathReadings.{defined_path, members}
+use Rattle.compiled_paths.specs.PathReadings.{defined_path, members}
 use Rattle.shape_syntax.specs.PathDepth.{IsRead, IsDeep}
 use Rattle.shape_syntax.specs.PathWays.{turned, joined, AreDeep, AreReadPaths}
 use Rattle.shape_syntax.specs.declared.way.Join.TheVariants as joins

@@ -1,5 +1,5 @@
 use Rattle.std.proofs.Common.{◌+◌, ◌*◌, map, take}
-use Rattle.shape_ast.specs.PathReadings.{defined_path}
+use Rattle.compiled_paths.specs.PathReadings.{defined_path}
 use Rattle.shape_syntax.specs.PathWays.{AreRead}
 use Rattle.shape_syntax.proofs.reading.+reading.Given as goal
 

@@ -1,6 +1,6 @@
 use Rattle.std.proofs.Common.{◌≡◌, refl, arith}
 use Rattle.rdf_model.specs.declared.triple.Triple.{Triple}
-use Rattle.shape_reader.proofs.Scans.{read_in, none_more, in_all}
+use Rattle.shape_syntax.proofs.Scans.{read_in, none_more, in_all}
 use Rattle.shape_syntax.proofs.steps.is_more_said.Goals as goal
 
 pub returns-then-not-says_same : goal.returns-then-not-says_same

@@ -1,8 +1,8 @@
 use Rattle.std.proofs.Common.{◌∙◌, refl, sym}
 use Rattle.rdf_model.specs.declared.triple.Triple.{Triple}
-use Rattle.shape_reader.proofs.Values.{has_at}
-use Rattle.shape_reader.proofs.Equals.{same_unless}
-use Rattle.shape_reader.proofs.SaidParts.{get_in}
+use Rattle.shape_syntax.proofs.Values.{has_at}
+use Rattle.shape_syntax.proofs.Equals.{same_unless}
+use Rattle.shape_syntax.proofs.Items.{get_in}
 use Rattle.shape_syntax.proofs.Loops.{none_first}
 use Rattle.shape_syntax.proofs.steps.only_triple.Goals as goal
 

@@ -1,4 +1,4 @@
-use Rattle.shape_reader.proofs.Equals.{same_term}
+use Rattle.shape_syntax.proofs.Equals.{same_term}
 use Rattle.shape_syntax.proofs.terms.is_same.Goals as goal
 
 pub returns : goal.returns

@@ -1,3 +1,4 @@
+use Rattle.ntriples_text.proofs.Gives.{gives_readable}
 use Rattle.validation_rows.proofs.Sizes.{few_triples}
 use Rattle.validation_rows.proofs.rows.triples_of.Goals as goal
 
@@ -5,4 +6,5 @@ pub returns : goal.returns
 returns c = record {
   read = (c.read.new.next, c.in_ok-triples.ensures.reads);
   few = few_triples c.args.text.now c.args.session 1 c.read.new.next c.in_ok-triples.triples c.in_ok-triples.ensures.reads;
+  ascending = (gives_readable c.args.text.now c.args.session 1 c.read.new.next c.in_ok-triples.triples c.in_ok-triples.ensures.reads).2;
 }

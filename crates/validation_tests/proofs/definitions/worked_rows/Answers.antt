@@ -1,4 +1,4 @@
-use Rattle.validation_tests.proofs.Examples.{node_kind_example, min_count_example, count_example, unread_example}
+use Rattle.validation_tests.proofs.Examples.{node_kind_example, min_count_example, count_example, forbidden_example}
 use Rattle.validation_tests.proofs.definitions.worked_rows.Goals as goal
 
 pub returns-clause-node_kind : goal.returns-clause-node_kind
@@ -10,5 +10,5 @@ returns-clause-min_count c = min_count_example
 pub returns-clause-count : goal.returns-clause-count
 returns-clause-count c = count_example
 
-pub returns-clause-unread : goal.returns-clause-unread
-returns-clause-unread c = unread_example
+pub returns-clause-forbidden : goal.returns-clause-forbidden
+returns-clause-forbidden c = forbidden_example

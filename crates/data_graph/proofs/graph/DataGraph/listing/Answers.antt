@@ -17,6 +17,9 @@ returns-then-is_without_shapes-clause-rows g c =
 pub listing_by-requires-clause-shapes : goal.listing_by-requires-clause-shapes
 listing_by-requires-clause-shapes g c = subst (λ (d : NamedGraph). AreNamedTriples d.terms c.args.shapes.now) (sym c.self.view_is) c.requires.shapes
 
+pub listing_by-requires-clause-words : goal.listing_by-requires-clause-words
+listing_by-requires-clause-words g c = c.self.invariant.0
+
 pub returns-clause-rows : goal.returns-clause-rows
 returns-clause-rows g c =
     let terms = c.self.inside.names.terms in

@@ -1,6 +1,7 @@
-use Rattle.std.proofs.Common.{◌≤◌, sym, subst}
-use Rattle.store_model.specs.Store.{RecordedStore}
-use Rattle.guard_store.proofs.Turning.{opened_now, named_nothing}
+use Rattle.std.proofs.Common.{◌≤◌, inr, sym, subst}
+use Rattle.store_model.specs.Store.{RecordedStore, TakesStep}
+use Rattle.guard_store.specs.Fronts.{void_of}
+use Rattle.guard_store.proofs.Turning.{opened_now, named_nothing, turned}
 use Rattle.guard_store.proofs.store.Store.take_names.Goals as goal
 
 pub name-requires : goal.name-requires
@@ -9,3 +10,9 @@ name-requires g c = opened_now c.args.self.now c.args.number c.args.pass c.start
 pub void-requires : goal.void-requires
 void-requires g c = subst (λ (s : RecordedStore). c.args.number ≤ s.state.opened) (sym (named_nothing _ _ _ _ _ c.in-Err-Memory.field-0-is c.in-Err-Memory.ensures.step))
     (opened_now c.args.self.now c.args.number c.args.pass c.start-held.result.0 c.start-held.result.1 c.requires c.start-held.ensures).1
+
+pub returns-in-Err-Memory : goal.returns-in-Err-Memory
+returns-in-Err-Memory g c =
+    let step = subst (λ (s : RecordedStore). TakesStep s c.void.new.self (void_of c.args.number)) (named_nothing _ _ _ _ _ c.in-Err-Memory.field-0-is c.in-Err-Memory.ensures.step) c.void.ensures in
+    inr (turned c.args.self.now.limits c.args.pass c.start-held.result.0 c.finish-in-Err-Memory.result c.start-held.result.1 c.void.new.self _ c.start-held.ensures step
+    (c.finish-in-Err-Memory.ensures c.args.pass c.start-held.result.1 _ c.start-held.ensures step))

@@ -1,4 +1,0 @@
-pub mod Components
-pub mod Readings
-pub mod Standing
-pub mod Binding

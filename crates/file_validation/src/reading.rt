@@ -1,0 +1,49 @@
+ghost use Rattle.std.specs.Prelude.{◌≡◌, ◌≤◌, ◌<◌, ◌^◌, length, IfOk, MatchResult};
+ghost use Rattle.collections.specs.Ordered.{IsAscending};
+ghost use Rattle.rdf_lexical.specs.Refusals.{Refuses};
+ghost use Rattle.rdf_model.specs.Terms.{triple_cmp};
+ghost use Rattle.shape_reader.specs.Faults as reader;
+ghost use Rattle.shape_rules.specs.Broken.{IsWellFormed};
+ghost use Rattle.turtle_reader.specs.Document.{reads};
+ghost use Rattle.file_validation.specs.Validations.{IsRead};
+
+use collections::Sequence;
+use outside::Maker;
+use rdf_lexical::ReadFault;
+use rdf_model::Triple;
+use shape_reader::{ShapeFault, read_shapes};
+use shapes_graph::ShapesGraph;
+use std::alloc::Global;
+use turtle_reader::read;
+
+/// The triples of a Turtle text, each once, in their order. Its blank nodes belong to the session and are numbered from 1.
+pub(crate) fn triples_of(
+    alloc: Global,
+    session: u32,
+    text: &[u8],
+) -> Result<Sequence<Triple>, ReadFault>
+    requires session { (1 ≤ session) × (session ≤ 64) }
+    requires room { length text.now < 2 ^ 31 }
+    ensures read { MatchResult result (IsRead session text.now) (λ fault. Refuses fault (reads text.now session 1)) }
+    ensures ascending { IfOk result (IsAscending triple_cmp) }
+{
+    let mut next = 1;
+    let triples = read(alloc, session, &mut next, text)?;
+    Ok(triples)
+}
+
+/// The shapes graph of the triples, if they are well-formed and the maker builds their patterns.
+pub(crate) fn shapes_of<M: Maker>(
+    alloc: Global,
+    maker: &mut M,
+    triples: Sequence<Triple>,
+) -> Result<ShapesGraph, ShapeFault>
+    requires { IsAscending triple_cmp triples }
+    ensures answer { MatchResult result
+        (λ graph. IsWellFormed triples × (graph ≡ triples))
+        (λ fault. reader.IsCause triples fault (M.refused maker.old) (M.refused maker.new)) }
+    ensures refused { IfOk result (λ _. M.refused maker.new ≡ M.refused maker.old) }
+{
+    let shapes = read_shapes(alloc, maker, triples.as_slice())?;
+    Ok(ShapesGraph::new(alloc, triples, shapes)?)
+}

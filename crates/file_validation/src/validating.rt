@@ -1,0 +1,74 @@
+ghost use Rattle.std.specs.Prelude.{◌≡◌, ◌<◌, ◌^◌, length, IfOk, MatchResult};
+ghost use Rattle.collections.specs.Ordered.{IsAscending};
+ghost use Rattle.rdf_model.specs.Terms.{triple_cmp};
+ghost use Rattle.file_validation.specs.Validations.{IsCause, IsReported, IsValidation};
+
+use crate::InputFault;
+use crate::reading::{shapes_of, triples_of};
+use crate::results::listing;
+use outside::Maker;
+use rdf_lexical::ReadFault;
+use rdf_model::{Text, Triple};
+use report_writer::report;
+use shapes_graph::ShapesGraph;
+use std::alloc::{AllocError, Global};
+
+// The sessions of the blank nodes of the two texts.
+const DATA_SESSION: u32 = 1;
+
+const SHAPES_SESSION: u32 = 2;
+
+/// The outcome of a validation.
+#[derive(Debug, Drop)]
+pub struct Validation {
+    /// Whether there is no result (SHACL section 3.6.1.1).
+    pub conforms: bool,
+    /// The text of the report (SHACL section 3.6), in Turtle.
+    pub report: Text,
+}
+
+// The validation of a graph by a shapes graph.
+fn validation_of(
+    alloc: Global,
+    graph: &[Triple],
+    shapes: &ShapesGraph,
+) -> Result<Validation, AllocError>
+    requires { IsAscending triple_cmp graph.now }
+    ensures { IfOk result (IsReported graph.now shapes.now) }
+{
+    let rows = listing(alloc, graph, shapes)?;
+    let text = report(alloc, rows.as_slice(), shapes.shapes())?;
+    Ok(Validation {
+        conforms: rows.is_empty(),
+        report: Text::from_string(text),
+    })
+}
+
+/// Validates a data graph by a shapes graph (SHACL section 3.4), both Turtle texts, and writes the report. Blank nodes of
+/// the data belong to session 1 and those of the shapes to session 2, each numbered from 1. The maker builds the patterns.
+///
+/// A fault tells its cause: the data is refused first, then the shapes, then a broken rule, then a pattern.
+pub fn validate<M: Maker>(
+    alloc: Global,
+    maker: &mut M,
+    data_text: &[u8],
+    shapes_text: &[u8],
+) -> Result<Validation, InputFault>
+    requires data { length data_text.now < 2 ^ 31 }
+    requires shapes { length shapes_text.now < 2 ^ 31 }
+    ensures answer { MatchResult result (IsValidation data_text.now shapes_text.now) (IsCause data_text.now shapes_text.now (M.refused maker.old) (M.refused maker.new)) }
+    ensures refused { IfOk result (λ _. M.refused maker.new ≡ M.refused maker.old) }
+{
+    let graph = match triples_of(alloc, DATA_SESSION, data_text) {
+        Ok(triples) => triples,
+        Err(ReadFault::Refusal { line, kind }) => return Err(InputFault::Data { line, kind }),
+        Err(ReadFault::Memory) => return Err(InputFault::Memory),
+    };
+    let triples = match triples_of(alloc, SHAPES_SESSION, shapes_text) {
+        Ok(triples) => triples,
+        Err(ReadFault::Refusal { line, kind }) => return Err(InputFault::Shapes { line, kind }),
+        Err(ReadFault::Memory) => return Err(InputFault::Memory),
+    };
+    let shapes_graph = shapes_of(alloc, maker, triples)?;
+    Ok(validation_of(alloc, graph.as_slice(), &shapes_graph)?)
+}

@@ -1,0 +1,26 @@
+use Rattle.std.proofs.Common.{List, ap, refl, subst, inl, inr}
+use Rattle.rdf_model.specs.declared.term.Term.{Term}
+use Rattle.rdf_model.specs.declared.triple.Triple.{Triple}
+use Rattle.session_model.specs.declared.command.Command.TheVariants as commands
+use Rattle.shape_reader.specs.Parts.{IsRefused}
+use Rattle.shape_rules.specs.Broken.{IsLeast, IsWellFormed}
+use Rattle.session_reader.proofs.checking.check_graph.Goals as goal
+
+pub new-requires-clause-well_formed : goal.new-requires-clause-well_formed
+new-requires-clause-well_formed g c = subst (λ (ts : List Triple). IsWellFormed ts) c.as_slice.ensures c.in-Ok.ensures.answer.0
+
+pub returns-in-Ok-clause-command : goal.returns-in-Ok-clause-command
+returns-in-Ok-clause-command g c =
+    inl (subst (λ (ts : List Triple). IsWellFormed ts) c.as_slice.ensures c.in-Ok.ensures.answer.0, ap commands.Shapes c.in_ok-new-in-Ok.ensures, c.in-Ok.ensures.refused)
+
+pub returns-in-Err-Rule-clause-command : goal.returns-in-Err-Rule-clause-command
+returns-in-Err-Rule-clause-command g c =
+    let h = rw c.in-Err-Rule.field-0-is at c.in-Err-Rule.ensures.answer in
+    rw c.in-Err-Rule.field-0-is
+    (inr (inl (c.in-Err-Rule.row, subst (λ (ts : List Triple). IsLeast ts c.in-Err-Rule.row) c.as_slice.ensures h.0, ap (λ (n : Term). commands.BrokenShapes c.in-Err-Rule.row.rule n) (rw c.in-Err-Rule.field-0-is at c.in_ok-clone-in-Err-Rule.ensures.cases), h.1)))
+
+pub returns-in-Err-Pattern-clause-command : goal.returns-in-Err-Pattern-clause-command
+returns-in-Err-Pattern-clause-command g c =
+    let h = rw c.in-Err-Pattern.field-0-is at c.in-Err-Pattern.ensures.answer in
+    rw c.in-Err-Pattern.field-0-is
+    (inr (inr (c.in-Err-Pattern.node, subst (λ (ts : List Triple). IsWellFormed ts) c.as_slice.ensures h.0, subst (λ (ts : List Triple). IsRefused ts c.in-Err-Pattern.node (g.M.Maker.refused c.args.maker.now) (g.M.Maker.refused c.read_shapes.new.maker)) c.as_slice.ensures h.1, refl)))

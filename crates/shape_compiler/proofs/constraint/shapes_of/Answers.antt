@@ -1,5 +1,0 @@
-use Rattle.shape_compiler.proofs.Constraints.{shapes_told}
-use Rattle.shape_compiler.proofs.constraint.shapes_of.Goals as goal
-
-pub returns-in_ok-places-in-Some : goal.returns-in_ok-places-in-Some
-returns-in_ok-places-in-Some c = shapes_told c.args.graph.now c.args.nodes.now c.args.head.now c.in-Some.members (rw c.in-Some.is at c.in_ok-members.ensures) _ (rw c.as_slice.ensures at c.in_ok-places-in-Some.ensures)

@@ -1,8 +1,0 @@
-use Rattle.std.proofs.Common.{ℕ, [], take}
-use Rattle.rdf_model.specs.declared.term.Term.{Term}
-use Rattle.shape_syntax.specs.Gathering.{HasGathered}
-use Rattle.shape_compiler.specs.Parts.{IsPlace}
-use Rattle.shape_compiler.proofs.place.places_among.Given as goal
-
-abbrev pub invariant-loop-term : goal.invariant-loop-term
-invariant-loop-term l = HasGathered (λ (t : Term) (k : ℕ). IsPlace l.nodes k t) (take l.term-index l.terms) [] l.places

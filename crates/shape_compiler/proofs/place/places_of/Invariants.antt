@@ -1,6 +1,0 @@
-use Rattle.std.proofs.Common.{take}
-use Rattle.shape_compiler.specs.Parts.{ArePlaces}
-use Rattle.shape_compiler.proofs.place.places_of.Given as goal
-
-abbrev pub invariant-loop-term : goal.invariant-loop-term
-invariant-loop-term l = ArePlaces l.nodes l.places (take l.term-index l.terms)

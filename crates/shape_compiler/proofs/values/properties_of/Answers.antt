@@ -1,6 +1,0 @@
-use Rattle.shape_rules.specs.declared.property.ShapeProperty.TheVariants as vocabulary
-use Rattle.shape_compiler.proofs.Gathered.{values_placed}
-use Rattle.shape_compiler.proofs.values.properties_of.Goals as goal
-
-pub returns : goal.returns
-returns c = values_placed c.args.graph.now c.args.nodes.now c.args.node.now vocabulary.Property c.in_ok-found.found c.in_ok-places.places c.in_ok-found.ensures (rw c.as_slice.ensures at c.in_ok-places.ensures)

@@ -1,0 +1,27 @@
+use Rattle.std.proofs.Common.{◌∙◌, ℕ, ◌+◌, Bool, List, length, ap, arith, get_or}
+use Rattle.std.proofs.lemmas.List.{length_push}
+use Rattle.std.proofs.lemmas.List.Elements.{Contains-get_or}
+use Rattle.rdf_model.specs.Numbers.{graph_of, term_at}
+use Rattle.shape_model.specs.Instances.{Instance}
+use Rattle.component_rows.proofs.Told.{tells_more, tells_all}
+use Rattle.shape_eval.proofs.by_term.instance_answers.Goals as goal
+
+pub loop-node-preserved : goal.loop-node-preserved
+loop-node-preserved g c =
+    let nodes = c.args.nodes.now in
+    let i = c.loop-node.node-index in
+    let before = c.loop-node.invariant in (
+      ap (λ (answers : List Bool). length answers) c.in_ok-push.ensures.items ∙ length_push c.loop-node.answers.items c.in_ok-is_instance.field-0 ∙ ap (λ (n : ℕ). n + 1) before.0,
+      λ terms numbering numbered words are lt.
+          tells_more (λ k. Instance (graph_of terms (g.R.Triples.triples c.args.graph.now)) (term_at terms (get_or nodes k 0)) (term_at terms c.args.class)) c.loop-node.answers.items c.push.new.self.items i c.in_ok-is_instance.field-0
+          c.in_ok-push.ensures.items (before.1 terms numbering numbered words are lt)
+          (c.in_ok-is_instance.ensures.answer terms numbering numbered words (are.named (get_or nodes i 0) (Contains-get_or nodes i 0 c.loop-node-test.true)) lt),
+    )
+
+pub returns-clause-as_many : goal.returns-clause-as_many
+returns-clause-as_many g c = let count = c.loop-node.invariant.0 in omega (arith, count, c.loop-node-test.false, c.loop-node.auto.node-index-end)
+
+pub returns-clause-told : goal.returns-clause-told
+returns-clause-told g c = λ terms numbering numbered words are lt.
+    tells_all (λ k. Instance (graph_of terms (g.R.Triples.triples c.args.graph.now)) (term_at terms (get_or c.args.nodes.now k 0)) (term_at terms c.args.class)) c.loop-node.answers.items c.loop-node.node-index (length c.args.nodes.now)
+    c.loop-node-test.false c.loop-node.auto.node-index-end (c.loop-node.invariant.1 terms numbering numbered words are lt)

@@ -1,0 +1,176 @@
+use Rattle.std.proofs.Common.{◌≡◌, ◌∙◌, ◌+◌, ◌-◌, ◌*◌, ◌<◌, ℕ, Bool, List, get_or, length, map, vec_len, ap, arith, rules, sym, subst, inl, inr}
+use Rattle.std.specs.List.{All, Contains}
+use Rattle.std.proofs.lemmas.List.{length_push}
+use Rattle.std.proofs.lemmas.List.Elements.{Contains-get_or}
+use Rattle.rdf_model.specs.declared.triple.Triple.{Triple}
+use Rattle.rdf_model.specs.Numbers.{graph_of, term_at}
+use Rattle.shape_model.specs.declared.result_row.ResultRow.{ResultRow}
+use Rattle.component_rows.specs.Answers.{AreAnswersTo}
+use Rattle.component_rows.specs.Listed.{Collects}
+use Rattle.component_rows.specs.Nodes.{AreNodes}
+use Rattle.component_rows.proofs.Collecting.{loop_all, loop_more}
+use Rattle.shape_ast.specs.declared.constraint.Constraint.{Constraint}
+use Rattle.shape_ast.specs.Readings.{named_shapes, read_constraint, read_shape}
+use Rattle.shape_ast.specs.Standing.{IsLinked, StandFor}
+use Rattle.shape_eval.specs.declared.told.Told.{Told}
+use Rattle.shape_eval.specs.Around.{around}
+use Rattle.shape_eval.specs.Results.{AtPlace, CollectsAt}
+use Rattle.shape_eval.specs.ShapeRows.{FromSome, OwnRow, PropertyAt}
+use Rattle.shape_eval.specs.Told.{AreRight, AsksSome, ConformsAt, WhereRight, answers_of, node_at}
+use Rattle.shape_eval.proofs.Depths.{all_at, nothing_at}
+use Rattle.shape_eval.proofs.Evaluations.{answered_all, answered_more, collected_all, collected_more, empty_when, entries_have, entries_more, entries_right, entry_right, places_at, property_at, values_at}
+use Rattle.shape_eval.proofs.Lookups.{named_place, node_got, of_place, taken_at}
+use Rattle.shape_eval.proofs.evaluation.+evaluation.Goals.{rows_at-then-levels-eq0-via-then-levels-eq0, rows_at-then-levels-eq0-via-else-levels-eq0+then-shape}
+use Rattle.shape_eval.proofs.evaluation.+evaluation.Goals as goal
+
+pub answers_at-rows_at-requires : goal.answers_at-rows_at-requires
+answers_at-rows_at-requires g t c κs within =
+    let less : 3 * c.args.levels < 3 * c.args.levels + 1 = omega arith in
+    let values = c.args.values.now in
+    let i = c.loop-value.value-index in
+    let focus = c.requires.nodes.named (get_or values i 0) (Contains-get_or values i 0 c.loop-value-test.true) in
+    (subst (λ (n : ℕ). 3 * c.args.levels < n) c.decreases less, (within.0, (within.1, (c.requires.numbering, (c.requires.graph, (c.requires.words, (c.requires.bound, (c.requires.built, (c.requires.place, focus)))))))))
+
+pub answers_at-loop-value-preserved : goal.answers_at-loop-value-preserved
+answers_at-loop-value-preserved g t c =
+    let terms = g.N.Names.terms c.args.names.now in
+    let ids = g.R.Triples.triples c.args.graph.now in
+    let before = c.loop-value.invariant in
+    let rows = c.in_ok-rows.rows in
+    let many : vec_len rows ≡ length rows.items = search rules in (
+      ap (λ (answers : List Bool). length answers) c.in_ok-push.ensures.items ∙ length_push c.loop-value.answers.items c.is_empty.result ∙ ap (λ (n : ℕ). n + 1) before.0,
+      answered_more terms ids c.args.shapes.now c.args.levels c.args.place c.args.values.now c.loop-value.value-index c.loop-value.answers.items c.push.new.self.items c.is_empty.result rows.items c.in_ok-push.ensures.items before.1 c.in_ok-rows.ensures
+          (empty_when c.is_empty.result (vec_len rows) rows.items c.is_empty.ensures many),
+    )
+
+pub answers_at-returns-clause-as_many : goal.answers_at-returns-clause-as_many
+answers_at-returns-clause-as_many g t c = let count = c.loop-value.invariant.0 in omega (arith, count, c.loop-value-test.false, c.loop-value.auto.value-index-end)
+
+pub answers_at-returns-clause-told : goal.answers_at-returns-clause-told
+answers_at-returns-clause-told g t c =
+    answered_all (g.N.Names.terms c.args.names.now) (g.R.Triples.triples c.args.graph.now) c.args.shapes.now c.args.levels c.args.place c.args.values.now c.loop-value.value-index c.loop-value.answers.items
+    c.loop-value-test.false c.loop-value.auto.value-index-end c.loop-value.invariant.1
+
+pub told_of_each-loop-place-preserved : goal.told_of_each-loop-place-preserved
+told_of_each-loop-place-preserved g t c =
+    let terms = g.N.Names.terms c.args.names.now in
+    let ids = g.R.Triples.triples c.args.graph.now in
+    let shapes = c.args.shapes.now in
+    let values = c.args.values.now in
+    let i = c.loop-place.place-index in
+    let place = get_or c.args.places.now i 0 in
+    let within = c.requires.places i 0 c.loop-place-test.true in
+    let entry : Told = record { node = (get_or shapes place c.index-shapes-place.result).node; answers = c.from_vec.result } in
+    let node = node_got shapes place c.index-shapes-place.result within in
+    entries_more terms ids shapes c.args.levels values c.args.places.now i c.loop-place.told.items c.push.new.self.items entry c.loop-place-test.true c.in_ok-push.ensures.items c.loop-place.invariant node
+    (ap (λ (answers : List Bool). length answers) c.from_vec.ensures ∙ c.in_ok-answers.ensures.as_many)
+    (entry_right terms ids shapes c.args.levels values place entry node within (subst (λ (answers : List Bool). AtPlace terms shapes place (λ s m. AreAnswersTo (ConformsAt (graph_of terms ids) s c.args.levels m.node) terms values answers)) (sym c.from_vec.ensures) c.in_ok-answers.ensures.told))
+
+pub told_of_each-returns-clause-as_many : goal.told_of_each-returns-clause-as_many
+told_of_each-returns-clause-as_many g t c =
+    entries_have (g.N.Names.terms c.args.names.now) (g.R.Triples.triples c.args.graph.now) c.args.shapes.now c.args.levels c.args.values.now c.args.places.now c.loop-place.place-index c.loop-place-test.false c.loop-place.told.items c.loop-place.invariant
+
+pub told_of_each-returns-clause-right : goal.told_of_each-returns-clause-right
+told_of_each-returns-clause-right g t c =
+    entries_right (g.N.Names.terms c.args.names.now) (g.R.Triples.triples c.args.graph.now) c.args.shapes.now c.args.levels c.args.values.now c.args.places.now c.loop-place.place-index c.loop-place-test.false c.loop-place.told.items c.loop-place.invariant
+
+pub rows_at_each-rows_at-requires : goal.rows_at_each-rows_at-requires
+rows_at_each-rows_at-requires g t c κs within =
+    let less : 3 * c.args.levels < 3 * c.args.levels + 1 = omega arith in
+    let values = c.args.values.now in
+    let i = c.loop-value.value-index in
+    let focus = c.requires.nodes.named (get_or values i 0) (Contains-get_or values i 0 c.loop-value-test.true) in
+    (subst (λ (n : ℕ). 3 * c.args.levels < n) c.decreases less, (within.0, (within.1, (c.requires.numbering, (c.requires.graph, (c.requires.words, (c.requires.bound, (c.requires.built, (c.requires.place, focus)))))))))
+
+pub rows_at_each-loop-value-preserved : goal.rows_at_each-loop-value-preserved
+rows_at_each-loop-value-preserved g t c =
+    collected_more (g.N.Names.terms c.args.names.now) (g.R.Triples.triples c.args.graph.now) c.args.shapes.now c.args.levels c.args.place c.args.values.now c.loop-value.value-index c.loop-value.rows.items c.in_ok-more.more.items c.append.new.self.items
+    c.loop-value-test.true c.in_ok-append.ensures.items c.loop-value.invariant c.in_ok-more.ensures
+
+pub rows_at_each-returns : goal.rows_at_each-returns
+rows_at_each-returns g t c =
+    collected_all (g.N.Names.terms c.args.names.now) (g.R.Triples.triples c.args.graph.now) c.args.shapes.now c.args.levels c.args.place c.args.values.now c.loop-value.value-index c.loop-value.rows.items c.loop-value-test.false c.loop-value.invariant
+
+pub property_rows-loop-place-preserved : goal.property_rows-loop-place-preserved
+property_rows-loop-place-preserved g t c = λ s f stand.
+    let terms = g.N.Names.terms c.args.names.now in
+    let ids = g.R.Triples.triples c.args.graph.now in
+    let shapes = c.args.shapes.now in
+    let values = c.args.values.now in
+    let places = c.args.places.now in
+    let i = c.loop-place.place-index in
+    loop_more (PropertyAt (around terms ids s c.args.levels values f) (named_shapes terms shapes)) places i 0 c.loop-place.rows.items c.append.new.self.items c.loop-place-test.true (c.loop-place.invariant s f stand)
+    (c.in_ok-more.more.items, c.in_ok-append.ensures.items, property_at terms ids shapes c.args.levels (get_or places i 0) values f c.in_ok-more.more.items (c.requires.places i 0 c.loop-place-test.true) c.in_ok-more.ensures s stand)
+
+pub property_rows-returns : goal.property_rows-returns
+property_rows-returns g t c = λ s f stand.
+    let terms = g.N.Names.terms c.args.names.now in
+    loop_all (PropertyAt (around terms (g.R.Triples.triples c.args.graph.now) s c.args.levels c.args.values.now f) (named_shapes terms c.args.shapes.now)) c.args.places.now c.loop-place.place-index c.loop-place.rows.items c.loop-place-test.false (c.loop-place.invariant s f stand)
+
+pub rows_at-returns-then-levels-eq0 : goal.rows_at-returns-then-levels-eq0
+rows_at-returns-then-levels-eq0 g t c =
+    let terms = g.N.Names.terms c.args.names.now in
+    let ids = g.R.Triples.triples c.args.graph.now in
+    let shapes = c.args.shapes.now in
+    let x = c.index-shapes-place.result in
+    let taken = taken_at shapes c.args.place x c.requires.place c.index-shapes-place.is in
+    let nothing = nothing_at terms ids shapes c.args.place x taken c.args.focus c.args.levels (elim c.then-levels-eq0.branch [
+      | rows_at-then-levels-eq0-via-then-levels-eq0 w ↦ inl (omega (arith, w.if-levels-eq0.true))
+      | rows_at-then-levels-eq0-via-else-levels-eq0+then-shape w ↦ inr w.if-shape.true
+    ]) in
+    subst (λ (rows : List ResultRow). CollectsAt terms ids shapes c.args.levels c.args.place c.args.focus rows) (sym c.new.ensures.items) nothing
+
+pub rows_at-told_of_each-requires : goal.rows_at-told_of_each-requires
+rows_at-told_of_each-requires g t c κs within =
+    let terms = g.N.Names.terms c.args.names.now in
+    let ids = g.R.Triples.triples c.args.graph.now in
+    let shapes = c.args.shapes.now in
+    let x = c.index-shapes-place.result in
+    let taken = taken_at shapes c.args.place x c.requires.place c.index-shapes-place.is in
+    let less : 3 * (c.args.levels - 1) + 2 < 3 * c.args.levels = omega (arith, c.if-levels-eq0.false) in
+    let places = subst (λ (ns : List ℕ). All (λ n. n < length shapes) ns) (sym c.deref.ensures.value) (places_at terms shapes c.requires.bound c.args.place x taken c.as_slice.result.now c.in_ok-asked.asked.items c.as_slice.ensures c.in_ok-asked.ensures) in
+    let values = values_at terms shapes c.requires.bound c.args.place x taken ids c.args.focus c.in_ok-values.values.items c.requires.numbering c.requires.graph c.requires.focus c.in_ok-values.ensures in
+    let nodes = subst (λ (ns : List ℕ). AreNodes terms ns) (sym c.deref-2.ensures.value) values.nodes in
+    (subst (λ (n : ℕ). 3 * (c.args.levels - 1) + 2 < n) c.decreases less, (within.0, (within.1, (c.requires.numbering, (c.requires.graph, (c.requires.words, (c.requires.bound, (c.requires.built, (places, nodes)))))))))
+
+pub rows_at-own_rows-requires-clause-nodes : goal.rows_at-own_rows-requires-clause-nodes
+rows_at-own_rows-requires-clause-nodes g t c =
+    let terms = g.N.Names.terms c.args.names.now in
+    let shapes = c.args.shapes.now in
+    let x = c.index-shapes-place.result in
+    let taken = taken_at shapes c.args.place x c.requires.place c.index-shapes-place.is in
+    let values = values_at terms shapes c.requires.bound c.args.place x taken (g.R.Triples.triples c.args.graph.now) c.args.focus c.in_ok-values.values.items c.requires.numbering c.requires.graph c.requires.focus c.in_ok-values.ensures in
+    subst (λ (ns : List ℕ). AreNodes terms ns) (sym c.deref-4.ensures.value) values.nodes
+
+pub rows_at-own_rows-requires-clause-told : goal.rows_at-own_rows-requires-clause-told
+rows_at-own_rows-requires-clause-told g t c = λ p asks.
+    let asked = subst (λ (ns : List ℕ). Contains ns p) (sym c.deref.ensures.value) ((c.in_ok-asked.ensures p).1 (subst (λ (ks : List (Constraint ℕ)). AsksSome c.index-shapes-place.result ks p) (sym c.as_slice.ensures) asks)) in
+    subst (λ (told : List Told). length (answers_of told (node_at c.args.shapes.now p)) ≡ length c.deref-4.result.now) (sym c.deref-3.ensures.value)
+    (c.in_ok-told.ensures.as_many p asked ∙ ap (λ (ns : List ℕ). length ns) (c.deref-2.ensures.value ∙ sym c.deref-4.ensures.value))
+
+pub rows_at-returns : goal.rows_at-returns
+rows_at-returns g t c =
+    let terms = g.N.Names.terms c.args.names.now in
+    let ids = g.R.Triples.triples c.args.graph.now in
+    let shapes = c.args.shapes.now in
+    let named = named_shapes terms shapes in
+    let f = c.args.focus in
+    let below = c.args.levels - 1 in
+    let x = c.index-shapes-place.result in
+    let taken = taken_at shapes c.args.place x c.requires.place c.index-shapes-place.is in
+    let nodes = c.in_ok-values.values.items in
+    let told = c.deref-3.result.now in
+    let own = c.in_ok-rows.rows.items in
+    let more = c.in_ok-more.more.items in
+    let values = values_at terms shapes c.requires.bound c.args.place x taken ids f nodes c.requires.numbering c.requires.graph c.requires.focus c.in_ok-values.ensures in
+    let own_given = subst (λ (ns : List ℕ). WhereRight terms ids shapes ns told (AsksSome x x.constraints) (λ s n. All (IsLinked named) (map (read_constraint (term_at terms)) x.constraints)
+    → Collects (OwnRow (around terms ids s n ns f) named (read_shape (term_at terms) x) (term_at terms f)) own)) c.deref-4.ensures.value c.in_ok-rows.ensures in
+    let more_given = subst (λ (ns : List ℕ). (s : List Triple) (f : ℕ) → StandFor named s → Collects (FromSome c.as_slice-properties.result.now (PropertyAt (around terms ids s below ns f) named)) more) c.deref-5.ensures.value c.in_ok-more.ensures in
+    let right_given = subst (λ (ts : List Told). (s : List Triple) → StandFor named s → AreRight terms ids s below shapes c.deref-2.result.now ts (Contains c.deref.result.now)) (sym c.deref-3.ensures.value) c.in_ok-told.ensures.right in
+    let asked = λ (p : ℕ) (asks : AsksSome x x.constraints p). subst (λ (ns : List ℕ). Contains ns p) (sym c.deref.ensures.value) ((c.in_ok-asked.ensures p).1 (subst (λ (ks : List (Constraint ℕ)). AsksSome x ks p) (sym c.as_slice.ensures) asks)) in
+    let linked = λ (s : List Triple) (stand : StandFor named s). stand.linked (read_shape (term_at terms) x) (of_place named c.args.place (read_shape (term_at terms) x) (named_place terms shapes c.args.place x taken)) in
+    let right = subst (λ (ns : List ℕ). (s : List Triple) → StandFor named s → AreRight terms ids s below shapes ns told (AsksSome x x.constraints)) c.deref-2.ensures.value (λ s stand p asks. right_given s stand p (asked p asks)) in
+    all_at terms ids shapes c.args.place x taken f c.args.levels below (omega (arith, c.if-levels-eq0.false)) nodes values (λ d. let off = c.if-shape.false in cc) own more c.append.new.self.items
+    (λ s stand. own_given s below (right s stand) (linked s stand))
+    (λ s stand. subst (λ (ps : List ℕ). Collects (FromSome ps (PropertyAt (around terms ids s below nodes f) named)) more) c.as_slice-properties.ensures (more_given s f stand))
+    c.in_ok-append.ensures.items

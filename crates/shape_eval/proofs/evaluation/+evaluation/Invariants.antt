@@ -1,0 +1,58 @@
+use Rattle.std.proofs.Common.{◌≡◌, ◌+◌, ◌*◌, ℕ, List, get_or, length, map, take}
+use Rattle.std.specs.List.{Contains}
+use Rattle.rdf_model.specs.declared.triple.Triple.{Triple}
+use Rattle.rdf_model.specs.Numbers.{graph_of, term_at}
+use Rattle.shape_model.specs.Readings.{reading}
+use Rattle.shape_model.specs.Validation.{AtDepth}
+use Rattle.component_rows.specs.Answers.{AreAnswersTo, Tells}
+use Rattle.component_rows.specs.Listed.{Collects}
+use Rattle.shape_ast.specs.Readings.{named_shapes}
+use Rattle.shape_ast.specs.Standing.{StandFor}
+use Rattle.shape_eval.specs.declared.told.Told.{Told}
+use Rattle.shape_eval.specs.Around.{around}
+use Rattle.shape_eval.specs.Results.{AtPlace}
+use Rattle.shape_eval.specs.ShapeRows.{FromSome, PropertyAt}
+use Rattle.shape_eval.specs.Told.{ConformsAt, node_at}
+use Rattle.shape_eval.proofs.evaluation.+evaluation.Given as goal
+
+abbrev pub decreases-rows_at : goal.decreases-rows_at
+decreases-rows_at g l = 3 * l.levels
+
+abbrev pub decreases-answers_at : goal.decreases-answers_at
+decreases-answers_at g l = 3 * l.levels + 1
+
+abbrev pub decreases-rows_at_each : goal.decreases-rows_at_each
+decreases-rows_at_each g l = 3 * l.levels + 1
+
+abbrev pub decreases-told_of_each : goal.decreases-told_of_each
+decreases-told_of_each g l = 3 * l.levels + 2
+
+abbrev pub decreases-property_rows : goal.decreases-property_rows
+decreases-property_rows g l = 3 * l.levels + 2
+
+-- so far each answer says whether the value node conforms
+abbrev pub invariant-answers_at-loop-value : goal.invariant-answers_at-loop-value
+invariant-answers_at-loop-value g l =
+    let terms = g.N.Names.terms l.names in
+    (length l.answers.items ≡ l.value-index)
+    × AtPlace terms l.shapes l.place (λ s c. Tells (λ i. ConformsAt (graph_of terms (g.R.Triples.triples l.graph)) s l.levels c.node (term_at terms (get_or l.values i 0))) l.value-index l.answers.items)
+
+-- the entries so far are for the shapes so far
+abbrev pub invariant-told_of_each-loop-place : goal.invariant-told_of_each-loop-place
+invariant-told_of_each-loop-place g l =
+    let terms = g.N.Names.terms l.names in
+    ((p : ℕ) → Contains (take l.place-index l.places) p → Contains (map (λ t. t.node) l.told.items) (node_at l.shapes p))
+    × ((t : Told) → Contains l.told.items t → length t.answers ≡ length l.values)
+    × ((s : List Triple) → StandFor (named_shapes terms l.shapes) s → (t : Told) → Contains l.told.items t
+    → AreAnswersTo (ConformsAt (graph_of terms (g.R.Triples.triples l.graph)) s l.levels (term_at terms t.node)) terms l.values t.answers)
+
+abbrev pub invariant-rows_at_each-loop-value : goal.invariant-rows_at_each-loop-value
+invariant-rows_at_each-loop-value g l =
+    let terms = g.N.Names.terms l.names in
+    AtPlace terms l.shapes l.place (λ s c. Collects (FromSome (take l.value-index l.values) (λ v r. AtDepth l.levels (graph_of terms (g.R.Triples.triples l.graph)) (reading s) c.node (term_at terms v) r)) l.rows.items)
+
+abbrev pub invariant-property_rows-loop-place : goal.invariant-property_rows-loop-place
+invariant-property_rows-loop-place g l =
+    let terms = g.N.Names.terms l.names in
+    (s : List Triple) (f : ℕ) → StandFor (named_shapes terms l.shapes) s
+    → Collects (FromSome (take l.place-index l.places) (PropertyAt (around terms (g.R.Triples.triples l.graph) s l.levels l.values f) (named_shapes terms l.shapes))) l.rows.items

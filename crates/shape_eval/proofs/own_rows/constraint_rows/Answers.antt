@@ -1,0 +1,129 @@
+use Rattle.std.proofs.Common.{◌≡◌, ◌<◌, ℕ, List, IfOk, length, map, sym, subst}
+use Rattle.std.specs.List.{All, Contains}
+use Rattle.std.proofs.lemmas.Result.{IfOk-weaker}
+use Rattle.rdf_model.specs.declared.term.Term.{Term}
+use Rattle.rdf_model.specs.declared.ids.Ids.{Ids}
+use Rattle.rdf_model.specs.Numbers.{term_at}
+use Rattle.shape_model.specs.Components.{RowsOf, row_of}
+use Rattle.component_rows.specs.Listed.{Collects, ListsRows, at_nodes, untold, with_list}
+use Rattle.component_rows.specs.Nodes.{HasNode}
+use Rattle.shape_ast.specs.declared.constraint.Constraint.{Constraint}
+use Rattle.shape_ast.specs.declared.constraint.Constraint.TheVariants.{ByTerm, ByList, ByShape, ByShapes}
+use Rattle.shape_ast.specs.Components.{list_component, shape_component, shapes_component, term_component}
+use Rattle.shape_ast.specs.Readings.{HoldsOfConstraint, named_shapes, read_constraint, read_shape}
+use Rattle.shape_ast.specs.Standing.{AreAt, IsAt, IsLinked, shape_reading}
+use Rattle.shape_eval.specs.Around.{around}
+use Rattle.shape_eval.specs.ShapeRows.{ConstraintRow}
+use Rattle.shape_eval.specs.Told.{Asks, CountAsks, HaveAnswers, WhereRight}
+use Rattle.shape_eval.proofs.Owning.{list_around}
+use Rattle.shape_eval.proofs.own_rows.constraint_rows.Goals as goal
+
+pub term_rows-requires-clause-told : goal.term_rows-requires-clause-told
+term_rows-requires-clause-told g c = subst (λ (k : Constraint ℕ). HaveAnswers c.args.shapes.now c.args.values.now c.args.told.now (Asks c.args.shape.now k)) c.in-ByTerm.is c.requires.told
+
+pub term_rows-requires-clause-parameter : goal.term_rows-requires-clause-parameter
+term_rows-requires-clause-parameter g c = (subst (λ (k : Constraint ℕ). HoldsOfConstraint (λ n. n < length (g.N.Names.terms c.args.names.now)) (length c.args.shapes.now) k) c.in-ByTerm.is c.requires.constraint)
+
+pub returns-in-ByTerm : goal.returns-in-ByTerm
+returns-in-ByTerm g c =
+    let terms = g.N.Names.terms c.args.names.now in
+    let ids = g.R.Triples.triples c.args.graph.now in
+    let shapes = c.args.shapes.now in
+    let shape = c.args.shape.now in
+    let values = c.args.values.now in
+    let told = c.args.told.now in
+    let named = named_shapes terms shapes in
+    let read = read_shape (term_at terms) shape in
+    let f = term_at terms c.args.focus in
+    let source = c.named-source.result.now in
+    let component = c.in-ByTerm.component in
+    let q = term_at terms c.in-ByTerm.parameter in
+    subst (λ (k : Constraint ℕ). IfOk c.term_rows.result (λ rows. WhereRight terms ids shapes values told (Asks shape k) (λ s n. IsLinked named (read_constraint (term_at terms) k) → Collects (ConstraintRow (around terms ids s n values c.args.focus) named read f (read_constraint (term_at terms) k)) rows.items))) (sym c.in-ByTerm.is)
+    (IfOk-weaker c.term_rows.result (λ rows. WhereRight terms ids shapes values told (CountAsks shape component) (λ s n. ListsRows (term_component component) (around terms ids s n values c.args.focus) (shape_reading named read) source f q rows.items))
+    (λ rows. WhereRight terms ids shapes values told (Asks shape (ByTerm component c.in-ByTerm.parameter)) (λ s n. IsLinked named (read_constraint (term_at terms) (ByTerm component c.in-ByTerm.parameter)) → Collects (ConstraintRow (around terms ids s n values c.args.focus) named read f (read_constraint (term_at terms) (ByTerm component c.in-ByTerm.parameter))) rows.items))
+    (λ rows h s n right linked. subst (λ (x : Term). ListsRows (term_component component) (around terms ids s n values c.args.focus) (shape_reading named read) x f q rows.items) c.named-source.ensures (h s n right))
+    c.term_rows.ensures)
+
+pub list_rows-requires-clause-members : goal.list_rows-requires-clause-members
+list_rows-requires-clause-members g c = subst (λ (ns : List ℕ). All (λ n. n < length (g.N.Names.terms c.args.names.now)) ns) (sym c.as_slice.ensures) ((subst (λ (k : Constraint ℕ). HoldsOfConstraint (λ n. n < length (g.N.Names.terms c.args.names.now)) (length c.args.shapes.now) k) c.in-ByList.is c.requires.constraint).1)
+
+pub list_rows-requires-clause-parameter : goal.list_rows-requires-clause-parameter
+list_rows-requires-clause-parameter g c = (subst (λ (k : Constraint ℕ). HoldsOfConstraint (λ n. n < length (g.N.Names.terms c.args.names.now)) (length c.args.shapes.now) k) c.in-ByList.is c.requires.constraint).0
+
+pub returns-in-ByList : goal.returns-in-ByList
+returns-in-ByList g c =
+    let terms = g.N.Names.terms c.args.names.now in
+    let ids = g.R.Triples.triples c.args.graph.now in
+    let shapes = c.args.shapes.now in
+    let shape = c.args.shape.now in
+    let values = c.args.values.now in
+    let told = c.args.told.now in
+    let named = named_shapes terms shapes in
+    let read = read_shape (term_at terms) shape in
+    let f = term_at terms c.args.focus in
+    let source = c.named-source.result.now in
+    let component = c.in-ByList.component in
+    let q = term_at terms c.in-ByList.parameter in
+    subst (λ (k : Constraint ℕ). IfOk c.list_rows.result (λ rows. WhereRight terms ids shapes values told (Asks shape k) (λ s n. IsLinked named (read_constraint (term_at terms) k) → Collects (ConstraintRow (around terms ids s n values c.args.focus) named read f (read_constraint (term_at terms) k)) rows.items))) (sym c.in-ByList.is)
+    (IfOk-weaker c.list_rows.result (λ rows. ListsRows (list_component component) (at_nodes (HasNode terms values)) (with_list (map (term_at terms) c.as_slice.result.now)) source f q rows.items)
+    (λ rows. WhereRight terms ids shapes values told (Asks shape (ByList component c.in-ByList.parameter c.in-ByList.members)) (λ s n. IsLinked named (read_constraint (term_at terms) (ByList component c.in-ByList.parameter c.in-ByList.members)) → Collects (ConstraintRow (around terms ids s n values c.args.focus) named read f (read_constraint (term_at terms) (ByList component c.in-ByList.parameter c.in-ByList.members))) rows.items))
+    (λ rows h s n right linked. subst (λ (x : Term). ListsRows (list_component component) (around terms ids s n values c.args.focus) (with_list (map (term_at terms) c.in-ByList.members)) x f q rows.items) c.named-source.ensures (list_around terms ids s n values c.args.focus component (map (term_at terms) c.in-ByList.members) q (row_of (list_component component) source f q) rows.items (subst (λ (ns : List ℕ). ListsRows (list_component component) (at_nodes (HasNode terms values)) (with_list (map (term_at terms) ns)) source f q rows.items) c.as_slice.ensures h)))
+    c.list_rows.ensures)
+
+pub shape_rows-requires-clause-told : goal.shape_rows-requires-clause-told
+shape_rows-requires-clause-told g c = subst (λ (k : Constraint ℕ). HaveAnswers c.args.shapes.now c.args.values.now c.args.told.now (Asks c.args.shape.now k)) c.in-ByShape.is c.requires.told
+
+pub shape_rows-requires-clause-parameter : goal.shape_rows-requires-clause-parameter
+shape_rows-requires-clause-parameter g c = (subst (λ (k : Constraint ℕ). HoldsOfConstraint (λ n. n < length (g.N.Names.terms c.args.names.now)) (length c.args.shapes.now) k) c.in-ByShape.is c.requires.constraint).0
+
+pub shape_rows-requires-clause-place : goal.shape_rows-requires-clause-place
+shape_rows-requires-clause-place g c = (subst (λ (k : Constraint ℕ). HoldsOfConstraint (λ n. n < length (g.N.Names.terms c.args.names.now)) (length c.args.shapes.now) k) c.in-ByShape.is c.requires.constraint).1
+
+pub returns-in-ByShape : goal.returns-in-ByShape
+returns-in-ByShape g c =
+    let terms = g.N.Names.terms c.args.names.now in
+    let ids = g.R.Triples.triples c.args.graph.now in
+    let shapes = c.args.shapes.now in
+    let shape = c.args.shape.now in
+    let values = c.args.values.now in
+    let told = c.args.told.now in
+    let named = named_shapes terms shapes in
+    let read = read_shape (term_at terms) shape in
+    let f = term_at terms c.args.focus in
+    let source = c.named-source.result.now in
+    let component = c.in-ByShape.component in
+    let q = term_at terms c.in-ByShape.parameter in
+    subst (λ (k : Constraint ℕ). IfOk c.shape_rows.result (λ rows. WhereRight terms ids shapes values told (Asks shape k) (λ s n. IsLinked named (read_constraint (term_at terms) k) → Collects (ConstraintRow (around terms ids s n values c.args.focus) named read f (read_constraint (term_at terms) k)) rows.items))) (sym c.in-ByShape.is)
+    (IfOk-weaker c.shape_rows.result (λ rows. (is : List Ids) → WhereRight terms is shapes values told (λ n. c.in-ByShape.place ≡ n) (λ s n. IsAt named c.in-ByShape.place q → ListsRows (shape_component component) (around terms is s n values c.args.focus) untold source f q rows.items))
+    (λ rows. WhereRight terms ids shapes values told (Asks shape (ByShape component c.in-ByShape.parameter c.in-ByShape.place)) (λ s n. IsLinked named (read_constraint (term_at terms) (ByShape component c.in-ByShape.parameter c.in-ByShape.place)) → Collects (ConstraintRow (around terms ids s n values c.args.focus) named read f (read_constraint (term_at terms) (ByShape component c.in-ByShape.parameter c.in-ByShape.place))) rows.items))
+    (λ rows h s n right linked. subst (λ (x : Term). ListsRows (shape_component component) (around terms ids s n values c.args.focus) untold x f q rows.items) c.named-source.ensures (h ids s n right linked))
+    c.shape_rows.ensures)
+
+pub shapes_rows-requires-clause-told : goal.shapes_rows-requires-clause-told
+shapes_rows-requires-clause-told g c = subst (λ (ns : List ℕ). HaveAnswers c.args.shapes.now c.args.values.now c.args.told.now (Contains ns)) (sym c.as_slice-in-ByShapes.ensures) (subst (λ (k : Constraint ℕ). HaveAnswers c.args.shapes.now c.args.values.now c.args.told.now (Asks c.args.shape.now k)) c.in-ByShapes.is c.requires.told)
+
+pub shapes_rows-requires-clause-parameter : goal.shapes_rows-requires-clause-parameter
+shapes_rows-requires-clause-parameter g c = (subst (λ (k : Constraint ℕ). HoldsOfConstraint (λ n. n < length (g.N.Names.terms c.args.names.now)) (length c.args.shapes.now) k) c.in-ByShapes.is c.requires.constraint).0
+
+pub shapes_rows-requires-clause-places : goal.shapes_rows-requires-clause-places
+shapes_rows-requires-clause-places g c = subst (λ (ns : List ℕ). All (λ n. n < length c.args.shapes.now) ns) (sym c.as_slice-in-ByShapes.ensures) ((subst (λ (k : Constraint ℕ). HoldsOfConstraint (λ n. n < length (g.N.Names.terms c.args.names.now)) (length c.args.shapes.now) k) c.in-ByShapes.is c.requires.constraint).1)
+
+pub returns-in-ByShapes : goal.returns-in-ByShapes
+returns-in-ByShapes g c =
+    let terms = g.N.Names.terms c.args.names.now in
+    let ids = g.R.Triples.triples c.args.graph.now in
+    let shapes = c.args.shapes.now in
+    let shape = c.args.shape.now in
+    let values = c.args.values.now in
+    let told = c.args.told.now in
+    let named = named_shapes terms shapes in
+    let read = read_shape (term_at terms) shape in
+    let f = term_at terms c.args.focus in
+    let source = c.named-source.result.now in
+    let component = c.in-ByShapes.component in
+    let q = term_at terms c.in-ByShapes.parameter in
+    subst (λ (k : Constraint ℕ). IfOk c.shapes_rows.result (λ rows. WhereRight terms ids shapes values told (Asks shape k) (λ s n. IsLinked named (read_constraint (term_at terms) k) → Collects (ConstraintRow (around terms ids s n values c.args.focus) named read f (read_constraint (term_at terms) k)) rows.items))) (sym c.in-ByShapes.is)
+    (IfOk-weaker c.shapes_rows.result (λ rows. (is : List Ids) → WhereRight terms is shapes values told (Contains c.in-ByShapes.places) (λ s n. Collects (λ r. (members : List Term) × AreAt named c.in-ByShapes.places members × RowsOf (shapes_component component) (around terms is s n values c.args.focus) (with_list members) q (row_of (shapes_component component) source f q) r) rows.items))
+    (λ rows. WhereRight terms ids shapes values told (Asks shape (ByShapes component c.in-ByShapes.parameter c.in-ByShapes.places)) (λ s n. IsLinked named (read_constraint (term_at terms) (ByShapes component c.in-ByShapes.parameter c.in-ByShapes.places)) → Collects (ConstraintRow (around terms ids s n values c.args.focus) named read f (read_constraint (term_at terms) (ByShapes component c.in-ByShapes.parameter c.in-ByShapes.places))) rows.items))
+    (λ rows h s n right linked. subst (λ (x : Term). Collects (λ r. (members : List Term) × AreAt named c.in-ByShapes.places members × RowsOf (shapes_component component) (around terms ids s n values c.args.focus) (with_list members) q (row_of (shapes_component component) x f q) r) rows.items) c.named-source.ensures (h ids s n right))
+    (subst (λ (ps : List ℕ). IfOk c.shapes_rows.result (λ rows. (is : List Ids) → WhereRight terms is shapes values told (Contains ps) (λ s n. Collects (λ r. (members : List Term) × AreAt named ps members × RowsOf (shapes_component component) (around terms is s n values c.args.focus) (with_list members) q (row_of (shapes_component component) source f q) r) rows.items))) c.as_slice-in-ByShapes.ensures c.shapes_rows.ensures))

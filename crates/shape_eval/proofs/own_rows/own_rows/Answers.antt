@@ -1,0 +1,29 @@
+use Rattle.std.proofs.Common.{ℕ, List, map, sym, subst}
+use Rattle.std.specs.List.{All}
+use Rattle.rdf_model.specs.Numbers.{term_at}
+use Rattle.shape_model.specs.declared.result_row.ResultRow.{ResultRow}
+use Rattle.component_rows.specs.Listed.{Collects}
+use Rattle.shape_ast.specs.declared.constraint.Constraint.{Constraint}
+use Rattle.shape_ast.specs.Readings.{named_shapes, read_constraint, read_shape}
+use Rattle.shape_ast.specs.Standing.{IsLinked}
+use Rattle.shape_eval.specs.Around.{around}
+use Rattle.shape_eval.specs.ShapeRows.{ConstraintRow, FromSome, OwnRow, PatternRow}
+use Rattle.shape_eval.specs.Told.{AsksSome, WhereRight}
+use Rattle.shape_eval.proofs.Depths.{collects_both}
+use Rattle.shape_eval.proofs.own_rows.own_rows.Goals as goal
+
+pub returns : goal.returns
+returns g c = λ s n right linked.
+    let terms = g.N.Names.terms c.args.names.now in
+    let ids = g.R.Triples.triples c.args.graph.now in
+    let shapes = c.args.shapes.now in
+    let shape = c.args.shape.now in
+    let named = named_shapes terms shapes in
+    let read = read_shape (term_at terms) shape in
+    let f = term_at terms c.args.focus in
+    let t = around terms ids s n c.args.values.now c.args.focus in
+    let rows = c.in_ok-rows.rows.items in
+    let given = subst (λ (ks : List (Constraint ℕ)). WhereRight terms ids shapes c.args.values.now c.args.told.now (AsksSome shape ks) (λ s n. All (IsLinked named) (map (read_constraint (term_at terms)) ks)
+    → Collects (FromSome (map (read_constraint (term_at terms)) ks) (ConstraintRow (around terms ids s n c.args.values.now c.args.focus) named read f)) rows)) c.as_slice-constraints.ensures c.in_ok-rows.ensures in
+    subst (λ (all : List ResultRow). Collects (OwnRow t named read f) all) (sym c.in_ok-append.ensures.items)
+    (collects_both (FromSome read.constraints (ConstraintRow t named read f)) (PatternRow t named read f) rows c.in_ok-more.more.items (given s n right linked) (c.in_ok-more.ensures ids s n named))

@@ -1,0 +1,54 @@
+use Rattle.std.proofs.Common.{◌≡◌, ℕ, List, sym, ap, subst}
+use Rattle.std.specs.Prelude.{MatchOption, Option, Some}
+use Rattle.std.specs.Arc.{arc_value}
+use Rattle.std.proofs.lemmas.Result.{IfOk-weaker}
+use Rattle.rdf_model.specs.declared.term.Term.{Term}
+use Rattle.rdf_model.specs.declared.triple.Triple.{Triple}
+use Rattle.rdf_model.specs.declared.ids.Ids.{Ids}
+use Rattle.rdf_model.specs.Numbers.{term_at}
+use Rattle.shape_model.specs.declared.component.Component.TheVariants as components
+use Rattle.shape_model.specs.Components.{RowsOf, row_of}
+use Rattle.component_rows.specs.Listed.{Collects, ListsRows, at_nodes}
+use Rattle.component_rows.specs.Nodes.{HasNode}
+use Rattle.component_rows.proofs.Collecting.{collects_none, collects_same}
+use Rattle.shape_ast.specs.Readings.{ReadShape, read_optional, read_pattern, read_shape}
+use Rattle.shape_ast.specs.declared.pattern.Pattern.{Pattern}
+use Rattle.shape_model.specs.Patterns.{IsPatternOf}
+use Rattle.string_constraints.specs.Matches.{with_flags}
+use Rattle.shape_ast.specs.Standing.{HasFlagsText, shape_reading}
+use Rattle.shape_eval.specs.Around.{around}
+use Rattle.shape_eval.specs.ShapeRows.{PatternRow}
+use Rattle.shape_eval.proofs.Lookups.{only_some}
+use Rattle.shape_eval.proofs.Texts.{pattern_same}
+use Rattle.shape_eval.proofs.own_rows.pattern_rows.Goals as goal
+
+pub returns-in-None : goal.returns-in-None
+returns-in-None g c = λ ids s n shapes.
+    let terms = g.N.Names.terms c.args.names.now in
+    let none = ap (read_pattern (term_at terms)) c.in-None.is in
+    rw c.new.ensures.items (collects_none (PatternRow (around terms ids s n c.args.values.now c.args.focus) shapes (read_shape (term_at terms) c.args.shape.now) (term_at terms c.args.focus))
+    (λ r h. let is = h.1 in cc (none, is)))
+
+pub returns-in-Some : goal.returns-in-Some
+returns-in-Some g c =
+    let terms = g.N.Names.terms c.args.names.now in
+    let shape = c.args.shape.now in
+    let values = c.args.values.now in
+    let f = term_at terms c.args.focus in
+    let read = read_shape (term_at terms) shape in
+    let q = term_at terms c.in-Some.built.parameter in
+    let source = c.named-source.result.now in
+    let is : read.pattern ≡ Some q = ap (read_pattern (term_at terms)) c.in-Some.is in
+    let b = subst (λ (o : Option (Pattern ℕ)). MatchOption o (Unit {0}) (λ p. (text : List ℕ) × HasFlagsText (read_optional (term_at terms) shape.flags) text × IsPatternOf (term_at terms p.parameter) text (arc_value p.regex))) c.in-Some.is c.requires.built in
+    IfOk-weaker c.pattern.result
+    (λ rows. ListsRows components.Pattern (at_nodes (HasNode terms values)) (with_flags b.0) source f q rows.items)
+    (λ rows. (ids : List Ids) (s : List Triple) (n : ℕ) (shapes : List ReadShape) → Collects (PatternRow (around terms ids s n values c.args.focus) shapes read f) rows.items)
+    (λ rows h ids s n shapes.
+    let around_it = around terms ids s n values c.args.focus in
+    let h2 = subst (λ (x : Term). Collects (RowsOf components.Pattern around_it (with_flags b.0) q (row_of components.Pattern x f q)) rows.items) c.named-source.ensures h in
+    collects_same (RowsOf components.Pattern around_it (with_flags b.0) q (row_of components.Pattern read.node f q)) (PatternRow around_it shapes read f) rows.items
+    (λ r. let same = pattern_same b.0 around_it shapes read b.1 q (row_of components.Pattern read.node f q) r in (
+      (λ a. (q, is, same.0 a)),
+      (λ k. same.1 (subst (λ (x : Term). RowsOf components.Pattern around_it (shape_reading shapes read) x (row_of components.Pattern read.node f x) r) (only_some read.pattern k.0 q k.1 is) k.2)),
+    )) h2)
+    (c.pattern.ensures b.0 (subst (λ x. IsPatternOf q b.0 x) (sym c.deref.ensures) b.2))

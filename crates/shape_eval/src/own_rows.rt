@@ -1,0 +1,216 @@
+ghost use Rattle.std.specs.Prelude.{◌≡◌, ◌<◌, IfOk, length, map};
+ghost use Rattle.std.specs.List.{All, Contains};
+ghost use Rattle.rdf_model.specs.Numbers.{AreNumbered, IsNumbering, term_at};
+ghost use Rattle.component_rows.specs.Listed.{Collects};
+ghost use Rattle.component_rows.specs.Nodes.{AreNodes};
+ghost use Rattle.path_eval.specs.Instances.{AreClassWords};
+ghost use Rattle.shape_ast.specs.Readings.{AreBound, HoldsOfConstraint, HoldsOfShape, named_shapes, read_constraint, read_shape};
+ghost use Rattle.shape_ast.specs.Standing.{IsBuilt, IsLinked};
+ghost use Rattle.shape_eval.specs.Around.{around};
+ghost use Rattle.shape_eval.specs.ShapeRows.{ConstraintRow, FromSome, OwnRow, PatternRow};
+ghost use Rattle.shape_eval.specs.Told.{Asks, AsksSome, HaveAnswers, WhereRight};
+
+use crate::by_list::list_rows;
+use crate::by_shape::{shape_rows, shapes_rows};
+use crate::by_term::term_rows;
+use crate::told::Told;
+use component_rows::named;
+use path_eval::ClassWords;
+use rdf_model::{Footprint, Names, Triples};
+use shape_ast::{Constraint, Shape};
+use shape_model::ResultRow;
+use std::alloc::{AllocError, Global};
+use string_constraints::pattern;
+
+// The results of a constraint of the shape.
+fn constraint_rows<R: Triples, N: Names>(
+    alloc: Global,
+    graph: &R,
+    names: &N,
+    words: ClassWords,
+    shapes: &[Shape<u32>],
+    shape: &Shape<u32>,
+    told: &[Told],
+    constraint: &Constraint<u32>,
+    focus: u32,
+    values: &[u32],
+    footprint: &mut Footprint,
+) -> Result<Vec<ResultRow>, AllocError>
+    requires numbering { IsNumbering (N.terms names.now) }
+    requires graph { AreNumbered (N.terms names.now) (R.triples graph.now) }
+    requires words { AreClassWords (N.terms names.now) words }
+    requires bound { AreBound (N.terms names.now) shapes.now }
+    requires shape { HoldsOfShape (λ n. n < length (N.terms names.now)) (length shapes.now) shape.now }
+    requires constraint { HoldsOfConstraint (λ n. n < length (N.terms names.now)) (length shapes.now) constraint.now }
+    requires nodes { AreNodes (N.terms names.now) values.now }
+    requires told { HaveAnswers shapes.now values.now told.now (Asks shape.now constraint.now) }
+    requires focus { focus < length (N.terms names.now) }
+    ensures { IfOk result (λ rows. WhereRight (N.terms names.now) (R.triples graph.now) shapes.now values.now told.now (Asks shape.now constraint.now)
+        (λ s n. IsLinked (named_shapes (N.terms names.now) shapes.now) (read_constraint (term_at (N.terms names.now)) constraint.now)
+        → Collects (ConstraintRow (around (N.terms names.now) (R.triples graph.now) s n values.now focus) (named_shapes (N.terms names.now) shapes.now)
+        (read_shape (term_at (N.terms names.now)) shape.now) (term_at (N.terms names.now) focus) (read_constraint (term_at (N.terms names.now)) constraint.now)) rows.items)) }
+{
+    let source = named(names, shape.node);
+    match constraint {
+        Constraint::ByTerm {
+            component,
+            parameter,
+        } => term_rows(
+            alloc, graph, names, words, shapes, shape, told, source, *component, *parameter, focus,
+            values, footprint,
+        ),
+        Constraint::ByList {
+            component,
+            parameter,
+            members,
+        } => list_rows(
+            alloc,
+            names,
+            source,
+            *component,
+            *parameter,
+            members.as_slice(),
+            focus,
+            values,
+        ),
+        Constraint::ByShape {
+            component,
+            parameter,
+            shape: place,
+        } => shape_rows(
+            alloc, names, shapes, told, source, *component, *parameter, *place, focus, values,
+        ),
+        Constraint::ByShapes {
+            component,
+            parameter,
+            shapes: places,
+        } => shapes_rows(
+            alloc,
+            names,
+            shapes,
+            told,
+            source,
+            *component,
+            *parameter,
+            places.as_slice(),
+            focus,
+            values,
+        ),
+    }
+}
+
+// The results of some constraints of the shape.
+fn constraints_rows<R: Triples, N: Names>(
+    alloc: Global,
+    graph: &R,
+    names: &N,
+    words: ClassWords,
+    shapes: &[Shape<u32>],
+    shape: &Shape<u32>,
+    told: &[Told],
+    constraints: &[Constraint<u32>],
+    focus: u32,
+    values: &[u32],
+    footprint: &mut Footprint,
+) -> Result<Vec<ResultRow>, AllocError>
+    requires numbering { IsNumbering (N.terms names.now) }
+    requires graph { AreNumbered (N.terms names.now) (R.triples graph.now) }
+    requires words { AreClassWords (N.terms names.now) words }
+    requires bound { AreBound (N.terms names.now) shapes.now }
+    requires shape { HoldsOfShape (λ n. n < length (N.terms names.now)) (length shapes.now) shape.now }
+    requires constraints { All (HoldsOfConstraint (λ n. n < length (N.terms names.now)) (length shapes.now)) constraints.now }
+    requires nodes { AreNodes (N.terms names.now) values.now }
+    requires told { HaveAnswers shapes.now values.now told.now (AsksSome shape.now constraints.now) }
+    requires focus { focus < length (N.terms names.now) }
+    ensures { IfOk result (λ rows. WhereRight (N.terms names.now) (R.triples graph.now) shapes.now values.now told.now (AsksSome shape.now constraints.now)
+        (λ s n. All (IsLinked (named_shapes (N.terms names.now) shapes.now)) (map (read_constraint (term_at (N.terms names.now))) constraints.now)
+        → Collects (FromSome (map (read_constraint (term_at (N.terms names.now))) constraints.now)
+        (ConstraintRow (around (N.terms names.now) (R.triples graph.now) s n values.now focus) (named_shapes (N.terms names.now) shapes.now)
+        (read_shape (term_at (N.terms names.now)) shape.now) (term_at (N.terms names.now) focus))) rows.items)) }
+{
+    let mut rows = Vec::new(alloc);
+    for constraint in constraints {
+        let mut more = constraint_rows(
+            alloc, graph, names, words, shapes, shape, told, constraint, focus, values, footprint,
+        )?;
+        rows.append(&mut more)?;
+    }
+    Ok(rows)
+}
+
+// The results of the shape's pattern (SHACL section 4.4.3), if it has one.
+fn pattern_rows<N: Names>(
+    alloc: Global,
+    names: &N,
+    shape: &Shape<u32>,
+    focus: u32,
+    values: &[u32],
+) -> Result<Vec<ResultRow>, AllocError>
+    requires numbering { IsNumbering (N.terms names.now) }
+    requires shape { (count : _) × HoldsOfShape (λ n. n < length (N.terms names.now)) count shape.now }
+    requires built { IsBuilt (term_at (N.terms names.now)) shape.now }
+    requires nodes { AreNodes (N.terms names.now) values.now }
+    requires focus { focus < length (N.terms names.now) }
+    ensures { IfOk result (λ rows. (ids : _) (s : _) (n : _) (shapes : _) → Collects (PatternRow (around (N.terms names.now) ids s n values.now focus) shapes
+        (read_shape (term_at (N.terms names.now)) shape.now) (term_at (N.terms names.now) focus)) rows.items) }
+{
+    let source = named(names, shape.node);
+    match &shape.pattern {
+        None => Ok(Vec::new(alloc)),
+        Some(built) => pattern(
+            alloc,
+            names,
+            source,
+            built.parameter,
+            &built.regex,
+            focus,
+            values,
+        ),
+    }
+}
+
+/// The results of the constraints of the shape and of its pattern at a focus node with these value nodes.
+pub(crate) fn own_rows<R: Triples, N: Names>(
+    alloc: Global,
+    graph: &R,
+    names: &N,
+    words: ClassWords,
+    shapes: &[Shape<u32>],
+    shape: &Shape<u32>,
+    told: &[Told],
+    focus: u32,
+    values: &[u32],
+    footprint: &mut Footprint,
+) -> Result<Vec<ResultRow>, AllocError>
+    requires numbering { IsNumbering (N.terms names.now) }
+    requires graph { AreNumbered (N.terms names.now) (R.triples graph.now) }
+    requires words { AreClassWords (N.terms names.now) words }
+    requires bound { AreBound (N.terms names.now) shapes.now }
+    requires shape { HoldsOfShape (λ n. n < length (N.terms names.now)) (length shapes.now) shape.now }
+    requires built { IsBuilt (term_at (N.terms names.now)) shape.now }
+    requires nodes { AreNodes (N.terms names.now) values.now }
+    requires told { HaveAnswers shapes.now values.now told.now (AsksSome shape.now shape.now.constraints) }
+    requires focus { focus < length (N.terms names.now) }
+    ensures { IfOk result (λ rows. WhereRight (N.terms names.now) (R.triples graph.now) shapes.now values.now told.now (AsksSome shape.now shape.now.constraints)
+        (λ s n. All (IsLinked (named_shapes (N.terms names.now) shapes.now)) (map (read_constraint (term_at (N.terms names.now))) shape.now.constraints)
+        → Collects (OwnRow (around (N.terms names.now) (R.triples graph.now) s n values.now focus) (named_shapes (N.terms names.now) shapes.now)
+        (read_shape (term_at (N.terms names.now)) shape.now) (term_at (N.terms names.now) focus)) rows.items)) }
+{
+    let constraints = shape.constraints.as_slice();
+    let mut rows = constraints_rows(
+        alloc,
+        graph,
+        names,
+        words,
+        shapes,
+        shape,
+        told,
+        constraints,
+        focus,
+        values,
+        footprint,
+    )?;
+    let mut more = pattern_rows(alloc, names, shape, focus, values)?;
+    rows.append(&mut more)?;
+    Ok(rows)
+}

@@ -1,9 +1,0 @@
-use Rattle.std.proofs.Common.{take}
-use Rattle.std.specs.List.{Contains}
-use Rattle.rdf_model.specs.declared.triple.Triple.{Triple}
-use Rattle.shape_model.specs.Triples.{IsMember}
-use Rattle.shape_reader.specs.Scans.{LeadsOn}
-use Rattle.shape_reader.proofs.instance.next_class.Given as goal
-
-abbrev pub invariant-loop-triple : goal.invariant-loop-triple
-invariant-loop-triple l = (t : Triple) → Contains (take l.triple-index l.graph) t → LeadsOn l.node l.classes t × (IsMember l.classes t.object → ⊥) → ⊥

@@ -1,0 +1,13 @@
+use Rattle.std.proofs.Common.{refl}
+use Rattle.shape_rules.specs.declared.property.ShapeProperty.TheVariants as vocabulary
+use Rattle.shape_reader.proofs.WellFormed.{flags_texts, one_value, pattern_texts}
+use Rattle.shape_reader.proofs.shape.compile_shape.Goals as goal
+
+pub made_of-requires-clause-patterns : goal.made_of-requires-clause-patterns
+made_of-requires-clause-patterns g c = pattern_texts c.args.graph.now c.requires.well_formed c.args.node.now c.requires.shape
+
+pub made_of-requires-clause-flags : goal.made_of-requires-clause-flags
+made_of-requires-clause-flags g c = flags_texts c.args.graph.now c.requires.well_formed c.args.node.now c.requires.shape
+
+pub parts_at-requires-clause-one : goal.parts_at-requires-clause-one
+parts_at-requires-clause-one g c = one_value c.args.graph.now c.requires.well_formed c.args.node.now c.requires.shape vocabulary.IgnoredProperties refl

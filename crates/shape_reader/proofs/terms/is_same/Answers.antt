@@ -1,5 +1,0 @@
-use Rattle.shape_reader.proofs.Equals.{same_term}
-use Rattle.shape_reader.proofs.terms.is_same.Goals as goal
-
-pub returns : goal.returns
-returns c = rw c.eq.ensures (same_term c.args.term.now c.args.other.now)

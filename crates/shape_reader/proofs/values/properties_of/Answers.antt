@@ -1,0 +1,6 @@
+use Rattle.shape_rules.specs.declared.property.ShapeProperty.TheVariants as vocabulary
+use Rattle.shape_reader.proofs.Gathered.{values_placed}
+use Rattle.shape_reader.proofs.values.properties_of.Goals as goal
+
+pub returns : goal.returns
+returns c = values_placed c.args.graph.now c.args.nodes.now c.args.node.now vocabulary.Property c.in_ok-found.found c.in_ok-places.places c.in_ok-found.ensures (rw c.as_slice.ensures at c.in_ok-places.ensures)

@@ -1,0 +1,79 @@
+ghost use Rattle.std.specs.Prelude.{◌≡◌, IfOk, MatchResult};
+ghost use Rattle.collections.specs.Listings.{IsListing};
+ghost use Rattle.collections.specs.Ordered.{IsAscending};
+ghost use Rattle.rdf_model.specs.Terms.{term_cmp, triple_cmp};
+ghost use Rattle.shape_model.specs.ShapeSyntax.{IsShape};
+ghost use Rattle.shape_references.specs.Siblings.{IsTurned};
+ghost use Rattle.shape_rules.specs.Broken.{IsWellFormed};
+ghost use Rattle.shape_syntax.specs.PathNodes.{ArePathNodes};
+ghost use Rattle.shape_ast.specs.Standing.{AreCompiled};
+ghost use Rattle.shape_reader.specs.Faults.{IsCompileCause};
+ghost use Rattle.shape_reader.specs.Parts.{AreShapes};
+
+use crate::CompileFault;
+use crate::nodes::shape_nodes;
+use crate::shape::compile_shape;
+use collections::Sequence;
+use outside::Maker;
+use rdf_model::{Term, Triple};
+use shape_ast::{Shape, Shapes};
+use shape_references::turned_properties;
+use shape_syntax::paths::path_nodes;
+use std::alloc::Global;
+use std::collections::BTreeSet;
+
+// The shapes at the nodes, in turn.
+fn compile_nodes<M: Maker>(
+    alloc: Global,
+    maker: &mut M,
+    graph: &[Triple],
+    paths: &BTreeSet<Term>,
+    turned: &[Triple],
+    nodes: &[Term],
+) -> Result<Sequence<Shape<Term>>, CompileFault>
+    requires graph { IsAscending triple_cmp graph.now }
+    requires well_formed { IsWellFormed graph.now }
+    requires paths { ArePathNodes graph.now paths.now.keys }
+    requires turned { IsListing triple_cmp (IsTurned graph.now) turned.now }
+    requires nodes { IsListing term_cmp (IsShape graph.now) nodes.now }
+    ensures { MatchResult result
+        (λ shapes. AreShapes graph.now nodes.now nodes.now shapes × (M.refused maker.new ≡ M.refused maker.old))
+        (λ fault. IsCompileCause graph.now fault (M.refused maker.old) (M.refused maker.new)) }
+{
+    let mut shapes = Sequence::new(alloc);
+    for node in nodes {
+        let shape = compile_shape(alloc, maker, graph, paths, turned, nodes, node)?;
+        shapes.push(shape)?;
+    }
+    Ok(shapes)
+}
+
+/// The shapes of a well-formed shapes graph, compiled (SHACL section 2). The maker builds the patterns, shape by shape
+/// in the order of nodes.
+///
+/// Errors: `Pattern` where the maker refused the pattern of a shape under its flags, after which no more are built.
+pub fn compile<M: Maker>(
+    alloc: Global,
+    maker: &mut M,
+    graph: &[Triple],
+) -> Result<Shapes, CompileFault>
+    requires ascending { IsAscending triple_cmp graph.now }
+    requires well_formed { IsWellFormed graph.now }
+    ensures answer { MatchResult result
+        (λ shapes. AreCompiled shapes.shapes graph.now)
+        (λ fault. IsCompileCause graph.now fault (M.refused maker.old) (M.refused maker.new)) }
+    ensures refused { IfOk result (λ _. M.refused maker.new ≡ M.refused maker.old) }
+{
+    let paths = path_nodes(alloc, graph)?;
+    let turned = turned_properties(alloc, graph)?;
+    let nodes = shape_nodes(alloc, graph)?;
+    let shapes = compile_nodes(
+        alloc,
+        maker,
+        graph,
+        &paths,
+        turned.as_slice(),
+        nodes.as_slice(),
+    )?;
+    Ok(Shapes { shapes })
+}

@@ -1,0 +1,188 @@
+//! The values of single properties of a shape.
+ghost use Rattle.std.specs.Prelude.{◌≡◌, ◌⊎◌, ◌↔◌, ℕ, Some, IsTrue, IfOk, OnOk, MatchOption};
+ghost use Rattle.std.specs.List.{Contains};
+ghost use Rattle.collections.specs.Listings.{IsListing};
+ghost use Rattle.collections.specs.Ordered.{IsAscending};
+ghost use Rattle.rdf_model.specs.declared.term.Term.{Term as TermData};
+ghost use Rattle.rdf_model.specs.Terms.{term_cmp, triple_cmp};
+ghost use Rattle.shape_model.specs.Vocabulary.{true_literal};
+ghost use Rattle.shape_references.specs.Siblings.{IsTurned};
+ghost use Rattle.shape_rules.specs.declared.property.ShapeProperty.TheVariants as properties;
+ghost use Rattle.shape_rules.specs.Syntax.{HasProperty};
+ghost use Rattle.shape_syntax.specs.Gathering.{Gives};
+ghost use Rattle.shape_reader.specs.Parts.{HasOne, HasPlace, HasSibling, IsIgnored, IsValue};
+
+use crate::place::{place_of, places_among};
+use collections::{Sequence, sorted_once};
+use rdf_model::{Term, Triple};
+use shape_references::push_siblings;
+use shape_rules::ShapeProperty;
+use shape_syntax::list::list_members;
+use shape_syntax::lookup::values;
+use std::alloc::{AllocError, Global};
+
+/// A value of the property at the node, if there is one.
+pub(crate) fn value_of<'a>(
+    graph: &'a [Triple],
+    node: &Term,
+    property: ShapeProperty,
+) -> Option<&'a Term>
+    requires { IsAscending triple_cmp graph.now }
+    ensures { MatchOption result ((v : TermData) → HasProperty graph.now node.now property v → ⊥)
+        (λ value. HasProperty graph.now node.now property value.now) }
+{
+    match values(graph, node, property.iri()).first() {
+        Some(triple) => Some(&triple.object),
+        None => None,
+    }
+}
+
+/// The same as a term of its own.
+pub(crate) fn copied_value(
+    graph: &[Triple],
+    node: &Term,
+    property: ShapeProperty,
+) -> Result<Option<Term>, AllocError>
+    requires { IsAscending triple_cmp graph.now }
+    ensures { IfOk result (λ found. IsValue graph.now node.now property found) }
+{
+    match value_of(graph, node, property) {
+        Some(value) => Ok(Some(value.clone()?)),
+        None => Ok(None),
+    }
+}
+
+// The objects of the triples.
+fn objects_of(alloc: Global, triples: &[Triple]) -> Result<Sequence<Term>, AllocError>
+    ensures { IfOk result (λ objects. (v : TermData) → Contains objects v ↔ Gives (λ t o. t.object ≡ o) triples.now v) }
+{
+    let mut objects = Sequence::new(alloc);
+    for triple in triples {
+        objects.push(triple.object.clone()?)?;
+    }
+    Ok(objects)
+}
+
+// The values of the property at the node.
+fn all_values(
+    alloc: Global,
+    graph: &[Triple],
+    node: &Term,
+    property: ShapeProperty,
+) -> Result<Sequence<Term>, AllocError>
+    requires { IsAscending triple_cmp graph.now }
+    ensures { IfOk result (λ found. (v : TermData) → Contains found v ↔ HasProperty graph.now node.now property v) }
+{
+    let found = objects_of(alloc, values(graph, node, property.iri()))?;
+    Ok(found)
+}
+
+/// The messages of the shape at the node, in the order of terms (SHACL section 2.1.5).
+pub(crate) fn messages_of(
+    alloc: Global,
+    graph: &[Triple],
+    node: &Term,
+) -> Result<Sequence<Term>, AllocError>
+    requires { IsAscending triple_cmp graph.now }
+    ensures { IfOk result (λ messages. IsListing term_cmp (HasProperty graph.now node.now properties.Message) messages) }
+{
+    let found = all_values(alloc, graph, node, ShapeProperty::Message)?;
+    let sorted = sorted_once(found.into_vec())?;
+    Ok(Sequence::from_vec(sorted))
+}
+
+/// The places among the nodes of the values of sh:property (SHACL section 4.7.2).
+pub(crate) fn properties_of(
+    alloc: Global,
+    graph: &[Triple],
+    nodes: &[Term],
+    node: &Term,
+) -> Result<Sequence<usize>, AllocError>
+    requires graph { IsAscending triple_cmp graph.now }
+    requires nodes { IsAscending term_cmp nodes.now }
+    ensures { IfOk result (λ places. (k : ℕ) → Contains places k ↔ HasPlace graph.now nodes.now node.now properties.Property k) }
+{
+    let found = all_values(alloc, graph, node, ShapeProperty::Property)?;
+    let places = places_among(alloc, nodes, found.as_slice())?;
+    Ok(places)
+}
+
+/// The places among the nodes of the shape's siblings (SHACL section 4.7.3).
+pub(crate) fn siblings_of(
+    alloc: Global,
+    graph: &[Triple],
+    turned: &[Triple],
+    nodes: &[Term],
+    node: &Term,
+) -> Result<Sequence<usize>, AllocError>
+    requires graph { IsAscending triple_cmp graph.now }
+    requires turned { IsListing triple_cmp (IsTurned graph.now) turned.now }
+    requires nodes { IsAscending term_cmp nodes.now }
+    ensures { IfOk result (λ places. (k : ℕ) → Contains places k ↔ HasSibling graph.now nodes.now node.now k) }
+{
+    let mut found = Sequence::new(alloc);
+    push_siblings(graph, turned, node, &mut found)?;
+    let places = places_among(alloc, nodes, found.as_slice())?;
+    Ok(places)
+}
+
+/// The place among the nodes of the shape's sh:qualifiedValueShape (SHACL section 4.7.3).
+pub(crate) fn qualified_of(graph: &[Triple], nodes: &[Term], node: &Term) -> Option<usize>
+    requires graph { IsAscending triple_cmp graph.now }
+    requires nodes { IsAscending term_cmp nodes.now }
+    requires one { HasOne graph.now node.now properties.QualifiedValueShape }
+    ensures { (k : ℕ) → (result ≡ Some k) ↔ HasPlace graph.now nodes.now node.now properties.QualifiedValueShape k }
+{
+    match value_of(graph, node, ShapeProperty::QualifiedValueShape) {
+        Some(value) => place_of(nodes, value),
+        None => None,
+    }
+}
+
+/// The terms that the shape ignores where it is closed (SHACL section 4.8.1).
+pub(crate) fn ignored_of(
+    alloc: Global,
+    graph: &[Triple],
+    node: &Term,
+) -> Result<Sequence<Term>, AllocError>
+    requires graph { IsAscending triple_cmp graph.now }
+    requires one { HasOne graph.now node.now properties.IgnoredProperties }
+    ensures { IfOk result (λ ignored. (t : TermData) → Contains ignored t ↔ IsIgnored graph.now node.now t) }
+{
+    let Some(head) = value_of(graph, node, ShapeProperty::IgnoredProperties) else {
+        return Ok(Sequence::new(alloc));
+    };
+    match list_members(alloc, graph, head)? {
+        Some(members) => Ok(members),
+        None => Ok(Sequence::new(alloc)),
+    }
+}
+
+#[tactic(auto, unfolding(shape_model::specs::Vocabulary::true_literal))]
+fn is_true(term: &Term) -> bool
+    ensures { IsTrue result ↔ (term.now ≡ true_literal) }
+{
+    match term {
+        Term::Literal {
+            lexical,
+            datatype,
+            language: None,
+        } => {
+            lexical.as_str() == "true"
+                && datatype.as_str() == "http://www.w3.org/2001/XMLSchema#boolean"
+        }
+        _ => false,
+    }
+}
+
+/// Whether the sh:deactivated of the shape is true (SHACL section 2.1.6).
+pub(crate) fn is_deactivated(graph: &[Triple], node: &Term) -> bool
+    requires graph { IsAscending triple_cmp graph.now }
+    requires one { HasOne graph.now node.now properties.Deactivated }
+    ensures { IsTrue result ↔ HasProperty graph.now node.now properties.Deactivated true_literal }
+{
+    match value_of(graph, node, ShapeProperty::Deactivated) {
+        Some(value) => is_true(value),
+        None => false,
+    }
+}

@@ -1,6 +1,0 @@
-use Rattle.std.proofs.Common.{◌≡◌, map, take}
-use Rattle.shape_results.specs.Told.{answers_of}
-use Rattle.shape_results.proofs.told.answers_to.Given as goal
-
-abbrev pub invariant-loop-node : goal.invariant-loop-node
-invariant-loop-node l = map (λ a. a.items) l.lists.items ≡ map (answers_of l.told) (take l.node-index l.nodes)

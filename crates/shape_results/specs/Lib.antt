@@ -1,6 +1,0 @@
-pub mod ValueNodes
-pub mod Told
-pub mod Around
-pub mod ShapeRows
-pub mod Predicates
-pub mod Results

@@ -1,6 +1,0 @@
-use Rattle.std.proofs.Common.{take}
-use Rattle.shapes_validation.specs.Whole.{CollectsAtNodes}
-use Rattle.shapes_validation.proofs.whole_graph.rows_at.Given as goal
-
-abbrev pub invariant-loop-node : goal.invariant-loop-node
-invariant-loop-node g l = CollectsAtNodes (g.N.Names.terms l.names) (g.R.Triples.triples l.graph) l.bound.shapes l.shape (take l.node-index l.nodes) l.rows.items
