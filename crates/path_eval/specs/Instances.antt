@@ -11,8 +11,7 @@ use Rattle.shape_model.specs.Vocabulary.{rdf_type, sub_class_of}
 use Rattle.shape_model.specs.Instances.{Instance, class_path}
 use Rattle.shape_model.specs.NodeLooks.{PathReads}
 use Rattle.path_eval.specs.declared.instances.ClassWords.{ClassWords}
-use Rattle.path_eval.specs.Naming.{IsBoundLook, look_of}
-use Rattle.path_eval.specs.Relations.{Adds}
+use Rattle.path_eval.specs.Naming.{AddsLooks}
 
 -- they are the numbers of rdf:type and rdfs:subClassOf
 pub record AreClassWords (terms : List Term) (words : ClassWords) : Type 0 where
@@ -32,9 +31,8 @@ pub record AreInstances (terms : List Term) (ids : List Ids) (class : ℕ) (inst
   pub every : (v : Term) → Instance (graph_of terms ids) v (term_at terms class) → Contains (map (term_at terms) instances) v
 
 -- just the looks of the class path, or where turned of the way back along it, have been added, and each of them has numbers
-pub record ClassReads (terms : List Term) (ids : List Ids) (turned : Bool) (node : ℕ) (old new : List (Look ℕ)) : Type 0 where
-  pub added : Adds old new (λ look. IsBoundLook (length terms) look × PathReads (graph_of terms ids) turned class_path (term_at terms node) (look_of terms look))
-  pub every : (l : Look Term) → PathReads (graph_of terms ids) turned class_path (term_at terms node) l → Contains (map (look_of terms) new) l
+abbrev pub ClassReads : List Term → List Ids → Bool → ℕ → List (Look ℕ) → List (Look ℕ) → Type 0
+ClassReads terms ids turned node old new = AddsLooks terms (PathReads (graph_of terms ids) turned class_path (term_at terms node)) old new
 
 -- in whatever way the graph, the words and the node are numbered
 abbrev pub Classed : List Ids → ClassWords → ℕ → (List Term → Type 0) → Type 0

@@ -34,10 +34,14 @@ pub record AreValues (terms : List Term) (ids : List Ids) (turned : Bool) (path 
   pub listed : IsListing nat_cmp (λ n. (n < length terms) × Walk (graph_of terms ids) (turn turned (path_of terms path)) (term_at terms x) (term_at terms n)) values
   pub every : (v : Term) → Walk (graph_of terms ids) (turn turned (path_of terms path)) (term_at terms x) v → Contains (map (term_at terms) values) v
 
--- Just the looks of doing so have been added. Each such look has numbers.
-pub record AddsReads (terms : List Term) (ids : List Ids) (turned : Bool) (path : Path ℕ) (x : ℕ) (old new : List (Look ℕ)) : Type 0 where
-  pub added : Adds old new (λ look. IsBoundLook (length terms) look × PathReads (graph_of terms ids) turned (path_of terms path) (term_at terms x) (look_of terms look))
-  pub every : (l : Look Term) → PathReads (graph_of terms ids) turned (path_of terms path) (term_at terms x) l → Contains (map (look_of terms) new) l
+-- Just the looks of which P holds have been added. Each such look has numbers.
+pub record AddsLooks (terms : List Term) (P : Look Term → Type 0) (old new : List (Look ℕ)) : Type 0 where
+  pub added : Adds old new (λ look. IsBoundLook (length terms) look × P (look_of terms look))
+  pub every : (l : Look Term) → P l → Contains (map (look_of terms) new) l
+
+-- just those of walking so
+abbrev pub AddsReads : List Term → List Ids → Bool → Path ℕ → ℕ → List (Look ℕ) → List (Look ℕ) → Type 0
+AddsReads terms ids turned path x old new = AddsLooks terms (PathReads (graph_of terms ids) turned (path_of terms path) (term_at terms x)) old new
 
 -- in whatever way the graph, the path and the node are numbered
 abbrev pub Numbered : List Ids → Path ℕ → ℕ → (List Term → Type 0) → Type 0

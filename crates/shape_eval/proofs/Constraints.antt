@@ -85,7 +85,7 @@ known components.Closed = refl
 known components.HasValue = refl
 known components.In = refl
 
-same_component : (j k : Component) → parameter_of j ≡ parameter_of k → j ≡ k
+pub same_component : (j k : Component) → parameter_of j ≡ parameter_of k → j ≡ k
 same_component j k e = sym (known j) ∙ ap component_for e ∙ known k
 
 -- the components whose parameter is a list

@@ -28,7 +28,7 @@ use Rattle.shape_eval.specs.Results.{CollectsAt, ListsResults, depth_limit}
 use Rattle.shape_eval.specs.ShapeRows.{FromSome, OwnRow, PropertyAt, ShapeRow}
 use Rattle.shape_eval.specs.ValueNodes.{AreValueNodes, IsValueNode}
 use Rattle.shape_eval.proofs.Constraints.{opened}
-use Rattle.shape_eval.proofs.Lookups.{named_place, of_place, only_some}
+use Rattle.shape_eval.proofs.Lookups.{of_place, read_here}
 use Rattle.shape_eval.proofs.Values.{values_same}
 
 pub collects_both : (P Q : ResultRow → Type 0) (rows more : List ResultRow) → Collects P rows → Collects Q more → Collects (λ r. P r ⊎ Q r) (rows ++ more)
@@ -79,14 +79,10 @@ module _ (terms : List Term) (ids : List Ids) (shapes : List (Shape ℕ)) (s : L
       (collects_both Own More own more h k)
 
 module _ (terms : List Term) (ids : List Ids) (shapes : List (Shape ℕ)) (place : ℕ) (x : Shape ℕ) (taken : slice_get shapes place ≡ Some x) (f : ℕ) where
-  -- the shape at the place is the one that was looked up
-  here : (c : ReadShape) → slice_get (named_shapes terms shapes) place ≡ Some c → read_shape (term_at terms) x ≡ c
-  here c at = only_some (slice_get (named_shapes terms shapes) place) (read_shape (term_at terms) x) c (named_place terms shapes place x taken) at
-
   pub nothing_at : (levels : ℕ) → (levels ≡ 0) ⊎ IsTrue x.is_deactivated → CollectsAt terms ids shapes levels place f []
   nothing_at levels why s c stand at = collects_none (AtDepth levels (graph_of terms ids) (reading s) c.node (term_at terms f)) (λ r h. elim why [
     | inl e ↦ subst (λ (n : ℕ). AtDepth n (graph_of terms ids) (reading s) c.node (term_at terms f) r) e h
-    | inr d ↦ deactivated terms ids shapes s stand c (of_place (named_shapes terms shapes) place c at) levels (term_at terms f) r (subst (λ (m : ReadShape). IsTrue m.is_deactivated) (here c at) d) h
+    | inr d ↦ deactivated terms ids shapes s stand c (of_place (named_shapes terms shapes) place c at) levels (term_at terms f) r (subst (λ (m : ReadShape). IsTrue m.is_deactivated) (read_here terms shapes place x taken c at) d) h
   ])
 
   pub all_at : (levels n : ℕ) → suc n ≡ levels → (values : List ℕ) → AreValueNodes terms ids x.path f values → (IsTrue x.is_deactivated → ⊥) → (own more all : List ResultRow)
@@ -96,8 +92,8 @@ module _ (terms : List Term) (ids : List Ids) (shapes : List (Shape ℕ)) (place
   all_at levels n e values are active own more all h k is s c stand at =
       subst (λ (m : ℕ). Collects (AtDepth m (graph_of terms ids) (reading s) c.node (term_at terms f)) all) e
       (subst (λ (rows : List ResultRow). Collects (AtDepth (suc n) (graph_of terms ids) (reading s) c.node (term_at terms f)) rows) (sym is)
-      (subst (λ (m : ReadShape). Collects (AtDepth (suc n) (graph_of terms ids) (reading s) m.node (term_at terms f)) (own ++ more)) (here c at)
-      (all_rows terms ids shapes s stand (read_shape (term_at terms) x) (subst (λ (m : ReadShape). Contains (named_shapes terms shapes) m) (sym (here c at)) (of_place (named_shapes terms shapes) place c at))
+      (subst (λ (m : ReadShape). Collects (AtDepth (suc n) (graph_of terms ids) (reading s) m.node (term_at terms f)) (own ++ more)) (read_here terms shapes place x taken c at)
+      (all_rows terms ids shapes s stand (read_shape (term_at terms) x) (subst (λ (m : ReadShape). Contains (named_shapes terms shapes) m) (sym (read_here terms shapes place x taken c at)) (of_place (named_shapes terms shapes) place c at))
       n values f are.each active own more (h s stand) (k s stand))))
 
 -- a listing of the rows is one of the results

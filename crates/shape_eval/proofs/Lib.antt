@@ -9,3 +9,7 @@ pub mod Depths
 pub mod Asking
 pub mod Owning
 pub mod Evaluations
+pub mod LookDepths
+pub mod Referring
+pub mod Reading
+pub mod Looking

@@ -49,6 +49,10 @@ module _ (terms : List Term) (shapes : List (Shape ℕ)) where
   pub named_place : (n : ℕ) (s : Shape ℕ) → slice_get shapes n ≡ Some s → slice_get (named_shapes terms shapes) n ≡ Some (read_shape (term_at terms) s)
   named_place n s e = slice_get-map (read_shape (term_at terms)) shapes n ∙ ap (option_map (read_shape (term_at terms))) e
 
+  -- and is the one that stands there
+  pub read_here : (n : ℕ) (s : Shape ℕ) → slice_get shapes n ≡ Some s → (c : ReadShape) → slice_get (named_shapes terms shapes) n ≡ Some c → read_shape (term_at terms) s ≡ c
+  read_here n s e c at = only_some (slice_get (named_shapes terms shapes) n) (read_shape (term_at terms) s) c (named_place n s e) at
+
   -- its node is that of the place
   pub is_at : (n : ℕ) → n < length shapes → IsAt (named_shapes terms shapes) n (term_at terms (node_at shapes n))
   is_at n lt =

@@ -4,3 +4,4 @@ pub mod Around
 pub mod ShapeRows
 pub mod Predicates
 pub mod Results
+pub mod Looks

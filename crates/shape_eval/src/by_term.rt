@@ -2,16 +2,14 @@ ghost use Rattle.std.specs.Prelude.{◌≡◌, ◌<◌, ◌↔◌, IfOk, length,
 ghost use Rattle.std.specs.List.{All, Contains};
 ghost use Rattle.rdf_model.specs.Numbers.{AreNumbered, IsNumbering, graph_of, term_at};
 ghost use Rattle.shape_model.specs.Components.{ForEach, row_of};
-ghost use Rattle.shape_model.specs.Instances.{Instance};
 ghost use Rattle.shape_model.specs.declared.component.Component.TheVariants as components;
-ghost use Rattle.component_rows.specs.Answers.{AreAnswersTo};
 ghost use Rattle.component_rows.specs.Listed.{ListsRows, at_nodes, untold, with_allowed};
 ghost use Rattle.component_rows.specs.Nodes.{AreNodes, HasNode};
-ghost use Rattle.path_eval.specs.Instances.{AreClassWords};
 ghost use Rattle.shape_ast.specs.Components.{term_component};
 ghost use Rattle.shape_ast.specs.Readings.{AreBound, HoldsOfShape, named_shapes, read_shape};
 ghost use Rattle.shape_ast.specs.Standing.{shape_reading};
 ghost use Rattle.shape_eval.specs.Around.{around};
+ghost use Rattle.shape_eval.specs.Looks.{AreInstanceAnswers};
 ghost use Rattle.shape_eval.specs.Told.{CountAsks, HaveAnswers, WhereRight};
 
 use crate::closing::{allowed_predicates, is_true};
@@ -19,8 +17,7 @@ use crate::qualified::{qualified_max_rows, qualified_min_rows};
 use crate::told::Told;
 use component_rows::named;
 use pair_constraints::{disjoint, equals, less_than, less_than_or_equals};
-use path_eval::{ClassWords, is_instance};
-use rdf_model::{Footprint, Names, Term, Triples};
+use rdf_model::{Names, Term, Triples};
 use shape_ast::{Shape, TermComponent};
 use shape_model::ResultRow;
 use std::alloc::{AllocError, Global};
@@ -29,51 +26,6 @@ use value_constraints::{
     class, closed, datatype, has_value, max_count, max_exclusive, max_inclusive, min_count,
     min_exclusive, min_inclusive, node_kind,
 };
-
-// Whether each node is an instance of the class.
-fn instance_answers<R: Triples>(
-    alloc: Global,
-    graph: &R,
-    words: ClassWords,
-    class: u32,
-    nodes: &[u32],
-    footprint: &mut Footprint,
-) -> Result<Vec<bool>, AllocError>
-    ensures as_many { IfOk result (λ answers. length answers.items ≡ length nodes.now) }
-    ensures told { IfOk result (λ answers. (terms : _) → IsNumbering terms → AreNumbered terms (R.triples graph.now) → AreClassWords terms words → AreNodes terms nodes.now → class < length terms
-        → AreAnswersTo (λ v. Instance (graph_of terms (R.triples graph.now)) v (term_at terms class)) terms nodes.now answers.items) }
-{
-    let mut answers = Vec::with_capacity(alloc, nodes.len())?;
-    for node in nodes {
-        answers.push(is_instance(alloc, graph, words, *node, class, footprint)?)?;
-    }
-    Ok(answers)
-}
-
-// The results of sh:class (SHACL section 4.1.1).
-fn class_rows<R: Triples, N: Names>(
-    alloc: Global,
-    graph: &R,
-    names: &N,
-    words: ClassWords,
-    source: &Term,
-    parameter: u32,
-    focus: u32,
-    values: &[u32],
-    footprint: &mut Footprint,
-) -> Result<Vec<ResultRow>, AllocError>
-    requires numbering { IsNumbering (N.terms names.now) }
-    requires graph { AreNumbered (N.terms names.now) (R.triples graph.now) }
-    requires words { AreClassWords (N.terms names.now) words }
-    requires nodes { AreNodes (N.terms names.now) values.now }
-    requires parameter { parameter < length (N.terms names.now) }
-    requires focus { focus < length (N.terms names.now) }
-    ensures { IfOk result (λ rows. (s : _) (n : _) → ListsRows components.Class (around (N.terms names.now) (R.triples graph.now) s n values.now focus) untold
-        source.now (term_at (N.terms names.now) focus) (term_at (N.terms names.now) parameter) rows.items) }
-{
-    let answers = instance_answers(alloc, graph, words, parameter, values, footprint)?;
-    class(alloc, names, source, parameter, focus, values, &answers)
-}
 
 // The results of sh:uniqueLang (SHACL section 4.4.5).
 fn unique_lang_rows<N: Names>(
@@ -135,24 +87,24 @@ pub(crate) fn term_rows<R: Triples, N: Names>(
     alloc: Global,
     graph: &R,
     names: &N,
-    words: ClassWords,
     shapes: &[Shape<u32>],
     shape: &Shape<u32>,
     told: &[Told],
+    instances: &[bool],
     source: &Term,
     component: TermComponent,
     parameter: u32,
     focus: u32,
     values: &[u32],
-    footprint: &mut Footprint,
 ) -> Result<Vec<ResultRow>, AllocError>
     requires numbering { IsNumbering (N.terms names.now) }
     requires graph { AreNumbered (N.terms names.now) (R.triples graph.now) }
-    requires words { AreClassWords (N.terms names.now) words }
     requires bound { AreBound (N.terms names.now) shapes.now }
     requires shape { HoldsOfShape (λ n. n < length (N.terms names.now)) (length shapes.now) shape.now }
     requires nodes { AreNodes (N.terms names.now) values.now }
     requires told { HaveAnswers shapes.now values.now told.now (CountAsks shape.now component) }
+    requires instances { AreInstanceAnswers (graph_of (N.terms names.now) (R.triples graph.now)) (term_component component)
+        (term_at (N.terms names.now) parameter) (N.terms names.now) values.now instances.now }
     requires parameter { parameter < length (N.terms names.now) }
     requires focus { focus < length (N.terms names.now) }
     ensures { IfOk result (λ rows. WhereRight (N.terms names.now) (R.triples graph.now) shapes.now values.now told.now (CountAsks shape.now component)
@@ -161,9 +113,7 @@ pub(crate) fn term_rows<R: Triples, N: Names>(
         source.now (term_at (N.terms names.now) focus) (term_at (N.terms names.now) parameter) rows.items)) }
 {
     match component {
-        TermComponent::Class => class_rows(
-            alloc, graph, names, words, source, parameter, focus, values, footprint,
-        ),
+        TermComponent::Class => class(alloc, names, source, parameter, focus, values, instances),
         TermComponent::Datatype => datatype(alloc, names, source, parameter, focus, values),
         TermComponent::NodeKind => node_kind(alloc, names, source, parameter, focus, values),
         TermComponent::MinCount => min_count(alloc, names, source, parameter, focus, values),

@@ -1,4 +1,4 @@
-ghost use Rattle.std.specs.Prelude.{◌≡◌, ◌<◌, IfOk, length};
+ghost use Rattle.std.specs.Prelude.{◌≡◌, ◌<◌, IfOk, OnOk, length};
 ghost use Rattle.std.specs.List.{All, Contains};
 ghost use Rattle.rdf_model.specs.Numbers.{AreNumbered, IsNumbering, graph_of, term_at};
 ghost use Rattle.component_rows.specs.Answers.{AreAnswersTo};
@@ -8,6 +8,7 @@ ghost use Rattle.path_eval.specs.Instances.{AreClassWords};
 ghost use Rattle.shape_ast.specs.Readings.{AreBound, named_shapes};
 ghost use Rattle.shape_ast.specs.Standing.{AreBuilt, StandFor};
 ghost use Rattle.shape_eval.specs.Around.{around};
+ghost use Rattle.shape_eval.specs.Looks.{AddsAt, AddsAtEach, AddsAtPlaces, AddsShapeLooks};
 ghost use Rattle.shape_eval.specs.Results.{AtPlace, CollectsAt, CollectsAtEach, ListsResults, depth_limit};
 ghost use Rattle.shape_eval.specs.ShapeRows.{FromSome, PropertyAt};
 ghost use Rattle.shape_eval.specs.Told.{AreRight, ConformsAt, HaveAnswers};
@@ -47,6 +48,7 @@ fn answers_at<R: Triples, N: Names>(
     ensures as_many { IfOk result (λ answers. length answers.items ≡ length values.now) }
     ensures told { IfOk result (λ answers. AtPlace (N.terms names.now) shapes.now place
         (λ s c. AreAnswersTo (ConformsAt (graph_of (N.terms names.now) (R.triples graph.now)) s levels c.node) (N.terms names.now) values.now answers.items)) }
+    ensures looks { OnOk result (AddsAtEach (N.terms names.now) (R.triples graph.now) shapes.now levels place values.now footprint.old footprint.new) }
 {
     let mut answers = Vec::with_capacity(alloc, values.len())?;
     for value in values {
@@ -81,6 +83,7 @@ fn told_of_each<R: Triples, N: Names>(
     ensures as_many { IfOk result (λ told. HaveAnswers shapes.now values.now told.items (Contains places.now)) }
     ensures right { IfOk result (λ told. (s : _) → StandFor (named_shapes (N.terms names.now) shapes.now) s
         → AreRight (N.terms names.now) (R.triples graph.now) s levels shapes.now values.now told.items (Contains places.now)) }
+    ensures looks { OnOk result (AddsAtPlaces (N.terms names.now) (R.triples graph.now) shapes.now levels places.now values.now footprint.old footprint.new) }
 {
     let mut told = Vec::with_capacity(alloc, places.len())?;
     for place in places {
@@ -115,7 +118,8 @@ fn rows_at_each<R: Triples, N: Names>(
     requires built { AreBuilt (term_at (N.terms names.now)) shapes.now }
     requires place { place < length shapes.now }
     requires nodes { AreNodes (N.terms names.now) values.now }
-    ensures { IfOk result (λ rows. CollectsAtEach (N.terms names.now) (R.triples graph.now) shapes.now levels place values.now rows.items) }
+    ensures rows { IfOk result (λ rows. CollectsAtEach (N.terms names.now) (R.triples graph.now) shapes.now levels place values.now rows.items) }
+    ensures looks { OnOk result (AddsAtEach (N.terms names.now) (R.triples graph.now) shapes.now levels place values.now footprint.old footprint.new) }
 {
     let mut rows = Vec::new(alloc);
     for value in values {
@@ -147,8 +151,9 @@ fn property_rows<R: Triples, N: Names>(
     requires built { AreBuilt (term_at (N.terms names.now)) shapes.now }
     requires places { All (λ n. n < length shapes.now) places.now }
     requires nodes { AreNodes (N.terms names.now) values.now }
-    ensures { IfOk result (λ rows. (s : _) (f : _) → StandFor (named_shapes (N.terms names.now) shapes.now) s
+    ensures rows { IfOk result (λ rows. (s : _) (f : _) → StandFor (named_shapes (N.terms names.now) shapes.now) s
         → Collects (FromSome places.now (PropertyAt (around (N.terms names.now) (R.triples graph.now) s levels values.now f) (named_shapes (N.terms names.now) shapes.now))) rows.items) }
+    ensures looks { OnOk result (AddsAtPlaces (N.terms names.now) (R.triples graph.now) shapes.now levels places.now values.now footprint.old footprint.new) }
 {
     let mut rows = Vec::new(alloc);
     for place in places {
@@ -180,7 +185,8 @@ fn rows_at<R: Triples, N: Names>(
     requires built { AreBuilt (term_at (N.terms names.now)) shapes.now }
     requires place { place < length shapes.now }
     requires focus { focus < length (N.terms names.now) }
-    ensures { IfOk result (λ rows. CollectsAt (N.terms names.now) (R.triples graph.now) shapes.now levels place focus rows.items) }
+    ensures rows { IfOk result (λ rows. CollectsAt (N.terms names.now) (R.triples graph.now) shapes.now levels place focus rows.items) }
+    ensures looks { OnOk result (AddsAt (N.terms names.now) (R.triples graph.now) shapes.now levels place focus footprint.old footprint.new) }
 {
     let shape = &shapes[place];
     if levels == 0 || shape.is_deactivated {
@@ -213,8 +219,8 @@ fn most_levels() -> usize
 
 /// The results of a shape, by its place among the compiled shapes, at a focus node (SHACL section 3.4): each once, in the
 /// order of results. They are those of each shapes graph that the shapes stand for, where no shape refers to itself and
-/// no chain of references is longer than 256. The footprint takes looks that were made; which, no clause says yet. The
-/// permit is used up.
+/// no chain of references is longer than 256. The footprint takes exactly the looks of the shape at the focus node, without
+/// those of its targets, likewise. The permit is used up.
 pub fn eval<R: Triples, N: Names>(
     alloc: Global,
     graph: &R,
@@ -233,7 +239,8 @@ pub fn eval<R: Triples, N: Names>(
     requires built { AreBuilt (term_at (N.terms names.now)) bound.now.shapes }
     requires shape { shape < length bound.now.shapes }
     requires focus { focus < length (N.terms names.now) }
-    ensures { IfOk result (λ rows. ListsResults (N.terms names.now) (R.triples graph.now) bound.now.shapes shape focus rows.items) }
+    ensures rows { IfOk result (λ rows. ListsResults (N.terms names.now) (R.triples graph.now) bound.now.shapes shape focus rows.items) }
+    ensures looks { OnOk result (AddsShapeLooks (N.terms names.now) (R.triples graph.now) bound.now.shapes shape focus footprint.old footprint.new) }
 {
     allowed.spend();
     let shapes = bound.shapes.as_slice();

@@ -3,8 +3,9 @@
 //!
 //! `eval` lists exactly the results of SHACL's validation of one focus node by one shape, for each shapes graph that the
 //! compiled shapes stand for, as long as no shape refers to itself and no chain of references is longer than 256. Whether
-//! value nodes conform to another shape is found by the results of that shape at each of them. A `Permit` allows one
-//! evaluation, and `permit` counts it among the `Steps`, which take no memory.
+//! value nodes conform to another shape is found by the results of that shape at each of them. The footprint takes exactly the
+//! looks of the shape at the focus node. A `Permit` allows one evaluation, and `permit` counts it among the `Steps`, which
+//! take no memory.
 #![tactic(auto)]
 
 mod asked;
@@ -13,6 +14,7 @@ mod by_shape;
 mod by_term;
 mod closing;
 mod evaluation;
+mod looks;
 mod own_rows;
 mod qualified;
 mod rights;

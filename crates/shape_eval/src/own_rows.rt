@@ -1,18 +1,21 @@
-ghost use Rattle.std.specs.Prelude.{◌≡◌, ◌<◌, IfOk, length, map};
+ghost use Rattle.std.specs.Prelude.{◌≡◌, ◌<◌, IfOk, OnOk, length, map};
 ghost use Rattle.std.specs.List.{All, Contains};
-ghost use Rattle.rdf_model.specs.Numbers.{AreNumbered, IsNumbering, term_at};
+ghost use Rattle.rdf_model.specs.Numbers.{AreNumbered, IsNumbering, graph_of, term_at};
 ghost use Rattle.component_rows.specs.Listed.{Collects};
-ghost use Rattle.component_rows.specs.Nodes.{AreNodes};
+ghost use Rattle.component_rows.specs.Nodes.{AreNodes, HasNode};
 ghost use Rattle.path_eval.specs.Instances.{AreClassWords};
+ghost use Rattle.path_eval.specs.Naming.{AddsLooks};
 ghost use Rattle.shape_ast.specs.Readings.{AreBound, HoldsOfConstraint, HoldsOfShape, named_shapes, read_constraint, read_shape};
 ghost use Rattle.shape_ast.specs.Standing.{IsBuilt, IsLinked};
 ghost use Rattle.shape_eval.specs.Around.{around};
+ghost use Rattle.shape_eval.specs.Looks.{ConstraintReads, ReadsOfSome};
 ghost use Rattle.shape_eval.specs.ShapeRows.{ConstraintRow, FromSome, OwnRow, PatternRow};
 ghost use Rattle.shape_eval.specs.Told.{Asks, AsksSome, HaveAnswers, WhereRight};
 
 use crate::by_list::list_rows;
 use crate::by_shape::{shape_rows, shapes_rows};
 use crate::by_term::term_rows;
+use crate::looks::component_looks;
 use crate::told::Told;
 use component_rows::named;
 use path_eval::ClassWords;
@@ -22,7 +25,7 @@ use shape_model::ResultRow;
 use std::alloc::{AllocError, Global};
 use string_constraints::pattern;
 
-// The results of a constraint of the shape.
+// The results of a constraint of the shape. The looks that it makes by itself are added to the footprint.
 fn constraint_rows<R: Triples, N: Names>(
     alloc: Global,
     graph: &R,
@@ -45,20 +48,27 @@ fn constraint_rows<R: Triples, N: Names>(
     requires nodes { AreNodes (N.terms names.now) values.now }
     requires told { HaveAnswers shapes.now values.now told.now (Asks shape.now constraint.now) }
     requires focus { focus < length (N.terms names.now) }
-    ensures { IfOk result (λ rows. WhereRight (N.terms names.now) (R.triples graph.now) shapes.now values.now told.now (Asks shape.now constraint.now)
+    ensures rows { IfOk result (λ rows. WhereRight (N.terms names.now) (R.triples graph.now) shapes.now values.now told.now (Asks shape.now constraint.now)
         (λ s n. IsLinked (named_shapes (N.terms names.now) shapes.now) (read_constraint (term_at (N.terms names.now)) constraint.now)
         → Collects (ConstraintRow (around (N.terms names.now) (R.triples graph.now) s n values.now focus) (named_shapes (N.terms names.now) shapes.now)
         (read_shape (term_at (N.terms names.now)) shape.now) (term_at (N.terms names.now) focus) (read_constraint (term_at (N.terms names.now)) constraint.now)) rows.items)) }
+    ensures looks { OnOk result (AddsLooks (N.terms names.now) (ConstraintReads (graph_of (N.terms names.now) (R.triples graph.now)) (HasNode (N.terms names.now) values.now)
+        (term_at (N.terms names.now) focus) (read_constraint (term_at (N.terms names.now)) constraint.now)) footprint.old footprint.new) }
 {
     let source = named(names, shape.node);
     match constraint {
         Constraint::ByTerm {
             component,
             parameter,
-        } => term_rows(
-            alloc, graph, names, words, shapes, shape, told, source, *component, *parameter, focus,
-            values, footprint,
-        ),
+        } => {
+            let instances = component_looks(
+                alloc, graph, names, words, *component, *parameter, focus, values, footprint,
+            )?;
+            term_rows(
+                alloc, graph, names, shapes, shape, told, &instances, source, *component,
+                *parameter, focus, values,
+            )
+        }
         Constraint::ByList {
             component,
             parameter,
@@ -122,11 +132,13 @@ fn constraints_rows<R: Triples, N: Names>(
     requires nodes { AreNodes (N.terms names.now) values.now }
     requires told { HaveAnswers shapes.now values.now told.now (AsksSome shape.now constraints.now) }
     requires focus { focus < length (N.terms names.now) }
-    ensures { IfOk result (λ rows. WhereRight (N.terms names.now) (R.triples graph.now) shapes.now values.now told.now (AsksSome shape.now constraints.now)
+    ensures rows { IfOk result (λ rows. WhereRight (N.terms names.now) (R.triples graph.now) shapes.now values.now told.now (AsksSome shape.now constraints.now)
         (λ s n. All (IsLinked (named_shapes (N.terms names.now) shapes.now)) (map (read_constraint (term_at (N.terms names.now))) constraints.now)
         → Collects (FromSome (map (read_constraint (term_at (N.terms names.now))) constraints.now)
         (ConstraintRow (around (N.terms names.now) (R.triples graph.now) s n values.now focus) (named_shapes (N.terms names.now) shapes.now)
         (read_shape (term_at (N.terms names.now)) shape.now) (term_at (N.terms names.now) focus))) rows.items)) }
+    ensures looks { OnOk result (AddsLooks (N.terms names.now) (ReadsOfSome (map (read_constraint (term_at (N.terms names.now))) constraints.now)
+        (ConstraintReads (graph_of (N.terms names.now) (R.triples graph.now)) (HasNode (N.terms names.now) values.now) (term_at (N.terms names.now) focus))) footprint.old footprint.new) }
 {
     let mut rows = Vec::new(alloc);
     for constraint in constraints {
@@ -191,10 +203,12 @@ pub(crate) fn own_rows<R: Triples, N: Names>(
     requires nodes { AreNodes (N.terms names.now) values.now }
     requires told { HaveAnswers shapes.now values.now told.now (AsksSome shape.now shape.now.constraints) }
     requires focus { focus < length (N.terms names.now) }
-    ensures { IfOk result (λ rows. WhereRight (N.terms names.now) (R.triples graph.now) shapes.now values.now told.now (AsksSome shape.now shape.now.constraints)
+    ensures rows { IfOk result (λ rows. WhereRight (N.terms names.now) (R.triples graph.now) shapes.now values.now told.now (AsksSome shape.now shape.now.constraints)
         (λ s n. All (IsLinked (named_shapes (N.terms names.now) shapes.now)) (map (read_constraint (term_at (N.terms names.now))) shape.now.constraints)
         → Collects (OwnRow (around (N.terms names.now) (R.triples graph.now) s n values.now focus) (named_shapes (N.terms names.now) shapes.now)
         (read_shape (term_at (N.terms names.now)) shape.now) (term_at (N.terms names.now) focus)) rows.items)) }
+    ensures looks { OnOk result (AddsLooks (N.terms names.now) (ReadsOfSome (map (read_constraint (term_at (N.terms names.now))) shape.now.constraints)
+        (ConstraintReads (graph_of (N.terms names.now) (R.triples graph.now)) (HasNode (N.terms names.now) values.now) (term_at (N.terms names.now) focus))) footprint.old footprint.new) }
 {
     let constraints = shape.constraints.as_slice();
     let mut rows = constraints_rows(

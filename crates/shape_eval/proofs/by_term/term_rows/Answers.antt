@@ -1,7 +1,13 @@
-use Rattle.std.proofs.Common.{ℕ, List, sym, subst, IfOk}
+use Rattle.std.proofs.Common.{ℕ, Bool, List, sym, subst, IfOk}
 use Rattle.std.proofs.lemmas.Result.{IfOk-weaker}
 use Rattle.rdf_model.specs.declared.triple.Triple.{Triple}
-use Rattle.rdf_model.specs.Numbers.{term_at}
+use Rattle.rdf_model.specs.declared.term.Term.{Term}
+use Rattle.rdf_model.specs.Numbers.{graph_of, term_at}
+use Rattle.shape_model.specs.Components.{row_of}
+use Rattle.shape_model.specs.Instances.{Instance}
+use Rattle.component_rows.proofs.Told.{refused_where}
+use Rattle.value_constraints.specs.Answers.{answered_nodes}
+use Rattle.shape_eval.specs.Looks.{AreInstanceAnswers}
 use Rattle.shape_model.specs.declared.component.Component.TheVariants as components
 use Rattle.component_rows.specs.Listed.{ListsRows, at_nodes, untold}
 use Rattle.component_rows.specs.Nodes.{HasNode}
@@ -15,14 +21,29 @@ use Rattle.shape_eval.specs.Around.{around}
 use Rattle.shape_eval.specs.Told.{CountAsks, HaveAnswers, WhereRight}
 use Rattle.shape_eval.proofs.by_term.term_rows.Goals as goal
 
+-- what the answers for sh:class say
+abbrev Given : List Triple → Term → List Term → List ℕ → List Bool → TermComponent → Type 0
+Given graph q terms values instances k = AreInstanceAnswers graph (term_component k) q terms values instances
+
+pub class-requires-clause-answers : goal.class-requires-clause-answers
+class-requires-clause-answers g c =
+    let terms = g.N.Names.terms c.args.names.now in
+    (subst (Given (graph_of terms (g.R.Triples.triples c.args.graph.now)) (term_at terms c.args.parameter) terms c.args.values.now c.args.instances.now) c.in-Class.is c.requires.instances).0
+
 pub returns-in-Class : goal.returns-in-Class
 returns-in-Class g c =
     let terms = g.N.Names.terms c.args.names.now in
     let ids = g.R.Triples.triples c.args.graph.now in
-    subst (λ (k : TermComponent). IfOk c.class_rows.result (λ rows. WhereRight terms ids c.args.shapes.now c.args.values.now c.args.told.now (CountAsks c.args.shape.now k) (λ s n. ListsRows (term_component k) (around terms ids s n c.args.values.now c.args.focus) (shape_reading (named_shapes terms c.args.shapes.now) (read_shape (term_at terms) c.args.shape.now)) c.args.source.now (term_at terms c.args.focus) (term_at terms c.args.parameter) rows.items))) (sym c.in-Class.is)
-    (IfOk-weaker c.class_rows.result (λ rows. (s : List Triple) (n : ℕ) → ListsRows components.Class (around terms ids s n c.args.values.now c.args.focus) untold c.args.source.now (term_at terms c.args.focus) (term_at terms c.args.parameter) rows.items)
-    (λ rows. WhereRight terms ids c.args.shapes.now c.args.values.now c.args.told.now (CountAsks c.args.shape.now by_term.Class) (λ s n. ListsRows (term_component by_term.Class) (around terms ids s n c.args.values.now c.args.focus) (shape_reading (named_shapes terms c.args.shapes.now) (read_shape (term_at terms) c.args.shape.now)) c.args.source.now (term_at terms c.args.focus) (term_at terms c.args.parameter) rows.items))
-    (λ rows h s n right. h s n) c.class_rows.ensures)
+    let f = term_at terms c.args.focus in
+    let q = term_at terms c.args.parameter in
+    let values = c.args.values.now in
+    let instances = c.args.instances.now in
+    let are = subst (Given (graph_of terms ids) q terms values instances) c.in-Class.is c.requires.instances in
+    subst (λ (k : TermComponent). IfOk c.class.result (λ rows. WhereRight terms ids c.args.shapes.now values c.args.told.now (CountAsks c.args.shape.now k) (λ s n. ListsRows (term_component k) (around terms ids s n values c.args.focus) (shape_reading (named_shapes terms c.args.shapes.now) (read_shape (term_at terms) c.args.shape.now)) c.args.source.now f q rows.items))) (sym c.in-Class.is)
+    (IfOk-weaker c.class.result (λ rows. ListsRows components.Class (answered_nodes terms values instances) untold c.args.source.now f q rows.items)
+    (λ rows. WhereRight terms ids c.args.shapes.now values c.args.told.now (CountAsks c.args.shape.now by_term.Class) (λ s n. ListsRows (term_component by_term.Class) (around terms ids s n values c.args.focus) (shape_reading (named_shapes terms c.args.shapes.now) (read_shape (term_at terms) c.args.shape.now)) c.args.source.now f q rows.items))
+    (λ rows h s n right. refused_where (λ v. Instance (graph_of terms ids) v q) terms values instances are.1 (row_of components.Class c.args.source.now f q) rows.items h)
+    c.class.ensures)
 
 pub returns-in-Datatype : goal.returns-in-Datatype
 returns-in-Datatype g c =

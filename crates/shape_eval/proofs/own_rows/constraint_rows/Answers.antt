@@ -1,9 +1,9 @@
-use Rattle.std.proofs.Common.{◌≡◌, ◌<◌, ℕ, List, IfOk, length, map, sym, subst}
+use Rattle.std.proofs.Common.{◌≡◌, ◌<◌, ℕ, List, IfOk, OnOk, length, map, sym, subst}
 use Rattle.std.specs.List.{All, Contains}
 use Rattle.std.proofs.lemmas.Result.{IfOk-weaker}
 use Rattle.rdf_model.specs.declared.term.Term.{Term}
 use Rattle.rdf_model.specs.declared.ids.Ids.{Ids}
-use Rattle.rdf_model.specs.Numbers.{term_at}
+use Rattle.rdf_model.specs.Numbers.{graph_of, term_at}
 use Rattle.shape_model.specs.Components.{RowsOf, row_of}
 use Rattle.component_rows.specs.Listed.{Collects, ListsRows, at_nodes, untold, with_list}
 use Rattle.component_rows.specs.Nodes.{HasNode}
@@ -15,6 +15,11 @@ use Rattle.shape_ast.specs.Standing.{AreAt, IsAt, IsLinked, shape_reading}
 use Rattle.shape_eval.specs.Around.{around}
 use Rattle.shape_eval.specs.ShapeRows.{ConstraintRow}
 use Rattle.shape_eval.specs.Told.{Asks, CountAsks, HaveAnswers, WhereRight}
+use Rattle.path_eval.specs.Naming.{AddsLooks}
+use Rattle.path_eval.proofs.Footprints.{looks_none}
+use Rattle.shape_eval.specs.Looks.{ConstraintReads}
+use Rattle.shape_eval.proofs.Looking.{always}
+use Rattle.shape_eval.proofs.Reading.{no_list_reads, no_shape_reads, no_shapes_reads}
 use Rattle.shape_eval.proofs.Owning.{list_around}
 use Rattle.shape_eval.proofs.own_rows.constraint_rows.Goals as goal
 
@@ -24,8 +29,8 @@ term_rows-requires-clause-told g c = subst (λ (k : Constraint ℕ). HaveAnswers
 pub term_rows-requires-clause-parameter : goal.term_rows-requires-clause-parameter
 term_rows-requires-clause-parameter g c = (subst (λ (k : Constraint ℕ). HoldsOfConstraint (λ n. n < length (g.N.Names.terms c.args.names.now)) (length c.args.shapes.now) k) c.in-ByTerm.is c.requires.constraint)
 
-pub returns-in-ByTerm : goal.returns-in-ByTerm
-returns-in-ByTerm g c =
+pub returns-in_ok-instances-in-ByTerm-clause-rows : goal.returns-in_ok-instances-in-ByTerm-clause-rows
+returns-in_ok-instances-in-ByTerm-clause-rows g c =
     let terms = g.N.Names.terms c.args.names.now in
     let ids = g.R.Triples.triples c.args.graph.now in
     let shapes = c.args.shapes.now in
@@ -50,8 +55,8 @@ list_rows-requires-clause-members g c = subst (λ (ns : List ℕ). All (λ n. n 
 pub list_rows-requires-clause-parameter : goal.list_rows-requires-clause-parameter
 list_rows-requires-clause-parameter g c = (subst (λ (k : Constraint ℕ). HoldsOfConstraint (λ n. n < length (g.N.Names.terms c.args.names.now)) (length c.args.shapes.now) k) c.in-ByList.is c.requires.constraint).0
 
-pub returns-in-ByList : goal.returns-in-ByList
-returns-in-ByList g c =
+pub returns-in-ByList-clause-rows : goal.returns-in-ByList-clause-rows
+returns-in-ByList-clause-rows g c =
     let terms = g.N.Names.terms c.args.names.now in
     let ids = g.R.Triples.triples c.args.graph.now in
     let shapes = c.args.shapes.now in
@@ -79,8 +84,8 @@ shape_rows-requires-clause-parameter g c = (subst (λ (k : Constraint ℕ). Hold
 pub shape_rows-requires-clause-place : goal.shape_rows-requires-clause-place
 shape_rows-requires-clause-place g c = (subst (λ (k : Constraint ℕ). HoldsOfConstraint (λ n. n < length (g.N.Names.terms c.args.names.now)) (length c.args.shapes.now) k) c.in-ByShape.is c.requires.constraint).1
 
-pub returns-in-ByShape : goal.returns-in-ByShape
-returns-in-ByShape g c =
+pub returns-in-ByShape-clause-rows : goal.returns-in-ByShape-clause-rows
+returns-in-ByShape-clause-rows g c =
     let terms = g.N.Names.terms c.args.names.now in
     let ids = g.R.Triples.triples c.args.graph.now in
     let shapes = c.args.shapes.now in
@@ -108,8 +113,8 @@ shapes_rows-requires-clause-parameter g c = (subst (λ (k : Constraint ℕ). Hol
 pub shapes_rows-requires-clause-places : goal.shapes_rows-requires-clause-places
 shapes_rows-requires-clause-places g c = subst (λ (ns : List ℕ). All (λ n. n < length c.args.shapes.now) ns) (sym c.as_slice-in-ByShapes.ensures) ((subst (λ (k : Constraint ℕ). HoldsOfConstraint (λ n. n < length (g.N.Names.terms c.args.names.now)) (length c.args.shapes.now) k) c.in-ByShapes.is c.requires.constraint).1)
 
-pub returns-in-ByShapes : goal.returns-in-ByShapes
-returns-in-ByShapes g c =
+pub returns-in-ByShapes-clause-rows : goal.returns-in-ByShapes-clause-rows
+returns-in-ByShapes-clause-rows g c =
     let terms = g.N.Names.terms c.args.names.now in
     let ids = g.R.Triples.triples c.args.graph.now in
     let shapes = c.args.shapes.now in
@@ -127,3 +132,47 @@ returns-in-ByShapes g c =
     (λ rows. WhereRight terms ids shapes values told (Asks shape (ByShapes component c.in-ByShapes.parameter c.in-ByShapes.places)) (λ s n. IsLinked named (read_constraint (term_at terms) (ByShapes component c.in-ByShapes.parameter c.in-ByShapes.places)) → Collects (ConstraintRow (around terms ids s n values c.args.focus) named read f (read_constraint (term_at terms) (ByShapes component c.in-ByShapes.parameter c.in-ByShapes.places))) rows.items))
     (λ rows h s n right linked. subst (λ (x : Term). Collects (λ r. (members : List Term) × AreAt named c.in-ByShapes.places members × RowsOf (shapes_component component) (around terms ids s n values c.args.focus) (with_list members) q (row_of (shapes_component component) x f q) r) rows.items) c.named-source.ensures (h ids s n right))
     (subst (λ (ps : List ℕ). IfOk c.shapes_rows.result (λ rows. (is : List Ids) → WhereRight terms is shapes values told (Contains ps) (λ s n. Collects (λ r. (members : List Term) × AreAt named ps members × RowsOf (shapes_component component) (around terms is s n values c.args.focus) (with_list members) q (row_of (shapes_component component) source f q) r) rows.items))) c.as_slice-in-ByShapes.ensures c.shapes_rows.ensures))
+
+pub returns-in-ByList-clause-looks : goal.returns-in-ByList-clause-looks
+returns-in-ByList-clause-looks g c =
+    let terms = g.N.Names.terms c.args.names.now in
+    let f = term_at terms c.args.focus in
+    let graph = graph_of terms (g.R.Triples.triples c.args.graph.now) in
+    let old = c.args.footprint.now in
+    subst (λ (k : Constraint ℕ). OnOk c.list_rows.result (AddsLooks terms (ConstraintReads graph (HasNode terms c.args.values.now) f (read_constraint (term_at terms) k)) old old)) (sym c.in-ByList.is)
+    (let here = read_constraint (term_at terms) (ByList c.in-ByList.component c.in-ByList.parameter c.in-ByList.members) in
+    always c.list_rows.result (λ rows. AddsLooks terms (ConstraintReads graph (HasNode terms c.args.values.now) f here) old old)
+    (λ rows. looks_none terms (ConstraintReads graph (HasNode terms c.args.values.now) f here) (λ look h. no_list_reads graph (HasNode terms c.args.values.now) f c.in-ByList.component (term_at terms c.in-ByList.parameter) look h) old))
+
+pub returns-in-ByShape-clause-looks : goal.returns-in-ByShape-clause-looks
+returns-in-ByShape-clause-looks g c =
+    let terms = g.N.Names.terms c.args.names.now in
+    let f = term_at terms c.args.focus in
+    let graph = graph_of terms (g.R.Triples.triples c.args.graph.now) in
+    let old = c.args.footprint.now in
+    subst (λ (k : Constraint ℕ). OnOk c.shape_rows.result (AddsLooks terms (ConstraintReads graph (HasNode terms c.args.values.now) f (read_constraint (term_at terms) k)) old old)) (sym c.in-ByShape.is)
+    (let here = read_constraint (term_at terms) (ByShape c.in-ByShape.component c.in-ByShape.parameter c.in-ByShape.place) in
+    always c.shape_rows.result (λ rows. AddsLooks terms (ConstraintReads graph (HasNode terms c.args.values.now) f here) old old)
+    (λ rows. looks_none terms (ConstraintReads graph (HasNode terms c.args.values.now) f here) (λ look h. no_shape_reads graph (HasNode terms c.args.values.now) f c.in-ByShape.component (term_at terms c.in-ByShape.parameter) look h) old))
+
+pub returns-in-ByShapes-clause-looks : goal.returns-in-ByShapes-clause-looks
+returns-in-ByShapes-clause-looks g c =
+    let terms = g.N.Names.terms c.args.names.now in
+    let f = term_at terms c.args.focus in
+    let graph = graph_of terms (g.R.Triples.triples c.args.graph.now) in
+    let old = c.args.footprint.now in
+    subst (λ (k : Constraint ℕ). OnOk c.shapes_rows.result (AddsLooks terms (ConstraintReads graph (HasNode terms c.args.values.now) f (read_constraint (term_at terms) k)) old old)) (sym c.in-ByShapes.is)
+    (let here = read_constraint (term_at terms) (ByShapes c.in-ByShapes.component c.in-ByShapes.parameter c.in-ByShapes.places) in
+    always c.shapes_rows.result (λ rows. AddsLooks terms (ConstraintReads graph (HasNode terms c.args.values.now) f here) old old)
+    (λ rows. looks_none terms (ConstraintReads graph (HasNode terms c.args.values.now) f here) (λ look h. no_shapes_reads graph (HasNode terms c.args.values.now) f c.in-ByShapes.component (term_at terms c.in-ByShapes.parameter) look h) old))
+
+pub returns-in_ok-instances-in-ByTerm-clause-looks : goal.returns-in_ok-instances-in-ByTerm-clause-looks
+returns-in_ok-instances-in-ByTerm-clause-looks g c =
+    let terms = g.N.Names.terms c.args.names.now in
+    let f = term_at terms c.args.focus in
+    let graph = graph_of terms (g.R.Triples.triples c.args.graph.now) in
+    let old = c.args.footprint.now in
+    let new = c.component_looks.new.footprint in
+    subst (λ (k : Constraint ℕ). OnOk c.term_rows.result (AddsLooks terms (ConstraintReads graph (HasNode terms c.args.values.now) f (read_constraint (term_at terms) k)) old new)) (sym c.in-ByTerm.is)
+    (always c.term_rows.result (λ rows. AddsLooks terms (ConstraintReads graph (HasNode terms c.args.values.now) f (read_constraint (term_at terms) (ByTerm c.in-ByTerm.component c.in-ByTerm.parameter))) old new)
+    (λ rows. c.in_ok-instances-in-ByTerm.ensures.looks))
