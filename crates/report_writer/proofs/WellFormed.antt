@@ -28,6 +28,6 @@ module _ (s : List Triple) (well : IsWellFormed s) (n : Term) (shape : IsShape s
   -- its path is nested 256 levels deep at most (rule 41)
   pub shallow : (v : Term) (p : Path) → HasProperty s n ShPath v → PathOf s v p → depth_of p < level_limit
   shallow v p h path = elim (cases_lt 256 (depth_of p)) [
-    | inl deep ↦ absurd (well (row n 41 None) (inr (λ r b. well r (inl b), (inr (rule_shape s n shape, (v, h, (p, path, deep))), refl))))
+    | inl deep ↦ absurd (well (row n 41 None) (inr (λ r b. well r (inl b), inl (inr (rule_shape s n shape, (v, h, (p, path, deep))), refl))))
     | inr short ↦ within (depth_of p) short
   ]

@@ -57,5 +57,5 @@ module _ (s : List Triple) (well : IsWellFormed s) (n : Term) (shape : IsShape s
       → ((fault ≡ path_faults.NotPath) → ⊥) × ((fault ≡ path_faults.TooDeep) → ⊥)
   path_readable v fault h why = (
     λ e. passes properties.Path v h (why.0 e),
-    λ e. well (row n 41 None) (inr (λ r broken. well r (inl broken), (inr (shape, (v, h, deep_path s v 256 (why.1 e))), refl))),
+    λ e. well (row n 41 None) (inr (λ r broken. well r (inl broken), inl (inr (shape, (v, h, deep_path s v 256 (why.1 e))), refl))),
   )

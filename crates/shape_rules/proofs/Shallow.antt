@@ -14,4 +14,4 @@ chain s a [] h = tt
 chain s a (m ∷ ms) h = (m, refers s a m h.0, chain s m ms h.1)
 
 pub shallow : ShallowLaw
-shallow s well a ms long h = well (row a 41 None) (inr (λ r k. well r (inl k), (inl (subst (λ (n : ℕ). HasChain (Refers s) n a) long (chain s a ms h)), refl)))
+shallow s well a ms long h = well (row a 41 None) (inr (λ r k. well r (inl k), inl (inl (subst (λ (n : ℕ). HasChain (Refers s) n a) long (chain s a ms h)), refl)))

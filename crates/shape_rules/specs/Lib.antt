@@ -7,3 +7,5 @@ pub mod References
 pub mod Broken
 pub mod Steps
 pub mod Laws
+pub mod Sizes
+pub mod Counted

@@ -17,12 +17,10 @@ ghost use Rattle.shape_rules.specs.Syntax.{IsShape, IsTaken};
 use crate::passes::property_values;
 use crate::referring::least_with_long_chain;
 use crate::rows::push_whole;
-use crate::shapes::{is_shape, taken_shapes};
+use crate::shapes::{is_shape_at, taken_shapes};
 use crate::{RuleRow, ShapeProperty};
 use collections::Sequence;
 use rdf_model::{Term, Triple};
-use shape_syntax::instance::classes_of;
-use shape_syntax::lookup::triples_of;
 use shape_syntax::paths::path_nodes;
 use shape_syntax::subjects::subjects;
 use shape_syntax::{PathFault, read_path};
@@ -77,21 +75,6 @@ fn has_deep_path(
         }
     }
     Ok(false)
-}
-
-fn is_shape_at(
-    alloc: Global,
-    graph: &[Triple],
-    taken: &[Term],
-    node: &Term,
-) -> Result<bool, AllocError>
-    requires graph { IsAscending triple_cmp graph.now }
-    requires taken { IsListing term_cmp (IsTaken graph.now) taken.now }
-    ensures { IfOk result (λ shape. IsTrue shape ↔ IsShape graph.now node.now) }
-{
-    let classes = classes_of(alloc, graph, node)?;
-    let own = triples_of(graph, node);
-    Ok(is_shape(graph, taken, classes.as_slice(), own, node))
 }
 
 fn is_shape_with_deep_path(

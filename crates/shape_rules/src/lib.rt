@@ -2,10 +2,11 @@
 //!
 //! `least_broken` ensures exactly the least broken rule, or that none is broken. What a property asks of a shape
 //! stands in one table, in `table`; `references` has what shapes refer to. Lists, instances and shapes are found by
-//! binary search in a graph that ascends. How deep shapes and their paths may be (rule 41) is asked where no other rule
-//! is broken. Rules 40 and 42 aren't asked so far.
+//! binary search in a graph that ascends. How deep shapes and their paths may be (rule 41), and how large shapes may be
+//! (rule 42), is asked where none of the rules 1 to 39 is broken. Rule 40 isn't asked so far.
 #![tactic(auto)]
 
+mod counted;
 mod deep;
 pub mod laws;
 mod least;
@@ -15,6 +16,7 @@ mod referring;
 mod rows;
 mod rule_row;
 pub mod shapes;
+mod sizes;
 mod table;
 mod terms;
 

@@ -3,6 +3,7 @@ ghost use Rattle.std.specs.Prelude.{◌≡◌, ◌⊎◌, ◌↔◌, IsTrue, Opt
 ghost use Rattle.std.specs.List.{list_all};
 ghost use Rattle.rdf_model.specs.declared.term.Term.TheVariants as data_terms;
 ghost use Rattle.shape_model.specs.Triples.{IsMember};
+ghost use Rattle.shape_model.specs.Vocabulary.{true_literal};
 ghost use Rattle.shape_rules.specs.Tests.{IsNodeKind};
 ghost use Rattle.shape_rules.specs.Tests;
 ghost use Rattle.shape_rules.specs.Tests.{xsd_boolean, xsd_integer, xsd_string};
@@ -141,6 +142,13 @@ pub(crate) fn is_true_or_false(term: &Term) -> bool
     ensures { IsTrue result ↔ ((term.now ≡ data_terms.Literal (codes "true") xsd_boolean None) ⊎ (term.now ≡ data_terms.Literal (codes "false") xsd_boolean None)) }
 {
     is_boolean_term(term, "true") || is_boolean_term(term, "false")
+}
+
+#[tactic(auto, unfolding(shape_model::specs::Vocabulary::true_literal, crate::specs::Tests::xsd_boolean))]
+pub(crate) fn is_true(term: &Term) -> bool
+    ensures { IsTrue result ↔ (term.now ≡ true_literal) }
+{
+    is_boolean_term(term, "true")
 }
 
 // Whether a term is in the list.

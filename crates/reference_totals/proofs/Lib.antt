@@ -1,0 +1,2 @@
+pub mod TotalSums
+pub mod Asked
