@@ -4,21 +4,19 @@ ghost use Rattle.store_model.specs.Finds.{found};
 ghost use Rattle.commit_core.specs.Consistent.{IsSound};
 
 use collections::both;
-use data_graph::{graph_after, graph_matching};
-use page_index::Pages;
+use data_graph::DataGraph;
 use rdf_model::{Change, Pattern, Triple};
 use shapes_graph::ShapesGraph;
 use std::alloc::{AllocError, Global};
 use std::marker::Model;
-use term_dict::Dict;
 
 /// The store as it was at one version: its number, its data graph, ascending, its shapes graph and
-/// its names. Contracts see these four; the graph has no result under the shapes.
+/// its names, which the data graph keeps. Contracts see these four; the graph has no result under the
+/// shapes.
 pub struct Snap {
     number: u64,
-    graph: Pages<Triple>,
+    graph: DataGraph,
     shapes: ShapesGraph,
-    named: Dict,
 }
 
 impl Model for Snap {
@@ -27,9 +25,9 @@ impl Model for Snap {
 
     ghost Value = { Snapshot };
 
-    ghost view = { λ s. record { number = s.number; graph = s.graph; shapes = s.shapes; named = s.named.terms } };
+    ghost view = { λ s. record { number = s.number; graph = s.graph.triples; shapes = s.shapes; named = s.graph.terms } };
 
-    ghost invariant = { λ s. IsSound (record { number = s.number; graph = s.graph; shapes = s.shapes; named = s.named.terms }) };
+    ghost invariant = { λ s. IsSound (record { number = s.number; graph = s.graph.triples; shapes = s.shapes; named = s.graph.terms }) };
 }
 
 // Written by hand, so that what owns one calls it in place of having it written out.
@@ -39,7 +37,6 @@ impl Drop for Snap {
             number: _,
             graph: _,
             shapes: _,
-            named: _,
         } = self;
     }
 }
@@ -48,20 +45,17 @@ impl Snap {
     // The snapshot of these, which it shares.
     pub(crate) fn sharing(
         number: u64,
-        graph: &Pages<Triple>,
+        graph: &DataGraph,
         shapes: &ShapesGraph,
-        named: &Dict,
     ) -> Result<Snap, AllocError>
-        requires { IsSound (record { number = number; graph = graph.now; shapes = shapes.now; named = named.now.terms }) }
-        ensures { IfOk result (λ snap. snap ≡ record { number = number; graph = graph.now; shapes = shapes.now; named = named.now.terms }) }
+        requires { IsSound (record { number = number; graph = graph.now.triples; shapes = shapes.now; named = graph.now.terms }) }
+        ensures { IfOk result (λ snap. snap ≡ record { number = number; graph = graph.now.triples; shapes = shapes.now; named = graph.now.terms }) }
     {
-        let shapes = shapes.share()?;
-        let (graph, named) = both(graph.share(), named.share())?;
+        let (graph, shapes) = both(graph.share(), shapes.share())?;
         Ok(Snap {
             number,
             graph,
             shapes,
-            named,
         })
     }
 
@@ -72,7 +66,8 @@ impl Snap {
         self.number
     }
 
-    /// The triples that the pattern asks for in the graph with these changes, in their order.
+    /// The triples that the pattern asks for in the graph with these changes, in their order. It asks
+    /// an index of the graph, as `DataGraph::find` says.
     pub fn find(
         &self,
         alloc: Global,
@@ -81,8 +76,7 @@ impl Snap {
     ) -> Result<Vec<Triple>, AllocError>
         ensures { IfOk result (λ v. v.items ≡ found (after self.now.graph net.now) pattern.now) }
     {
-        let graph = graph_after(&self.graph, net)?;
-        graph_matching(alloc, &graph, pattern)
+        self.graph.find(alloc, net, pattern)
     }
 
     /// What every snapshot is, for a caller that rests on it. It does nothing.

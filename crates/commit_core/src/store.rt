@@ -190,12 +190,7 @@ impl Core {
     fn newest(&self) -> Result<Snap, AllocError>
         ensures { IfOk result (λ snap. snap ≡ snapshot_of self.now.state) }
     {
-        Snap::sharing(
-            version_of(&self.commits),
-            self.graph.triples(),
-            &self.shapes,
-            self.graph.names(),
-        )
+        Snap::sharing(version_of(&self.commits), &self.graph, &self.shapes)
     }
 
     /// The newest snapshot, at which a transaction begins.

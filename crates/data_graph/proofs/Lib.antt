@@ -1,4 +1,7 @@
+pub mod ByNumber
 pub mod Changing
 pub mod Differing
+pub mod Finding
 pub mod Growing
+pub mod Runs
 pub mod Tests

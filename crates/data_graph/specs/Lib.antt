@@ -1,2 +1,3 @@
 pub mod DataGraphs
+pub mod Finding
 pub mod Nets

@@ -1,15 +1,19 @@
-ghost use Rattle.std.specs.Prelude.{◌≡◌, ◌+◌, ◌<◌, ◌≤◌, ◌^◌, [], IfErr, IfOk, OnErr, OnOk, length};
+ghost use Rattle.std.specs.Prelude.{◌≡◌, ◌+◌, ◌<◌, ◌≤◌, ◌^◌, [], IfErr, IfOk, MatchOption, OnErr, OnOk, length};
 ghost use Rattle.rdf_model.specs.Graphs.{after};
+ghost use Rattle.store_model.specs.Finds.{found};
 ghost use Rattle.shape_model.specs.Validation.{Listing};
 ghost use Rattle.term_dict.specs.Faults.{IsCause};
 ghost use Rattle.term_dict.specs.Names.{AreNumbersOf, first_terms, with_terms};
 ghost use Rattle.term_validation.specs.Named.{AreNamedTriples};
 ghost use Rattle.data_graph.specs.DataGraphs.{AreNamedChanges, IsIndexOf, IsIndexed, names_of, with_changes, with_names};
 
-use crate::graphs::graph_after;
+use crate::by_number::found_by_number;
+use crate::graphs::{graph_after, graph_after_asked, list_after_asked};
 use crate::numbering::{index_after, index_of, listing_by};
+use crate::run::graph_matching;
+use collections::both;
 use page_index::Pages;
-use rdf_model::{Change, Term, Triple};
+use rdf_model::{Change, Pattern, Term, Triple};
 use shape_eval::Steps;
 use shape_model::ResultRow;
 use shapes_graph::ShapesGraph;
@@ -52,6 +56,26 @@ impl Drop for DataGraph {
     }
 }
 
+// Whether the order of triples serves the pattern no better than looking at all: it gives no subject,
+// but another term.
+fn wants_numbers(pattern: &Pattern) -> bool {
+    match (&pattern.subject, &pattern.predicate, &pattern.object) {
+        (Some(_), _, _) => false,
+        (None, None, None) => false,
+        (None, _, _) => true,
+    }
+}
+
+// Another index with the same triples, where one is there.
+fn share_numbers(numbers: &Option<Index>) -> Result<Option<Index>, AllocError>
+    ensures { IfOk result (λ share. share ≡ numbers.now) }
+{
+    match numbers {
+        Some(numbers) => Ok(Some(numbers.share()?)),
+        None => Ok(None),
+    }
+}
+
 impl DataGraph {
     /// A graph with no triple, where rdf:type and rdfs:subClassOf are named, and as many terms beside
     /// them may be as the limit says.
@@ -65,6 +89,21 @@ impl DataGraph {
             triples: Pages::new(alloc),
             names,
             numbers: None,
+        })
+    }
+
+    /// Another graph that is the same. It copies no triple and no term, and neither sees a later change of
+    /// the other. It fails only where the owners of one page can't be counted.
+    pub fn share(&self) -> Result<DataGraph, AllocError>
+        ensures { IfOk result (λ share. share ≡ self.now) }
+    {
+        let numbers = share_numbers(&self.numbers)?;
+        let (triples, names) = both(self.triples.share(), self.names.share())?;
+        Ok(DataGraph {
+            alloc: self.alloc,
+            triples,
+            names,
+            numbers,
         })
     }
 
@@ -131,6 +170,47 @@ impl DataGraph {
             names,
             numbers,
         })
+    }
+
+    // The triples that the pattern asks for, where their numbers serve it, and are there.
+    fn matching_by_number(
+        &self,
+        alloc: Global,
+        pattern: &Pattern,
+    ) -> Result<Option<Vec<Triple>>, AllocError>
+        ensures { IfOk result (λ matching. MatchOption matching (Unit {0}) (λ v. v.items ≡ found self.now.triples pattern.now)) }
+    {
+        self.triples.ascends();
+        match &self.numbers {
+            Some(numbers) if wants_numbers(pattern) => Ok(Some(found_by_number(
+                alloc,
+                &self.names,
+                numbers,
+                pattern,
+            )?)),
+            _ => Ok(None),
+        }
+    }
+
+    /// The triples that the pattern asks for in the graph with these changes, in their order. It looks at
+    /// the changes, and at those triples alone that begin as the pattern does, or stand with its numbers;
+    /// at all where the pattern gives no subject and no graph before this one was validated.
+    pub fn find(
+        &self,
+        alloc: Global,
+        net: &[Change],
+        pattern: &Pattern,
+    ) -> Result<Vec<Triple>, AllocError>
+        ensures { IfOk result (λ v. v.items ≡ found (after self.now.triples net.now) pattern.now) }
+    {
+        self.triples.ascends();
+        match self.matching_by_number(alloc, pattern)? {
+            Some(matching) => Ok(list_after_asked(alloc, matching, net, pattern)?),
+            None => {
+                let graph = graph_after_asked(self.triples.share()?, net, pattern)?;
+                Ok(graph_matching(alloc, &graph, pattern)?)
+            }
+        }
     }
 
     /// The results of validating the graph by the shapes graph (SHACL section 3.6), each once, in the

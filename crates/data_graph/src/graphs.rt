@@ -1,7 +1,11 @@
 ghost use Rattle.std.specs.Prelude.{◌≡◌, IfOk, OnOk};
 ghost use Rattle.rdf_model.specs.Graphs.{after, changed, differing};
-ghost use Rattle.store_model.specs.Finds.{found};
+ghost use Rattle.collections.specs.Ordered.{IsAscending};
+ghost use Rattle.rdf_model.specs.Matching.{matches};
+ghost use Rattle.rdf_model.specs.Terms.{triple_cmp};
 ghost use Rattle.store_model.specs.Store.{changed_triple};
+ghost use Rattle.std.specs.List.{list_any};
+ghost use Rattle.data_graph.specs.Finding.{changes_asked};
 ghost use Rattle.data_graph.specs.Nets.{is_in_one, in_one};
 
 use collections::sorted_once;
@@ -24,7 +28,10 @@ fn apply_change(graph: &mut Pages<Triple>, change: &Change) -> Result<(), AllocE
 }
 
 /// The graph after the changes. It shares with the graph what they leave.
-pub fn graph_after(graph: &Pages<Triple>, net: &[Change]) -> Result<Pages<Triple>, AllocError>
+pub(crate) fn graph_after(
+    graph: &Pages<Triple>,
+    net: &[Change],
+) -> Result<Pages<Triple>, AllocError>
     ensures { IfOk result (λ next. next ≡ after graph.now net.now) }
 {
     let mut next = graph.share()?;
@@ -32,23 +39,6 @@ pub fn graph_after(graph: &Pages<Triple>, net: &[Change]) -> Result<Pages<Triple
         apply_change(&mut next, change)?;
     }
     Ok(next)
-}
-
-/// The triples that the pattern asks for, in their order.
-pub fn graph_matching(
-    alloc: Global,
-    graph: &Pages<Triple>,
-    pattern: &Pattern,
-) -> Result<Vec<Triple>, AllocError>
-    ensures { IfOk result (λ v. v.items ≡ found graph.now pattern.now) }
-{
-    let mut matching = Vec::new(alloc);
-    for triple in graph.iter() {
-        if pattern.matches(triple) {
-            matching.push(triple.clone()?)?;
-        }
-    }
-    Ok(matching)
 }
 
 // The triple that a change adds or removes.
@@ -59,6 +49,48 @@ fn triple_of(change: &Change) -> &Triple
         Change::Add(triple) => triple,
         Change::Remove(triple) => triple,
     }
+}
+
+/// The graph after the changes of triples that the pattern asks for.
+pub(crate) fn graph_after_asked(
+    graph: Pages<Triple>,
+    net: &[Change],
+    pattern: &Pattern,
+) -> Result<Pages<Triple>, AllocError>
+    ensures { IfOk result (λ next. next ≡ after graph (changes_asked pattern.now net.now)) }
+{
+    let mut next = graph;
+    for change in net {
+        if pattern.matches(triple_of(change)) {
+            apply_change(&mut next, change)?;
+        }
+    }
+    Ok(next)
+}
+
+// Whether the pattern asks for a triple of the changes.
+fn asks_for_changes(net: &[Change], pattern: &Pattern) -> bool
+    ensures { result ≡ list_any (λ c. matches pattern.now (changed_triple c)) net.now }
+{
+    net.iter().any(|change| pattern.matches(triple_of(change)))
+}
+
+/// The triples after the changes of those that the pattern asks for.
+pub(crate) fn list_after_asked(
+    alloc: Global,
+    triples: Vec<Triple>,
+    net: &[Change],
+    pattern: &Pattern,
+) -> Result<Vec<Triple>, AllocError>
+    requires { IsAscending triple_cmp triples.items }
+    ensures { IfOk result (λ v. v.items ≡ after triples.items (changes_asked pattern.now net.now)) }
+{
+    if !asks_for_changes(net, pattern) {
+        return Ok(triples);
+    }
+    let graph = Pages::from_sorted(alloc, &triples)?;
+    let next = graph_after_asked(graph, net, pattern)?;
+    next.keys()
 }
 
 // Whether a triple is in exactly one of two graphs.

@@ -1,0 +1,117 @@
+//! The triples that a pattern asks for, by the numbers of their terms.
+ghost use Rattle.std.specs.Prelude.{◌≡◌, ◌↔◌, ◌<◌, IfOk, MatchOption, length, true};
+ghost use Rattle.std.specs.List.{All, Contains};
+ghost use Rattle.collections.specs.Listings.{IsListing};
+ghost use Rattle.rdf_model.specs.declared.ids.Ids.{Ids as IdsData};
+ghost use Rattle.rdf_model.specs.Matching.{matches};
+ghost use Rattle.rdf_model.specs.Numbers.{AreNumbered, graph_of, term_at, triple_at};
+ghost use Rattle.rdf_model.specs.Terms.{triple_cmp};
+ghost use Rattle.term_validation.specs.Named.{IsNumbered};
+ghost use Rattle.data_graph.specs.Finding.{AllAskAlike, AsksAlike, AsksForNone, IsAsked, NoneIsAsked};
+
+use collections::sorted_once;
+use rdf_model::{Ids, Names, Pattern, Term, Triple};
+use std::alloc::{AllocError, Global};
+use term_dict::Dict;
+use triple_index::Index;
+
+// The numbers of the terms that a pattern gives; `None` stands for any.
+#[derive(Clone, Copy)]
+struct AskedNumbers {
+    subject: Option<u32>,
+    predicate: Option<u32>,
+    object: Option<u32>,
+}
+
+// The number that is asked for, which may be any; `None` where a term is given that has none.
+fn asked_number(names: &Dict, given: &Option<Term>) -> Option<Option<u32>>
+    ensures { MatchOption result (AsksForNone names.now.terms given.now) (λ asked. AsksAlike names.now.terms given.now asked) }
+{
+    match given {
+        None => Some(None),
+        Some(term) => {
+            names.is_numbering();
+            match names.id(term) {
+                Some(number) => Some(Some(number)),
+                None => None,
+            }
+        }
+    }
+}
+
+// The numbers that are asked for; `None` where a term is given that has none.
+fn asked_numbers(names: &Dict, pattern: &Pattern) -> Option<AskedNumbers>
+    ensures { MatchOption result (NoneIsAsked names.now.terms pattern.now) (λ asked. AllAskAlike names.now.terms pattern.now asked.subject asked.predicate asked.object) }
+{
+    Some(AskedNumbers {
+        subject: asked_number(names, &pattern.subject)?,
+        predicate: asked_number(names, &pattern.predicate)?,
+        object: asked_number(names, &pattern.object)?,
+    })
+}
+
+// The numbers of the triples that the pattern asks for, in any order.
+fn ids_asked(
+    alloc: Global,
+    names: &Dict,
+    index: &Index,
+    pattern: &Pattern,
+) -> Result<Vec<Ids>, AllocError>
+    requires { AreNumbered names.now.terms index.now }
+    ensures { IfOk result (λ ids. (i : IdsData) → Contains ids.items i ↔ IsAsked names.now.terms index.now pattern.now i) }
+{
+    match asked_numbers(names, pattern) {
+        None => Ok(Vec::new(alloc)),
+        Some(asked) => Ok(index.find_pattern(asked.subject, asked.predicate, asked.object)?),
+    }
+}
+
+// A clone of the term of a number.
+fn read_term(names: &Dict, number: u32) -> Result<Term, AllocError>
+    requires { number < length names.now.terms }
+    ensures { IfOk result (λ term. term ≡ term_at names.now.terms number) }
+{
+    match names.term(number) {
+        Some(term) => term.clone(),
+        None => unreachable!(),
+    }
+}
+
+// The triple of three numbers.
+fn read_triple(names: &Dict, ids: Ids) -> Result<Triple, AllocError>
+    requires { IsNumbered names.now.terms ids }
+    ensures { IfOk result (λ triple. triple ≡ triple_at names.now.terms ids) }
+{
+    Ok(Triple {
+        subject: read_term(names, ids.subject)?,
+        predicate: read_term(names, ids.predicate)?,
+        object: read_term(names, ids.object)?,
+    })
+}
+
+// The triples of numbers, in their order.
+fn read_triples(alloc: Global, names: &Dict, ids: &[Ids]) -> Result<Vec<Triple>, AllocError>
+    requires { All (IsNumbered names.now.terms) ids.now }
+    ensures { IfOk result (λ triples. triples.items ≡ graph_of names.now.terms ids.now) }
+{
+    let mut triples = Vec::with_capacity(alloc, ids.len())?;
+    for numbers in ids {
+        triples.push(read_triple(names, *numbers)?)?;
+    }
+    Ok(triples)
+}
+
+/// The triples that the pattern asks for of those that an index stands for, in their order.
+pub(crate) fn found_by_number(
+    alloc: Global,
+    names: &Dict,
+    index: &Index,
+    pattern: &Pattern,
+) -> Result<Vec<Triple>, AllocError>
+    requires { AreNumbered names.now.terms index.now }
+    ensures { IfOk result (λ v. IsListing triple_cmp (λ t. Contains (graph_of names.now.terms index.now) t × (matches pattern.now t ≡ true)) v.items) }
+{
+    let ids = ids_asked(alloc, names, index, pattern)?;
+    let triples = read_triples(alloc, names, &ids)?;
+    Ok(sorted_once(triples)?)
+}
