@@ -1,5 +1,5 @@
 -- The results of a graph, shape by shape and target by target.
-use Rattle.std.proofs.Common.{◌≡◌, ℕ, ◌+◌, ◌<◌, ◌≤◌, List, [], ◌++◌, length, map, take, get_or, sym, arith, subst}
+use Rattle.std.proofs.Common.{◌≡◌, ℕ, ◌+◌, ◌<◌, ◌≤◌, List, [], ◌++◌, length, take, get_or, sym, arith, subst}
 use Rattle.std.specs.Prelude.{Some, slice_get}
 use Rattle.std.specs.List.{Contains}
 use Rattle.std.proofs.lemmas.List.{length-map}
@@ -21,7 +21,6 @@ use Rattle.target_nodes.specs.TargetNumbers.{AreTargets}
 use Rattle.shape_eval.specs.Results.{ListsResults}
 use Rattle.shape_eval.specs.ShapeRows.{FromSome}
 use Rattle.shape_eval.proofs.Lookups.{at_place, got_at, named_place, of_place, only_some, taken_at}
-use Rattle.graph_validation.specs.Targets.{declaration_of}
 use Rattle.graph_validation.specs.Whole.{CollectsAtNodes, CollectsOfShape, CollectsResults, IsResultOf, ListsGraph}
 use Rattle.graph_validation.proofs.Declarations.{target_is}
 
@@ -40,7 +39,7 @@ module _ (terms : List Term) (ids : List Ids) (shapes : List (Shape ℕ)) where
 
   -- the nodes are the targets of the shape
   pub at_targets : (k : ℕ) (sh : Shape ℕ) (nodes : List ℕ) (rows : List ResultRow) → k < length shapes → sh ≡ get_or shapes k sh
-      → AreTargets terms ids (map declaration_of sh.targets) sh.node nodes → CollectsAtNodes terms ids shapes k nodes rows → CollectsOfShape terms ids shapes k rows
+      → AreTargets terms ids sh.targets sh.node nodes → CollectsAtNodes terms ids shapes k nodes rows → CollectsOfShape terms ids shapes k rows
   at_targets k sh nodes rows lt e targets gathered s c stand at acyclic shallow =
       let g = graph_of terms ids in
       let named = named_shapes terms shapes in

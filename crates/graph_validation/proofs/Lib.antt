@@ -1,2 +1,3 @@
 pub mod Declarations
 pub mod Gathering
+pub mod Counting

@@ -1,13 +1,13 @@
-ghost use Rattle.std.specs.Prelude.{◌<◌, IfOk, length};
+ghost use Rattle.std.specs.Prelude.{◌≡◌, ◌+◌, ◌<◌, IfOk, OnOk, length};
 ghost use Rattle.std.specs.List.{All};
 ghost use Rattle.rdf_model.specs.Numbers.{AreNumbered, IsNumbering, term_at};
 ghost use Rattle.path_eval.specs.Instances.{AreClassWords};
 ghost use Rattle.shape_ast.specs.Readings.{AreBound};
 ghost use Rattle.shape_ast.specs.Standing.{AreBuilt};
 ghost use Rattle.shape_eval.specs.Results.{ListsResults};
+ghost use Rattle.graph_validation.specs.Counting.{StepsOfFirst, StepsOfGraph, StepsOfShape};
 ghost use Rattle.graph_validation.specs.Whole.{CollectsAtNodes, CollectsOfShape, CollectsResults, ListsGraph};
 
-use crate::shape_targets::shape_targets;
 use collections::sorted_once;
 use path_eval::ClassWords;
 use rdf_model::{Footprint, Names, Triples};
@@ -16,6 +16,7 @@ use shape_eval::{Permit, Steps, eval, permit};
 use shape_model::ResultRow;
 use std::alloc::{AllocError, Global};
 use std::sync::ledger::Ledger;
+use target_nodes::targets;
 
 // The results of a shape at a focus node. How they were found is not kept.
 fn rows_at_node<R: Triples, N: Names>(
@@ -61,7 +62,8 @@ fn rows_at<R: Triples, N: Names, L: Ledger>(
     requires built { AreBuilt (term_at (N.terms names.now)) bound.now.shapes }
     requires shape { shape < length bound.now.shapes }
     requires nodes { All (λ n. n < length (N.terms names.now)) nodes.now }
-    ensures { IfOk result (λ rows. CollectsAtNodes (N.terms names.now) (R.triples graph.now) bound.now.shapes shape nodes.now rows.items) }
+    ensures rows { IfOk result (λ rows. CollectsAtNodes (N.terms names.now) (R.triples graph.now) bound.now.shapes shape nodes.now rows.items) }
+    ensures steps { OnOk result (steps.new ≡ steps.old + length nodes.now) }
 {
     let mut rows = Vec::new(alloc);
     for node in nodes {
@@ -88,9 +90,11 @@ fn rows_of_shape<R: Triples, N: Names, L: Ledger>(
     requires bound { AreBound (N.terms names.now) bound.now.shapes }
     requires built { AreBuilt (term_at (N.terms names.now)) bound.now.shapes }
     requires shape { shape < length bound.now.shapes }
-    ensures { IfOk result (λ rows. CollectsOfShape (N.terms names.now) (R.triples graph.now) bound.now.shapes shape rows.items) }
+    ensures rows { IfOk result (λ rows. CollectsOfShape (N.terms names.now) (R.triples graph.now) bound.now.shapes shape rows.items) }
+    ensures steps { OnOk result (StepsOfShape (N.terms names.now) (R.triples graph.now) bound.now.shapes shape steps.old steps.new) }
 {
-    let nodes = shape_targets(alloc, graph, words, &bound.shapes.as_slice()[shape])?;
+    let own = &bound.shapes.as_slice()[shape];
+    let nodes = targets(alloc, graph, words, own.node, own.targets.as_slice())?;
     Ok(rows_at(alloc, graph, names, words, bound, shape, &nodes, steps)?)
 }
 
@@ -108,7 +112,8 @@ fn all_rows<R: Triples, N: Names, L: Ledger>(
     requires words { AreClassWords (N.terms names.now) words }
     requires bound { AreBound (N.terms names.now) bound.now.shapes }
     requires built { AreBuilt (term_at (N.terms names.now)) bound.now.shapes }
-    ensures { IfOk result (λ rows. CollectsResults (N.terms names.now) (R.triples graph.now) bound.now.shapes (length bound.now.shapes) rows.items) }
+    ensures rows { IfOk result (λ rows. CollectsResults (N.terms names.now) (R.triples graph.now) bound.now.shapes (length bound.now.shapes) rows.items) }
+    ensures steps { OnOk result (StepsOfFirst (N.terms names.now) (R.triples graph.now) bound.now.shapes (length bound.now.shapes) steps.old steps.new) }
 {
     let mut rows = Vec::new(alloc);
     for shape in 0..bound.shapes.len() {
@@ -120,8 +125,8 @@ fn all_rows<R: Triples, N: Names, L: Ledger>(
 
 /// The results of validating the data graph (SHACL section 3.6), each once, in the order of results. They are the
 /// listing under each shapes graph that the shapes stand for, where no shape refers to itself and no chain of references
-/// is longer than 256. Each evaluation, of one shape at one of its targets, is allowed in `steps`; how many they are is
-/// not promised.
+/// is longer than 256. Each evaluation, of one shape at one of its targets, is counted in `steps`: there are as many as
+/// there are pairs of a shape and its target.
 pub fn whole<R: Triples, N: Names, L: Ledger>(
     alloc: Global,
     graph: &R,
@@ -135,7 +140,8 @@ pub fn whole<R: Triples, N: Names, L: Ledger>(
     requires words { AreClassWords (N.terms names.now) words }
     requires bound { AreBound (N.terms names.now) bound.now.shapes }
     requires built { AreBuilt (term_at (N.terms names.now)) bound.now.shapes }
-    ensures { IfOk result (λ rows. ListsGraph (N.terms names.now) (R.triples graph.now) bound.now.shapes rows.items) }
+    ensures rows { IfOk result (λ rows. ListsGraph (N.terms names.now) (R.triples graph.now) bound.now.shapes rows.items) }
+    ensures steps { OnOk result (StepsOfGraph (N.terms names.now) (R.triples graph.now) bound.now.shapes steps.old steps.new) }
 {
     let rows = all_rows(alloc, graph, names, words, bound, steps)?;
     Ok(sorted_once(rows)?)

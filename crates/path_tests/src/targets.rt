@@ -1,10 +1,11 @@
 use collections::Sequence;
 use path_eval::ClassWords;
 use rdf_model::{Footprint, Ids, ListGraph};
+use shape_ast::Target;
 use std::alloc::{AllocError, Global};
 use std::process::Abort;
 use std::test::Fail;
-use target_nodes::{Target, is_target, targets};
+use target_nodes::{is_target, targets};
 
 const TYPE: u32 = 0;
 

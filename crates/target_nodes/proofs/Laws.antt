@@ -15,8 +15,8 @@ use Rattle.shape_model.specs.Looks.{LookRow, ByOut, ByIn, PathLook, look_at}
 use Rattle.shape_model.specs.ShapeLooks.{TargetLook}
 use Rattle.shape_model.specs.NodeLooks.{IsLook, PathReads}
 use Rattle.shape_model.proofs.NodeLooks.{path_row, row_path}
-use Rattle.target_nodes.specs.declared.target.Target.{Target}
-use Rattle.target_nodes.specs.declared.target.Target.TheVariants.{Node, Class, ImplicitClass, SubjectsOf, ObjectsOf}
+use Rattle.shape_ast.specs.declared.target.Target.{Target}
+use Rattle.shape_ast.specs.declared.target.Target.TheVariants.{Node, Class, ImplicitClass, SubjectsOf, ObjectsOf}
 use Rattle.target_nodes.specs.Declarations.{DecidesBy, DecidesBySome, IsTargetBy, IsTargetBySome, declared_reading}
 
 module _ (terms : List Term) (g : List Triple) (ts : List (Target ℕ)) where

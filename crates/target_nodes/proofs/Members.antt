@@ -3,8 +3,7 @@ use Rattle.std.proofs.Common.{◌≡◌, ℕ, ◌+◌, ◌<◌, List, [], ◌∷
 use Rattle.std.specs.Prelude.{◌⊎◌, ◌↔◌}
 use Rattle.std.specs.List.{Contains}
 use Rattle.std.specs.Ordering.{nat_cmp}
-use Rattle.std.proofs.lemmas.List.{take_more}
-use Rattle.std.proofs.lemmas.List.Elements.{Contains-append_left, Contains-append_right, Contains-push, Contains-push_cases}
+use Rattle.std.proofs.lemmas.List.Elements.{Contains-append_left, Contains-append_right}
 use Rattle.collections.specs.Listings.{IsListing}
 use Rattle.collections.proofs.Members.{has_cases, has_head}
 use Rattle.rdf_model.specs.declared.term.Term.{Term}
@@ -13,26 +12,10 @@ use Rattle.rdf_model.specs.Numbers.{term_at, triple_at, graph_of, IsNumbering, A
 use Rattle.shape_model.specs.Triples.{Has}
 use Rattle.shape_model.specs.Instances.{Instance}
 use Rattle.path_eval.specs.Instances.{AreInstances}
+use Rattle.path_eval.proofs.Footprints.{some_next}
 use Rattle.path_eval.proofs.Growing.{adds_list}
 use Rattle.path_eval.proofs.Mirrors.{found, in_range, mapped_from, mapped_to}
 use Rattle.target_nodes.specs.TargetNumbers.{AreMembers}
-
--- the items up to a place, and the next one
-pub some_next : {X : Type 0} → (P : X → Type 0) (xs : List X) (i : ℕ) (d : X) → i < length xs → ((x : X) × Contains (take (i + 1) xs) x × P x) ↔ (((x : X) × Contains (take i xs) x × P x) ⊎ P (get_or xs i d))
-some_next {X} P xs i d lt =
-    let e : take (i + 1) xs ≡ take i xs ++ get_or xs i d ∷ [] = take_more xs i d lt in (
-      λ h. elim (Contains-push_cases (take i xs) (get_or xs i d) h.0 (subst (λ l. Contains l h.0) e h.1)) [
-        | inl c ↦ inl (h.0, c, h.2)
-        | inr q ↦ inr (subst P (sym q) h.2)
-      ],
-      elim [
-        | inl h ↦ (h.0, subst (λ l. Contains l h.0) (sym e) (Contains-append_left (take i xs) (get_or xs i d ∷ []) h.0 h.1), h.2)
-        | inr p ↦ (get_or xs i d, subst (λ l. Contains l (get_or xs i d)) (sym e) (Contains-push (take i xs) (get_or xs i d)), p)
-      ],
-    )
-
-pub none_before : {X : Type 0} → (P : X → Type 0) → ((x : X) × Contains [] x × P x) → ⊥
-none_before P h = absurd (omega (arith, h.1.1))
 
 module _ (terms : List Term) where
   pub members_same : (P Q : Term → Type 0) (xs : List ℕ) → ((t : Term) → P t ↔ Q t) → AreMembers terms P xs → AreMembers terms Q xs

@@ -1,5 +1,5 @@
 -- What declarations of targets say of a shape.
-use Rattle.std.specs.Prelude.{◌≡◌, ◌<◌, ℕ, false, List}
+use Rattle.std.specs.Prelude.{◌≡◌, ℕ, false, List}
 use Rattle.std.specs.List.{Contains}
 use Rattle.rdf_model.specs.declared.term.Term.{Term}
 use Rattle.rdf_model.specs.declared.triple.Triple.{Triple}
@@ -11,8 +11,8 @@ use Rattle.shape_model.specs.Triples.{Has}
 use Rattle.shape_model.specs.Instances.{Instance, class_path}
 use Rattle.shape_model.specs.Readings.{Reading}
 use Rattle.shape_model.specs.NodeLooks.{PathReads}
-use Rattle.target_nodes.specs.declared.target.Target.{Target}
-use Rattle.target_nodes.specs.declared.target.Target.TheVariants.{Node, Class, ImplicitClass, SubjectsOf, ObjectsOf}
+use Rattle.shape_ast.specs.declared.target.Target.{Target}
+use Rattle.shape_ast.specs.declared.target.Target.TheVariants.{Node, Class, ImplicitClass, SubjectsOf, ObjectsOf}
 
 -- the declarations give the shape this value of the property
 abbrev pub Declares : List Term → List (Target ℕ) → ShapeProperty → Term → Type 0
@@ -33,14 +33,6 @@ declared_reading terms targets = record {
   allowed = λ t. ⊥;
   is_class = Contains targets ImplicitClass;
 }
-
--- each number of the declaration has a term, of so many
-abbrev pub IsBoundTarget : ℕ → Target ℕ → Type 0
-IsBoundTarget k (Node n) = n < k
-IsBoundTarget k (Class n) = n < k
-IsBoundTarget k ImplicitClass = Unit {0}
-IsBoundTarget k (SubjectsOf n) = n < k
-IsBoundTarget k (ObjectsOf n) = n < k
 
 -- the node is a target by this declaration of the shape
 abbrev pub IsTargetBy : List Term → List Triple → Term → Target ℕ → Term → Type 0

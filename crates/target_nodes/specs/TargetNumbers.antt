@@ -12,20 +12,15 @@ use Rattle.shape_model.specs.ShapeLooks.{TargetLook}
 use Rattle.shape_model.specs.NodeLooks.{IsLook}
 use Rattle.path_eval.specs.declared.instances.ClassWords.{ClassWords}
 use Rattle.path_eval.specs.Instances.{AreClassWords}
-use Rattle.path_eval.specs.Naming.{IsBoundLook, look_of}
-use Rattle.path_eval.specs.Relations.{Adds}
-use Rattle.target_nodes.specs.declared.target.Target.{Target}
-use Rattle.target_nodes.specs.Declarations.{DecidesBy, DecidesBySome, IsBoundTarget, IsTargetBy, IsTargetBySome, declared_reading}
+use Rattle.path_eval.specs.Naming.{AddsLooks}
+use Rattle.shape_ast.specs.declared.target.Target.{Target}
+use Rattle.shape_ast.specs.Readings.{HoldsOfTarget}
+use Rattle.target_nodes.specs.Declarations.{DecidesBy, DecidesBySome, IsTargetBy, IsTargetBySome, declared_reading}
 
 -- the list has just the numbers of the terms of which P holds, in any order, each once or more; each such term has a number
 pub record AreMembers (terms : List Term) (P : Term → Type 0) (numbers : List ℕ) : Type 0 where
   pub members : (n : ℕ) → Contains numbers n ↔ ((n < length terms) × P (term_at terms n))
   pub every : (t : Term) → P t → Contains (map (term_at terms) numbers) t
-
--- just the looks of which Q holds have been added, each of them has numbers
-pub record AddsLooks (terms : List Term) (Q : Look Term → Type 0) (old new : List (Look ℕ)) : Type 0 where
-  pub added : Adds old new (λ look. IsBoundLook (length terms) look × Q (look_of terms look))
-  pub every : (l : Look Term) → Q l → Contains (map (look_of terms) new) l
 
 -- the numbers of just the targets of the shape, each once, ascending; each target has a number
 pub record AreTargets (terms : List Term) (ids : List Ids) (targets : List (Target ℕ)) (shape : ℕ) (numbers : List ℕ) : Type 0 where
@@ -51,11 +46,11 @@ pub record IsDecidedBySome (terms : List Term) (ids : List Ids) (targets : List 
 
 -- in whatever way the graph, the words, the declaration and the shape are numbered, and the node
 abbrev pub ByOne : List Ids → ClassWords → Target ℕ → ℕ → (List Term → Type 0) → Type 0
-ByOne ids words target shape P = (terms : List Term) → IsNumbering terms → AreNumbered terms ids → AreClassWords terms words → IsBoundTarget (length terms) target → shape < length terms → P terms
+ByOne ids words target shape P = (terms : List Term) → IsNumbering terms → AreNumbered terms ids → AreClassWords terms words → HoldsOfTarget (λ n. n < length terms) target → shape < length terms → P terms
 
 abbrev pub AtNode : ℕ → (List Term → Type 0) → List Term → Type 0
 AtNode node P terms = node < length terms → P terms
 
 -- in whatever way the graph, the words, the declarations and the shape are numbered
 abbrev pub Declared : List Ids → ClassWords → List (Target ℕ) → ℕ → (List Term → Type 0) → Type 0
-Declared ids words targets shape P = (terms : List Term) → IsNumbering terms → AreNumbered terms ids → AreClassWords terms words → All (IsBoundTarget (length terms)) targets → shape < length terms → P terms
+Declared ids words targets shape P = (terms : List Term) → IsNumbering terms → AreNumbered terms ids → AreClassWords terms words → All (HoldsOfTarget (λ n. n < length terms)) targets → shape < length terms → P terms

@@ -6,9 +6,7 @@
 #![tactic(auto)]
 
 mod listing;
-mod target;
 mod testing;
 
 pub use listing::{subjects_of, targets};
-pub use target::Target;
 pub use testing::is_target;

@@ -5,10 +5,10 @@ ghost use Rattle.path_eval.specs.Instances.{AreInstances, Classed};
 ghost use Rattle.target_nodes.specs.Declarations.{IsTargetBy, IsTargetBySome};
 ghost use Rattle.target_nodes.specs.TargetNumbers.{AreMembers, AreTargets, ByOne, Declared};
 
-use crate::Target;
 use collections::sorted_once;
 use path_eval::{ClassWords, class_instances};
 use rdf_model::{Footprint, Triples};
+use shape_ast::Target;
 use std::alloc::{AllocError, Global};
 
 // The first number of each pair.

@@ -3,9 +3,9 @@ ghost use Rattle.std.specs.List.{Contains};
 ghost use Rattle.rdf_model.specs.Numbers.{AsksForOne, IsFound};
 ghost use Rattle.target_nodes.specs.TargetNumbers.{AddsTargetLooks, AtNode, ByOne, Declared, IsDecidedBy, IsDecidedBySome, IsTargetAnswer};
 
-use crate::Target;
 use path_eval::{ClassWords, is_instance};
 use rdf_model::{Footprint, Look, Triples};
+use shape_ast::Target;
 use std::alloc::{AllocError, Global};
 
 // Whether there is a number.

@@ -1,5 +1,5 @@
 -- What a listing is of is the members of the graph, which may stand in any order; and the members of graphs by numbers.
-use Rattle.std.proofs.Common.{◌≡◌, List, [], ◌∷◌, ap, subst, arith, inl, inr}
+use Rattle.std.proofs.Common.{◌≡◌, ℕ, List, [], ◌∷◌, ap, subst, arith, inl, inr}
 use Rattle.std.specs.Prelude.{◌↔◌}
 use Rattle.std.specs.List.{Contains}
 use Rattle.collections.proofs.Members.{has_cases, has_equal, has_head, has_tail}
@@ -12,6 +12,7 @@ use Rattle.shape_model.specs.Validation.{IsResult, Listing}
 use Rattle.shape_model.specs.declared.result_row.ResultRow.{ResultRow}
 use Rattle.shape_model.proofs.Covers.{cover_law}
 use Rattle.shape_model.proofs.Listings.{listing_same}
+use Rattle.graph_validation.specs.Counting.{GrowsByCount, IsTargetPair}
 use Rattle.term_validation.specs.Named.{IsNumbered}
 
 -- graphs with the same members agree at each look, so that they have the same targets and results
@@ -24,6 +25,21 @@ module _ (g h s : List Triple) (same : (t : Triple) → Contains g t ↔ Contain
 
   pub same_listing : (rows : List ResultRow) → Listing g s rows → Listing h s rows
   same_listing rows l = listing_same result_row_cmp (IsResult g s) (IsResult h s) same_result rows l
+
+  same_pair : (e : Term × Term) → IsTargetPair g s e ↔ IsTargetPair h s e
+  same_pair e = (cover_law g h s e.0 e.1 (λ row k z w t m. same t)).0
+
+  pub same_count : (old new : ℕ) → GrowsByCount (IsTargetPair g s) old new → GrowsByCount (IsTargetPair h s) old new
+  same_count old new c = (
+    c.0,
+    record {
+      items = c.1.items;
+      apart = c.1.apart;
+      members = λ e. (λ i. (same_pair e).0 ((c.1.members e).0 i), λ t. (c.1.members e).1 ((same_pair e).1 t));
+      count = c.1.count;
+    },
+    c.2,
+  )
 
 -- the triples of numbers that stand in a list are those of its graph
 pub in_graph : (terms : List Term) (ids : List Ids) (i : Ids) → Contains ids i → Contains (graph_of terms ids) (triple_at terms i)

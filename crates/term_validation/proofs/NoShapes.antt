@@ -1,5 +1,5 @@
 -- A shapes graph without shapes gives no result.
-use Rattle.std.proofs.Common.{◌≡◌, List, [], ◌∷◌, refl, arith}
+use Rattle.std.proofs.Common.{◌≡◌, ℕ, List, [], ◌∷◌, refl, arith}
 use Rattle.std.specs.List.{Contains}
 use Rattle.collections.proofs.Members.{has_head}
 use Rattle.rdf_model.specs.declared.term.Term.{Term}
@@ -12,6 +12,7 @@ use Rattle.shape_model.proofs.Covers.{has_target}
 use Rattle.shape_ast.specs.declared.shape.Shape.{Shape}
 use Rattle.shape_ast.specs.Readings.{ReadShape, read_shapes}
 use Rattle.shape_ast.specs.Standing.{StandFor}
+use Rattle.graph_validation.specs.Counting.{GrowsByCount, IsTargetPair}
 
 none_in : {X : Type 0} → (x : X) → Contains [] x → ⊥
 none_in x c = absurd (omega arith)
@@ -33,3 +34,16 @@ no_result g s none r i = none i.0 (makes_shape s i.0 (has_target g s i.0 i.1 i.2
 
 pub no_shapes : (g s : List Triple) → ((shape : Term) → IsShape s shape → ⊥) → Listing g s []
 no_shapes g s none = record { ascending = tt; members = λ r. (λ c. absurd (none_in r c), λ i. absurd (no_result g s none r i)) }
+
+-- nor is a node a target of a shape
+pub no_pairs : (g s : List Triple) → ((shape : Term) → IsShape s shape → ⊥) → (old : ℕ) → GrowsByCount (IsTargetPair g s) old old
+no_pairs g s none old = (
+  0,
+  record {
+    items = [];
+    apart = tt;
+    members = λ e. (λ c. absurd (none_in e c), λ t. absurd (none e.0 (makes_shape s e.0 (has_target g s e.0 e.1 t))));
+    count = refl;
+  },
+  omega arith,
+)

@@ -1,9 +1,10 @@
-ghost use Rattle.std.specs.Prelude.{◌≡◌, ◌↔◌, [], IfOk, IsTrue};
+ghost use Rattle.std.specs.Prelude.{◌≡◌, ◌↔◌, [], IfOk, IsTrue, OnOk};
 ghost use Rattle.rdf_model.specs.Numbers.{AreNumbered, IsNumbering, graph_of};
 ghost use Rattle.rdf_model.specs.declared.term.Term.{Term as TermData};
 ghost use Rattle.shape_model.specs.ShapeSyntax.{IsShape};
 ghost use Rattle.shape_model.specs.Validation.{Listing};
 ghost use Rattle.path_eval.specs.Instances.{AreClassWords};
+ghost use Rattle.graph_validation.specs.Counting.{GrowsByCount, IsTargetPair};
 ghost use Rattle.term_validation.specs.Named.{AreNamedTriples};
 
 use crate::numbering::number_triples;
@@ -33,8 +34,8 @@ pub fn is_without_shapes(shapes: &ShapesGraph) -> bool
 
 /// The results of validating the data graph by the shapes graph (SHACL section 3.6), each once, in
 /// the order of results. The graph is given by the numbers of its terms; all terms of the shapes, rdf:type
-/// and rdfs:subClassOf are among the names. `steps` is the ledger in which the evaluations are allowed; how
-/// many they are is not promised. It fails only for want of memory.
+/// and rdfs:subClassOf are among the names. The evaluations are counted in `steps`: there are as many as there are pairs
+/// of a shape and its target. It fails only for want of memory.
 pub fn listing_over<R: Triples, N: Names, L: Ledger>(
     alloc: Global,
     graph: &R,
@@ -47,7 +48,8 @@ pub fn listing_over<R: Triples, N: Names, L: Ledger>(
     requires words { AreClassWords (N.terms names.now) words }
     requires graph { AreNumbered (N.terms names.now) (R.triples graph.now) }
     requires shapes { AreNamedTriples (N.terms names.now) shapes.now }
-    ensures { IfOk result (λ rows. Listing (graph_of (N.terms names.now) (R.triples graph.now)) shapes.now rows.items) }
+    ensures rows { IfOk result (λ rows. Listing (graph_of (N.terms names.now) (R.triples graph.now)) shapes.now rows.items) }
+    ensures steps { OnOk result (GrowsByCount (IsTargetPair (graph_of (N.terms names.now) (R.triples graph.now)) shapes.now) steps.old steps.new) }
 {
     let bound = bind(alloc, shapes.shapes(), names)?;
     Ok(whole(alloc, graph, names, words, &bound, steps)?)
@@ -67,7 +69,8 @@ pub fn listing<N: Names, L: Ledger>(
     requires words { AreClassWords (N.terms names.now) words }
     requires graph { AreNamedTriples (N.terms names.now) graph.now }
     requires shapes { AreNamedTriples (N.terms names.now) shapes.now }
-    ensures { IfOk result (λ rows. Listing graph.now shapes.now rows.items) }
+    ensures rows { IfOk result (λ rows. Listing graph.now shapes.now rows.items) }
+    ensures steps { OnOk result (GrowsByCount (IsTargetPair graph.now shapes.now) steps.old steps.new) }
 {
     if is_without_shapes(shapes) {
         return Ok(Vec::new(alloc));

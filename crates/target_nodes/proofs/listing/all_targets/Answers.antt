@@ -1,11 +1,12 @@
 use Rattle.std.proofs.Common.{◌<◌, ℕ, List, [], length, get_or, arith, subst}
 use Rattle.std.proofs.lemmas.List.{get_or_default, take_all}
 use Rattle.rdf_model.specs.Numbers.{graph_of, term_at}
-use Rattle.target_nodes.specs.declared.target.Target.{Target}
-use Rattle.target_nodes.specs.declared.target.Target.TheVariants.{Node}
+use Rattle.shape_ast.specs.declared.target.Target.{Target}
+use Rattle.shape_ast.specs.declared.target.Target.TheVariants.{Node}
 use Rattle.target_nodes.specs.Declarations.{IsTargetBy, IsTargetBySome}
 use Rattle.target_nodes.specs.TargetNumbers.{AreMembers}
-use Rattle.target_nodes.proofs.Members.{members_none, next_members, none_before}
+use Rattle.path_eval.proofs.Footprints.{none_before}
+use Rattle.target_nodes.proofs.Members.{members_none, next_members}
 use Rattle.target_nodes.proofs.listing.all_targets.Goals as goal
 
 pub loop-target-init : goal.loop-target-init

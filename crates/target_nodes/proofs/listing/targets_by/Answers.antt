@@ -2,7 +2,7 @@ use Rattle.std.proofs.Common.{ℕ, List, sym, subst}
 use Rattle.rdf_model.specs.Numbers.{graph_of, term_at}
 use Rattle.rdf_model.specs.declared.ids.Ids.{Ids}
 use Rattle.path_eval.specs.declared.instances.ClassWords.{ClassWords}
-use Rattle.target_nodes.specs.declared.target.Target.{Target}
+use Rattle.shape_ast.specs.declared.target.Target.{Target}
 use Rattle.target_nodes.specs.Declarations.{IsTargetBy}
 use Rattle.target_nodes.specs.TargetNumbers.{AreMembers, ByOne}
 use Rattle.target_nodes.proofs.Members.{instance_members, object_members, subject_members}

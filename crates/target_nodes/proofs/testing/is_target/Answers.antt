@@ -3,7 +3,7 @@ use Rattle.shape_model.specs.ShapeLooks.{TargetLook}
 use Rattle.shape_model.specs.NodeLooks.{IsLook}
 use Rattle.target_nodes.specs.Declarations.{DecidesBySome, declared_reading}
 use Rattle.target_nodes.proofs.Laws.{look_law, target_law}
-use Rattle.target_nodes.proofs.Looking.{looks_same}
+use Rattle.path_eval.proofs.Footprints.{looks_same}
 use Rattle.target_nodes.proofs.testing.is_target.Goals as goal
 
 pub returns : goal.returns

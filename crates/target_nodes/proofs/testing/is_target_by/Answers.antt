@@ -4,10 +4,10 @@ use Rattle.rdf_model.specs.declared.ids.Ids.{Ids}
 use Rattle.rdf_model.specs.declared.look.Look.{Look}
 use Rattle.rdf_model.specs.declared.look.Look.TheVariants.{Out, In}
 use Rattle.path_eval.specs.declared.instances.ClassWords.{ClassWords}
-use Rattle.target_nodes.specs.declared.target.Target.{Target}
+use Rattle.shape_ast.specs.declared.target.Target.{Target}
 use Rattle.target_nodes.specs.TargetNumbers.{AtNode, ByOne, IsDecidedBy}
 use Rattle.target_nodes.proofs.Members.{has_object, has_subject}
-use Rattle.target_nodes.proofs.Looking.{looks_one}
+use Rattle.path_eval.proofs.Footprints.{looks_one}
 use Rattle.target_nodes.proofs.testing.is_target_by.Goals as goal
 
 -- the clause at a declaration
@@ -21,7 +21,7 @@ returns-in_ok-is_instance-in-Class g c =
     subst (Given ids c.args.words c.args.shape c.args.node c.in_ok-is_instance-in-Class.field-0 c.args.footprint.now c.is_instance.new.footprint) (sym c.in-Class.is)
     (λ terms numbering numbered named bound lt at. record {
       answered = e.answer terms numbering numbered named at bound;
-      looks = let r = e.looks terms numbering numbered named at in record { added = r.added; every = r.every };
+      looks = e.looks terms numbering numbered named at;
     })
 
 pub returns-in_ok-is_instance-in-ImplicitClass : goal.returns-in_ok-is_instance-in-ImplicitClass
@@ -31,7 +31,7 @@ returns-in_ok-is_instance-in-ImplicitClass g c =
     subst (Given ids c.args.words c.args.shape c.args.node c.in_ok-is_instance-in-ImplicitClass.field-0 c.args.footprint.now c.is_instance-in-ImplicitClass.new.footprint) (sym c.in-ImplicitClass.is)
     (λ terms numbering numbered named bound lt at. record {
       answered = e.answer terms numbering numbered named at lt;
-      looks = let r = e.looks terms numbering numbered named at in record { added = r.added; every = r.every };
+      looks = e.looks terms numbering numbered named at;
     })
 
 pub returns-in_ok-finds-in-SubjectsOf : goal.returns-in_ok-finds-in-SubjectsOf

@@ -1,12 +1,12 @@
 use Rattle.std.proofs.Common.{◌<◌, ℕ, List, [], length, get_or, arith, subst}
 use Rattle.std.proofs.lemmas.List.{get_or_default, take_all}
 use Rattle.rdf_model.specs.Numbers.{graph_of, term_at}
-use Rattle.target_nodes.specs.declared.target.Target.{Target}
-use Rattle.target_nodes.specs.declared.target.Target.TheVariants.{Node}
+use Rattle.shape_ast.specs.declared.target.Target.{Target}
+use Rattle.shape_ast.specs.declared.target.Target.TheVariants.{Node}
 use Rattle.target_nodes.specs.Declarations.{DecidesBy, DecidesBySome, IsTargetBy}
 use Rattle.target_nodes.specs.TargetNumbers.{IsDecidedBySome}
-use Rattle.target_nodes.proofs.Members.{none_before}
-use Rattle.target_nodes.proofs.Looking.{looks_none, next_answer, next_looks}
+use Rattle.path_eval.proofs.Footprints.{looks_none, next_looks, none_before}
+use Rattle.target_nodes.proofs.Looking.{next_answer}
 use Rattle.target_nodes.proofs.testing.is_target_by_some.Goals as goal
 
 pub loop-target-init : goal.loop-target-init

@@ -11,9 +11,14 @@ bind-requires g c = are_named (g.N.Names.terms c.args.names.now) c.args.shapes.n
 pub whole-requires-clause-built : goal.whole-requires-clause-built
 whole-requires-clause-built g c = c.in_ok-bound.ensures.built c.shapes.ensures.shapes.built
 
-pub returns : goal.returns
-returns g c =
+pub returns-clause-rows : goal.returns-clause-rows
+returns-clause-rows g c =
     let s = c.args.shapes.now in
     let well = c.shapes.ensures.well_formed in
     let stand = subst (λ (all : List ReadShape). StandFor all s) (sym c.in_ok-bound.ensures.same) c.shapes.ensures.shapes.stand in
-    c.in_ok-whole.ensures s stand (well_acyclic s well) (well_shallow s well)
+    c.in_ok-whole.ensures.rows s stand (well_acyclic s well) (well_shallow s well)
+
+pub returns-clause-steps : goal.returns-clause-steps
+returns-clause-steps g c =
+    let s = c.args.shapes.now in
+    c.in_ok-whole.ensures.steps s (subst (λ (all : List ReadShape). StandFor all s) (sym c.in_ok-bound.ensures.same) c.shapes.ensures.shapes.stand)
