@@ -13,4 +13,4 @@ mod sums;
 
 pub use place::Place;
 pub use rounds::totals;
-pub use sums::total_of;
+pub use sums::{capped_sum, total_of};

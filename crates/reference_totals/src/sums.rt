@@ -8,8 +8,8 @@ use rdf_model::Term;
 use std::alloc::AllocError;
 use std::collections::BTreeMap;
 
-// The sum of both, as far as it is counted.
-fn capped_sum(first: u64, second: u64, most: u64) -> u64
+/// The sum of both, as far as it is counted: to one more than `most`.
+pub fn capped_sum(first: u64, second: u64, most: u64) -> u64
     requires { most + 1 < 2 ^ 64 }
     ensures { result ≡ capped most (first + second) }
 {

@@ -17,7 +17,7 @@ use Rattle.shape_rules.proofs.Referred.{one_referred, referred_taken}
 abbrev pub OneWeight : (Term → ℕ → Type 0) → Type 0
 OneWeight W = (n : Term) (a b : ℕ) → W n a → W n b → a ≡ b
 
-sum_map_in : (T U : Term → ℕ → Type 0) (xs : List Term) (k : ℕ) → ((x : Term) (a : ℕ) → Contains xs x → T x a → U x a) → SumBy T xs k → SumBy U xs k
+pub sum_map_in : (T U : Term → ℕ → Type 0) (xs : List Term) (k : ℕ) → ((x : Term) (a : ℕ) → Contains xs x → T x a → U x a) → SumBy T xs k → SumBy U xs k
 sum_map_in T U [] k f h = h
 sum_map_in T U (x ∷ xs) k f h = (h.0, h.1, f x h.0 (has_head x xs) h.2, sum_map_in T U xs h.1 (λ y a c t. f y a (has_tail x xs y c) t) h.3, h.4)
 

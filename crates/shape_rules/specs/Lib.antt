@@ -9,3 +9,4 @@ pub mod Steps
 pub mod Laws
 pub mod Sizes
 pub mod Counted
+pub mod PathLooks

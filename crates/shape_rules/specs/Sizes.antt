@@ -1,13 +1,15 @@
--- How much the results of a shape may ask for: its size (rule 42).
-use Rattle.std.specs.Prelude.{◌≡◌, ◌⊎◌, ◌+◌, ◌<◌, ℕ, zero, suc, List, [], ◌∷◌, ◌++◌}
+-- How much the results of a shape may ask for: its size (rule 42) and its looks (rule 40).
+use Rattle.std.specs.Prelude.{◌≡◌, ◌⊎◌, ◌+◌, ◌*◌, ◌<◌, ℕ, zero, suc, List, [], ◌∷◌, ◌++◌, length}
 use Rattle.collections.specs.Listings.{IsListing}
 use Rattle.rdf_model.specs.declared.term.Term.{Term}
 use Rattle.rdf_model.specs.declared.triple.Triple.{Triple}
 use Rattle.rdf_model.specs.Terms.{term_cmp}
-use Rattle.shape_model.specs.Vocabulary.{true_literal}
+use Rattle.shape_model.specs.Vocabulary.{rdfs_class, true_literal}
+use Rattle.shape_model.specs.Instances.{Instance}
 use Rattle.shape_model.specs.Declarations.{values_of}
+use Rattle.shape_model.specs.Paths.{Path, Predicate, Inverse, Sequence, Alternative, ZeroOrMore, OneOrMore, ZeroOrOne, Paths, Last, Also}
 use Rattle.shape_model.specs.Readings.{Sibling}
-use Rattle.shape_model.specs.ShapeSyntax.{ListOf}
+use Rattle.shape_model.specs.ShapeSyntax.{ListOf, PathOf}
 use Rattle.reference_totals.specs.Totals.{SumBy}
 use Rattle.shape_rules.specs.declared.property.ShapeProperty.{ShapeProperty}
 use Rattle.shape_rules.specs.declared.property.ShapeProperty.TheVariants as properties
@@ -66,9 +68,64 @@ Weighs W s n k = (depth : ℕ) × WeighsBy W s depth n k
 abbrev pub IsSize : List Triple → Term → ℕ → Type 0
 IsSize s n k = Weighs (λ m w. w ≡ 1) s n k
 
+-- The looks of a path: one for each predicate in it.
+abbrev mutual
+  pub looks_of : Path → ℕ
+  looks_of (Predicate p) = 1
+  looks_of (Inverse p) = looks_of p
+  looks_of (Sequence ps) = looks_of_all ps
+  looks_of (Alternative ps) = looks_of_all ps
+  looks_of (ZeroOrMore p) = looks_of p
+  looks_of (OneOrMore p) = looks_of p
+  looks_of (ZeroOrOne p) = looks_of p
+
+  pub looks_of_all : Paths → ℕ
+  looks_of_all (Last p) = looks_of p
+  looks_of_all (Also p ps) = looks_of p + looks_of_all ps
+
+-- those of the path for which a node stands; none where it stands for none
+abbrev pub HasPathLooks : List Triple → Term → ℕ → Type 0
+HasPathLooks s v k = ((p : Path) × PathOf s v p × (k ≡ looks_of p)) ⊎ (((p : Path) → PathOf s v p → ⊥) × (k ≡ 0))
+
+-- so many where this holds, and else none
+abbrev pub CountsIf : Type 0 → ℕ → ℕ → Type 0
+CountsIf P n k = (P × (k ≡ n)) ⊎ ((P → ⊥) × (k ≡ 0))
+
+-- The looks of a shape that isn't deactivated, without those of the shapes to which it refers: those of its path, two for
+-- each sh:class, one for each property that is compared (SHACL 4.5), one where it is closed.
+abbrev pub HasOwnLooks : List Triple → Term → ℕ → Type 0
+HasOwnLooks s n k = (path : ℕ) × (closed : ℕ)
+    × SumBy (HasPathLooks s) (values s n properties.Path) path
+    × CountsIf (HasProperty s n properties.Closed true_literal) 1 closed
+    × (k ≡ path + 2 * length (values s n properties.Class)
+    + length (values s n properties.Equals) + length (values s n properties.Disjoint)
+    + length (values s n properties.LessThan) + length (values s n properties.LessThanOrEquals) + closed)
+
+-- none where it is deactivated
+abbrev pub IsLookWeight : List Triple → Term → ℕ → Type 0
+IsLookWeight s n k = (IsDeactivated s n × (k ≡ 0)) ⊎ ((IsDeactivated s n → ⊥) × HasOwnLooks s n k)
+
+-- The looks of its targets, deactivated or not: two for each sh:targetClass and where the shape is an implicit class
+-- target, one for each sh:targetSubjectsOf and sh:targetObjectsOf.
+abbrev pub HasTargetLooks : List Triple → Term → ℕ → Type 0
+HasTargetLooks s n k = (implicit : ℕ) × CountsIf (Instance s n rdfs_class) 2 implicit
+    × (k ≡ 2 * length (values s n properties.TargetClass) + implicit
+    + length (values s n properties.TargetSubjectsOf) + length (values s n properties.TargetObjectsOf))
+
+-- the looks of a shape, with those of its targets
+abbrev pub HasLooks : List Triple → Term → ℕ → Type 0
+HasLooks s n k = (results : ℕ) × (targets : ℕ) × Weighs (IsLookWeight s) s n results × HasTargetLooks s n targets × (k ≡ results + targets)
+
 -- A shape of a greater size is too large. It is unfoldable, so that no proof counts so far.
 unfoldable pub size_limit : ℕ
 size_limit = 65536
 
 abbrev pub IsTooLarge : List Triple → Term → Type 0
 IsTooLarge s n = (k : ℕ) × IsSize s n k × (size_limit < k)
+
+-- A shape with more looks has too many.
+unfoldable pub looks_limit : ℕ
+looks_limit = 4096
+
+abbrev pub HasTooManyLooks : List Triple → Term → Type 0
+HasTooManyLooks s n = (k : ℕ) × HasLooks s n k × (looks_limit < k)

@@ -75,7 +75,11 @@ fn push_values(
 }
 
 // The members of the list at the head, and none where it is the head of no list.
-fn members_at(alloc: Global, graph: &[Triple], head: &Term) -> Result<Sequence<Term>, AllocError>
+pub(crate) fn members_at(
+    alloc: Global,
+    graph: &[Triple],
+    head: &Term,
+) -> Result<Sequence<Term>, AllocError>
     requires { IsAscending triple_cmp graph.now }
     ensures { IfOk result (λ members. AreMembersAt graph.now head.now members) }
 {

@@ -2,15 +2,17 @@
 //!
 //! `least_broken` ensures exactly the least broken rule, or that none is broken. What a property asks of a shape
 //! stands in one table, in `table`; `references` has what shapes refer to. Lists, instances and shapes are found by
-//! binary search in a graph that ascends. How deep shapes and their paths may be (rule 41), and how large shapes may be
-//! (rule 42), is asked where none of the rules 1 to 39 is broken. Rule 40 isn't asked so far.
+//! binary search in a graph that ascends. How deep shapes and their paths may be (rule 41), how many looks their
+//! results may need (rule 40) and how large they may be (rule 42) is asked where none of the rules 1 to 39 is broken.
 #![tactic(auto)]
 
 mod counted;
 mod deep;
 pub mod laws;
 mod least;
+mod looks;
 mod passes;
+mod path_looks;
 mod property;
 mod referring;
 mod rows;

@@ -52,7 +52,8 @@ unbroken r = elim [
   | inl (inl (inr (inr i))) ↦ nowhere _ _ _ i.0
   | inl (inr i) ↦ no_chain r.node i.0.0 r.node i.0.1
   | inr (k, inl d) ↦ elim d.0 [ inl c ↦ no_long_chain r.node c | inr p ↦ no_ruled_shape r.node p.0 ]
-  | inr (k, inr z) ↦ no_ruled_shape r.node z.0.0
+  | inr (k, inr (inl z)) ↦ no_ruled_shape r.node z.0.0
+  | inr (k, inr (inr z)) ↦ no_ruled_shape r.node z.0.0
 ]
 
 pub empty_well_formed : IsWellFormed []

@@ -1,0 +1,348 @@
+//! Shapes with too many looks (rule 40).
+ghost use Rattle.std.specs.Prelude.{◌≡◌, ◌⊎◌, ◌↔◌, ◌<◌, ◌+◌, ◌*◌, ◌∷◌, [], ◌++◌, ℕ, IsTrue, IfOk, OnOk, length};
+ghost use Rattle.std.specs.List.{Contains};
+ghost use Rattle.collections.specs.Listings.{IsListing};
+ghost use Rattle.collections.specs.Ordered.{IsAscending};
+ghost use Rattle.rdf_model.specs.declared.term.Term.{Term as TermData};
+ghost use Rattle.rdf_model.specs.Terms.{term_cmp, triple_cmp};
+ghost use Rattle.shape_model.specs.Instances.{Instance};
+ghost use Rattle.shape_model.specs.Triples.{IsMember};
+ghost use Rattle.shape_model.specs.Vocabulary.{rdfs_class, true_literal};
+ghost use Rattle.shape_syntax.specs.Gathering.{HasGathered};
+ghost use Rattle.shape_references.specs.Siblings.{IsTurned};
+ghost use Rattle.reference_totals.specs.Totals.{SumBy, capped};
+ghost use Rattle.shape_rules.specs.declared.property.ShapeProperty.TheVariants as property_data;
+ghost use Rattle.shape_rules.specs.declared.rule_row.RuleRow.{RuleRow as RowData};
+ghost use Rattle.shape_rules.specs.Broken.{LooksRow};
+ghost use Rattle.shape_rules.specs.Counted.{ArePlaces, AreWeights, IsPlaceOf, MayBeShape};
+ghost use Rattle.shape_rules.specs.PathLooks.{ArePathLooks, IsCappedLook};
+ghost use Rattle.shape_rules.specs.Sizes.{CountsIf, HasOwnLooks, HasPathLooks, HasTargetLooks, HasTooManyLooks, IsLookWeight, looks_limit};
+ghost use Rattle.shape_rules.specs.Sizes as sizes;
+ghost use Rattle.shape_rules.specs.Syntax.{HasProperty, IsShape, IsTaken};
+
+use crate::counted::{is_deactivated, is_true_at, referred_shapes, values_at};
+use crate::path_looks::{most_looks, path_looks, path_looks_at};
+use crate::rows::push_whole;
+use crate::shapes::{is_shape_at, taken_shapes};
+use crate::sizes::candidates;
+use crate::terms::has_class;
+use crate::{RuleRow, ShapeProperty};
+use collections::Sequence;
+use rdf_model::{Term, Triple};
+use reference_totals::{Place, capped_sum, total_of, totals};
+use shape_references::turned_properties;
+use shape_syntax::instance::classes_of;
+use std::alloc::{AllocError, Global};
+use std::collections::BTreeMap;
+
+fn count_at(
+    alloc: Global,
+    graph: &[Triple],
+    node: &Term,
+    property: ShapeProperty,
+) -> Result<u64, AllocError>
+    requires { IsAscending triple_cmp graph.now }
+    ensures { IfOk result (λ count. count ≡ length (sizes.values graph.now node.now property)) }
+{
+    let found = values_at(alloc, graph, node, property)?;
+    Ok(found.len() as u64)
+}
+
+// The sum, and one for each value of the property.
+fn with_one_each(
+    alloc: Global,
+    graph: &[Triple],
+    node: &Term,
+    property: ShapeProperty,
+    sum: u64,
+) -> Result<u64, AllocError>
+    requires { IsAscending triple_cmp graph.now }
+    ensures { IfOk result (λ more. more ≡ capped looks_limit (sum + length (sizes.values graph.now node.now property))) }
+{
+    let count = count_at(alloc, graph, node, property)?;
+    Ok(capped_sum(sum, count, most_looks()))
+}
+
+// The sum, and two for each value of the property.
+fn with_two_each(
+    alloc: Global,
+    graph: &[Triple],
+    node: &Term,
+    property: ShapeProperty,
+    sum: u64,
+) -> Result<u64, AllocError>
+    requires { IsAscending triple_cmp graph.now }
+    ensures { IfOk result (λ more. more ≡ capped looks_limit (sum + 2 * length (sizes.values graph.now node.now property))) }
+{
+    let count = count_at(alloc, graph, node, property)?;
+    let once = capped_sum(sum, count, most_looks());
+    Ok(capped_sum(once, count, most_looks()))
+}
+
+// The sum, and one for each property that is compared.
+fn with_compared(alloc: Global, graph: &[Triple], node: &Term, sum: u64) -> Result<u64, AllocError>
+    requires { IsAscending triple_cmp graph.now }
+    ensures { IfOk result (λ more. more ≡ capped looks_limit (sum
+        + length (sizes.values graph.now node.now property_data.Equals) + length (sizes.values graph.now node.now property_data.Disjoint)
+        + length (sizes.values graph.now node.now property_data.LessThan) + length (sizes.values graph.now node.now property_data.LessThanOrEquals))) }
+{
+    let equal = with_one_each(alloc, graph, node, ShapeProperty::Equals, sum)?;
+    let apart = with_one_each(alloc, graph, node, ShapeProperty::Disjoint, equal)?;
+    let less = with_one_each(alloc, graph, node, ShapeProperty::LessThan, apart)?;
+    let all = with_one_each(alloc, graph, node, ShapeProperty::LessThanOrEquals, less)?;
+    Ok(all)
+}
+
+fn closed_looks(graph: &[Triple], node: &Term) -> u64
+    requires { IsAscending triple_cmp graph.now }
+    ensures { CountsIf (HasProperty graph.now node.now property_data.Closed true_literal) 1 result }
+{
+    if is_true_at(graph, node, ShapeProperty::Closed) {
+        1
+    } else {
+        0
+    }
+}
+
+// The looks of the node's path.
+fn looks_of_paths(
+    alloc: Global,
+    graph: &[Triple],
+    paths: &BTreeMap<Term, u64>,
+    node: &Term,
+) -> Result<u64, AllocError>
+    requires graph { IsAscending triple_cmp graph.now }
+    requires paths { ArePathLooks graph.now looks_limit paths.now }
+    ensures { IfOk result (λ sum. (k : ℕ) × SumBy (HasPathLooks graph.now) (sizes.values graph.now node.now property_data.Path) k
+        × (sum ≡ capped looks_limit k)) }
+{
+    let found = values_at(alloc, graph, node, ShapeProperty::Path)?;
+    let mut sum = 0;
+    for value in found.as_slice() {
+        sum = capped_sum(sum, path_looks_at(graph, paths, value), most_looks());
+    }
+    Ok(sum)
+}
+
+// The looks of a node that isn't deactivated, without those of the shapes to which it refers.
+fn own_looks(
+    alloc: Global,
+    graph: &[Triple],
+    paths: &BTreeMap<Term, u64>,
+    node: &Term,
+) -> Result<u64, AllocError>
+    requires graph { IsAscending triple_cmp graph.now }
+    requires paths { ArePathLooks graph.now looks_limit paths.now }
+    ensures { IfOk result (λ sum. (k : ℕ) × HasOwnLooks graph.now node.now k × (sum ≡ capped looks_limit k)) }
+{
+    let path = looks_of_paths(alloc, graph, paths, node)?;
+    let classes = with_two_each(alloc, graph, node, ShapeProperty::Class, path)?;
+    let compared = with_compared(alloc, graph, node, classes)?;
+    Ok(capped_sum(compared, closed_looks(graph, node), most_looks()))
+}
+
+fn look_weight(
+    alloc: Global,
+    graph: &[Triple],
+    paths: &BTreeMap<Term, u64>,
+    node: &Term,
+) -> Result<u64, AllocError>
+    requires graph { IsAscending triple_cmp graph.now }
+    requires paths { ArePathLooks graph.now looks_limit paths.now }
+    ensures { IfOk result (λ own. IsCappedLook graph.now node.now own) }
+{
+    if is_deactivated(graph, node) {
+        return Ok(0);
+    }
+    let own = own_looks(alloc, graph, paths, node)?;
+    Ok(own)
+}
+
+fn look_place(
+    alloc: Global,
+    graph: &[Triple],
+    turned: &[Triple],
+    paths: &BTreeMap<Term, u64>,
+    node: &Term,
+) -> Result<Place, AllocError>
+    requires graph { IsAscending triple_cmp graph.now }
+    requires turned { IsListing triple_cmp (IsTurned graph.now) turned.now }
+    requires paths { ArePathLooks graph.now looks_limit paths.now }
+    ensures { IfOk result (λ place. IsPlaceOf graph.now (IsCappedLook graph.now) place × (place.node ≡ node.now)) }
+{
+    let to = referred_shapes(alloc, graph, turned, node)?;
+    let own = look_weight(alloc, graph, paths, node)?;
+    Ok(Place {
+        node: node.clone()?,
+        own,
+        to,
+    })
+}
+
+// The places of the nodes.
+fn look_places(
+    alloc: Global,
+    graph: &[Triple],
+    turned: &[Triple],
+    paths: &BTreeMap<Term, u64>,
+    nodes: &[Term],
+) -> Result<Sequence<Place>, AllocError>
+    requires graph { IsAscending triple_cmp graph.now }
+    requires turned { IsListing triple_cmp (IsTurned graph.now) turned.now }
+    requires paths { ArePathLooks graph.now looks_limit paths.now }
+    requires nodes { (n : TermData) → Contains nodes.now n ↔ MayBeShape graph.now n }
+    ensures { IfOk result (λ places. ArePlaces graph.now (IsCappedLook graph.now) places) }
+{
+    let mut places = Sequence::new(alloc);
+    for node in nodes {
+        places.push(look_place(alloc, graph, turned, paths, node)?)?;
+    }
+    Ok(places)
+}
+
+fn all_look_places(
+    alloc: Global,
+    graph: &[Triple],
+    nodes: &[Term],
+) -> Result<Sequence<Place>, AllocError>
+    requires graph { IsAscending triple_cmp graph.now }
+    requires nodes { (n : TermData) → Contains nodes.now n ↔ MayBeShape graph.now n }
+    ensures { IfOk result (λ places. ArePlaces graph.now (IsCappedLook graph.now) places) }
+{
+    let turned = turned_properties(alloc, graph)?;
+    let paths = path_looks(alloc, graph)?;
+    let places = look_places(alloc, graph, turned.as_slice(), &paths, nodes)?;
+    Ok(places)
+}
+
+// The looks of the nodes without those of their targets, as far as they are counted.
+fn looks_of_results(
+    alloc: Global,
+    graph: &[Triple],
+    nodes: &[Term],
+) -> Result<BTreeMap<Term, u64>, AllocError>
+    requires graph { IsAscending triple_cmp graph.now }
+    requires nodes { (n : TermData) → Contains nodes.now n ↔ MayBeShape graph.now n }
+    ensures { IfOk result (λ table. AreWeights graph.now (IsLookWeight graph.now) looks_limit table) }
+{
+    let places = all_look_places(alloc, graph, nodes)?;
+    let table = totals(alloc, places.as_slice(), most_looks())?;
+    Ok(table)
+}
+
+#[tactic(auto, unfolding(shape_model::specs::Vocabulary::rdfs_class))]
+fn is_class(classes: &[Term]) -> bool
+    ensures { IsTrue result ↔ IsMember classes.now rdfs_class }
+{
+    has_class(classes, "http://www.w3.org/2000/01/rdf-schema#Class")
+}
+
+fn implicit_looks(alloc: Global, graph: &[Triple], node: &Term) -> Result<u64, AllocError>
+    requires { IsAscending triple_cmp graph.now }
+    ensures { IfOk result (λ looks. CountsIf (Instance graph.now node.now rdfs_class) 2 looks) }
+{
+    let classes = classes_of(alloc, graph, node)?;
+    if is_class(classes.as_slice()) {
+        return Ok(2);
+    }
+    Ok(0)
+}
+
+// The sum, and the looks of the node's targets.
+fn with_targets(alloc: Global, graph: &[Triple], node: &Term, sum: u64) -> Result<u64, AllocError>
+    requires { IsAscending triple_cmp graph.now }
+    ensures { IfOk result (λ more. (k : ℕ) × HasTargetLooks graph.now node.now k × (more ≡ capped looks_limit (sum + k))) }
+{
+    let implicit = implicit_looks(alloc, graph, node)?;
+    let classes = with_two_each(alloc, graph, node, ShapeProperty::TargetClass, sum)?;
+    let both = capped_sum(classes, implicit, most_looks());
+    let subjects = with_one_each(alloc, graph, node, ShapeProperty::TargetSubjectsOf, both)?;
+    let all = with_one_each(alloc, graph, node, ShapeProperty::TargetObjectsOf, subjects)?;
+    Ok(all)
+}
+
+fn has_too_many_looks(
+    alloc: Global,
+    graph: &[Triple],
+    table: &BTreeMap<Term, u64>,
+    node: &Term,
+) -> Result<bool, AllocError>
+    requires graph { IsAscending triple_cmp graph.now }
+    requires table { AreWeights graph.now (IsLookWeight graph.now) looks_limit table.now }
+    requires node { MayBeShape graph.now node.now }
+    ensures { IfOk result (λ many. IsTrue many ↔ HasTooManyLooks graph.now node.now) }
+{
+    match total_of(table, node) {
+        Some(total) => {
+            let looks = with_targets(alloc, graph, node, total)?;
+            Ok(looks > most_looks())
+        }
+        None => Ok(false),
+    }
+}
+
+fn is_shape_with_too_many(
+    alloc: Global,
+    graph: &[Triple],
+    taken: &[Term],
+    table: &BTreeMap<Term, u64>,
+    node: &Term,
+) -> Result<bool, AllocError>
+    requires graph { IsAscending triple_cmp graph.now }
+    requires taken { IsListing term_cmp (IsTaken graph.now) taken.now }
+    requires table { AreWeights graph.now (IsLookWeight graph.now) looks_limit table.now }
+    requires node { MayBeShape graph.now node.now }
+    ensures { IfOk result (λ many. IsTrue many ↔ (IsShape graph.now node.now × HasTooManyLooks graph.now node.now)) }
+{
+    let many = has_too_many_looks(alloc, graph, table, node)?;
+    if many {
+        let shape = is_shape_at(alloc, graph, taken, node)?;
+        return Ok(shape);
+    }
+    Ok(false)
+}
+
+// Adds a row for each of the nodes that is a shape with too many looks.
+fn push_too_many(
+    alloc: Global,
+    graph: &[Triple],
+    taken: &[Term],
+    table: &BTreeMap<Term, u64>,
+    nodes: &[Term],
+    rows: &mut Sequence<RuleRow>,
+) -> Result<(), AllocError>
+    requires graph { IsAscending triple_cmp graph.now }
+    requires taken { IsListing term_cmp (IsTaken graph.now) taken.now }
+    requires table { AreWeights graph.now (IsLookWeight graph.now) looks_limit table.now }
+    requires nodes { (n : TermData) → Contains nodes.now n ↔ MayBeShape graph.now n }
+    ensures { OnOk result (HasGathered (LooksRow graph.now) nodes.now rows.old rows.new) }
+{
+    for node in nodes {
+        let many = is_shape_with_too_many(alloc, graph, taken, table, node)?;
+        push_whole(many, node, 40, rows)?;
+    }
+    Ok(())
+}
+
+/// Adds the rows of the shapes with too many looks.
+pub(crate) fn push_looks_rows(
+    alloc: Global,
+    graph: &[Triple],
+    rows: &mut Sequence<RuleRow>,
+) -> Result<(), AllocError>
+    requires { IsAscending triple_cmp graph.now }
+    ensures { OnOk result ((r : RowData) → Contains rows.new r ↔ (Contains rows.old r ⊎ LooksRow graph.now r.node r)) }
+{
+    let taken = taken_shapes(alloc, graph)?;
+    let nodes = candidates(alloc, graph, taken.as_slice())?;
+    let table = looks_of_results(alloc, graph, nodes.as_slice())?;
+    push_too_many(
+        alloc,
+        graph,
+        taken.as_slice(),
+        &table,
+        nodes.as_slice(),
+        rows,
+    )?;
+    Ok(())
+}
