@@ -4,6 +4,7 @@ ghost use Rattle.store_model.specs.Finds.{found};
 ghost use Rattle.shape_model.specs.Validation.{Listing};
 ghost use Rattle.term_dict.specs.Faults.{IsCause};
 ghost use Rattle.term_dict.specs.Names.{AreNumbersOf, first_terms, with_terms};
+ghost use Rattle.graph_validation.specs.Counting.{GrowsByCount, IsTargetPair};
 ghost use Rattle.term_validation.specs.Named.{AreNamedTriples};
 ghost use Rattle.data_graph.specs.DataGraphs.{AreNamedChanges, IsIndexOf, IsIndexed, names_of, with_changes, with_names};
 
@@ -214,7 +215,8 @@ impl DataGraph {
     }
 
     /// The results of validating the graph by the shapes graph (SHACL section 3.6), each once, in the
-    /// order of results. All terms of both are named. Without shapes nothing is numbered.
+    /// order of results. All terms of both are named. Without shapes nothing is numbered. The evaluations are counted in
+    /// `steps`: there are as many as there are pairs of a shape and its target.
     pub fn listing<L: Ledger>(
         &mut self,
         shapes: &ShapesGraph,
@@ -224,6 +226,7 @@ impl DataGraph {
         requires shapes { AreNamedTriples self.old.terms shapes.now }
         ensures same { self.new ≡ self.old }
         ensures rows { IfOk result (λ rows. Listing self.old.triples shapes.now rows.items) }
+        ensures steps { OnOk result (GrowsByCount (IsTargetPair self.old.triples shapes.now) steps.old steps.new) }
     {
         if is_without_shapes(shapes) {
             return Ok(Vec::new(self.alloc));

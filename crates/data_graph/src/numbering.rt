@@ -1,8 +1,9 @@
-ghost use Rattle.std.specs.Prelude.{◌≡◌, ◌↔◌, IfOk, map};
+ghost use Rattle.std.specs.Prelude.{◌≡◌, ◌↔◌, IfOk, OnOk, map};
 ghost use Rattle.std.specs.List.{AllByRecursion, Contains};
 ghost use Rattle.rdf_model.specs.Numbers.{AreNumbered, graph_of};
 ghost use Rattle.shape_model.specs.Validation.{Listing};
 ghost use Rattle.store_model.specs.Store.{changed_triple};
+ghost use Rattle.graph_validation.specs.Counting.{GrowsByCount, IsTargetPair};
 ghost use Rattle.term_validation.specs.Named.{AreNamedTriples, IsNamedTriple};
 ghost use Rattle.triple_index.specs.Changes.{after_ids};
 ghost use Rattle.data_graph.specs.DataGraphs.{AreNamedChanges, HaveClassWords, IsIndexOf, IsNumberedChange, KeepsIndex, change_at};
@@ -103,7 +104,8 @@ pub fn listing_by<L: Ledger>(
     requires words { HaveClassWords names.now.terms }
     requires index { AreNumbered names.now.terms index.now }
     requires shapes { AreNamedTriples names.now.terms shapes.now }
-    ensures { IfOk result (λ rows. Listing (graph_of names.now.terms index.now) shapes.now rows.items) }
+    ensures rows { IfOk result (λ rows. Listing (graph_of names.now.terms index.now) shapes.now rows.items) }
+    ensures steps { OnOk result (GrowsByCount (IsTargetPair (graph_of names.now.terms index.now) shapes.now) steps.old steps.new) }
 {
     names.is_numbering();
     Ok(listing_over(alloc, index, names, CLASS_WORDS, shapes, steps)?)

@@ -3,8 +3,8 @@ use Rattle.shape_model.specs.declared.result_row.ResultRow.{ResultRow}
 use Rattle.shape_model.specs.Validation.{Listing}
 use Rattle.rdf_model.specs.Numbers.{graph_of}
 use Rattle.term_validation.specs.Named.{AreNamedTriples}
-use Rattle.term_validation.proofs.Members.{same_listing}
-use Rattle.term_validation.proofs.NoShapes.{no_shapes}
+use Rattle.term_validation.proofs.Members.{same_count, same_listing}
+use Rattle.term_validation.proofs.NoShapes.{no_pairs, no_shapes}
 use Rattle.data_graph.specs.DataGraphs.{IsIndexOf, NamedGraph}
 use Rattle.data_graph.proofs.graph.DataGraph.listing.Goals as goal
 
@@ -25,4 +25,14 @@ returns-clause-rows g c =
     let terms = c.self.inside.names.terms in
     let numbers = c.in_ok-numbers.numbers in
     let index = subst (λ (d : NamedGraph). IsIndexOf d.terms numbers c.args.self.now.triples) (sym c.self.view_is) c.in_ok-numbers.ensures in
-    same_listing (graph_of terms numbers) c.args.self.now.triples c.args.shapes.now index.members c.in_ok-rows.rows.items c.in_ok-rows.ensures
+    same_listing (graph_of terms numbers) c.args.self.now.triples c.args.shapes.now index.members c.in_ok-rows.rows.items c.in_ok-rows.ensures.rows
+
+pub returns-then-is_without_shapes-clause-steps : goal.returns-then-is_without_shapes-clause-steps
+returns-then-is_without_shapes-clause-steps g c = no_pairs c.args.self.now.triples c.args.shapes.now (c.is_without_shapes.ensures.0 c.if-is_without_shapes.true) c.args.steps.now
+
+pub returns-clause-steps : goal.returns-clause-steps
+returns-clause-steps g c =
+    let terms = c.self.inside.names.terms in
+    let numbers = c.in_ok-numbers.numbers in
+    let index = subst (λ (d : NamedGraph). IsIndexOf d.terms numbers c.args.self.now.triples) (sym c.self.view_is) c.in_ok-numbers.ensures in
+    same_count (graph_of terms numbers) c.args.self.now.triples c.args.shapes.now index.members c.args.steps.now c.listing_by.new.steps c.in_ok-rows.ensures.steps
