@@ -6,4 +6,6 @@ mod finds;
 #[cfg(test)]
 mod orders;
 #[cfg(test)]
+mod patterns;
+#[cfg(test)]
 mod replay;
