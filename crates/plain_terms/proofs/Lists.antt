@@ -8,11 +8,14 @@ use Rattle.collections.specs.Listings.{IsListing}
 use Rattle.rdf_model.specs.declared.term.Term.{Term}
 use Rattle.rdf_model.specs.declared.triple.Triple.{Triple}
 use Rattle.rdf_model.specs.Terms.{term_cmp}
-use Rattle.shape_model.specs.Triples.{Has, HasNone, HasOnly}
+use Rattle.shape_model.specs.Triples.{Has, HasNone, HasOnly, IsMember}
 use Rattle.shape_syntax.proofs.Places.{term_tied}
-use Rattle.shape_model.specs.ShapeSyntax.{IsCell, IsListEnd}
+use Rattle.shape_model.specs.ShapeSyntax.{IsCell, IsListEnd, ListOf}
 use Rattle.shape_model.specs.Vocabulary.{rdf_first, rdf_nil, rdf_rest}
-use Rattle.plain_terms.specs.Finds.{Finds, option_pair}
+use Rattle.plain_terms.specs.Finds.{Finds, IsListed, option_pair}
+use Rattle.plain_terms.proofs.FoundItems.{finds_at, finds_none}
+use Rattle.shape_syntax.proofs.Lists.{one_list}
+use Rattle.shape_syntax.proofs.Scans.{contains_member, member_contains}
 
 module _ (g : List Triple) (n p : Term) (found : List Term) (h : Finds (Has g n p) found) where
   pub is_only : (values : List Term) → IsListing term_cmp (Contains found) values → length values ≡ 1 → (v : Term) → v ≡ get_or values 0 v → HasOnly g n p v
@@ -76,3 +79,19 @@ no_cell g n found e h = subst (λ (z : Option (Term × Term)). MatchOption z ((m
 
 pub is_cell : (g : List Triple) (n : Term) (found : Option (Term × Term)) (parts : Term × Term) → found ≡ Some parts → MatchOption found ((m k : Term) → IsCell g n m k → ⊥) (λ parts. IsCell g n parts.0 parts.1) → IsCell g n parts.0 parts.1
 is_cell g n found parts e h = subst (λ (z : Option (Term × Term)). MatchOption z ((m k : Term) → IsCell g n m k → ⊥) (λ parts. IsCell g n parts.0 parts.1)) e h
+
+-- the members of a list, in either case
+pub listed_none : (g : List Triple) (head : Term) (found : Option (List Term)) (items : List Term) → found ≡ None → MatchOption found ((ms : List Term) → ListOf g head ms → ⊥) (ListOf g head) → items ≡ [] → Finds (IsListed g head) items
+listed_none g head found items e h is =
+    let none = subst (λ (o : Option (List Term)). MatchOption o ((ms : List Term) → ListOf g head ms → ⊥) (ListOf g head)) e h in
+    finds_at (IsListed g head) [] items is (finds_none (IsListed g head) (λ m w. none w.0 w.1))
+
+pub listed_some : (g : List Triple) (head : Term) (found : Option (List Term)) (members items : List Term) → found ≡ Some members → MatchOption found ((ms : List Term) → ListOf g head ms → ⊥) (ListOf g head) → items ≡ members → Finds (IsListed g head) items
+listed_some g head found members items e h is =
+    let there = subst (λ (o : Option (List Term)). MatchOption o ((ms : List Term) → ListOf g head ms → ⊥) (ListOf g head)) e h in
+    finds_at (IsListed g head) members items is (record {
+      members = λ m. (
+        λ c. (members, there, contains_member members m c),
+        λ w. member_contains members m (subst (λ (ms : List Term). IsMember ms m) (one_list g head w.0 members w.1 there) w.2),
+      );
+    })

@@ -4,7 +4,8 @@ use Rattle.std.specs.List.{Contains}
 use Rattle.rdf_model.specs.declared.term.Term.{Term}
 use Rattle.rdf_model.specs.declared.triple.Triple.{Triple}
 use Rattle.rdf_model.specs.Matching.{same_term}
-use Rattle.shape_model.specs.Triples.{Has}
+use Rattle.shape_model.specs.ShapeSyntax.{ListOf}
+use Rattle.shape_model.specs.Triples.{Has, IsMember}
 use Rattle.shape_model.specs.Walks.{Chain}
 
 -- the list has just the items of which P holds, in any order, maybe several times
@@ -43,3 +44,7 @@ abbrev pub option_pair : {X Y : Type 0} → Option X → Option Y → Option (X 
 option_pair None y = None
 option_pair (Some x) None = None
 option_pair (Some x) (Some y) = Some (x, y)
+
+-- a member of the list at the head
+abbrev pub IsListed : List Triple → Term → Term → Type 0
+IsListed g head m = (members : List Term) × ListOf g head members × IsMember members m

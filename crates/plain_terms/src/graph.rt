@@ -3,7 +3,7 @@ ghost use Rattle.std.specs.List.{filter_map};
 ghost use Rattle.rdf_model.specs.declared.term.Term.{Term as TermData};
 ghost use Rattle.shape_model.specs.Triples.{Has};
 ghost use Rattle.shape_model.specs.Vocabulary.{sh};
-ghost use Rattle.plain_terms.specs.Finds.{Finds, HasSome, object_in, subject_in, subject_with};
+ghost use Rattle.plain_terms.specs.Finds.{Finds, HasSome, WithSome, object_in, subject_in, subject_with};
 
 use crate::words::word;
 use collections::Sequence;
@@ -115,5 +115,50 @@ pub fn parameters(
 {
     let property = word(alloc, name)?;
     let found = objects(alloc, shapes, shape, &property)?;
+    Ok(found)
+}
+
+/// The values of a predicate at each of the nodes, maybe several times.
+pub fn objects_of_each(
+    alloc: Global,
+    graph: &[Triple],
+    nodes: &[Term],
+    predicate: &Term,
+) -> Result<Vec<Term>, AllocError>
+    ensures { IfOk result (λ found. Finds (WithSome nodes.now (λ (node object : TermData). Has graph.now node predicate.now object)) found.items) }
+{
+    let mut found = Vec::new(alloc);
+    for node in nodes {
+        let mut more = objects(alloc, graph, node, predicate)?.into_vec();
+        found.append(&mut more)?;
+    }
+    Ok(found)
+}
+
+/// The values of a property of SHACL at each of the nodes.
+pub fn parameters_of_each(
+    alloc: Global,
+    shapes: &[Triple],
+    nodes: &[Term],
+    name: &str,
+) -> Result<Vec<Term>, AllocError>
+    ensures { IfOk result (λ found. Finds (WithSome nodes.now (λ (node value : TermData). Has shapes.now node (sh name.now) value)) found.items) }
+{
+    let property = word(alloc, name)?;
+    let found = objects_of_each(alloc, shapes, nodes, &property)?;
+    Ok(found)
+}
+
+/// The nodes that have this value of a property of SHACL.
+pub fn owners(
+    alloc: Global,
+    shapes: &[Triple],
+    name: &str,
+    value: &Term,
+) -> Result<Sequence<Term>, AllocError>
+    ensures { IfOk result (λ found. Finds (λ (node : TermData). Has shapes.now node (sh name.now) value.now) found) }
+{
+    let property = word(alloc, name)?;
+    let found = subjects_with(alloc, shapes, &property, value)?;
     Ok(found)
 }

@@ -11,7 +11,9 @@ mod list;
 mod words;
 
 pub use choice::{TermTest, chosen};
-pub use graph::{objects, parameters, subjects, subjects_with};
+pub use graph::{
+    objects, objects_of_each, owners, parameters, parameters_of_each, subjects, subjects_with,
+};
 pub use instances::{alone, instances_of, is_among};
-pub use list::{in_order, list_members};
+pub use list::{in_order, list_members, members_of_each};
 pub use words::{class_word, is_same, is_word, word};

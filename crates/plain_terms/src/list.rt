@@ -4,7 +4,7 @@ ghost use Rattle.shape_model.specs.Triples.{HasNone, HasOnly};
 ghost use Rattle.std.specs.List.{Contains};
 ghost use Rattle.collections.specs.Listings.{IsListing};
 ghost use Rattle.rdf_model.specs.Terms.{term_cmp};
-ghost use Rattle.plain_terms.specs.Finds.{option_pair};
+ghost use Rattle.plain_terms.specs.Finds.{Finds, IsListed, WithSome, option_pair};
 ghost use Rattle.shape_model.specs.ShapeSyntax.{IsCell, IsListEnd, ListOf};
 
 use crate::graph::objects;
@@ -119,4 +119,31 @@ pub fn list_members(
         }
     }
     Ok(None)
+}
+
+// The members of the list at the head; none where it is the head of none.
+fn members_at(alloc: Global, graph: &[Triple], head: &Term) -> Result<Vec<Term>, AllocError>
+    ensures { IfOk result (λ found. Finds (IsListed graph.now head.now) found.items) }
+{
+    let found = list_members(alloc, graph, head)?;
+    match found {
+        Some(members) => Ok(members.into_vec()),
+        None => Ok(Vec::new(alloc)),
+    }
+}
+
+/// The members of the lists at the heads.
+pub fn members_of_each(
+    alloc: Global,
+    graph: &[Triple],
+    heads: &[Term],
+) -> Result<Vec<Term>, AllocError>
+    ensures { IfOk result (λ found. Finds (WithSome heads.now (IsListed graph.now)) found.items) }
+{
+    let mut found = Vec::new(alloc);
+    for head in heads {
+        let mut more = members_at(alloc, graph, head)?;
+        found.append(&mut more)?;
+    }
+    Ok(found)
 }
