@@ -1,6 +1,6 @@
 -- The components that are read, in turn.
-use Rattle.std.proofs.Common.{◌≡◌, ℕ, suc, ◌<◌, List, [], ◌∷◌, ◌++◌, length, get_or, refl, sym, subst, arith, inl, inr}
-use Rattle.std.specs.Prelude.{◌↔◌, ◌⊎◌}
+use Rattle.std.proofs.Common.{◌≡◌, List, [], ◌∷◌, ◌++◌, refl, sym, subst, arith, inl, inr}
+use Rattle.std.specs.Prelude.{◌⊎◌}
 use Rattle.std.specs.List.{Contains}
 use Rattle.collections.proofs.Members.{has_cases}
 use Rattle.rdf_model.specs.declared.term.Term.{Term}
@@ -13,7 +13,6 @@ use Rattle.shape_model.specs.declared.result_row.ResultRow.{ResultRow}
 use Rattle.plain_terms.specs.Finds.{Finds, WithSome}
 use Rattle.plain_terms.proofs.FoundItems.{finds_at, finds_both, finds_none, finds_same}
 use Rattle.plain_components.specs.declared.place.Place.{Place}
-use Rattle.plain_components.specs.declared.place.Told.{Told}
 use Rattle.plain_components.specs.Around.{AtPlace, ComponentAt, EntryRow, PropertyAt, RowsAt}
 
 abbrev pub read_components : List Component

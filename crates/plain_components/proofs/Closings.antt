@@ -1,17 +1,16 @@
 -- Closed shapes and qualified value shapes.
-use Rattle.std.proofs.Common.{◌≡◌, ◌∙◌, ℕ, Bool, not, List, [], ◌∷◌, ◌++◌, refl, sym, subst, arith, inl, inr, IsTrue}
+use Rattle.std.proofs.Common.{◌≡◌, ℕ, Bool, not, List, [], ◌∷◌, ◌++◌, refl, subst, arith, inl, inr, IsTrue}
 use Rattle.std.specs.Prelude.{◌↔◌, ◌⊎◌}
 use Rattle.std.specs.List.{Contains}
 use Rattle.collections.specs.Listings.{IsListing}
 use Rattle.rdf_model.specs.Terms.{term_cmp}
 use Rattle.rdf_model.specs.declared.term.Term.{Term}
 use Rattle.rdf_model.specs.declared.triple.Triple.{Triple}
-use Rattle.shape_model.specs.Components.{IsQualified, found_alone}
-use Rattle.shape_model.specs.Paths.{Predicate}
+use Rattle.shape_model.specs.Components.{IsQualified}
 use Rattle.shape_model.specs.Readings.{IsAllowed, Sibling, reading}
 use Rattle.shape_model.specs.ShapeSyntax.{HasProperty}
-use Rattle.shape_model.specs.Triples.{Has, IsIri}
-use Rattle.shape_model.specs.Vocabulary.{true_literal, ShIgnoredProperties, ShPath, ShProperty, ShQualifiedValueShape, ShQualifiedValueShapesDisjoint}
+use Rattle.shape_model.specs.Triples.{IsIri}
+use Rattle.shape_model.specs.Vocabulary.{true_literal, ShIgnoredProperties, ShPath, ShProperty, ShQualifiedValueShape}
 use Rattle.shape_model.specs.declared.component.Component.{Component}
 use Rattle.shape_model.specs.declared.component.Component.TheVariants as components
 use Rattle.shape_model.specs.declared.result_row.ResultRow.{ResultRow}
@@ -20,9 +19,9 @@ use Rattle.shape_syntax.proofs.Scans.{contains_member, member_contains}
 use Rattle.plain_terms.specs.Finds.{Finds, IsListed, WithSome}
 use Rattle.plain_terms.proofs.FoundItems.{finds_at, finds_both, finds_none, finds_same}
 use Rattle.plain_components.specs.declared.place.Place.{Place}
-use Rattle.plain_components.specs.Around.{ForbiddenRow, QualifiedAt, QualifiedRow, RowsAt, TriplesAt, around, row_at}
+use Rattle.plain_components.specs.Around.{ForbiddenRow, QualifiedAt, QualifiedRow, RowsAt, around}
 use Rattle.plain_components.specs.Siblings.{HasSiblings, IsCousin}
-use Rattle.plain_components.specs.Tests.{IsWrong, MeetsQualified}
+use Rattle.plain_components.specs.Tests.{MeetsQualified}
 
 first_of : {X : Type 0} → (P : X → Type 0) (xs : List X) → Finds P xs → (xs ≡ [] → ⊥) → (x : X) × P x
 first_of P [] h some = absurd (some refl)

@@ -6,7 +6,6 @@ use Rattle.collections.specs.Ordered.{IsAscending}
 use Rattle.rdf_model.specs.Orders.{term_total}
 use Rattle.rdf_model.specs.Terms.{term_cmp}
 use Rattle.shape_model.proofs.Listings.{one_listing}
-use Rattle.shape_model.specs.Listings.{Counts}
 use Rattle.shape_model.specs.ShapeSyntax.{ListOf}
 use Rattle.shape_model.specs.Triples.{Has, IsMember}
 use Rattle.shape_model.specs.declared.component.Component.TheVariants as components

@@ -1,14 +1,13 @@
 -- How many members of a list something holds of.
-use Rattle.std.proofs.Common.{◌≡◌, ◌∙◌, ◌==◌, ℕ, ◌+◌, ◌<◌, ◌≤◌, not, List, [], ◌∷◌, ◌++◌, length, take, get_or, refl, sym, subst, ap, arith, inl, inr, length-append, IsTrue}
+use Rattle.std.proofs.Common.{◌≡◌, ◌∙◌, ◌==◌, ℕ, ◌+◌, ◌<◌, not, List, [], ◌∷◌, ◌++◌, length, take, get_or, refl, sym, subst, ap, arith, inl, inr, length-append, IsTrue}
 use Rattle.std.proofs.lemmas.Bool.Decides.{nat_tests}
 use Rattle.std.proofs.lemmas.List.{take_more}
 use Rattle.shape_syntax.proofs.Equals.{negated, negation}
 use Rattle.plain_components.specs.declared.place.Told.{Told}
 use Rattle.plain_components.specs.declared.logic.Demand.TheVariants.{All, Any, One}
-use Rattle.std.specs.Prelude.{◌↔◌, ◌⊎◌}
+use Rattle.std.specs.Prelude.{◌↔◌}
 use Rattle.rdf_model.specs.declared.term.Term.{Term}
 use Rattle.shape_model.specs.Components.{NoneOf, OneOf}
-use Rattle.shape_model.specs.Triples.{IsMember}
 use Rattle.shape_syntax.proofs.Scans.{member_cases, member_front, member_push}
 use Rattle.plain_components.specs.Tests.{Conforming, IsUnmet, Tallied}
 

@@ -1,4 +1,4 @@
-use Rattle.std.proofs.Common.{◌≡◌, [], ◌∷◌}
+use Rattle.std.proofs.Common.{[], ◌∷◌}
 use Rattle.shape_model.specs.declared.component.Component.TheVariants as components
 use Rattle.plain_components.specs.Around.{ForbiddenRow, IsForbidden, found_triple, row_at}
 use Rattle.plain_terms.proofs.FoundItems.{no_result, one_result, some_all, some_skip, some_step}

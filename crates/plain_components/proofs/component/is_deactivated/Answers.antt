@@ -1,6 +1,3 @@
-use Rattle.std.proofs.Common.{List, subst}
-use Rattle.std.specs.List.{Contains}
-use Rattle.rdf_model.specs.declared.term.Term.{Term}
 use Rattle.plain_components.proofs.Closings.{among_is}
 use Rattle.shape_model.specs.ShapeSyntax.{HasProperty}
 use Rattle.shape_model.specs.Vocabulary.{true_literal, ShDeactivated}

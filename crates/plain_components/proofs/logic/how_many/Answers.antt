@@ -1,5 +1,5 @@
-use Rattle.std.proofs.Common.{◌≡◌, ◌∙◌, ◌≤◌, List, [], ◌∷◌, ◌++◌, length, take, ap, sym, subst, arith}
-use Rattle.std.proofs.lemmas.List.{take_all, take_more}
+use Rattle.std.proofs.Common.{List, subst, arith}
+use Rattle.std.proofs.lemmas.List.{take_all}
 use Rattle.rdf_model.specs.declared.term.Term.{Term}
 use Rattle.plain_components.specs.Tests.{Conforming, Tallied}
 use Rattle.plain_components.proofs.Tallies.{tallied_next, tallied_none, tallied_pass}

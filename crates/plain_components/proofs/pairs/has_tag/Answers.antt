@@ -1,4 +1,4 @@
-use Rattle.std.proofs.Common.{◌≡◌, ℕ, List, refl, subst}
+use Rattle.std.proofs.Common.{ℕ, List, refl, subst}
 use Rattle.shape_model.specs.TermTests.{HasTag}
 use Rattle.plain_components.proofs.Languages.{no_tag, one_tag, tag_found}
 use Rattle.plain_components.proofs.pairs.has_tag.Goals as goal

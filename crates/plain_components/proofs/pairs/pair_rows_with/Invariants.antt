@@ -1,4 +1,4 @@
-use Rattle.std.proofs.Common.{◌≡◌, take}
+use Rattle.std.proofs.Common.{take}
 use Rattle.plain_terms.specs.Finds.{Finds, WithSome}
 use Rattle.plain_components.specs.Around.{PairRow}
 use Rattle.plain_components.proofs.pairs.pair_rows_with.Given as goal

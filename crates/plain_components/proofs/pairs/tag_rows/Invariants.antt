@@ -1,4 +1,4 @@
-use Rattle.std.proofs.Common.{◌≡◌, take}
+use Rattle.std.proofs.Common.{take}
 use Rattle.plain_terms.specs.Finds.{Finds, WithSome}
 use Rattle.plain_components.specs.Around.{TagRow}
 use Rattle.plain_components.proofs.pairs.tag_rows.Given as goal
