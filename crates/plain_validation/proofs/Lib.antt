@@ -1,10 +1,5 @@
-pub mod FoundItems
-pub mod Values
-pub mod OwnRows
-pub mod PlainRows
-pub mod Terms
-pub mod Finding
+pub mod ValueNodes
 pub mod PathValues
-pub mod Gathered
-pub mod Beyond
-pub mod Nothing
+pub mod Levels
+pub mod Referring
+pub mod Declared

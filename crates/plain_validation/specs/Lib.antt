@@ -1,3 +1,3 @@
 pub mod Plain
-pub mod Finds
-pub mod PlainResults
+pub mod References
+pub mod Targets

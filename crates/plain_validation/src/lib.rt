@@ -2,17 +2,16 @@
 //!
 //! `listing` is the plain, slow form of a validation by SHACL Core (W3C Recommendation of 20 July
 //! 2017): no shape is compiled and no term has a number. It promises the listing that
-//! `shape_model` defines, so faster validations are compared with it in tests. It reads three components and
-//! paths that are IRIs; `is_plain` tells of a shapes graph whether that is all it has.
+//! `shape_model` defines, so faster validations are compared with it in tests. It reads all components but sh:pattern, paths
+//! that are IRIs, and the targets sh:targetNode and sh:targetSubjectsOf; `is_plain` tells of a shapes graph whether that is all it has.
 #![tactic(auto)]
 
-mod components;
-mod counts;
-mod graph;
+mod evaluation;
 mod plain;
+mod references;
 mod results;
-mod rows;
-mod words;
+mod targets;
+mod values;
 
 pub use plain::is_plain;
 pub use results::listing;

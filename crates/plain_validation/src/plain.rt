@@ -1,51 +1,17 @@
 // Whether the plain results of a shapes graph are all that it has.
-ghost use Rattle.std.specs.Prelude.{◌≡◌, ◌↔◌, [], IfOk, IsTrue, map};
+ghost use Rattle.std.specs.Prelude.{◌≡◌, ◌↔◌, IfOk, IsTrue, map};
 ghost use Rattle.rdf_model.specs.declared.term.Term.TheVariants as data_terms;
 ghost use Rattle.shape_model.specs.Triples.{IsIri, IsMember};
-ghost use Rattle.shape_model.specs.Vocabulary.{rdf_type, sh, ShPath, ShProperty, property_iri};
-ghost use Rattle.plain_validation.specs.Plain.{HasPath, IsBeyond, IsPlain, IsPlainTriple};
+ghost use Rattle.shape_model.specs.Vocabulary.{rdf_type, sh, ShPath, property_iri};
+ghost use Rattle.plain_validation.specs.Plain.{IsBeyond, IsPlain, IsPlainTriple};
 
-use crate::graph::parameters;
-use crate::words::is_word;
+use plain_terms::is_word;
 use rdf_model::{Term, Triple};
 use std::alloc::{AllocError, Global};
 
 const RDF_TYPE: &str = "http://www.w3.org/1999/02/22-rdf-syntax-ns#type";
 
-const WORDS_BEYOND: [&str; 32] = [
-    "class",
-    "datatype",
-    "minExclusive",
-    "minInclusive",
-    "maxExclusive",
-    "maxInclusive",
-    "minLength",
-    "maxLength",
-    "pattern",
-    "flags",
-    "languageIn",
-    "uniqueLang",
-    "equals",
-    "disjoint",
-    "lessThan",
-    "lessThanOrEquals",
-    "not",
-    "and",
-    "or",
-    "xone",
-    "node",
-    "qualifiedValueShape",
-    "qualifiedMinCount",
-    "qualifiedMaxCount",
-    "qualifiedValueShapesDisjoint",
-    "closed",
-    "ignoredProperties",
-    "hasValue",
-    "in",
-    "deactivated",
-    "targetClass",
-    "targetObjectsOf",
-];
+const WORDS_BEYOND: [&str; 3] = ["pattern", "targetClass", "targetObjectsOf"];
 
 // Whether the term is the IRI.
 fn is_named(term: &Term, iri: &str) -> bool
@@ -92,20 +58,6 @@ fn is_beyond(alloc: Global, predicate: &Term) -> Result<bool, AllocError>
     Ok(is_any_word(alloc, predicate, &WORDS_BEYOND)?)
 }
 
-fn is_nothing(terms: &[Term]) -> bool
-    ensures { IsTrue result ↔ (terms.now ≡ []) }
-{
-    terms.is_empty()
-}
-
-// Whether the node has a sh:path.
-fn has_path(alloc: Global, shapes: &[Triple], node: &Term) -> Result<bool, AllocError>
-    ensures { IfOk result (λ has. IsTrue has ↔ HasPath shapes.now node.now) }
-{
-    let paths = parameters(alloc, shapes, node, "path")?;
-    Ok(!is_nothing(paths.as_slice()))
-}
-
 // Whether the triple's object is an IRI, if it is a path.
 fn is_plain_path(alloc: Global, triple: &Triple) -> Result<bool, AllocError>
     ensures { IfOk result (λ is. IsTrue is ↔ (triple.now.predicate ≡ property_iri ShPath → IsIri triple.now.object)) }
@@ -114,33 +66,21 @@ fn is_plain_path(alloc: Global, triple: &Triple) -> Result<bool, AllocError>
     Ok(!is_path || is_iri(&triple.object))
 }
 
-// Whether the triple's object has a path and its subject has none, if the object is a property shape.
-fn is_plain_property(alloc: Global, shapes: &[Triple], triple: &Triple) -> Result<bool, AllocError>
-    ensures { IfOk result (λ is. IsTrue is ↔ (triple.now.predicate ≡ property_iri ShProperty → HasPath shapes.now triple.now.object × (HasPath shapes.now triple.now.subject → ⊥))) }
-{
-    let is_property = is_word(alloc, &triple.predicate, "property")?;
-    let has_own = has_path(alloc, shapes, &triple.object)?;
-    let has_other = has_path(alloc, shapes, &triple.subject)?;
-    Ok(!is_property || (has_own && !has_other))
-}
-
-fn is_plain_triple(alloc: Global, shapes: &[Triple], triple: &Triple) -> Result<bool, AllocError>
-    ensures { IfOk result (λ is. IsTrue is ↔ IsPlainTriple shapes.now triple.now) }
+fn is_plain_triple(alloc: Global, triple: &Triple) -> Result<bool, AllocError>
+    ensures { IfOk result (λ is. IsTrue is ↔ IsPlainTriple triple.now) }
 {
     let beyond = is_beyond(alloc, &triple.predicate)?;
     let path = is_plain_path(alloc, triple)?;
-    let property = is_plain_property(alloc, shapes, triple)?;
-    Ok(!beyond && path && property)
+    Ok(!beyond && path)
 }
 
-/// Whether `listing` finds the results of the shapes graph: it has no constraints but sh:nodeKind, sh:minCount,
-/// sh:maxCount and sh:property, no targets but sh:targetNode and sh:targetSubjectsOf, IRIs for paths, and property shapes
-/// at node shapes alone.
+/// Whether `listing` finds the results of the shapes graph: it has all constraints but sh:pattern, no targets but
+/// sh:targetNode and sh:targetSubjectsOf, no rdf:type, and IRIs for paths.
 pub fn is_plain(alloc: Global, shapes: &[Triple]) -> Result<bool, AllocError>
     ensures { IfOk result (λ is. IsTrue is ↔ IsPlain shapes.now) }
 {
     for triple in shapes {
-        if !is_plain_triple(alloc, shapes, triple)? {
+        if !is_plain_triple(alloc, triple)? {
             return Ok(false);
         }
     }

@@ -13,7 +13,7 @@ returns-then-not-branch c = (
 pub loop-triple-preserved : goal.loop-triple-preserved
 loop-triple-preserved c = λ t h. elim (cases_more c.args.shapes.now c.loop-triple.triple-index c.triple-item.result (omega arith) c.triple-item.is t h) [
   | inl d ↦ c.loop-triple.invariant t d
-  | inr f ↦ let k : IsTrue c.in_ok-is_plain_triple.field-0 = cc in subst (λ (u : Triple). IsPlainTriple c.args.shapes.now u) f (c.in_ok-is_plain_triple.ensures.0 k)
+  | inr f ↦ let k : IsTrue c.in_ok-is_plain_triple.field-0 = cc in subst (λ (u : Triple). IsPlainTriple u) f (c.in_ok-is_plain_triple.ensures.0 k)
 ]
 
 pub returns : goal.returns

@@ -5,4 +5,4 @@ use Rattle.plain_validation.specs.Plain.{IsPlainTriple}
 use Rattle.plain_validation.proofs.plain.is_plain.Given as goal
 
 abbrev pub invariant-loop-triple : goal.invariant-loop-triple
-invariant-loop-triple l = (t : Triple) → Contains (take l.triple-index l.shapes) t → IsPlainTriple l.shapes t
+invariant-loop-triple l = (t : Triple) → Contains (take l.triple-index l.shapes) t → IsPlainTriple t

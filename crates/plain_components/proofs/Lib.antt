@@ -1,0 +1,6 @@
+pub mod Tallies
+pub mod Made
+pub mod Languages
+pub mod Paired
+pub mod Closings
+pub mod AllComponents

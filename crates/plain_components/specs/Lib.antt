@@ -1,0 +1,4 @@
+pub mod Around
+pub mod Tests
+pub mod Pairs
+pub mod Siblings

@@ -1,0 +1,8 @@
+use Rattle.std.proofs.Common.{take}
+use Rattle.std.specs.List.{Contains}
+use Rattle.rdf_model.specs.declared.triple.Triple.{Triple}
+use Rattle.plain_terms.specs.Finds.{LeadsBelow}
+use Rattle.plain_terms.proofs.instances.next_below.Given as goal
+
+abbrev pub invariant-loop-triple : goal.invariant-loop-triple
+invariant-loop-triple l = (t : Triple) → Contains (take l.triple-index l.graph) t → LeadsBelow l.predicate l.nodes t → ⊥

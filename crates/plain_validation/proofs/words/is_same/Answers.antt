@@ -1,5 +1,0 @@
-use Rattle.plain_validation.proofs.Terms.{same_is}
-use Rattle.plain_validation.proofs.words.is_same.Goals as goal
-
-pub returns : goal.returns
-returns c = same_is _ _ _ c.eq.ensures
