@@ -1,6 +1,16 @@
-use Rattle.std.proofs.Common.{map, string_bytes}
-use Rattle.shacl_guard.proofs.Complete.{complete}
+use Rattle.std.proofs.Common.{refl}
+use Rattle.shacl_guard.proofs.Answering.{not_printed, printed}
+use Rattle.shacl_guard.proofs.Complete.{complete, not_failed}
 use Rattle.shacl_guard.proofs.run.run_command.Goals as goal
 
+pub returns-in-Ok-write_all-clause-outcome : goal.returns-in-Ok-write_all-clause-outcome
+returns-in-Ok-write_all-clause-outcome g c = printed c.in-Ok.answer.status _ (c.in-Ok.answer.text, c.in-Ok.ensures.answer, rw c.as_str.ensures at c.in-Ok-write_all.ensures.all)
+
 pub returns-in-Ok-write_all-clause-complete : goal.returns-in-Ok-write_all-clause-complete
-returns-in-Ok-write_all-clause-complete g c = λ session same still. complete (map (λ w. w.now) c.args.words.now) (g.F.Files.holds c.args.files.now) c.in-Ok.answer.status _ _ (string_bytes c.in-Ok.answer.text) c.in-Ok.ensures.answer.0 session
+returns-in-Ok-write_all-clause-complete g c = λ there same still. complete (g.F.Files.holds c.args.files.now) _ c.in-Ok.answer.status _ _ c.in-Ok.answer.text c.in-Ok.ensures.answer there
+
+pub returns-in-Err-clause-outcome : goal.returns-in-Err-clause-outcome
+returns-in-Err-clause-outcome g c = not_printed c.in-Err.status _ c.in-Err.ensures.answer refl
+
+pub returns-in-Err-clause-complete : goal.returns-in-Err-clause-complete
+returns-in-Err-clause-complete g c = λ there same still. not_failed c.in-Err.status (g.F.Files.holds c.args.files.now) _ _ _ c.in-Err.ensures.answer there same
