@@ -1,10 +1,10 @@
-use Rattle.std.proofs.Common.{refl}
+use Rattle.std.proofs.Common.{refl, rules}
 use Rattle.shacl_guard.proofs.Answering.{not_printed, printed}
 use Rattle.shacl_guard.proofs.Complete.{complete, not_failed}
 use Rattle.shacl_guard.proofs.run.run_command.Goals as goal
 
 pub returns-in-Ok-write_all-clause-outcome : goal.returns-in-Ok-write_all-clause-outcome
-returns-in-Ok-write_all-clause-outcome g c = printed c.in-Ok.answer.status _ (c.in-Ok.answer.text, c.in-Ok.ensures.answer, rw c.as_str.ensures at c.in-Ok-write_all.ensures.all)
+returns-in-Ok-write_all-clause-outcome g c = printed c.in-Ok.answer.status _ (c.in-Ok.answer.text, c.in-Ok.ensures.answer, search rules)
 
 pub returns-in-Ok-write_all-clause-complete : goal.returns-in-Ok-write_all-clause-complete
 returns-in-Ok-write_all-clause-complete g c = λ there same still. complete (g.F.Files.holds c.args.files.now) _ c.in-Ok.answer.status _ _ c.in-Ok.answer.text c.in-Ok.ensures.answer there
