@@ -150,6 +150,10 @@ never held q s before after text not_done not_invalid none h = elim (tells held 
   | inr l ↦ let no : None ≡ Some text = sym none ∙ l in cc
 ]
 
+-- a sink that takes all is no fault of writing
+pub no_write_fault : (s : Status) (held : Option Contents) (q : Option Request) (before after : Loads) (text : List ℕ) → s ≡ WriteFault → IsDueOf held q s before after text → ⊥
+no_write_fault s held q before after text e h = never held q WriteFault before after text (λ d. cc) (λ d. cc) refl (subst (λ (x : Status). IsDueOf held q x before after text) e h)
+
 pub printed : (s : Status) (c : Call) → PrintsAll s c → IsOutcome s c
 printed Done c p = p
 printed Invalid c p = p
