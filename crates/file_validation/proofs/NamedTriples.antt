@@ -1,16 +1,12 @@
 -- Triples whose terms were named.
 use Rattle.std.proofs.Common.{◌≡◌, ◌<◌, ℕ, zero, suc, List, [], ◌∷◌, ◌++◌, length, arith, inl, inr, subst, sym}
-use Rattle.std.specs.Prelude.{map}
 use Rattle.std.specs.List.{All, Contains, flat_map}
 use Rattle.std.proofs.lemmas.List.Elements.{All-contains, All-contains_itself, Contains-append_left, Contains-append_right}
 use Rattle.collections.proofs.Members.{has_cases, has_equal, has_head, has_tail}
-use Rattle.rdf_model.specs.declared.change.Change.{Change}
-use Rattle.rdf_model.specs.declared.change.Change.TheVariants.{Add}
 use Rattle.rdf_model.specs.declared.term.Term.{Term}
 use Rattle.rdf_model.specs.declared.triple.Triple.{Triple}
 use Rattle.rdf_model.specs.Numbers.{term_at}
-use Rattle.data_graph.specs.DataGraphs.{AreNamedChanges}
-use Rattle.store_model.specs.Store.{changed_triple, terms_of}
+use Rattle.store_model.specs.Store.{terms_of}
 use Rattle.term_dict.specs.Names.{AreNumbersOf}
 use Rattle.term_validation.specs.Named.{AreNamedTriples, IsNamedTriple}
 
@@ -53,17 +49,6 @@ first_named named gs ts f = triples_named named gs (λ t c. f t (Contains-append
 
 second_named : (named : List Term) (gs ts : List Triple) → ((t : Term) → Contains (flat_map terms_of gs ++ flat_map terms_of ts) t → Contains named t) → AreNamedTriples named ts
 second_named named gs ts f = triples_named named ts (λ t c. f t (Contains-append_right (flat_map terms_of gs) (flat_map terms_of ts) t c))
-
--- the additions of named triples
-each_addition : (named : List Term) (ts : List Triple) → ((t : Triple) → Contains ts t → IsNamedTriple named t) → (c : Change) → Contains (map Add ts) c → IsNamedTriple named (changed_triple c)
-each_addition named [] f c i = absurd (omega arith)
-each_addition named (t ∷ ts) f c i = elim (has_cases (Add t) (map Add ts) c i) [
-  | inl e ↦ subst (λ (x : Change). IsNamedTriple named (changed_triple x)) e (f t (has_head t ts))
-  | inr d ↦ each_addition named ts (λ u k. f u (has_tail t ts u k)) c d
-]
-
-pub additions_named : (named : List Term) (ts : List Triple) → AreNamedTriples named ts → AreNamedChanges named (map Add ts)
-additions_named named ts a = all_of (λ (c : Change). IsNamedTriple named (changed_triple c)) (map Add ts) (each_addition named ts (λ t c. All-contains (IsNamedTriple named) ts t a c))
 
 -- where numbers were found for the terms of two graphs
 found_each : (named asked terms : List Term) (ns : List ℕ) → AreNumbersOf named asked ns → asked ≡ terms → (t : Term) → Contains terms t → Contains named t

@@ -1,14 +1,12 @@
-ghost use Rattle.std.specs.Prelude.{◌≡◌, ◌++◌, [], IfOk, OnOk, map};
+ghost use Rattle.std.specs.Prelude.{◌≡◌, ◌++◌, IfOk, OnOk};
 ghost use Rattle.std.specs.List.{flat_map};
-ghost use Rattle.collections.specs.Ordered.{IsAscending};
-ghost use Rattle.rdf_model.specs.declared.change.Change.TheVariants as changes;
-ghost use Rattle.rdf_model.specs.Terms.{triple_cmp};
+ghost use Rattle.data_graph.specs.DataGraphs.{HaveClassWords};
 ghost use Rattle.store_model.specs.Store.{terms_of};
 ghost use Rattle.term_validation.specs.Named.{AreNamedTriples};
 
-use data_graph::DataGraph;
-use rdf_model::{Change, Term, Triple};
+use rdf_model::{Term, Triple};
 use std::alloc::{AllocError, Global};
+use term_dict::Dict;
 
 // How many terms may be named beside rdf:type and rdfs:subClassOf: 2^32 - 1 have numbers.
 const MOST_TERMS: usize = 4_294_967_293;
@@ -43,44 +41,19 @@ fn terms_in(alloc: Global, graph: &[Triple], shapes: &[Triple]) -> Result<Vec<Te
     Ok(terms)
 }
 
-// The addition of each triple.
-fn additions(alloc: Global, triples: &[Triple]) -> Result<Vec<Change>, AllocError>
-    ensures { IfOk result (λ net. net.items ≡ map changes.Add triples.now) }
-{
-    let mut net = Vec::new(alloc);
-    for triple in triples {
-        net.push(Change::Add(triple.clone()?))?;
-    }
-    Ok(net)
-}
-
-// A graph with no triple, where the terms of both graphs are named.
-fn empty_graph(alloc: Global, graph: &[Triple], shapes: &[Triple]) -> Result<DataGraph, AllocError>
-    ensures triples { IfOk result (λ empty. empty.triples ≡ []) }
-    ensures graph { IfOk result (λ empty. AreNamedTriples empty.terms graph.now) }
-    ensures shapes { IfOk result (λ empty. AreNamedTriples empty.terms shapes.now) }
-{
-    let mut empty = DataGraph::new(alloc, MOST_TERMS)?;
-    let terms = terms_in(alloc, graph, shapes)?;
-    match empty.name_all(&terms) {
-        Ok(_) => Ok(empty),
-        Err(_) => Err(AllocError),
-    }
-}
-
-/// The data graph of the triples, where the terms of both graphs are named. It fails for want of memory, or of numbers for
-/// the terms.
-pub(crate) fn named_graph(
+/// Numbers for the terms of both graphs, which are named at once. It fails for want of memory, or of numbers for the terms.
+pub(crate) fn names_of(
     alloc: Global,
     graph: &[Triple],
     shapes: &[Triple],
-) -> Result<DataGraph, AllocError>
-    requires { IsAscending triple_cmp graph.now }
-    ensures triples { IfOk result (λ named. named.triples ≡ graph.now) }
-    ensures graph { IfOk result (λ named. AreNamedTriples named.terms graph.now) }
-    ensures shapes { IfOk result (λ named. AreNamedTriples named.terms shapes.now) }
+) -> Result<Dict, AllocError>
+    ensures words { IfOk result (λ names. HaveClassWords names.terms) }
+    ensures graph { IfOk result (λ names. AreNamedTriples names.terms graph.now) }
+    ensures shapes { IfOk result (λ names. AreNamedTriples names.terms shapes.now) }
 {
-    let empty = empty_graph(alloc, graph, shapes)?;
-    let net = additions(alloc, graph)?;
-    Ok(empty.after(&net)?)
+    let terms = terms_in(alloc, graph, shapes)?;
+    match Dict::from_terms(alloc, MOST_TERMS, &terms) {
+        Ok((names, _)) => Ok(names),
+        Err(_) => Err(AllocError),
+    }
 }

@@ -1,6 +1,4 @@
 ghost use Rattle.std.specs.Prelude.{◌≡◌, ◌<◌, ◌^◌, length, IfOk, MatchResult};
-ghost use Rattle.collections.specs.Ordered.{IsAscending};
-ghost use Rattle.rdf_model.specs.Terms.{triple_cmp};
 ghost use Rattle.file_validation.specs.Validations.{IsCause, IsReported, IsValidation};
 
 use crate::InputFault;
@@ -33,7 +31,6 @@ fn validation_of(
     graph: &[Triple],
     shapes: &ShapesGraph,
 ) -> Result<Validation, AllocError>
-    requires { IsAscending triple_cmp graph.now }
     ensures { IfOk result (IsReported graph.now shapes.now) }
 {
     let rows = listing(alloc, graph, shapes)?;

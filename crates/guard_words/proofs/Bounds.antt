@@ -5,9 +5,9 @@ use Rattle.std.specs.Str.Parse.{digits_value}
 use Rattle.std.proofs.lemmas.Bool.Decides.{nat_tests}
 use Rattle.clap.specs.Words.{Row, Text, subcommand_of}
 use Rattle.guard_words.specs.CommandLine.{command_line}
-use Rattle.guard_words.specs.Words.{limit_of, limit_or_default, limits_of_both, limits_in, run_of, replay_of, files_in, history_in, call_in, call_of}
+use Rattle.guard_words.specs.Words.{limit_of, limit_or_default, limits_of_both, limits_in, run_of, replay_of, validate_of, files_in, history_in, data_in, shapes_in, call_in, call_of}
 use Rattle.guard_words.specs.declared.call.Limits.{Limits}
-use Rattle.guard_words.specs.declared.call.Call.TheVariants.{Run, Replay}
+use Rattle.guard_words.specs.declared.call.Call.TheVariants.{Run, Replay, Validate}
 use Rattle.guard_words.proofs.Numbers.{both}
 
 -- a test that gave something held
@@ -46,13 +46,19 @@ never_a_run None h f l fs e = cc
 rows_bound : (rows : List Row) (l : Limits) → limits_in rows ≡ Some l → l.terms ≤ 2000000
 rows_bound rows l e = default_bound _ l.terms (terms_of_both _ _ l e)
 
-run_bound_in : (rows : List Row) (b : Bool) (l : Limits) (fs : List (List ℕ)) → (if b then run_of (limits_in rows) (files_in rows) else replay_of (limits_in rows) (history_in rows) (files_in rows)) ≡ Some (Run l fs) → l.terms ≤ 2000000
-run_bound_in rows true l fs e = rows_bound rows l (limits_of_run (limits_in rows) (files_in rows) l fs e)
-run_bound_in rows false l fs e = absurd (never_a_run (limits_in rows) (history_in rows) (files_in rows) l fs e)
+never_run_of_validate : (g s : Option (List ℕ)) (l : Limits) (fs : List (List ℕ)) → validate_of g s ≡ Some (Run l fs) → ⊥
+never_run_of_validate (Some g) (Some s) l fs e = let no : Validate g s ≡ Run l fs = cc in cc
+never_run_of_validate (Some g) None l fs e = cc
+never_run_of_validate None s l fs e = cc
+
+run_bound_in : (rows : List Row) (a b : Bool) (l : Limits) (fs : List (List ℕ)) → (if a then run_of (limits_in rows) (files_in rows) else if b then replay_of (limits_in rows) (history_in rows) (files_in rows) else validate_of (data_in rows) (shapes_in rows)) ≡ Some (Run l fs) → l.terms ≤ 2000000
+run_bound_in rows true b l fs e = rows_bound rows l (limits_of_run (limits_in rows) (files_in rows) l fs e)
+run_bound_in rows false true l fs e = absurd (never_a_run (limits_in rows) (history_in rows) (files_in rows) l fs e)
+run_bound_in rows false false l fs e = absurd (never_run_of_validate (data_in rows) (shapes_in rows) l fs e)
 
 call_in_bound : (o : Option (Text × List Row)) (l : Limits) (fs : List (List ℕ)) → call_in o ≡ Some (Run l fs) → l.terms ≤ 2000000
 call_in_bound None l fs e = cc
-call_in_bound (Some p) l fs e = run_bound_in p.1 (bytes_eq p.0 (codes "run")) l fs e
+call_in_bound (Some p) l fs e = run_bound_in p.1 (bytes_eq p.0 (codes "run")) (bytes_eq p.0 (codes "replay")) l fs e
 
 pub run_bound : (words : List Text) (l : Limits) (fs : List (List ℕ)) → call_of words ≡ Some (Run l fs) → l.terms ≤ 2000000
 run_bound words l fs e = call_in_bound (subcommand_of command_line words) l fs (given _ _ _ e).1
@@ -68,13 +74,19 @@ never_a_replay (Some m) (Some gs) l n fs e = let no : Run m gs ≡ Replay l n fs
 never_a_replay (Some m) None l n fs e = cc
 never_a_replay None f l n fs e = cc
 
-replay_bound_in : (rows : List Row) (b : Bool) (l : Limits) (n : List ℕ) (fs : List (List ℕ)) → (if b then run_of (limits_in rows) (files_in rows) else replay_of (limits_in rows) (history_in rows) (files_in rows)) ≡ Some (Replay l n fs) → l.terms ≤ 2000000
-replay_bound_in rows true l n fs e = absurd (never_a_replay (limits_in rows) (files_in rows) l n fs e)
-replay_bound_in rows false l n fs e = rows_bound rows l (limits_of_replay (limits_in rows) (history_in rows) (files_in rows) l n fs e)
+never_replay_of_validate : (g s : Option (List ℕ)) (l : Limits) (n : List ℕ) (fs : List (List ℕ)) → validate_of g s ≡ Some (Replay l n fs) → ⊥
+never_replay_of_validate (Some g) (Some s) l n fs e = let no : Validate g s ≡ Replay l n fs = cc in cc
+never_replay_of_validate (Some g) None l n fs e = cc
+never_replay_of_validate None s l n fs e = cc
+
+replay_bound_in : (rows : List Row) (a b : Bool) (l : Limits) (n : List ℕ) (fs : List (List ℕ)) → (if a then run_of (limits_in rows) (files_in rows) else if b then replay_of (limits_in rows) (history_in rows) (files_in rows) else validate_of (data_in rows) (shapes_in rows)) ≡ Some (Replay l n fs) → l.terms ≤ 2000000
+replay_bound_in rows true b l n fs e = absurd (never_a_replay (limits_in rows) (files_in rows) l n fs e)
+replay_bound_in rows false true l n fs e = rows_bound rows l (limits_of_replay (limits_in rows) (history_in rows) (files_in rows) l n fs e)
+replay_bound_in rows false false l n fs e = absurd (never_replay_of_validate (data_in rows) (shapes_in rows) l n fs e)
 
 call_in_replay : (o : Option (Text × List Row)) (l : Limits) (n : List ℕ) (fs : List (List ℕ)) → call_in o ≡ Some (Replay l n fs) → l.terms ≤ 2000000
 call_in_replay None l n fs e = cc
-call_in_replay (Some p) l n fs e = replay_bound_in p.1 (bytes_eq p.0 (codes "run")) l n fs e
+call_in_replay (Some p) l n fs e = replay_bound_in p.1 (bytes_eq p.0 (codes "run")) (bytes_eq p.0 (codes "replay")) l n fs e
 
 pub replay_bound : (words : List Text) (l : Limits) (n : List ℕ) (fs : List (List ℕ)) → call_of words ≡ Some (Replay l n fs) → l.terms ≤ 2000000
 replay_bound words l n fs e = call_in_replay (subcommand_of command_line words) l n fs (given _ _ _ e).1

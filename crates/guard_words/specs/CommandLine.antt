@@ -25,5 +25,9 @@ run = with_rule (with_rule (with_rule (new_app (codes "run")) (option_rule (code
 abbrev pub replay : App
 replay = with_rule (with_rule (with_rule (with_rule (new_app (codes "replay")) (option_rule (codes "max-terms"))) (option_rule (codes "max-triples"))) (name_rule (codes "history"))) (names_rule (codes "files"))
 
+-- `validate DATA SHAPES`
+abbrev pub validate : App
+validate = with_rule (with_rule (new_app (codes "validate")) (name_rule (codes "data"))) (name_rule (codes "shapes"))
+
 abbrev pub command_line : App
-command_line = with_subcommand (with_subcommand (on_top (λ s. record s { subcommand_required = true }) (new_app (codes "shacl_guard"))) run.top) replay.top
+command_line = with_subcommand (with_subcommand (with_subcommand (on_top (λ s. record s { subcommand_required = true }) (new_app (codes "shacl_guard"))) run.top) replay.top) validate.top

@@ -6,7 +6,7 @@ use Rattle.clap.specs.Words.{Row, Text, all_of, fault_of, first_of, subcommand_o
 use Rattle.guard_words.specs.CommandLine.{command_line}
 use Rattle.guard_words.specs.declared.call.Limits.{Limits}
 use Rattle.guard_words.specs.declared.call.Call.{Call}
-use Rattle.guard_words.specs.declared.call.Call.TheVariants.{Run, Replay}
+use Rattle.guard_words.specs.declared.call.Call.TheVariants.{Run, Replay, Validate}
 
 -- The number that a text is the decimal of, without sign or leading zero, from 1 to 2,000,000.
 abbrev pub limit_of : List ℕ → Option ℕ
@@ -36,18 +36,30 @@ replay_of None history files = None
 replay_of (Some limits) None files = None
 replay_of (Some limits) (Some history) None = None
 
+abbrev pub validate_of : Option (List ℕ) → Option (List ℕ) → Option Call
+validate_of (Some graph) (Some shapes) = Some (Validate graph shapes)
+validate_of None shapes = None
+validate_of (Some graph) None = None
+
 abbrev pub files_in : List Row → Option (List (List ℕ))
 files_in rows = all_of (codes "files") rows
 
 abbrev pub history_in : List Row → Option (List ℕ)
 history_in rows = first_of (codes "history") rows
 
+abbrev pub data_in : List Row → Option (List ℕ)
+data_in rows = first_of (codes "data") rows
+
+abbrev pub shapes_in : List Row → Option (List ℕ)
+shapes_in rows = first_of (codes "shapes") rows
+
 -- the call of a subcommand's name and what was found for it
 abbrev pub call_in : Option (Text × List Row) → Option Call
 call_in None = None
 call_in (Some p) =
     if bytes_eq p.0 (codes "run") then run_of (limits_in p.1) (files_in p.1)
-    else replay_of (limits_in p.1) (history_in p.1) (files_in p.1)
+    else if bytes_eq p.0 (codes "replay") then replay_of (limits_in p.1) (history_in p.1) (files_in p.1)
+    else validate_of (data_in p.1) (shapes_in p.1)
 
 -- The call of words that `clap` takes for the command line, with numbers within their bounds; no other words are one.
 abbrev pub call_of : List Text → Option Call

@@ -36,6 +36,11 @@ pub enum Call {
         history: Text,
         files: Sequence<Text>,
     },
+    /// Validates a data graph by a shapes graph.
+    Validate {
+        data: Text,
+        shapes: Text,
+    },
 }
 
 /// Why words are no call.
@@ -141,14 +146,35 @@ fn replay_in(alloc: Global, found: &ArgMatches<'_>) -> Result<Call, WordsFault>
     })
 }
 
+fn validate_in(alloc: Global, found: &ArgMatches<'_>) -> Result<Call, WordsFault>
+    ensures { let rows = rows_of (found_of found.now) in
+        let call = Words.validate_of (Words.data_in rows) (Words.shapes_in rows) in
+        MatchResult result (λ c. call ≡ Some c) (λ fault. Refuses fault call) }
+{
+    let Some(graph) = text_at(found, "data") else {
+        return Err(WordsFault::Usage);
+    };
+    let Some(shapes) = text_at(found, "shapes") else {
+        return Err(WordsFault::Usage);
+    };
+    let graph = Text::new(alloc, graph)?;
+    let shapes = Text::new(alloc, shapes)?;
+    Ok(Call::Validate {
+        data: graph,
+        shapes,
+    })
+}
+
 fn call_in(alloc: Global, name: &str, found: &ArgMatches<'_>) -> Result<Call, WordsFault>
     ensures { let call = Words.call_in (Some (name.now, rows_of (found_of found.now))) in
         MatchResult result (λ c. call ≡ Some c) (λ fault. Refuses fault call) }
 {
     if name == "run" {
         run_in(alloc, found)
-    } else {
+    } else if name == "replay" {
         replay_in(alloc, found)
+    } else {
+        validate_in(alloc, found)
     }
 }
 

@@ -51,6 +51,15 @@ fn replay<'a>(alloc: Global) -> Result<Command<'a>, AllocError>
         .arg(names(alloc, "files"))
 }
 
+fn validate<'a>(alloc: Global) -> Result<Command<'a>, AllocError>
+    ensures app { IfOk result (λ c. app_of c ≡ CommandLine.validate) }
+    ensures local { IfOk result (λ c. (out-Command c).has_globals ≡ false) }
+{
+    Command::new(alloc, "validate")
+        .arg(name(alloc, "data"))?
+        .arg(name(alloc, "shapes"))
+}
+
 /// The command that the words are read for.
 pub fn command_line<'a>(alloc: Global) -> Result<Command<'a>, AllocError>
     ensures { IfOk result (λ c. app_of c ≡ CommandLine.command_line) }
@@ -58,5 +67,6 @@ pub fn command_line<'a>(alloc: Global) -> Result<Command<'a>, AllocError>
     Command::new(alloc, "shacl_guard")
         .subcommand_required(true)
         .subcommand(run(alloc)?)?
-        .subcommand(replay(alloc)?)
+        .subcommand(replay(alloc)?)?
+        .subcommand(validate(alloc)?)
 }

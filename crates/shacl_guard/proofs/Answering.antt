@@ -1,186 +1,204 @@
 -- What is due for the words, from what their request gives.
-use Rattle.std.proofs.Common.{◌≡◌, ℕ, ◌+◌, ◌≤◌, ◌<◌, List, [], ◌∷◌, ◌++◌, length, take, map, get_or, Option, Some, None, refl, sym, ap, ◌∙◌, subst, inl, inr, add-one, append_assoc}
+use Rattle.std.proofs.Common.{◌≡◌, ◌∙◌, ℕ, List, [], ◌++◌, Option, Some, None, refl, sym, ap, subst, inl, inr}
 use Rattle.std.proofs.lemmas.List.{append-nil}
-use Rattle.std.specs.Prelude.{◌≢◌, MatchResult, Result, Ok, Err}
-use Rattle.store_model.specs.declared.event.Limits.{Limits}
-use Rattle.session_model.specs.declared.command.Command.{Command}
-use Rattle.session_model.specs.Print.{IsPrint}
-use Rattle.history_reader.specs.History.{history_of}
+use Rattle.std.specs.Prelude.{◌≢◌, ◌⊎◌, Bool, true, false, length, take, map, MatchResult, Result, Ok, Err}
 use Rattle.outside.specs.Faults.{Refusal}
-use Rattle.outside.specs.Files.{Contents}
+use Rattle.outside.specs.Files.{Contents, grown}
+use Rattle.session_reader.specs.Checking.{OnlyGrows}
+use Rattle.guard_words.specs.declared.call.WordsFault.{WordsFault}
+use Rattle.guard_words.specs.declared.call.WordsFault.TheVariants as words
+use Rattle.input_files.specs.Loads.{Loads, LoadsFirst, NoneFailed}
+use Rattle.file_validation.specs.declared.fault.InputFault.{InputFault}
+use Rattle.file_validation.specs.declared.fault.InputFault.TheVariants as texts
+use Rattle.file_validation.specs.declared.validating.Validation.{Validation as Outcome}
+use Rattle.file_validation.specs.Validations.{IsCause}
+use Rattle.session_files.specs.declared.fault.RunFault.{RunFault}
+use Rattle.session_files.specs.declared.fault.RunFault.TheVariants as run
+use Rattle.session_files.specs.declared.session_run.SessionRun.{SessionRun}
+use Rattle.session_files.specs.Runs.{all_files}
+use Rattle.session_files.specs.Faults.{IsStopped, StopsRun, count_loaded}
+use Rattle.validate_command.specs.declared.fault.ValidateFault.{ValidateFault}
+use Rattle.validate_command.specs.declared.fault.ValidateFault.TheVariants as validation
+use Rattle.validate_command.specs.declared.validated_files.ValidatedFiles.{ValidatedFiles}
+use Rattle.validate_command.specs.Validated.{AreValidated, both_files}
+use Rattle.validate_command.specs.Faults.{StopsValidation}
+use Rattle.shacl_guard.specs.declared.request.Request.{Request}
+use Rattle.shacl_guard.specs.declared.request.Request.TheVariants.{Sessions, Validation}
 use Rattle.shacl_guard.specs.declared.status.Status.{Status}
-use Rattle.shacl_guard.specs.declared.status.Status.TheVariants.{Done, Usage, ReadFault, WriteFault, BadSession, Memory, TooLong, TooManyFiles, BadHistory}
-use Rattle.shacl_guard.specs.Requests.{Request, request_of, all_files, files_in, files_of}
-use Rattle.shacl_guard.specs.Loading.{FirstAt, HasBadLine, HoldSessions, HoldsText, IsTooLong}
-use Rattle.shacl_guard.specs.Due.{IsBadPlace, IsDue, IsRun, error_line}
-use Rattle.shacl_guard.specs.World.{Loads, LoadsFirst, LoadsOne, LoadsSome, LoadsUpTo, NoneFailed, NoneRefused, count_in, count_loaded}
-use Rattle.shacl_guard.specs.Faults.{IsStopped, LoadsAll, NoHistory, Stops, StopsCall, StopsRequest, StopsWith, Unplayed, behind_history}
-use Rattle.shacl_guard.specs.Refused.{Unasked}
-
--- the files of the words are those of their request, and as many of them are loaded
-loads_of : (s : Status) (words : List (List ℕ)) (r : Request) (before after : Loads) → request_of words ≡ Some r → LoadsSome (count_loaded s r) (all_files r.history r.files) before after → LoadsUpTo s words before after
-loads_of s words r before after e h = subst (λ (o : Option Request). LoadsSome (count_in s o) (files_in o) before after) (sym e) h
-
-stops_with : (s : Status) (words : List (List ℕ)) (held : Option Contents) (r : Request) (before after : Loads) → request_of words ≡ Some r → IsStopped s held r before after → StopsWith s words held before after
-stops_with s words held r before after e h = ((r, e, h.0), loads_of s words r before after e h.1, h.2)
-
-pub stops_call : (s : Status) (words : List (List ℕ)) (held : Option Contents) (r : Request) (before after : Loads) → request_of words ≡ Some r → StopsRequest s held r before after → StopsCall s words held before after
-stops_call ReadFault words held r before after e h = (r, e, h)
-stops_call Memory words held r before after e h = subst (λ (o : Option Request). ((n : ℕ) × LoadsSome n (files_in o) before after) × NoneFailed before after) (sym e) h
-stops_call (BadSession i n) words held r before after e h = stops_with (BadSession i n) words held r before after e h
-stops_call (TooLong i) words held r before after e h = stops_with (TooLong i) words held r before after e h
-stops_call TooManyFiles words held r before after e h = stops_with TooManyFiles words held r before after e h
-stops_call (BadHistory k) words held r before after e h = stops_with (BadHistory k) words held r before after e h
-stops_call Done words held r before after e h = absurd h
-stops_call Usage words held r before after e h = absurd h
-stops_call WriteFault words held r before after e h = absurd h
-
-pub due_call : (words : List (List ℕ)) (held : Option Contents) (r : Request) (text : List ℕ) (before after : Loads) → request_of words ≡ Some r → length r.files ≤ 64 → IsRun held r before.refused after.refused text → LoadsAll (all_files r.history r.files) before after → IsDue words held Done before.refused after.refused text × LoadsUpTo Done words before after × NoneFailed before after
-due_call words held r text before after e few run all = ((r, e, few, run), loads_of Done words r before after e all.0, all.1)
+use Rattle.shacl_guard.specs.declared.status.Status.TheVariants.{Done, Invalid, Usage, ReadFault, WriteFault, BadSession, Memory, TooLong, TooManyFiles, BadHistory, BadInput}
+use Rattle.shacl_guard.specs.Requests.{Unasked, files_in, request_of}
+use Rattle.shacl_guard.specs.Statuses.{error_line, of_run, of_validation, of_words}
+use Rattle.shacl_guard.specs.Due.{Fails, FailsLoad, Gives, IsDue, IsDueOf, IsRequestDue, RunsOut, StopsCall, StopsRequest}
+use Rattle.shacl_guard.specs.Outcome.{Call, IsOutcome, PrintsAll}
 
 -- nothing was loaded
-none_loaded : (names old : List (List ℕ)) → old ≡ old ++ take 0 names
-none_loaded names old = sym (append-nil old)
+nothing : (q : Option Request) (before after : Loads) → after ≡ before → RunsOut q before after
+nothing q before after e = ((0, ap (λ (l : Loads). l.loaded) e ∙ sym (append-nil before.loaded)), ap (λ (l : Loads). l.failed) e)
 
-nothing_up_to : (s : Status) (words : List (List ℕ)) (before after : Loads) → request_of words ≡ None → after ≡ before → LoadsUpTo s words before after
-nothing_up_to s words before after none e = subst (λ (o : Option Request). LoadsSome (count_in s o) (files_in o) before after) (sym none) (ap (λ (l : Loads). l.loaded) e ∙ none_loaded [] before.loaded)
+-- what the call of a request gives, or why it gives nothing
+pub called : {X : Type 0} (status : X → Status) (text : X → List ℕ) (held : Option Contents) (asked : Option Request) (q : Request) (before after : Loads) (r : Result X Status) → asked ≡ Some q
+    → MatchResult r (λ a. Gives held q (status a) before after (text a)) (λ s. StopsRequest s held q before after)
+    → MatchResult r (λ a. IsDueOf held asked (status a) before after (text a)) (λ s. StopsCall s held asked before after)
+called status text held asked q before after (Ok a) e h = subst (λ (o : Option Request). IsDueOf held o (status a) before after (text a)) (sym e) (inl h)
+called status text held asked q before after (Err s) e h = subst (λ (o : Option Request). StopsCall s held o before after) (sym e) (inl h)
 
-pub stops_unasked : (s : Status) (words : List (List ℕ)) (held : Option Contents) (before after : Loads) → after ≡ before → Unasked s (request_of words) → StopsCall s words held before after
-stops_unasked Usage words held before after e u = ((u, ap (λ (l : Loads). l.refused) e), nothing_up_to Usage words before after u e, ap (λ (l : Loads). l.failed) e)
-stops_unasked Memory words held before after e u = ((0, ap (λ (l : Loads). l.loaded) e ∙ none_loaded (files_of words) before.loaded), ap (λ (l : Loads). l.failed) e)
-stops_unasked Done words held before after e u = absurd u
-stops_unasked ReadFault words held before after e u = absurd u
-stops_unasked WriteFault words held before after e u = absurd u
-stops_unasked (BadSession i n) words held before after e u = absurd u
-stops_unasked (TooLong i) words held before after e u = absurd u
-stops_unasked TooManyFiles words held before after e u = absurd u
-stops_unasked (BadHistory k) words held before after e u = absurd u
+-- the words are no request
+not_taken : (held : Option Contents) (asked : Option Request) (before after : Loads) → after ≡ before → asked ≡ None → StopsCall Usage held asked before after
+not_taken held asked before after e none = subst (λ (o : Option Request). StopsCall Usage held o before after) (sym none) (inl refl, e)
 
-pub run_called : {X : Type 0} (bytes : X → List ℕ) (words : List (List ℕ)) (held : Option Contents) (q : Request) (before after : Loads) (r : Result X Status) → request_of words ≡ Some q
-    → MatchResult r (λ t. (length q.files ≤ 64) × IsRun held q before.refused after.refused (bytes t) × LoadsAll (all_files q.history q.files) before after) (λ s. StopsRequest s held q before after)
-    → MatchResult r (λ t. IsDue words held Done before.refused after.refused (bytes t) × LoadsUpTo Done words before after × NoneFailed before after) (λ s. StopsCall s words held before after)
-run_called bytes words held q before after (Ok t) e h = due_call words held q (bytes t) before after e h.0 h.1 h.2
-run_called bytes words held q before after (Err s) e h = stops_call s words held q before after e h
+out_of_memory : (held : Option Contents) (asked : Option Request) (before after : Loads) → after ≡ before → StopsCall Memory held asked before after
+out_of_memory held None before after e = (inr refl, e)
+out_of_memory held (Some q) before after e = inr (refl, e)
 
--- too many files: nothing is loaded
-pub too_many : (held : Option Contents) (q : Request) (before after : Loads) → after ≡ before → 64 < length q.files → StopsRequest TooManyFiles held q before after
-too_many held q before after e many = ((many, ap (λ (l : Loads). l.refused) e), ap (λ (l : Loads). l.loaded) e ∙ none_loaded (all_files q.history q.files) before.loaded, ap (λ (l : Loads). l.failed) e)
+unasked : (fault : WordsFault) (held : Option Contents) (asked : Option Request) (before after : Loads) → after ≡ before → Unasked fault asked → StopsCall (of_words fault) held asked before after
+unasked words.Usage held asked before after e u = not_taken held asked before after e u
+unasked words.Memory held asked before after e u = out_of_memory held asked before after e
 
--- without a history: as the session files stopped
-stops_plain : (s : Status) (held : Option Contents) (l : Limits) (names : List (List ℕ)) (before after : Loads) → Stops s held names before after → StopsRequest s held (record { limits = l; history = None; files = names }) before after
-stops_plain ReadFault held l names before after h = h
-stops_plain Memory held l names before after h = h
-stops_plain (BadSession i n) held l names before after h = ((h.0, tt, h.1), h.2, h.3)
-stops_plain (TooLong i) held l names before after h = ((h.0, h.1), h.2, h.3)
-stops_plain TooManyFiles held l names before after h = absurd h
-stops_plain (BadHistory k) held l names before after h = absurd h
-stops_plain Done held l names before after h = absurd h
-stops_plain Usage held l names before after h = absurd h
-stops_plain WriteFault held l names before after h = absurd h
+pub unasked_as : (s : Status) (fault : WordsFault) (held : Option Contents) (asked : Option Request) (before after : Loads) → s ≡ of_words fault → after ≡ before → Unasked fault asked → StopsCall s held asked before after
+unasked_as s fault held asked before after is e u = subst (λ (x : Status). StopsCall x held asked before after) (sym is) (unasked fault held asked before after e u)
 
-pub run_plain : {X : Type 0} (bytes : X → List ℕ) (held : Option Contents) (l : Limits) (history : Option (List ℕ)) (names : List (List ℕ)) (before after : Loads) (r : Result X Status) → history ≡ None → length names ≤ 64
-    → MatchResult r (λ t. IsRun held (record { limits = l; history = None; files = names }) before.refused after.refused (bytes t) × LoadsAll names before after) (λ s. Stops s held names before after)
-    → MatchResult r (λ t. (length names ≤ 64) × IsRun held (record { limits = l; history = history; files = names }) before.refused after.refused (bytes t) × LoadsAll (all_files history names) before after)
-    (λ s. StopsRequest s held (record { limits = l; history = history; files = names }) before after)
-run_plain bytes held l history names before after (Ok t) e few h =
-    subst (λ (o : Option (List ℕ)). (length names ≤ 64) × IsRun held (record { limits = l; history = o; files = names }) before.refused after.refused (bytes t) × LoadsAll (all_files o names) before after) (sym e) (few, h.0, h.1)
-run_plain bytes held l history names before after (Err s) e few h =
-    subst (λ (o : Option (List ℕ)). StopsRequest s held (record { limits = l; history = o; files = names }) before after) (sym e) (stops_plain s held l names before after h)
+-- the line of an error is due
+line_due_in : (s : Status) (held : Option Contents) (q : Option Request) (before after : Loads) (text : List ℕ) → error_line s ≡ Some text → StopsCall s held q before after → IsDueOf held q s before after text
+line_due_in s held None before after text l (inl usage, e) = (usage, e, l)
+line_due_in s held None before after text l (inr memory, e) = let no : None ≡ Some text = subst (λ (x : Status). error_line x ≡ Some text) memory l in cc
+line_due_in s held (Some q) before after text l (inl h) = inr (h, l)
+line_due_in s held (Some q) before after text l (inr (memory, e)) = let no : None ≡ Some text = subst (λ (x : Status). error_line x ≡ Some text) memory l in cc
 
-pub run_behind : {X : Type 0} (bytes : X → List ℕ) (held : Option Contents) (l : Limits) (history : Option (List ℕ)) (name : List ℕ) (names : List (List ℕ)) (before after : Loads) (r : Result X Status) → history ≡ Some name → length names ≤ 64
-    → MatchResult r (λ t. IsRun held (record { limits = l; history = Some name; files = names }) before.refused after.refused (bytes t) × LoadsAll (name ∷ names) before after) (λ s. StopsRequest s held (record { limits = l; history = Some name; files = names }) before after)
-    → MatchResult r (λ t. (length names ≤ 64) × IsRun held (record { limits = l; history = history; files = names }) before.refused after.refused (bytes t) × LoadsAll (all_files history names) before after)
-    (λ s. StopsRequest s held (record { limits = l; history = history; files = names }) before after)
-run_behind bytes held l history name names before after (Ok t) e few h =
-    subst (λ (o : Option (List ℕ)). (length names ≤ 64) × IsRun held (record { limits = l; history = o; files = names }) before.refused after.refused (bytes t) × LoadsAll (all_files o names) before after) (sym e) (few, h.0, h.1)
-run_behind bytes held l history name names before after (Err s) e few h =
-    subst (λ (o : Option (List ℕ)). StopsRequest s held (record { limits = l; history = o; files = names }) before after) (sym e) h
+pub line_due : (s : Status) (held : Option Contents) (q : Option Request) (before after : Loads) (text : List ℕ) (found : Option (List ℕ)) → found ≡ error_line s → found ≡ Some text → StopsCall s held q before after → IsDueOf held q s before after text
+line_due s held q before after text found l is h = line_due_in s held q before after text (sym l ∙ is) h
 
--- the history's file gave no text
-pub no_history : (s : Status) (held : Option Contents) (l : Limits) (name : List ℕ) (names : List (List ℕ)) (before after : Loads) → length names ≤ 64 → NoneRefused before after → NoHistory s held name before after → StopsRequest s held (record { limits = l; history = Some name; files = names }) before after
-no_history ReadFault held l name names before after few same h = inl (few, h.0, h.1, same)
-no_history (TooLong f) held l name names before after few same h = ((few, inl (h.0, h.1, same)), subst (λ (k : ℕ). LoadsSome k (name ∷ names) before after) (sym h.0) h.2, h.3)
-no_history Memory held l name names before after few same (inl nothing, none) = ((0, nothing ∙ none_loaded (name ∷ names) before.loaded), none)
-no_history Memory held l name names before after few same (inr one, none) = ((1, one), none)
-no_history (BadSession j n) held l name names before after few same h = absurd h
-no_history Done held l name names before after few same h = absurd h
-no_history Usage held l name names before after few same h = absurd h
-no_history WriteFault held l name names before after few same h = absurd h
-no_history TooManyFiles held l name names before after few same h = absurd h
-no_history (BadHistory k) held l name names before after few same h = absurd h
+-- A status without a line of its own is of a failed load, or of want of memory.
 
--- what was loaded after the history
-after_first : (name : List ℕ) (names old mid new : List (List ℕ)) (i : ℕ) → mid ≡ old ++ name ∷ [] → new ≡ mid ++ take i names → new ≡ old ++ take (i + 1) (name ∷ names)
-after_first name names old mid new i m n = n ∙ (ap (λ xs. xs ++ take i names) m ∙ (append_assoc old (name ∷ []) (take i names) ∙ ap (λ k. old ++ take k (name ∷ names)) (sym (add-one i))))
+some_line : (s t : Status) (text : List ℕ) → s ≡ t → error_line s ≡ None → error_line t ≡ Some text → ⊥
+some_line s t text e none some = let no : None ≡ Some text = sym (subst (λ (x : Status). error_line x ≡ None) e none) ∙ some in cc
 
-first_maps : (held : Option Contents) (names : List (List ℕ)) (i : ℕ) (old mid new : List Refusal) (P Q : List ℕ → Type 0) → mid ≡ old → ((x : List ℕ) → P x → Q x) → FirstAt held names i mid new P → FirstAt held names i old new Q
-first_maps held names i old mid new P Q e f h = (h.0, h.1, h.2, (h.3.0, subst (λ (xs : List Refusal). HoldSessions held 1 (take h.0 names) h.3.0 xs new) e h.3.1), f (get_or names h.0 []) h.4)
+run_fails : (fault : RunFault) (held : Option Contents) (r : SessionRun) (before after : Loads) → StopsRun fault held r before after → error_line (of_run fault) ≡ None → Fails (of_run fault) held (Some (Sessions r)) before after
+run_fails run.ReadFault held r before after h none = (run.ReadFault, refl, h)
+run_fails run.Memory held r before after h none = h
+run_fails run.TooManyFiles held r before after h none = cc
+run_fails (run.TooLong f) held r before after h none = cc
+run_fails (run.BadSession i n) held r before after h none = cc
+run_fails (run.BadHistory k) held r before after h none = cc
 
-first_from : (held : Option Contents) (names : List (List ℕ)) (i : ℕ) (old mid new : List Refusal) (P : List ℕ → Type 0) → mid ≡ old → FirstAt held names i mid new P → FirstAt held names i old new P
-first_from held names i old mid new P e h = subst (λ (xs : List Refusal). FirstAt held names i xs new P) e h
+validation_fails : (fault : ValidateFault) (held : Option Contents) (v : ValidatedFiles) (before after : Loads) → StopsValidation fault held v before after → error_line (of_validation fault) ≡ None → Fails (of_validation fault) held (Some (Validation v)) before after
+validation_fails validation.ReadFault held v before after h none = (validation.ReadFault, refl, h)
+validation_fails validation.Memory held v before after h none = (h.0, h.1)
+validation_fails (validation.TooLong f) held v before after h none = cc
+validation_fails (validation.BadInput bad) held v before after h none = cc
 
-pub stops_behind : (t : Status) (held : Option Contents) (l : Limits) (name bytes : List ℕ) (names : List (List ℕ)) (before mid after : Loads) → HoldsText held name bytes → LoadsOne name before mid → NoneFailed before mid → NoneRefused before mid → length names ≤ 64 → Stops t held names mid after
-    → StopsRequest (behind_history t) held (record { limits = l; history = Some name; files = names }) before after
-stops_behind ReadFault held l name bytes names before mid after text one none same few h =
-    inr (h.0, few, (bytes, text), first_maps held names h.0 before.refused mid.refused after.refused (λ x. after.failed ≡ mid.failed ++ x ∷ []) (λ x. after.failed ≡ before.failed ++ x ∷ []) same (λ x e. e ∙ ap (λ xs. xs ++ x ∷ []) none) h.2, after_first name names before.loaded mid.loaded after.loaded h.0 one h.3)
-stops_behind Memory held l name bytes names before mid after text one none same few h = ((h.0.0 + 1, after_first name names before.loaded mid.loaded after.loaded h.0.0 one h.0.1), h.1 ∙ none)
-stops_behind (BadSession i n) held l name bytes names before mid after text one none same few h =
-    ((few, (bytes, text), first_from held names i before.refused mid.refused after.refused (HasBadLine held i n) same h.1), after_first name names before.loaded mid.loaded after.loaded i one h.2, h.3 ∙ none)
-stops_behind (TooLong i) held l name bytes names before mid after text one none same few h =
-    ((few, inr (i, refl, (bytes, text), first_from held names i before.refused mid.refused after.refused (IsTooLong held) same h.1)), after_first name names before.loaded mid.loaded after.loaded i one h.2, h.3 ∙ none)
-stops_behind TooManyFiles held l name bytes names before mid after text one none same few h = absurd h
-stops_behind (BadHistory k) held l name bytes names before mid after text one none same few h = absurd h
-stops_behind Done held l name bytes names before mid after text one none same few h = absurd h
-stops_behind Usage held l name bytes names before mid after text one none same few h = absurd h
-stops_behind WriteFault held l name bytes names before mid after text one none same few h = absurd h
+request_fails : (s : Status) (held : Option Contents) (q : Request) (before after : Loads) → error_line s ≡ None → StopsRequest s held q before after → Fails s held (Some q) before after
+request_fails s held (Sessions r) before after none h =
+    subst (λ (x : Status). Fails x held (Some (Sessions r)) before after) (sym h.1) (run_fails h.0 held r before after h.2 (subst (λ (x : Status). error_line x ≡ None) h.1 none))
+request_fails s held (Validation v) before after none h =
+    subst (λ (x : Status). Fails x held (Some (Validation v)) before after) (sym h.1) (validation_fails h.0 held v before after h.2 (subst (λ (x : Status). error_line x ≡ None) h.1 none))
 
--- all files, the history's first
-loads_behind : (name : List ℕ) (names : List (List ℕ)) (before mid after : Loads) → LoadsOne name before mid → NoneFailed before mid → LoadsAll names mid after → LoadsAll (name ∷ names) before after
-loads_behind name names before mid after one none all =
-    (after_first name names before.loaded mid.loaded after.loaded (length names) one all.0 ∙ ap (λ k. before.loaded ++ take k (name ∷ names)) (add-one (length names)), all.1 ∙ none)
+memory_fails : (s : Status) (held : Option Contents) (q : Option Request) (before after : Loads) → s ≡ Memory → after ≡ before → Fails s held q before after
+memory_fails s held q before after m e = subst (λ (x : Status). Fails x held q before after) (sym m) (nothing q before after e)
 
-unplayed_behind : (s : Status) (held : Option Contents) (l : Limits) (name bytes : List ℕ) (names : List (List ℕ)) (all : List (List Command)) (before after : Loads) → HoldsText held name bytes → HoldSessions held 1 names all before.refused after.refused → LoadsAll (name ∷ names) before after → length names ≤ 64
-    → Unplayed s (IsBadPlace all l (history_of bytes)) → StopsRequest s held (record { limits = l; history = Some name; files = names }) before after
-unplayed_behind (BadHistory k) held l name bytes names all before after text sessions loads few h = ((few, (bytes, all, text, sessions, h)), loads.0, loads.1)
-unplayed_behind Memory held l name bytes names all before after text sessions loads few h = ((length (name ∷ names), loads.0), loads.1)
-unplayed_behind Done held l name bytes names all before after text sessions loads few h = absurd h
-unplayed_behind Usage held l name bytes names all before after text sessions loads few h = absurd h
-unplayed_behind ReadFault held l name bytes names all before after text sessions loads few h = absurd h
-unplayed_behind WriteFault held l name bytes names all before after text sessions loads few h = absurd h
-unplayed_behind (BadSession i n) held l name bytes names all before after text sessions loads few h = absurd h
-unplayed_behind (TooLong i) held l name bytes names all before after text sessions loads few h = absurd h
-unplayed_behind TooManyFiles held l name bytes names all before after text sessions loads few h = absurd h
+fails_in : (s : Status) (held : Option Contents) (q : Option Request) (before after : Loads) → error_line s ≡ None → StopsCall s held q before after → Fails s held q before after
+fails_in s held None before after none (inl usage, e) = absurd (some_line s Usage _ usage none refl)
+fails_in s held None before after none (inr memory, e) = memory_fails s held None before after memory e
+fails_in s held (Some q) before after none (inl h) = request_fails s held q before after none h
+fails_in s held (Some q) before after none (inr (memory, e)) = memory_fails s held (Some q) before after memory e
 
-pub played_behind : {X : Type 0} (of : X → List ℕ) (held : Option Contents) (l : Limits) (name bytes : List ℕ) (names : List (List ℕ)) (all : List (List Command)) (before mid after : Loads) (r : Result X Status) → HoldsText held name bytes → LoadsOne name before mid → NoneFailed before mid → NoneRefused before mid
-    → HoldSessions held 1 names all mid.refused after.refused → LoadsAll names mid after → length names ≤ 64
-    → MatchResult r (λ t. (order : List ℕ) × (history_of bytes ≡ Some (map Some order)) × IsPrint all l order (of t)) (λ s. Unplayed s (IsBadPlace all l (history_of bytes)))
-    → MatchResult r (λ t. IsRun held (record { limits = l; history = Some name; files = names }) before.refused after.refused (of t) × LoadsAll (name ∷ names) before after) (λ s. StopsRequest s held (record { limits = l; history = Some name; files = names }) before after)
-played_behind of held l name bytes names all before mid after (Ok t) text one none same sessions loads few h =
-    ((all, h.0, subst (λ (xs : List Refusal). HoldSessions held 1 names all xs after.refused) same sessions, (bytes, text, h.1), h.2), loads_behind name names before mid after one none loads)
-played_behind of held l name bytes names all before mid after (Err s) text one none same sessions loads few h =
-    unplayed_behind s held l name bytes names all before after text (subst (λ (xs : List Refusal). HoldSessions held 1 names all xs after.refused) same sessions) (loads_behind name names before mid after one none loads) few h
+pub without_line : (s : Status) (held : Option Contents) (q : Option Request) (before after : Loads) (found : Option (List ℕ)) → found ≡ error_line s → found ≡ None → StopsCall s held q before after → Fails s held q before after
+without_line s held q before after found l is h = fails_in s held q before after (sym l ∙ is) h
 
--- the same, where what the names hold is told again at the second load
-pub stopped_behind : (s : Status) (held now : Option Contents) (l : Limits) (name bytes : List ℕ) (names : List (List ℕ)) (before mid after : Loads) → now ≡ held → HoldsText held name bytes → LoadsOne name before mid → NoneFailed before mid → NoneRefused before mid → length names ≤ 64
-    → ((t : Status) × (s ≡ behind_history t) × Stops t now names mid after) → StopsRequest s held (record { limits = l; history = Some name; files = names }) before after
-stopped_behind s held now l name bytes names before mid after e text one none same few h =
-    let there = subst (λ (o : Option Contents). Stops h.0 o names mid after) e h.2 in
-    subst (λ (x : Status). StopsRequest x held (record { limits = l; history = Some name; files = names }) before after) (sym h.1) (stops_behind h.0 held l name bytes names before mid after text one none same few there)
+-- Where memory runs out before the line of an error is made.
 
-pub sessions_behind : (held now : Option Contents) (names : List (List ℕ)) (all : List (List Command)) (old new : List Refusal) → now ≡ held → HoldSessions now 1 names all old new → HoldSessions held 1 names all old new
-sessions_behind held now names all old new e h = subst (λ (o : Option Contents). HoldSessions o 1 names all old new) e h
+stopped_out : (fault : RunFault) (held : Option Contents) (r : SessionRun) (before after : Loads) → IsStopped fault held r before after → RunsOut (Some (Sessions r)) before after
+stopped_out fault held r before after h = ((count_loaded fault r, h.1), h.2)
 
--- where memory runs out before the line of an error is made
-first_of : (s : Status) (words : List (List ℕ)) (before after : Loads) → LoadsUpTo s words before after → NoneFailed before after → LoadsFirst (files_of words) before after × NoneFailed before after
-first_of s words before after up none = ((count_in s (request_of words), up), none)
+run_out : (fault : RunFault) (held : Option Contents) (r : SessionRun) (before after : Loads) → error_line (of_run fault) ≢ None → StopsRun fault held r before after → RunsOut (Some (Sessions r)) before after
+run_out run.ReadFault held r before after line h = absurd (line refl)
+run_out run.Memory held r before after line h = h
+run_out run.TooManyFiles held r before after line h = stopped_out run.TooManyFiles held r before after h
+run_out (run.TooLong f) held r before after line h = stopped_out (run.TooLong f) held r before after h
+run_out (run.BadSession i n) held r before after line h = stopped_out (run.BadSession i n) held r before after h
+run_out (run.BadHistory k) held r before after line h = stopped_out (run.BadHistory k) held r before after h
 
-pub stops_at_memory : (s : Status) (words : List (List ℕ)) (held : Option Contents) (before after : Loads) → error_line s ≢ None → StopsCall s words held before after → LoadsFirst (files_of words) before after × NoneFailed before after
-stops_at_memory Usage words held before after line h = first_of Usage words before after h.1 h.2
-stops_at_memory (BadSession i n) words held before after line h = first_of (BadSession i n) words before after h.1 h.2
-stops_at_memory (TooLong f) words held before after line h = first_of (TooLong f) words before after h.1 h.2
-stops_at_memory TooManyFiles words held before after line h = first_of TooManyFiles words before after h.1 h.2
-stops_at_memory (BadHistory k) words held before after line h = first_of (BadHistory k) words before after h.1 h.2
-stops_at_memory Memory words held before after line h = h
-stops_at_memory ReadFault words held before after line h = absurd (line refl)
-stops_at_memory Done words held before after line h = absurd h
-stops_at_memory WriteFault words held before after line h = absurd h
+validation_out : (fault : ValidateFault) (held : Option Contents) (v : ValidatedFiles) (before after : Loads) → error_line (of_validation fault) ≢ None → StopsValidation fault held v before after → RunsOut (Some (Validation v)) before after
+validation_out validation.ReadFault held v before after line h = absurd (line refl)
+validation_out validation.Memory held v before after line h = (h.0, h.1)
+validation_out (validation.TooLong f) held v before after line h = ((f, h.1), h.2)
+validation_out (validation.BadInput bad) held v before after line h = ((2, h.1.0), h.1.1)
+
+request_out : (s : Status) (held : Option Contents) (q : Request) (before after : Loads) → error_line s ≢ None → StopsRequest s held q before after → RunsOut (Some q) before after
+request_out s held (Sessions r) before after line h = run_out h.0 held r before after (subst (λ (x : Status). error_line x ≢ None) h.1 line) h.2
+request_out s held (Validation v) before after line h = validation_out h.0 held v before after (subst (λ (x : Status). error_line x ≢ None) h.1 line) h.2
+
+pub runs_out : (s : Status) (held : Option Contents) (q : Option Request) (before after : Loads) → error_line s ≢ None → StopsCall s held q before after → RunsOut q before after
+runs_out s held None before after line h = nothing None before after h.1
+runs_out s held (Some q) before after line (inl h) = request_out s held q before after line h
+runs_out s held (Some q) before after line (inr h) = nothing (Some q) before after h.1
+
+-- What is due has a status with a text.
+
+tells_request : (held : Option Contents) (q : Request) (s : Status) (before after : Loads) (text : List ℕ) → Gives held q s before after text → (s ≡ Done) ⊎ (s ≡ Invalid)
+tells_request held (Sessions r) s before after text h = inl h.0
+tells_request held (Validation v) s before after text (true, e, h) = inl e
+tells_request held (Validation v) s before after text (false, e, h) = inr e
+
+tells : (held : Option Contents) (q : Option Request) (s : Status) (before after : Loads) (text : List ℕ) → IsDueOf held q s before after text → ((s ≡ Done) ⊎ (s ≡ Invalid)) ⊎ (error_line s ≡ Some text)
+tells held None s before after text h = inr h.2
+tells held (Some q) s before after text (inl g) = inl (tells_request held q s before after text g)
+tells held (Some q) s before after text (inr h) = inr h.1
+
+never : (held : Option Contents) (q : Option Request) (s : Status) (before after : Loads) (text : List ℕ) → s ≢ Done → s ≢ Invalid → error_line s ≡ None → IsDueOf held q s before after text → ⊥
+never held q s before after text not_done not_invalid none h = elim (tells held q s before after text h) [
+  | inl d ↦ elim d [ inl e ↦ not_done e | inr e ↦ not_invalid e ]
+  | inr l ↦ let no : None ≡ Some text = sym none ∙ l in cc
+]
+
+-- a sink that takes all is no fault of writing
+pub no_write_fault : (s : Status) (held : Option Contents) (q : Option Request) (before after : Loads) (text : List ℕ) → s ≡ WriteFault → IsDueOf held q s before after text → ⊥
+no_write_fault s held q before after text e h = never held q WriteFault before after text (λ d. cc) (λ d. cc) refl (subst (λ (x : Status). IsDueOf held q x before after text) e h)
+
+pub printed : (s : Status) (c : Call) → PrintsAll s c → IsOutcome s c
+printed Done c p = p
+printed Invalid c p = p
+printed Usage c p = p
+printed (BadSession i n) c p = p
+printed (TooLong f) c p = p
+printed TooManyFiles c p = p
+printed (BadHistory k) c p = p
+printed (BadInput bad) c p = p
+printed ReadFault c p = absurd (never c.held (request_of c.words) ReadFault c.before.loads c.after.loads p.0 (λ e. cc) (λ e. cc) refl p.1)
+printed WriteFault c p = absurd (never c.held (request_of c.words) WriteFault c.before.loads c.after.loads p.0 (λ e. cc) (λ e. cc) refl p.1)
+printed Memory c p = absurd (never c.held (request_of c.words) Memory c.before.loads c.after.loads p.0 (λ e. cc) (λ e. cc) refl p.1)
+
+-- nothing was due, and the sink took nothing
+pub not_printed : (s : Status) (c : Call) → Fails s c.held (request_of c.words) c.before.loads c.after.loads → c.after.taken ≡ c.before.taken → IsOutcome s c
+not_printed ReadFault c f same = (f, same)
+not_printed Memory c f same = (f, same)
+not_printed Done c f same = absurd f
+not_printed Invalid c f same = absurd f
+not_printed Usage c f same = absurd f
+not_printed WriteFault c f same = absurd f
+not_printed (BadSession i n) c f same = absurd f
+not_printed (TooLong i) c f same = absurd f
+not_printed TooManyFiles c f same = absurd f
+not_printed (BadHistory k) c f same = absurd f
+not_printed (BadInput bad) c f same = absurd f
+
+-- What the maker refused grows by the pattern that is told alone.
+
+same_grows : (old new : List Refusal) → new ≡ old → OnlyGrows old new
+same_grows old new e = ([], e ∙ sym (append-nil old))
+
+cause_grows : (d s : List ℕ) (old new : List Refusal) (cause : InputFault) → IsCause d s old new cause → OnlyGrows old new
+cause_grows d s old new (texts.Data line kind) c = same_grows old new c.1
+cause_grows d s old new (texts.Shapes line kind) c = same_grows old new c.2
+cause_grows d s old new (texts.Rule row) c = same_grows old new c.4
+cause_grows d s old new (texts.Pattern node) c = let r = c.4 in (_, r.6)
+cause_grows d s old new texts.Memory c = same_grows old new c
+
+fault_grows : (fault : ValidateFault) (held : Option Contents) (v : ValidatedFiles) (before after : Loads) → StopsValidation fault held v before after → OnlyGrows before.refused after.refused
+fault_grows validation.ReadFault held v before after h = same_grows before.refused after.refused h.3
+fault_grows (validation.TooLong f) held v before after h = same_grows before.refused after.refused h.3
+fault_grows (validation.BadInput bad) held v before after h = let k = h.0.3 in cause_grows h.0.0 h.0.1 before.refused after.refused k.0 k.2
+fault_grows validation.Memory held v before after h = same_grows before.refused after.refused h.2
+
+pub validation_grows : (held : Option Contents) (v : ValidatedFiles) (before after : Loads) (r : Result Outcome ValidateFault) → MatchResult r (AreValidated held v before after) (λ fault. StopsValidation fault held v before after) → OnlyGrows before.refused after.refused
+validation_grows held v before after (Ok o) h = same_grows before.refused after.refused h.5
+validation_grows held v before after (Err fault) h = fault_grows fault held v before after h

@@ -1,29 +1,44 @@
--- Where the words name session files that are there, nothing but their run is due, or the first bad place of their history.
-use Rattle.std.proofs.Common.{◌≡◌, ◌≢◌, ℕ, zero, suc, ◌+◌, ◌<◌, ◌≤◌, List, [], ◌∷◌, length, take, get_or, Option, Some, None, Ok, Err, inl, inr, sym, ap, subst, ◌∙◌, arith}
+-- Where the words name files that are there, nothing but what they give is due, or the first bad place of their history, or what is
+-- wrong with the files of a validation.
+use Rattle.std.proofs.Common.{◌≡◌, ◌≢◌, ℕ, zero, suc, ◌+◌, ◌<◌, ◌≤◌, List, [], ◌∷◌, ◌++◌, length, length-append, take, get_or, Option, Some, None, Ok, Err, refl, inl, inr, sym, ap, subst, ◌∙◌, arith}
+use Rattle.std.specs.Prelude.{Bool, true, false}
 use Rattle.std.proofs.lemmas.List.{take_all}
 use Rattle.store_model.specs.declared.event.Limits.{Limits}
 use Rattle.session_reader.specs.declared.read_command.ReadCommand.{ReadCommand}
 use Rattle.session_reader.specs.SessionFile.{session_of}
 use Rattle.outside.specs.Faults.{Refusal}
-use Rattle.outside.specs.Files.{Contents, Loads}
+use Rattle.outside.specs.Files.{Contents, Loads as Gives}
+use Rattle.input_files.specs.Lengths.{IsTooLong, room}
+use Rattle.input_files.specs.Loads.{Loads, OnlyFailed}
+use Rattle.session_files.specs.declared.fault.RunFault.{RunFault}
+use Rattle.session_files.specs.declared.fault.RunFault.TheVariants as run
+use Rattle.session_files.specs.declared.session_run.SessionRun.{SessionRun}
+use Rattle.session_files.specs.Loading.{FirstAt, HasBadLine, IsFirstLong}
+use Rattle.session_files.specs.Runs.{IsBadHistory}
+use Rattle.session_files.specs.Faults.{IsRefused, SomeFailed, StopsRun}
+use Rattle.validate_command.specs.declared.fault.ValidateFault.{ValidateFault}
+use Rattle.validate_command.specs.declared.fault.ValidateFault.TheVariants as validation
+use Rattle.validate_command.specs.declared.validated_files.ValidatedFiles.{ValidatedFiles}
+use Rattle.validate_command.specs.Faults.{IsFirst, StopsValidation}
+use Rattle.shacl_guard.specs.declared.request.Request.{Request}
+use Rattle.shacl_guard.specs.declared.request.Request.TheVariants.{Sessions, Validation}
 use Rattle.shacl_guard.specs.declared.status.Status.{Status}
-use Rattle.shacl_guard.specs.declared.status.Status.TheVariants.{Done, Usage, ReadFault, WriteFault, BadSession, Memory, TooLong, TooManyFiles, BadHistory}
-use Rattle.shacl_guard.specs.Requests.{Request, request_of}
-use Rattle.shacl_guard.specs.Loading.{FirstAt, HasBadLine, IsFirstLong, IsTooLong, room}
-use Rattle.shacl_guard.specs.Due.{IsBadHistory, IsDue, IsRefused, IsRefusedRequest}
-use Rattle.shacl_guard.specs.Outcome.{AreThere, HasSessions, IsHistoryThere, IsRunOrMemory}
+use Rattle.shacl_guard.specs.declared.status.Status.TheVariants.{Done, Invalid, Usage, ReadFault, WriteFault, BadSession, Memory, TooLong, TooManyFiles, BadHistory, BadInput}
+use Rattle.shacl_guard.specs.Statuses.{error_line, of_run, of_validation}
+use Rattle.shacl_guard.specs.Due.{Fails, FailsLoad, IsDueOf}
+use Rattle.shacl_guard.specs.Outcome.{AreThere, HasFiles, IsAnswered, IsHistoryThere, IsThere}
 
 -- a file that is there and holds session i
-abbrev IsThere : (List ℕ → Option (List ℕ)) → ℕ → List ℕ → Type 0
-IsThere held i name = (bytes : List ℕ) × (commands : List ReadCommand) × (held name ≡ Some bytes) × (length bytes < room) × (session_of i bytes ≡ Ok commands)
+abbrev HoldsSession : (List ℕ → Option (List ℕ)) → ℕ → List ℕ → Type 0
+HoldsSession held i name = (bytes : List ℕ) × (commands : List ReadCommand) × (held name ≡ Some bytes) × (length bytes < room) × (session_of i bytes ≡ Ok commands)
 
-there_at : (held : List ℕ → Option (List ℕ)) (i : ℕ) (names : List (List ℕ)) (k : ℕ) → AreThere held i names → k < length names → IsThere held (i + k) (get_or names k [])
+there_at : (held : List ℕ → Option (List ℕ)) (i : ℕ) (names : List (List ℕ)) (k : ℕ) → AreThere held i names → k < length names → HoldsSession held (i + k) (get_or names k [])
 there_at held i [] k h lt = absurd (omega (arith, lt))
-there_at held i (name ∷ names) zero h lt = subst (λ (j : ℕ). IsThere held j name) (omega arith) h.0
-there_at held i (name ∷ names) (suc k) h lt = subst (λ (j : ℕ). IsThere held j (get_or names k [])) (omega arith) (there_at held (i + 1) names k h.1 (omega (arith, lt)))
+there_at held i (name ∷ names) zero h lt = subst (λ (j : ℕ). HoldsSession held j name) (omega arith) h.0
+there_at held i (name ∷ names) (suc k) h lt = subst (λ (j : ℕ). HoldsSession held j (get_or names k [])) (omega arith) (there_at held (i + 1) names k h.1 (omega (arith, lt)))
 
 -- what was loaded is the whole file
-whole : (held : List ℕ → Option (List ℕ)) (name loaded bytes : List ℕ) → held name ≡ Some bytes → length bytes < room → Loads (Some held) name room loaded → loaded ≡ bytes
+whole : (held : List ℕ → Option (List ℕ)) (name loaded bytes : List ℕ) → held name ≡ Some bytes → length bytes < room → Gives (Some held) name room loaded → loaded ≡ bytes
 whole held name loaded bytes e short l =
     let contents : Some l.0 ≡ Some bytes = sym l.1 ∙ e in
     let all : l.0 ≡ bytes = cc in
@@ -32,7 +47,7 @@ whole held name loaded bytes e short l =
 short_enough : (held : List ℕ → Option (List ℕ)) (name bytes : List ℕ) → held name ≡ Some bytes → length bytes < room → IsTooLong (Some held) name → ⊥
 short_enough held name bytes e short t = let same = ap length (whole held name t.0 bytes e short t.1) in omega (arith, same, t.2, short)
 
-never_bad : (held : List ℕ → Option (List ℕ)) (i n : ℕ) (name : List ℕ) → IsThere held i name → HasBadLine (Some held) i n name → ⊥
+never_bad : (held : List ℕ → Option (List ℕ)) (i n : ℕ) (name : List ℕ) → HoldsSession held i name → HasBadLine (Some held) i n name → ⊥
 never_bad held i n name h b =
     let e = whole held name b.0 h.0 h.2 h.3 b.1 in
     let no : Err n ≡ Ok h.1 = sym b.2.1 ∙ (ap (session_of i) e ∙ h.4) in cc
@@ -49,35 +64,105 @@ never_first_long held None names i old new h there f = never_long held names i o
 never_first_long held (Some name) names i old new h there (inl f) = short_enough held name h.0 h.1 h.2 f.1
 never_first_long held (Some name) names i old new h there (inr f) = never_long held names f.0 old new there f.3
 
-same_request : (words : List (List ℕ)) (r q : Request) → request_of words ≡ Some r → request_of words ≡ Some q → q ≡ r
-same_request words r q a b = let e : Some q ≡ Some r = sym b ∙ a in cc
-
 -- why such a request isn't refused, but for its history
-never_many : (held : List ℕ → Option (List ℕ)) (r : Request) (old new : List Refusal) → length r.files ≤ 64 → IsRefused (Some held) r TooManyFiles old new → ⊥
+never_many : (held : List ℕ → Option (List ℕ)) (r : SessionRun) (old new : List Refusal) → length r.files ≤ 64 → IsRefused (Some held) r run.TooManyFiles old new → ⊥
 never_many held r old new few h = omega (arith, few, h.0)
 
-never_bad_session : (held : List ℕ → Option (List ℕ)) (r : Request) (i n : ℕ) (old new : List Refusal) → AreThere held 1 r.files → IsRefused (Some held) r (BadSession i n) old new → ⊥
+never_bad_session : (held : List ℕ → Option (List ℕ)) (r : SessionRun) (i n : ℕ) (old new : List Refusal) → AreThere held 1 r.files → IsRefused (Some held) r (run.BadSession i n) old new → ⊥
 never_bad_session held r i n old new there h =
     let f = h.2 in
     let one = there_at held 1 r.files f.0 there f.2 in
-    never_bad held i n (get_or r.files f.0 []) (subst (λ (j : ℕ). IsThere held j (get_or r.files f.0 [])) (omega (arith, f.1)) one) f.4
-
--- what is refused is the request of the words
-refused_request : (words : List (List ℕ)) (held : List ℕ → Option (List ℕ)) (s : Status) (r : Request) (old new : List Refusal) → request_of words ≡ Some r → IsRefusedRequest words (Some held) s old new → IsRefused (Some held) r s old new
-refused_request words held s r old new e d = subst (λ (q : Request). IsRefused (Some held) q s old new) (same_request words r d.0 e d.1) d.2
+    never_bad held i n (get_or r.files f.0 []) (subst (λ (j : ℕ). HoldsSession held j (get_or r.files f.0 [])) (omega (arith, f.1)) one) f.4
 
 has_history : (held : Option Contents) (l : Limits) (history : Option (List ℕ)) (names : List (List ℕ)) (k : ℕ) (old new : List Refusal) → IsBadHistory held l history names k old new → history ≢ None
 has_history held l None names k old new h = absurd h
 has_history held l (Some name) names k old new h = λ no. cc
 
-pub complete : (words : List (List ℕ)) (held : Option Contents) (s : Status) (old new : List Refusal) (text : List ℕ) → IsDue words held s old new text → HasSessions words held → IsRunOrMemory words s
-complete words None s old new text d h = absurd h
-complete words (Some held) Done old new text d h = tt
-complete words (Some held) Memory old new text d h = tt
-complete words (Some held) Usage old new text d h = let no : None ≡ Some h.0 = sym d.0.0 ∙ h.1 in cc
-complete words (Some held) ReadFault old new text d h = absurd d
-complete words (Some held) WriteFault old new text d h = absurd d
-complete words (Some held) TooManyFiles old new text d h = never_many held h.0 old new h.3 (refused_request words held TooManyFiles h.0 old new h.1 d.0)
-complete words (Some held) (BadSession i n) old new text d h = never_bad_session held h.0 i n old new h.4 (refused_request words held (BadSession i n) h.0 old new h.1 d.0)
-complete words (Some held) (TooLong i) old new text d h = never_first_long held h.0.history h.0.files i old new h.2 h.4 (refused_request words held (TooLong i) h.0 old new h.1 d.0).1
-complete words (Some held) (BadHistory k) old new text d h = (h.0, h.1, has_history (Some held) h.0.limits h.0.history h.0.files k old new (refused_request words held (BadHistory k) h.0 old new h.1 d.0).1)
+-- a status without a line is none that is due as the line of an error
+no_line : (s t : Status) (text : List ℕ) → s ≡ t → error_line t ≡ None → error_line s ≡ Some text → ⊥
+no_line s t text e none some = let no : None ≡ Some text = sym none ∙ subst (λ (x : Status). error_line x ≡ Some text) e some in cc
+
+run_complete : (fault : RunFault) (held : List ℕ → Option (List ℕ)) (r : SessionRun) (s : Status) (before after : Loads) (text : List ℕ) → HasFiles (Some held) (Some (Sessions r)) → s ≡ of_run fault → error_line s ≡ Some text → StopsRun fault (Some held) r before after → IsAnswered (Some (Sessions r)) s
+run_complete run.ReadFault held r s before after text there e l h = absurd (no_line s ReadFault text e refl l)
+run_complete run.Memory held r s before after text there e l h = absurd (no_line s Memory text e refl l)
+run_complete run.TooManyFiles held r s before after text there e l h = absurd (never_many held r before.refused after.refused there.1 h.0)
+run_complete (run.BadSession i n) held r s before after text there e l h = absurd (never_bad_session held r i n before.refused after.refused there.2 h.0)
+run_complete (run.TooLong f) held r s before after text there e l h = absurd (never_first_long held r.history r.files f before.refused after.refused there.0 there.2 h.0.1)
+run_complete (run.BadHistory k) held r s before after text there e l h = inr (inr (k, has_history (Some held) r.limits r.history r.files k before.refused after.refused h.0.1, e))
+
+-- neither file is too long
+never_first : (held : List ℕ → Option (List ℕ)) (v : ValidatedFiles) (f : ℕ) → IsThere held v.data_file → IsThere held v.shapes_file → IsFirst (Some held) v f (IsTooLong (Some held)) → ⊥
+never_first held v f d s (inl h) = short_enough held v.data_file d.0 d.1 d.2 h.1
+never_first held v f d s (inr h) = short_enough held v.shapes_file s.0 s.1 s.2 h.2
+
+validation_complete : (fault : ValidateFault) (held : List ℕ → Option (List ℕ)) (v : ValidatedFiles) (s : Status) (before after : Loads) (text : List ℕ) → HasFiles (Some held) (Some (Validation v)) → s ≡ of_validation fault → error_line s ≡ Some text → StopsValidation fault (Some held) v before after → IsAnswered (Some (Validation v)) s
+validation_complete validation.ReadFault held v s before after text there e l h = absurd (no_line s ReadFault text e refl l)
+validation_complete validation.Memory held v s before after text there e l h = absurd (no_line s Memory text e refl l)
+validation_complete (validation.TooLong f) held v s before after text there e l h = absurd (never_first held v f there.0 there.1 h.0)
+validation_complete (validation.BadInput bad) held v s before after text there e l h = inr (inr (inr (bad, e)))
+
+pub complete : (held : Option Contents) (q : Option Request) (s : Status) (before after : Loads) (text : List ℕ) → IsDueOf held q s before after text → HasFiles held q → IsAnswered q s
+complete None q s before after text d there = absurd there
+complete (Some held) None s before after text d there = absurd there
+complete (Some held) (Some (Sessions r)) s before after text (inl g) there = inl g.0
+complete (Some held) (Some (Sessions r)) s before after text (inr d) there = run_complete d.0.0 held r s before after text there d.0.1 d.1 d.0.2
+complete (Some held) (Some (Validation v)) s before after text (inl (true, e, g)) there = inl e
+complete (Some held) (Some (Validation v)) s before after text (inl (false, e, g)) there = inr (inl e)
+complete (Some held) (Some (Validation v)) s before after text (inr d) there = validation_complete d.0.0 held v s before after text there d.0.1 d.1 d.0.2
+
+-- memory ran out, without a text
+memory_answer : (held : Option Contents) (q : Option Request) → HasFiles held q → IsAnswered q Memory
+memory_answer None q there = absurd there
+memory_answer (Some held) None there = absurd there
+memory_answer (Some held) (Some (Sessions r)) there = inr (inl refl)
+memory_answer (Some held) (Some (Validation v)) there = inr (inr (inl refl))
+
+-- A load that failed joined the list of those that did.
+
+longer : (xs : List (List ℕ)) (name : List ℕ) → xs ++ name ∷ [] ≡ xs → ⊥
+longer xs name e = let l = length-append xs (name ∷ []) in let same = ap length e in omega (arith, l, same)
+
+one_failed : (before after : Loads) (name : List ℕ) → after.failed ≡ before.failed → OnlyFailed name before after → ⊥
+one_failed before after name same only = longer before.failed name (sym only ∙ same)
+
+some_failed : (held : Option Contents) (history : Option (List ℕ)) (names : List (List ℕ)) (before after : Loads) → after.failed ≡ before.failed → SomeFailed held history names before after → ⊥
+some_failed held None names before after same h = let f = h.2 in one_failed before after (get_or names f.0 []) same f.4
+some_failed held (Some name) names before after same (inl h) = one_failed before after name same h.1
+some_failed held (Some name) names before after same (inr h) = let f = h.3 in one_failed before after (get_or names f.0 []) same f.4
+
+run_failed : (fault : RunFault) (held : Option Contents) (r : SessionRun) (before after : Loads) → after.failed ≡ before.failed → ReadFault ≡ of_run fault → StopsRun fault held r before after → ⊥
+run_failed run.ReadFault held r before after same e h = some_failed held r.history r.files before after same h
+run_failed run.Memory held r before after same e h = cc
+run_failed run.TooManyFiles held r before after same e h = cc
+run_failed (run.TooLong f) held r before after same e h = cc
+run_failed (run.BadSession i n) held r before after same e h = cc
+run_failed (run.BadHistory k) held r before after same e h = cc
+
+first_failed : (held : Option Contents) (v : ValidatedFiles) (f : ℕ) (before after : Loads) → after.failed ≡ before.failed → IsFirst held v f (λ name. OnlyFailed name before after) → ⊥
+first_failed held v f before after same (inl h) = one_failed before after v.data_file same h.1
+first_failed held v f before after same (inr h) = one_failed before after v.shapes_file same h.2
+
+validation_failed : (fault : ValidateFault) (held : Option Contents) (v : ValidatedFiles) (before after : Loads) → after.failed ≡ before.failed → ReadFault ≡ of_validation fault → StopsValidation fault held v before after → ⊥
+validation_failed validation.ReadFault held v before after same e h = first_failed held v h.0 before after same h.1
+validation_failed validation.Memory held v before after same e h = cc
+validation_failed (validation.TooLong f) held v before after same e h = cc
+validation_failed (validation.BadInput bad) held v before after same e h = cc
+
+load_failed : (held : Option Contents) (q : Option Request) (before after : Loads) → after.failed ≡ before.failed → FailsLoad held q before after → ⊥
+load_failed held None before after same h = h
+load_failed held (Some (Sessions r)) before after same h = run_failed h.0 held r before after same h.1 h.2
+load_failed held (Some (Validation v)) before after same h = validation_failed h.0 held v before after same h.1 h.2
+
+-- nothing was due, and no load failed
+pub not_failed : (s : Status) (held : Option Contents) (q : Option Request) (before after : Loads) → Fails s held q before after → HasFiles held q → after.failed ≡ before.failed → IsAnswered q s
+not_failed ReadFault held q before after f there same = absurd (load_failed held q before after same f)
+not_failed Memory held q before after f there same = memory_answer held q there
+not_failed Done held q before after f there same = absurd f
+not_failed Invalid held q before after f there same = absurd f
+not_failed Usage held q before after f there same = absurd f
+not_failed WriteFault held q before after f there same = absurd f
+not_failed (BadSession i n) held q before after f there same = absurd f
+not_failed (TooLong i) held q before after f there same = absurd f
+not_failed TooManyFiles held q before after f there same = absurd f
+not_failed (BadHistory k) held q before after f there same = absurd f
+not_failed (BadInput bad) held q before after f there same = absurd f

@@ -1,3 +1,3 @@
-pub mod SoFar
-pub mod Answering
-pub mod Complete
+mod Answering
+mod Bounds
+mod Complete

@@ -1,90 +1,60 @@
--- What the program has to print, and with which status. The patterns that were refused are old before the call, and new
--- after.
-use Rattle.std.specs.Prelude.{◌≡◌, ℕ, ◌<◌, ◌≤◌, List, ◌++◌, length, map, Option, Some, None, codes}
-use Rattle.std.specs.Fmt.{decimal}
-use Rattle.store_model.specs.declared.event.Limits.{Limits}
-use Rattle.session_model.specs.declared.command.Command.{Command}
-use Rattle.session_model.specs.Print.{IsPrint, line}
-use Rattle.session_player.specs.Histories.{IsFirstBad}
-use Rattle.history_reader.specs.History.{history_of}
-use Rattle.outside.specs.Faults.{Refusal}
+-- What the program has to print, and with which status, by the request of the words; and which files are loaded.
+use Rattle.std.specs.Prelude.{◌≡◌, ◌⊎◌, ℕ, Bool, List, Option, Some, None}
 use Rattle.outside.specs.Files.{Contents}
+use Rattle.input_files.specs.Loads.{Loads, LoadsFirst, NoneFailed}
+use Rattle.session_files.specs.declared.fault.RunFault.{RunFault}
+use Rattle.session_files.specs.Runs.{AreRun}
+use Rattle.session_files.specs.Faults.{StopsRun}
+use Rattle.validate_command.specs.declared.fault.ValidateFault.{ValidateFault}
+use Rattle.validate_command.specs.Validated.{AreValidated}
+use Rattle.validate_command.specs.Faults.{StopsValidation}
+use Rattle.shacl_guard.specs.declared.request.Request.{Request}
+use Rattle.shacl_guard.specs.declared.request.Request.TheVariants.{Sessions, Validation}
 use Rattle.shacl_guard.specs.declared.status.Status.{Status}
-use Rattle.shacl_guard.specs.declared.status.Status.TheVariants.{Done, Usage, ReadFault, WriteFault, BadSession, Memory, TooLong, TooManyFiles, BadHistory}
-use Rattle.shacl_guard.specs.Requests.{Request, request_of}
-use Rattle.shacl_guard.specs.Loading.{HoldsText, HoldsHistory, HoldSessions, FirstAt, HasBadLine, IsFirstLong}
+use Rattle.shacl_guard.specs.declared.status.Status.TheVariants.{Done, Usage, ReadFault, Memory}
+use Rattle.shacl_guard.specs.Requests.{files_in, request_of}
+use Rattle.shacl_guard.specs.Statuses.{error_line, of_conforms, of_run, of_validation}
 
--- the order is that of the history, where one is handed in
-abbrev pub IsOrderOf : Option Contents → Option (List ℕ) → List ℕ → Type 0
-IsOrderOf held None order = Unit {0}
-IsOrderOf held (Some name) order = (bytes : List ℕ) × HoldsText held name bytes × (history_of bytes ≡ Some (map Some order))
+-- The text that a request gives, with its status: what sessions print, with Done; the report of a validation, with Done where
+-- the graph conforms and with Invalid where it doesn't. All its files were loaded.
+abbrev pub Gives : Option Contents → Request → Status → Loads → Loads → List ℕ → Type 0
+Gives held (Sessions r) s before after text = (s ≡ Done) × AreRun held r before after text
+Gives held (Validation v) s before after text = (conforms : Bool) × (s ≡ of_conforms conforms) × AreValidated held v before after (record { conforms = conforms; report = text })
 
--- the text is what a run of the files prints, within the limits, in an order that is valid for them
-abbrev pub IsRun : Option Contents → Request → List Refusal → List Refusal → List ℕ → Type 0
-IsRun held r old new text = (all : List (List Command)) × (order : List ℕ) × HoldSessions held 1 r.files all old new × IsOrderOf held r.history order × IsPrint all r.limits order text
+-- Why it gives none, as the status tells it. The files up to the one that decided it were loaded.
+abbrev pub StopsRequest : Status → Option Contents → Request → Loads → Loads → Type 0
+StopsRequest s held (Sessions r) before after = (fault : RunFault) × (s ≡ of_run fault) × StopsRun fault held r before after
+StopsRequest s held (Validation v) before after = (fault : ValidateFault) × (s ≡ of_validation fault) × StopsValidation fault held v before after
 
--- place k of a history is the first that isn't valid; 0 where its text doesn't begin as one
-abbrev pub IsBadPlace : List (List Command) → Limits → Option (List (Option ℕ)) → ℕ → Type 0
-IsBadPlace all l None k = k ≡ 0
-IsBadPlace all l (Some places) k = IsFirstBad all l places k
+-- its text is due, or the line of the error
+abbrev pub IsRequestDue : Option Contents → Request → Status → Loads → Loads → List ℕ → Type 0
+IsRequestDue held q s before after text = Gives held q s before after text ⊎ (StopsRequest s held q before after × (error_line s ≡ Some text))
 
-abbrev pub IsBadHistory : Option Contents → Limits → Option (List ℕ) → List (List ℕ) → ℕ → List Refusal → List Refusal → Type 0
-IsBadHistory held l None names k old new = ⊥
-IsBadHistory held l (Some name) names k old new =
-    (bytes : List ℕ) × (all : List (List Command)) × HoldsText held name bytes × HoldSessions held 1 names all old new × IsBadPlace all l (history_of bytes) k
+-- words that aren't taken are Usage, and nothing is loaded
+abbrev pub IsDueOf : Option Contents → Option Request → Status → Loads → Loads → List ℕ → Type 0
+IsDueOf held None s before after text = (s ≡ Usage) × (after ≡ before) × (error_line s ≡ Some text)
+IsDueOf held (Some q) s before after text = IsRequestDue held q s before after text
 
--- the line of a status that is an error with a line
-abbrev pub error_line : Status → Option (List ℕ)
-error_line Usage = Some (line (codes "error usage"))
-error_line (BadSession i n) = Some (line (codes "error session " ++ decimal i ++ codes " line " ++ decimal n))
-error_line (TooLong i) = Some (line (codes "error file " ++ decimal i ++ codes " too long"))
-error_line TooManyFiles = Some (line (codes "error too many files"))
-error_line (BadHistory k) = Some (line (codes "error history " ++ decimal k))
-error_line Done = None
-error_line ReadFault = None
-error_line WriteFault = None
-error_line Memory = None
+-- The whole text that is due for the words, and the status that it comes with.
+abbrev pub IsDue : List (List ℕ) → Option Contents → Status → Loads → Loads → List ℕ → Type 0
+IsDue words held s before after text = IsDueOf held (request_of words) s before after text
 
--- why the files of a request aren't run
-abbrev pub IsRefused : Option Contents → Request → Status → List Refusal → List Refusal → Type 0
-IsRefused held r TooManyFiles old new = (64 < length r.files) × (new ≡ old)
-IsRefused held r (BadSession i n) old new = (length r.files ≤ 64) × HoldsHistory held r.history × FirstAt held r.files i old new (HasBadLine held i n)
-IsRefused held r (TooLong f) old new = (length r.files ≤ 64) × IsFirstLong held r.history r.files f old new
-IsRefused held r (BadHistory k) old new = (length r.files ≤ 64) × IsBadHistory held r.limits r.history r.files k old new
-IsRefused held r Done old new = ⊥
-IsRefused held r Usage old new = ⊥
-IsRefused held r ReadFault old new = ⊥
-IsRefused held r WriteFault old new = ⊥
-IsRefused held r Memory old new = ⊥
+-- the load of a file failed
+abbrev pub FailsLoad : Option Contents → Option Request → Loads → Loads → Type 0
+FailsLoad held None before after = ⊥
+FailsLoad held (Some q) before after = StopsRequest ReadFault held q before after
 
-abbrev pub IsRefusedRequest : List (List ℕ) → Option Contents → Status → List Refusal → List Refusal → Type 0
-IsRefusedRequest words held s old new = (r : Request) × (request_of words ≡ Some r) × IsRefused held r s old new
+-- memory ran out: some of the files were loaded, and no load failed
+abbrev pub RunsOut : Option Request → Loads → Loads → Type 0
+RunsOut q before after = LoadsFirst (files_in q) before after × NoneFailed before after
 
-abbrev pub IsCause : List (List ℕ) → Option Contents → Status → List Refusal → List Refusal → Type 0
-IsCause words held Usage old new = (request_of words ≡ None) × (new ≡ old)
-IsCause words held TooManyFiles old new = IsRefusedRequest words held TooManyFiles old new
-IsCause words held (BadSession i n) old new = IsRefusedRequest words held (BadSession i n) old new
-IsCause words held (TooLong f) old new = IsRefusedRequest words held (TooLong f) old new
-IsCause words held (BadHistory k) old new = IsRefusedRequest words held (BadHistory k) old new
-IsCause words held Done old new = ⊥
-IsCause words held ReadFault old new = ⊥
-IsCause words held WriteFault old new = ⊥
-IsCause words held Memory old new = ⊥
+-- nothing is due
+abbrev pub Fails : Status → Option Contents → Option Request → Loads → Loads → Type 0
+Fails ReadFault held q before after = FailsLoad held q before after
+Fails Memory held q before after = RunsOut q before after
+Fails _ held q before after = ⊥
 
-abbrev pub IsRunDue : List (List ℕ) → Option Contents → List Refusal → List Refusal → List ℕ → Type 0
-IsRunDue words held old new text = (r : Request) × (request_of words ≡ Some r) × (length r.files ≤ 64) × IsRun held r old new text
-
-abbrev pub IsErrorDue : List (List ℕ) → Option Contents → Status → List Refusal → List Refusal → List ℕ → Type 0
-IsErrorDue words held s old new text = IsCause words held s old new × (error_line s ≡ Some text)
-
--- The whole text that is due, and the status that it comes with.
-abbrev pub IsDue : List (List ℕ) → Option Contents → Status → List Refusal → List Refusal → List ℕ → Type 0
-IsDue words held Done old new text = IsRunDue words held old new text
-IsDue words held Usage old new text = IsErrorDue words held Usage old new text
-IsDue words held (BadSession i n) old new text = IsErrorDue words held (BadSession i n) old new text
-IsDue words held (TooLong f) old new text = IsErrorDue words held (TooLong f) old new text
-IsDue words held TooManyFiles old new text = IsErrorDue words held TooManyFiles old new text
-IsDue words held (BadHistory k) old new text = IsErrorDue words held (BadHistory k) old new text
-IsDue words held ReadFault old new text = ⊥
-IsDue words held WriteFault old new text = ⊥
-IsDue words held Memory old new text = ⊥
+-- the words gave no text of their own: they aren't taken, or their request gave none, or memory ran out before
+abbrev pub StopsCall : Status → Option Contents → Option Request → Loads → Loads → Type 0
+StopsCall s held None before after = ((s ≡ Usage) ⊎ (s ≡ Memory)) × (after ≡ before)
+StopsCall s held (Some q) before after = StopsRequest s held q before after ⊎ ((s ≡ Memory) × (after ≡ before))

@@ -1,9 +1,4 @@
 pub mod Statuses
 pub mod Requests
-pub mod Loading
 pub mod Due
-pub mod World
-pub mod Faults
 pub mod Outcome
-pub mod Refused
-pub mod Progress

@@ -1,37 +1,49 @@
 -- What a status says of the words, the files and the sink.
-use Rattle.std.specs.Prelude.{◌≡◌, ◌≢◌, ℕ, ◌+◌, ◌<◌, ◌≤◌, List, [], ◌∷◌, length, take, Option, Some, None, Ok}
+use Rattle.std.specs.Prelude.{◌≡◌, ◌≢◌, ◌⊎◌, ℕ, ◌+◌, ◌<◌, ◌≤◌, List, [], ◌∷◌, length, take, Option, Some, None, Ok}
 use Rattle.session_reader.specs.declared.read_command.ReadCommand.{ReadCommand}
 use Rattle.session_reader.specs.SessionFile.{session_of}
 use Rattle.outside.specs.Files.{Contents, grown}
+use Rattle.input_files.specs.Lengths.{room}
+use Rattle.input_files.specs.Loads.{Loads}
+use Rattle.validate_command.specs.declared.bad_input.BadInput.{BadInput as InputFault}
+use Rattle.shacl_guard.specs.declared.request.Request.{Request}
+use Rattle.shacl_guard.specs.declared.request.Request.TheVariants.{Sessions, Validation}
 use Rattle.shacl_guard.specs.declared.status.Status.{Status}
-use Rattle.shacl_guard.specs.declared.status.Status.TheVariants.{Done, Usage, ReadFault, WriteFault, BadSession, Memory, TooLong, TooManyFiles, BadHistory}
-use Rattle.shacl_guard.specs.Requests.{Request, request_of, files_of}
-use Rattle.shacl_guard.specs.Loading.{room}
-use Rattle.shacl_guard.specs.Due.{IsDue}
-use Rattle.shacl_guard.specs.Faults.{FailsRequest}
-use Rattle.shacl_guard.specs.World.{Call, LoadsUpTo, LoadsFirst, NoneFailed}
+use Rattle.shacl_guard.specs.declared.status.Status.TheVariants.{Done, Invalid, ReadFault, WriteFault, Memory, BadHistory, BadInput}
+use Rattle.shacl_guard.specs.Requests.{request_of}
+use Rattle.shacl_guard.specs.Due.{FailsLoad, IsDue, RunsOut}
 
--- the whole text that is due with the status was taken, the files were loaded as far as it took them, and no load failed
+-- at one moment: the loads so far with what was refused, and all that the sink took, where it tells that
+pub record Outside : Type 0 where
+  pub loads : Loads
+  pub taken : Option (List ℕ)
+
+-- a call: its words, what the names hold, where that is told, and what is outside before the call and after it
+pub record Call : Type 0 where
+  pub words : List (List ℕ)
+  pub held : Option Contents
+  pub before : Outside
+  pub after : Outside
+
+-- the whole text that is due with the status was taken
 abbrev pub PrintsAll : Status → Call → Type 0
-PrintsAll s c = LoadsUpTo s c.words c.before.loads c.after.loads × NoneFailed c.before.loads c.after.loads
-    × ((text : List ℕ) × IsDue c.words c.held s c.before.loads.refused c.after.loads.refused text × (c.after.taken ≡ grown c.before.taken text))
+PrintsAll s c = (text : List ℕ) × IsDue c.words c.held s c.before.loads c.after.loads text × (c.after.taken ≡ grown c.before.taken text)
 
 -- a part of what was due with some status was taken, and not all of it
 abbrev pub PrintsPart : Call → Type 0
-PrintsPart c = (s : Status) × LoadsUpTo s c.words c.before.loads c.after.loads × NoneFailed c.before.loads c.after.loads
-    × ((text : List ℕ) × (n : ℕ) × (n < length text) × IsDue c.words c.held s c.before.loads.refused c.after.loads.refused text × (c.after.taken ≡ grown c.before.taken (take n text)))
+PrintsPart c = (s : Status) × (text : List ℕ) × (n : ℕ) × (n < length text) × IsDue c.words c.held s c.before.loads c.after.loads text × (c.after.taken ≡ grown c.before.taken (take n text))
 
--- By the status: what the words and the files are, and what the sink took. Want of memory prints nothing.
+-- By the status: what the words and the files are, which files were loaded, and what the sink took. Where a load failed or
+-- memory ran out it took nothing.
 abbrev pub IsOutcome : Status → Call → Type 0
-IsOutcome Done c = PrintsAll Done c
-IsOutcome Usage c = PrintsAll Usage c
-IsOutcome (BadSession i n) c = PrintsAll (BadSession i n) c
-IsOutcome (TooLong i) c = PrintsAll (TooLong i) c
-IsOutcome TooManyFiles c = PrintsAll TooManyFiles c
-IsOutcome (BadHistory k) c = PrintsAll (BadHistory k) c
-IsOutcome ReadFault c = FailsRequest c.held c.words c.before.loads c.after.loads × (c.after.taken ≡ c.before.taken)
+IsOutcome ReadFault c = FailsLoad c.held (request_of c.words) c.before.loads c.after.loads × (c.after.taken ≡ c.before.taken)
 IsOutcome WriteFault c = PrintsPart c
-IsOutcome Memory c = LoadsFirst (files_of c.words) c.before.loads c.after.loads × NoneFailed c.before.loads c.after.loads × (c.after.taken ≡ c.before.taken)
+IsOutcome Memory c = RunsOut (request_of c.words) c.before.loads c.after.loads × (c.after.taken ≡ c.before.taken)
+IsOutcome s c = PrintsAll s c
+
+-- the file is there, within its length
+abbrev pub IsThere : (List ℕ → Option (List ℕ)) → List ℕ → Type 0
+IsThere held name = (bytes : List ℕ) × (held name ≡ Some bytes) × (length bytes < room)
 
 -- these files are there from number i on, within their length, and session files
 abbrev pub AreThere : (List ℕ → Option (List ℕ)) → ℕ → List (List ℕ) → Type 0
@@ -41,25 +53,18 @@ AreThere held i (name ∷ names) = ((bytes : List ℕ) × (commands : List ReadC
 -- the file of a history is there, within its length, where one is handed in
 abbrev pub IsHistoryThere : (List ℕ → Option (List ℕ)) → Option (List ℕ) → Type 0
 IsHistoryThere held None = Unit {0}
-IsHistoryThere held (Some name) = (bytes : List ℕ) × (held name ≡ Some bytes) × (length bytes < room)
+IsHistoryThere held (Some name) = IsThere held name
 
--- the words ask for a run of up to 64 such files, or for a replay of them
-abbrev pub HasSessions : List (List ℕ) → Option Contents → Type 0
-HasSessions words None = ⊥
-HasSessions words (Some held) = (r : Request) × (request_of words ≡ Some r) × IsHistoryThere held r.history × (length r.files ≤ 64) × AreThere held 1 r.files
+-- the request is a run of up to 64 such files, or a replay of them, or a validation of two files
+abbrev pub HasFiles : Option Contents → Option Request → Type 0
+HasFiles None q = ⊥
+HasFiles (Some held) None = ⊥
+HasFiles (Some held) (Some (Sessions r)) = IsHistoryThere held r.history × (length r.files ≤ 64) × AreThere held 1 r.files
+HasFiles (Some held) (Some (Validation v)) = IsThere held v.data_file × IsThere held v.shapes_file
 
--- the words hand in a history
-abbrev pub AskReplay : List (List ℕ) → Type 0
-AskReplay words = (r : Request) × (request_of words ≡ Some r) × (r.history ≢ None)
-
--- the sessions were run, or memory ran out, or the history that was handed in isn't valid for them
-abbrev pub IsRunOrMemory : List (List ℕ) → Status → Type 0
-IsRunOrMemory words Done = Unit {0}
-IsRunOrMemory words Memory = Unit {0}
-IsRunOrMemory words (BadHistory k) = AskReplay words
-IsRunOrMemory words Usage = ⊥
-IsRunOrMemory words ReadFault = ⊥
-IsRunOrMemory words WriteFault = ⊥
-IsRunOrMemory words (BadSession i n) = ⊥
-IsRunOrMemory words (TooLong i) = ⊥
-IsRunOrMemory words TooManyFiles = ⊥
+-- The sessions were run, or the history that was handed in isn't valid for them; the files were validated, or aren't what
+-- they should be; or memory ran out.
+abbrev pub IsAnswered : Option Request → Status → Type 0
+IsAnswered None s = ⊥
+IsAnswered (Some (Sessions r)) s = (s ≡ Done) ⊎ ((s ≡ Memory) ⊎ ((k : ℕ) × (r.history ≢ None) × (s ≡ BadHistory k)))
+IsAnswered (Some (Validation v)) s = (s ≡ Done) ⊎ ((s ≡ Invalid) ⊎ ((s ≡ Memory) ⊎ ((bad : InputFault) × (s ≡ BadInput bad))))

@@ -6,7 +6,6 @@
 #![tactic(auto)]
 
 mod answer;
-mod loading;
 mod request;
 mod run;
 mod status;

@@ -1,21 +1,20 @@
-ghost use Rattle.std.specs.Prelude.{◌≡◌, ◌≤◌, IfOk, MatchResult, Some, map};
-ghost use Rattle.shacl_guard.specs.Refused.{Unasked};
-ghost use Rattle.shacl_guard.specs.Requests.{request_of};
+ghost use Rattle.std.specs.Prelude.{◌≡◌, IfOk, MatchResult, Some, map};
+ghost use Rattle.shacl_guard.specs.Requests;
+ghost use Rattle.shacl_guard.specs.Requests.{IsWithin, Unasked, request_of};
 
-use crate::Status;
-use collections::Sequence;
 use guard_words::{Call, Limits as Bounds, WordsFault, read_call};
-use rdf_text::Text;
+use session_files::SessionRun;
 use std::alloc::Global;
 use store_model::Limits;
+use validate_command::ValidatedFiles;
 
-/// What the words ask to be run.
-#[derive(Drop)]
-pub struct Request {
-    pub limits: Limits,
-    /// The file of a history, in whose order the sessions are run.
-    pub history: Option<Text>,
-    pub files: Sequence<Text>,
+/// What the words ask for.
+#[derive(Debug, Drop)]
+pub enum Request {
+    /// Session files are run.
+    Sessions(SessionRun),
+    /// A data graph is validated by a shapes graph.
+    Validation(ValidatedFiles),
 }
 
 // The limits of the words as those of a store.
@@ -28,30 +27,43 @@ fn limits_of(bounds: Bounds) -> Limits
     }
 }
 
-/// Reads the words, the first of which is the program's name.
-pub fn read_request(alloc: Global, words: &[&str]) -> Result<Request, Status>
-    ensures answer { let asked = request_of (map (λ w. w.now) words.now) in
-        MatchResult result (λ r. asked ≡ Some (record { limits = r.limits; history = r.history; files = r.files })) (λ s. Unasked s asked) }
-    ensures bound { IfOk result (λ r. r.limits.terms ≤ 2000000) }
+// The request of a call.
+fn request_in(call: Call) -> Request
+    ensures { Some result ≡ Requests.request_in (Some call) }
 {
-    match read_call(alloc, words) {
-        Ok(Call::Run { limits, files }) => Ok(Request {
+    match call {
+        Call::Run { limits, files } => Request::Sessions(SessionRun {
             limits: limits_of(limits),
             history: None,
             files,
         }),
-        Ok(
-            Call::Replay {
-                limits,
-                history,
-                files,
-            },
-        ) => Ok(Request {
+        Call::Replay {
+            limits,
+            history,
+            files,
+        } => Request::Sessions(SessionRun {
             limits: limits_of(limits),
             history: Some(history),
             files,
         }),
-        Err(WordsFault::Usage) => Err(Status::Usage),
-        Err(WordsFault::Memory) => Err(Status::Memory),
+        Call::Validate {
+            data: data_file,
+            shapes,
+        } => Request::Validation(ValidatedFiles {
+            data_file,
+            shapes_file: shapes,
+        }),
+    }
+}
+
+/// Reads the words, the first of which is the program's name.
+pub fn read_request(alloc: Global, words: &[&str]) -> Result<Request, WordsFault>
+    ensures answer { let asked = request_of (map (λ w. w.now) words.now) in
+        MatchResult result (λ request. asked ≡ Some request) (λ fault. Unasked fault asked) }
+    ensures bound { IfOk result IsWithin }
+{
+    match read_call(alloc, words) {
+        Ok(call) => Ok(request_in(call)),
+        Err(fault) => Err(fault),
     }
 }

@@ -1,7 +1,8 @@
 ghost use Rattle.std.specs.Prelude.{◌≡◌, map};
 ghost use Rattle.outside.specs.Counts.{Rose};
 ghost use Rattle.session_reader.specs.Checking.{OnlyGrows};
-ghost use Rattle.shacl_guard.specs.Outcome.{IsOutcome, HasSessions, IsRunOrMemory};
+ghost use Rattle.shacl_guard.specs.Outcome.{HasFiles, IsAnswered, IsOutcome};
+ghost use Rattle.shacl_guard.specs.Requests.{request_of};
 
 use crate::Status;
 use crate::answer::answer_to;
@@ -16,6 +17,7 @@ use std::thread::Threads;
 /// asked one step at a time in the history that is printed, which holds the steps of each session once
 /// and in its file's order. The gate is told of each step of a session but its opening, before it and after it.
 /// `replay HISTORY FILES..` does the same in the history that is handed in, and tells no gate.
+/// `validate DATA SHAPES` validates the data file's graph by the shapes file's graph: the sink takes the report.
 pub fn run_command<R: Threads + Wait + Sync, F: Files, K: Sink, M: Maker, G: Gate>(
     rt: &R,
     alloc: Global,
@@ -35,16 +37,16 @@ pub fn run_command<R: Threads + Wait + Sync, F: Files, K: Sink, M: Maker, G: Gat
     }) }
     ensures write_fault { result ≡ Status.WriteFault → Rose (K.faults out.old) (K.faults out.new) }
 
-    // Up to 64 session files within their length are run, unless a load or a write failed or memory ran out, or the history that
-    // was handed in isn't valid for them.
-    ensures complete { HasSessions (map (λ w. w.now) words.now) (F.holds files.old) → F.failed files.new ≡ F.failed files.old
-        → (Rose (K.faults out.old) (K.faults out.new) → ⊥) → IsRunOrMemory (map (λ w. w.now) words.now) result }
+    // Up to 64 session files within their length are run, or the history that was handed in isn't valid for them, and two files
+    // within their length are validated, or their texts are refused; unless a load or a write failed or memory ran out.
+    ensures complete { HasFiles (F.holds files.old) (request_of (map (λ w. w.now) words.now)) → F.failed files.new ≡ F.failed files.old
+        → (Rose (K.faults out.old) (K.faults out.new) → ⊥) → IsAnswered (request_of (map (λ w. w.now) words.now)) result }
 
-    // The patterns that the maker refused stay, and those of the session files join them.
+    // The patterns that the maker refused stay, and those of the files join them.
     ensures refused { OnlyGrows (M.refused maker.old) (M.refused maker.new) }
 {
     match answer_to(rt, alloc, words, files, maker, gate) {
-        Ok(answer) => match write_all(out, answer.text.as_bytes()) {
+        Ok(answer) => match write_all(out, answer.text.as_str().as_bytes()) {
             Ok(()) => answer.status,
             Err(_) => Status::WriteFault,
         },

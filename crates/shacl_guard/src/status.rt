@@ -1,14 +1,18 @@
 ghost use Rattle.std.specs.Prelude.{◌≡◌};
 ghost use Rattle.std.specs.Process.{exit_status};
 
-use std::alloc::AllocError;
+use guard_words::WordsFault;
+use session_files::RunFault;
 use std::process::ExitCode;
+use validate_command::{BadInput, ValidateFault};
 
 /// How the program ends.
-#[derive(Clone, Copy, Debug, PartialEq, Eq)]
+#[derive(Debug, Drop, PartialEq, Eq)]
 pub enum Status {
-    /// All input was read to its end, and all was written.
+    /// All input was read to its end, and all was written. A graph that was validated conforms.
     Done,
+    /// A graph that was validated doesn't conform; its report was written.
+    Invalid,
     /// The words aren't those of a command.
     Usage,
     /// A file could not be read.
@@ -25,20 +29,68 @@ pub enum Status {
     TooManyFiles,
     /// The first place of a history that isn't valid, from 1; 0 where its text doesn't begin as one.
     BadHistory { place: u64 },
+    /// The files of a validation aren't what they should be.
+    BadInput(BadInput),
 }
 
-impl From<AllocError> for Status {
-    ghost use Rattle.shacl_guard.specs.declared.status.Status.TheVariants.{Memory};
+impl From<WordsFault> for Status {
+    ghost use Rattle.shacl_guard.specs.Statuses.{of_words};
 
-    ghost from_gives = { λ _ status. status ≡ Memory };
+    ghost from_gives = { λ fault status. status ≡ of_words fault };
 
-    fn from(_: AllocError) -> Status {
-        Status::Memory
+    fn from(fault: WordsFault) -> Status {
+        match fault {
+            WordsFault::Usage => Status::Usage,
+            WordsFault::Memory => Status::Memory,
+        }
+    }
+}
+
+impl From<RunFault> for Status {
+    ghost use Rattle.shacl_guard.specs.Statuses.{of_run};
+
+    ghost from_gives = { λ fault status. status ≡ of_run fault };
+
+    fn from(fault: RunFault) -> Status {
+        match fault {
+            RunFault::TooManyFiles => Status::TooManyFiles,
+            RunFault::ReadFault => Status::ReadFault,
+            RunFault::TooLong { file } => Status::TooLong { file },
+            RunFault::BadSession { session, line } => Status::BadSession { session, line },
+            RunFault::BadHistory { place } => Status::BadHistory { place },
+            RunFault::Memory => Status::Memory,
+        }
+    }
+}
+
+impl From<ValidateFault> for Status {
+    ghost use Rattle.shacl_guard.specs.Statuses.{of_validation};
+
+    ghost from_gives = { λ fault status. status ≡ of_validation fault };
+
+    fn from(fault: ValidateFault) -> Status {
+        match fault {
+            ValidateFault::ReadFault => Status::ReadFault,
+            ValidateFault::TooLong { file } => Status::TooLong { file },
+            ValidateFault::BadInput(bad) => Status::BadInput(bad),
+            ValidateFault::Memory => Status::Memory,
+        }
     }
 }
 
 impl Status {
-    ghost use Rattle.shacl_guard.specs.Statuses.{code_of};
+    ghost use Rattle.shacl_guard.specs.Statuses.{code_of, of_conforms};
+
+    /// The status of a validation.
+    pub(crate) fn of_conforms(conforms: bool) -> Status
+        ensures { result ≡ of_conforms conforms }
+    {
+        if conforms {
+            Status::Done
+        } else {
+            Status::Invalid
+        }
+    }
 
     /// The exit status.
     pub fn code(&self) -> u8
@@ -46,6 +98,7 @@ impl Status {
     {
         match self {
             Status::Done => 0,
+            Status::Invalid => 1,
             Status::Usage => 2,
             Status::ReadFault => 3,
             Status::WriteFault => 4,
@@ -54,6 +107,7 @@ impl Status {
             Status::TooLong { .. } => 7,
             Status::TooManyFiles => 8,
             Status::BadHistory { .. } => 9,
+            Status::BadInput(_) => 10,
         }
     }
 

@@ -24,10 +24,12 @@ fn file_of(alloc: Global, name: &str, bytes: &[u8]) -> Result<MemFile, AllocErro
     })
 }
 
-// Runs the first session and an empty one, where these loads fail, and these calls of a sink that takes so many bytes a call.
+// The command with two files, where these loads fail, and these calls of a sink that takes so many bytes a call.
 fn run_two<R: Threads + Wait + Sync>(
     rt: &R,
     alloc: Global,
+    command: &str,
+    texts: [&[u8]; 2],
     loads: Vec<u64>,
     most: usize,
     writes: Vec<u64>,
@@ -35,13 +37,13 @@ fn run_two<R: Threads + Wait + Sync>(
     requires { 0 < most }
 {
     let held = vec![in alloc;
-        file_of(alloc, "f", FIRST_RUN)?,
-        file_of(alloc, "g", b"".as_slice())?,
+        file_of(alloc, "f", texts[0])?,
+        file_of(alloc, "g", texts[1])?,
     ]?;
     let mut files = MemFiles::new(alloc, held, loads);
     let mut out = MemSink::new(alloc, most, 1000, writes)?;
     let mut maker = RegexMaker::new(alloc);
-    let words = ["shacl_guard", "run", "f", "g"];
+    let words = ["shacl_guard", command, "f", "g"];
     let status = run(
         rt, alloc, &words, &mut files, &mut out, &mut maker, &OpenGate,
     );
@@ -61,7 +63,8 @@ fn prints_what_the_devices_allow(rt: HostRuntime) -> Result<(), Fail> {
     for (load, write, status, taken, calls) in rows {
         let loads = vec![in rt.alloc(); load]?;
         let writes = vec![in rt.alloc(); write]?;
-        let (ended, out) = run_two(&rt, rt.alloc(), loads, 8, writes)?;
+        let texts = [FIRST_RUN, b"".as_slice()];
+        let (ended, out) = run_two(&rt, rt.alloc(), "run", texts, loads, 8, writes)?;
         assert_eq!(rt; ended, status, "load {load}, write {write}");
         assert_eq!(rt;
             out.taken(),
@@ -69,6 +72,45 @@ fn prints_what_the_devices_allow(rt: HostRuntime) -> Result<(), Fail> {
             "load {load}, write {write}"
         );
         assert_eq!(rt; out.calls(), calls, "load {load}, write {write}");
+    }
+    Ok(())
+}
+
+const DATA: &[u8] = b"<e:a> <e:p> <e:b> .\n";
+
+const SHAPES: &[u8] =
+    b"@prefix sh: <http://www.w3.org/ns/shacl#> .\n<e:S> sh:targetNode <e:a> ; sh:property <e:P> .\n<e:P> sh:path <e:p> ; sh:minCount 1 .\n";
+
+const CONFORMS: &[u8] =
+    b"@prefix sh: <http://www.w3.org/ns/shacl#> .\n_:r a sh:ValidationReport .\n_:r sh:conforms true .\n";
+
+// The report has 95 bytes, in twelve writes of eight. The data is loaded before the shapes, and the shapes are loaded though the
+// data is no Turtle.
+#[test]
+fn validates_what_the_devices_allow(rt: HostRuntime) -> Result<(), Fail> {
+    // The data; the load and the write that fail, if any; the status, what is due, and how much of it is taken.
+    let rows: [(&[u8], u64, u64, u8, &[u8], usize); 6] = [
+        (DATA, 0, 0, 0, CONFORMS, 95),
+        (DATA, 0, 2, 4, CONFORMS, 8),
+        (DATA, 1, 0, 3, b"".as_slice(), 0),
+        (DATA, 2, 0, 3, b"".as_slice(), 0),
+        (
+            b"<e:a> <e:p> .".as_slice(),
+            0,
+            0,
+            10,
+            b"error data line 1 kind 3\n".as_slice(),
+            25,
+        ),
+        (b"<e:a> <e:p> .".as_slice(), 2, 0, 3, b"".as_slice(), 0),
+    ];
+    for (data_text, load, write, status, due, taken) in rows {
+        let loads = vec![in rt.alloc(); load]?;
+        let writes = vec![in rt.alloc(); write]?;
+        let texts = [data_text, SHAPES];
+        let (ended, out) = run_two(&rt, rt.alloc(), "validate", texts, loads, 8, writes)?;
+        assert_eq!(rt; ended.code(), status, "load {load}, write {write}");
+        assert_eq!(rt; out.taken(), &due[..taken], "load {load}, write {write}");
     }
     Ok(())
 }

@@ -5,13 +5,8 @@ use Rattle.shape_model.specs.declared.result_row.ResultRow.{ResultRow}
 use Rattle.term_validation.specs.Named.{AreNamedTriples}
 use Rattle.file_validation.proofs.results.listing.Goals as goal
 
-pub listing_in-requires-clause-graph : goal.listing_in-requires-clause-graph
-listing_in-requires-clause-graph c = subst (λ (ts : List Triple). AreNamedTriples c.in_ok-named.named.terms ts) (sym c.in_ok-named.ensures.triples) c.in_ok-named.ensures.graph
-
 pub listing_in-requires-clause-shapes : goal.listing_in-requires-clause-shapes
-listing_in-requires-clause-shapes c = subst (λ (ts : List Triple). AreNamedTriples c.in_ok-named.named.terms ts) c.triples.ensures c.in_ok-named.ensures.shapes
+listing_in-requires-clause-shapes c = subst (λ (ts : List Triple). AreNamedTriples c.in_ok-names.names.terms ts) c.triples.ensures c.in_ok-names.ensures.shapes
 
 pub returns : goal.returns
-returns c =
-    let rows = subst (λ (ts : List Triple). Listing ts c.args.shapes.now c.in_ok-rows.rows.items) c.in_ok-named.ensures.triples c.in_ok-rows.ensures in
-    subst (λ (found : List ResultRow). Listing c.args.graph.now c.args.shapes.now found) (sym c.from_vec.ensures) rows
+returns c = subst (λ (found : List ResultRow). Listing c.args.graph.now c.args.shapes.now found) (sym c.from_vec.ensures) c.in_ok-rows.ensures

@@ -1,0 +1,4 @@
+pub mod Loading
+pub mod Runs
+pub mod Faults
+pub mod Progress

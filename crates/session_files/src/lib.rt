@@ -1,0 +1,14 @@
+//! Runs of session files, beside each other or in the order of a history.
+//!
+//! `run_files` loads the files, in their order, and runs their sessions. It ensures that the text is exactly what the plain
+//! store prints for them, in an order that is valid for them, or exactly why the files gave no run.
+#![tactic(auto)]
+
+mod fault;
+mod loading;
+mod running;
+mod session_run;
+
+pub use fault::RunFault;
+pub use running::run_files;
+pub use session_run::SessionRun;

@@ -1,0 +1,101 @@
+ghost use Rattle.std.specs.Prelude.{◌≡◌, List, IfOk, MatchResult};
+ghost use Rattle.outside.specs.Faults.{Refusal};
+ghost use Rattle.input_files.specs.Loads.{Loads};
+ghost use Rattle.validate_command.specs.Faults.{IsTold, StopsValidation, of_file};
+ghost use Rattle.validate_command.specs.Validated.{AreValidated, HoldTexts, LoadsBoth};
+
+use crate::{BadInput, ValidateFault, ValidatedFiles};
+use file_validation::{InputFault, Validation, validate};
+use input_files::{FileFault, load_file};
+use outside::{Files, Maker};
+use shape_rules::RuleRow;
+use std::alloc::{AllocError, Global};
+
+// The numbers of the files.
+const DATA_FILE: u32 = 1;
+
+const SHAPES_FILE: u32 = 2;
+
+// Why a file of this number gave no text.
+fn file_fault(fault: FileFault, file: u32) -> ValidateFault
+    ensures { result ≡ of_file fault file }
+{
+    match fault {
+        FileFault::Failed => ValidateFault::ReadFault,
+        FileFault::TooLong => ValidateFault::TooLong { file },
+        FileFault::Memory => ValidateFault::Memory,
+    }
+}
+
+// A broken rule, as its line tells it.
+fn rule_fault(row: &RuleRow) -> Result<BadInput, AllocError>
+    ensures { IfOk result (λ bad. bad ≡ BadInput.Rule row.now.rule row.now.node) }
+{
+    Ok(BadInput::Rule {
+        rule: row.rule,
+        node: row.node.clone()?,
+    })
+}
+
+// Why the texts were not validated.
+fn text_fault(fault: InputFault) -> ValidateFault
+    ensures { IsTold fault result }
+{
+    match fault {
+        InputFault::Data { line, kind } => ValidateFault::BadInput(BadInput::Data { line, kind }),
+        InputFault::Shapes { line, kind } => {
+            ValidateFault::BadInput(BadInput::Shapes { line, kind })
+        }
+        InputFault::Rule(row) => match rule_fault(&row) {
+            Ok(bad) => ValidateFault::BadInput(bad),
+            Err(_) => ValidateFault::Memory,
+        },
+        InputFault::Pattern { node } => ValidateFault::BadInput(BadInput::Pattern { node }),
+        InputFault::Memory => ValidateFault::Memory,
+    }
+}
+
+// The texts of the data and of the shapes.
+fn load_texts<F: Files>(
+    alloc: Global,
+    validated: &ValidatedFiles,
+    files: &mut F,
+) -> Result<(Vec<u8>, Vec<u8>), ValidateFault>
+    ensures { (refused : List Refusal) → let before : Loads = record { loaded = F.loaded files.old; failed = F.failed files.old; refused = refused } in
+        let after : Loads = record { loaded = F.loaded files.new; failed = F.failed files.new; refused = refused } in
+        MatchResult result (λ both. HoldTexts (F.holds files.old) validated.now both.0.items both.1.items × LoadsBoth validated.now before after)
+        (λ fault. StopsValidation fault (F.holds files.old) validated.now before after) }
+{
+    let data_text = match load_file(alloc, files, validated.data_file.as_str()) {
+        Ok(text) => text,
+        Err(fault) => return Err(file_fault(fault, DATA_FILE)),
+    };
+    let shapes_text = match load_file(alloc, files, validated.shapes_file.as_str()) {
+        Ok(text) => text,
+        Err(fault) => return Err(file_fault(fault, SHAPES_FILE)),
+    };
+    Ok((data_text, shapes_text))
+}
+
+/// Validates the data file's graph by the shapes file's graph (SHACL section 3.4), and writes the report. Both are Turtle; the
+/// maker builds the patterns of the shapes. The data is loaded and read first. A pattern that is told joined those that the
+/// maker refused; no other one did.
+pub fn validate_files<F: Files, M: Maker>(
+    alloc: Global,
+    validated: &ValidatedFiles,
+    files: &mut F,
+    maker: &mut M,
+) -> Result<Validation, ValidateFault>
+    ensures answer { let before : Loads = record { loaded = F.loaded files.old; failed = F.failed files.old; refused = M.refused maker.old } in
+        let after : Loads = record { loaded = F.loaded files.new; failed = F.failed files.new; refused = M.refused maker.new } in
+        MatchResult result (AreValidated (F.holds files.old) validated.now before after) (λ fault. StopsValidation fault (F.holds files.old) validated.now before after) }
+{
+    let (data_text, shapes_text) = match load_texts(alloc, validated, files) {
+        Ok(both) => both,
+        Err(fault) => return Err(fault),
+    };
+    match validate(alloc, maker, &data_text, &shapes_text) {
+        Ok(validation) => Ok(validation),
+        Err(fault) => Err(text_fault(fault)),
+    }
+}
