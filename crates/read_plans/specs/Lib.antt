@@ -1,0 +1,4 @@
+pub mod Rows
+pub mod PathRows
+pub mod MemberRows
+pub mod ShapeRows
