@@ -1,3 +1,7 @@
 pub mod Growing
 pub mod PathMembers
 pub mod Copies
+pub mod Lists
+pub mod PathLooks
+pub mod OwnLooks
+pub mod ShapeSteps

@@ -28,6 +28,10 @@ abbrev pub optional_rows : Option Path → List Path → List LookRow
 optional_rows None q = []
 optional_rows (Some p) q = path_rows false p q
 
+-- the row of all triples at the end of w, where a value of sh:closed is true (SHACL 4.8.1)
+abbrev pub closed_rows : Term → List Path → List LookRow
+closed_rows p w = if same_term p true_literal then record { way = w; kind = ByOutAny } ∷ [] else []
+
 -- The rows of a component by itself at the value p of its parameter: the class path at the value nodes, at the end of w;
 -- the property that is compared at the focus node, at the end of q; all triples of the value nodes of a closed shape.
 abbrev pub term_rows : TermComponent → Term → List Path → List Path → List LookRow
@@ -36,7 +40,7 @@ term_rows Equals p q w = record { way = q; kind = ByOut p } ∷ []
 term_rows Disjoint p q w = record { way = q; kind = ByOut p } ∷ []
 term_rows LessThan p q w = record { way = q; kind = ByOut p } ∷ []
 term_rows LessThanOrEquals p q w = record { way = q; kind = ByOut p } ∷ []
-term_rows Closed p q w = if same_term p true_literal then record { way = w; kind = ByOutAny } ∷ [] else []
+term_rows Closed p q w = closed_rows p w
 term_rows component p q w = []
 
 abbrev pub constraint_rows : List Path → List Path → Constraint Term → List LookRow
@@ -68,14 +72,14 @@ abbrev pub optional_place : Option ℕ → List ℕ
 optional_place None = []
 optional_place (Some n) = n ∷ []
 
--- the places in their order, each once
-abbrev pub each_once : List ℕ → List ℕ
-each_once [] = []
-each_once (n ∷ ns) = with_item nat_cmp n (each_once ns)
+-- these places and more, each once, in their order
+abbrev pub with_places : List ℕ → List ℕ → List ℕ
+with_places places [] = places
+with_places places (n ∷ ns) = with_places (with_item nat_cmp n places) ns
 
 -- where there is a qualified count, the qualified value shape and each sibling (SHACL 4.7.3)
 abbrev pub qualified_places : ReadShape → List ℕ
-qualified_places c = if list_any is_count c.constraints then optional_place c.qualified ++ each_once c.siblings else []
+qualified_places c = if list_any is_count c.constraints then optional_place c.qualified ++ with_places [] c.siblings else []
 
 -- the places of the shapes on whose results those of the shape rest, each as often as it is named
 abbrev pub referred_places : ReadShape → List ℕ

@@ -4,11 +4,15 @@
 //! may have.
 #![tactic(auto)]
 
+mod constraint_looks;
 mod fault;
 mod look;
 mod path_looks;
+mod planning;
+mod references;
 mod rows;
 mod ways;
 
 pub use fault::PlanFault;
 pub use look::{LookKind, PlannedLook};
+pub use planning::plan;
