@@ -8,7 +8,7 @@ use Rattle.shape_model.specs.Looks.{LookRow}
 use Rattle.read_plans.specs.declared.fault.PlanFault.{PlanFault}
 use Rattle.read_plans.specs.declared.fault.PlanFault.TheVariants.{TooWide, Memory}
 use Rattle.read_plans.specs.declared.look.PlannedLook.{PlannedLook}
-use Rattle.read_plans.specs.Rows.{Adds, IsStopped, looks_limit, read_look, read_looks}
+use Rattle.read_plans.specs.Rows.{Adds, IsStopped, read_look, read_looks}
 
 pub stopped_more : (m n : ℕ) (fault : PlanFault) → m < n + 1 → IsStopped m fault → IsStopped n fault
 stopped_more m n (TooWide count) le s = let lt = s.1 in (s.0, omega (arith, lt, le))

@@ -5,3 +5,6 @@ pub mod Lists
 pub mod PathLooks
 pub mod OwnLooks
 pub mod ShapeSteps
+pub mod Referred
+pub mod Depths
+pub mod Plans

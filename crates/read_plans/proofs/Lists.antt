@@ -1,5 +1,5 @@
 -- What stands in lists that are made of others.
-use Rattle.std.proofs.Common.{◌≡◌, ℕ, ◌<◌, List, [], ◌∷◌, ◌++◌, map, true, false, Bool, refl, sym, ap, subst, arith, inl, inr}
+use Rattle.std.proofs.Common.{◌≡◌, List, [], ◌∷◌, ◌++◌, map, true, false, Bool, refl, sym, ap, subst, arith, inl, inr}
 use Rattle.std.specs.Prelude.{◌⊎◌, ◌↔◌, ◌||◌}
 use Rattle.std.specs.List.{Contains, flat_map, list_any}
 use Rattle.std.proofs.lemmas.List.Elements.{Contains-append_cases, Contains-append_left, Contains-append_right}
@@ -64,3 +64,14 @@ module _ {X : Type 0} (test : X → Bool) where
     | inl k ↦ or_left (test y) (list_any test xs) (subst (λ (z : X). test z ≡ true) (sym k) e)
     | inr d ↦ or_right (test y) (list_any test xs) (any_to xs x d e)
   ]
+
+pub mapped_from : {X Y : Type 0} → (h : X → Y) (xs : List X) (y : Y) → Contains (map h xs) y → (x : X) × Contains xs x × (h x ≡ y)
+mapped_from h [] y c = absurd (none_in y c)
+mapped_from h (x ∷ xs) y c = elim (has_cases (h x) (map h xs) y c) [
+  | inl e ↦ (x, has_head x xs, e)
+  | inr d ↦ (let k = mapped_from h xs y d in (k.0, has_tail x xs k.0 k.1, k.2))
+]
+
+pub mapped_to : {X Y : Type 0} → (h : X → Y) (xs : List X) (x : X) → Contains xs x → Contains (map h xs) (h x)
+mapped_to h [] x c = absurd (none_in x c)
+mapped_to h (z ∷ zs) x c = elim (has_cases z zs x c) [ inl e ↦ has_equal (h z) (map h zs) (h x) (ap h e) | inr d ↦ has_tail (h z) (map h zs) (h x) (mapped_to h zs x d) ]

@@ -1,5 +1,5 @@
 -- The rows of a compiled shape, without those of the shapes that it refers to, are those that are listed.
-use Rattle.std.proofs.Common.{◌≡◌, ◌∙◌, List, [], ◌∷◌, ◌++◌, Bool, true, false, refl, sym, ap, subst, arith, inl, inr}
+use Rattle.std.proofs.Common.{◌≡◌, ◌∙◌, List, [], ◌∷◌, ◌++◌, Bool, true, false, refl, sym, ap, subst, inl, inr}
 use Rattle.std.specs.Prelude.{◌⊎◌, ◌↔◌, Option, Some, None, if◌then◌else◌}
 use Rattle.std.specs.List.{Contains, flat_map}
 use Rattle.rdf_model.specs.declared.term.Term.{Term}
@@ -7,10 +7,9 @@ use Rattle.rdf_model.specs.Matching.{same_term}
 use Rattle.rdf_model.proofs.SameTerms.{equal_same, same_equal}
 use Rattle.shape_model.specs.Components.{parameter_of}
 use Rattle.shape_model.specs.Instances.{class_path}
-use Rattle.shape_model.specs.Looks.{ByIn, ByOut, ByOutAny, LookRow, PathLook}
+use Rattle.shape_model.specs.Looks.{ByOut, ByOutAny, LookRow, PathLook}
 use Rattle.shape_model.specs.Paths.{Path}
-use Rattle.shape_model.specs.Readings.{IsClosed, IsCompared, Reading}
-use Rattle.shape_model.specs.ShapeLooks.{ValueWay}
+use Rattle.shape_model.specs.Readings.{Reading}
 use Rattle.shape_model.specs.Vocabulary.{ShClass, ShClosed, ShDisjoint, ShEquals, ShLessThan, ShLessThanOrEquals, ShapeProperty, true_literal}
 use Rattle.shape_ast.specs.declared.component.TermComponent.TheVariants as by_term
 use Rattle.shape_ast.specs.declared.component.ListComponent.TheVariants as by_list
@@ -21,7 +20,7 @@ use Rattle.shape_ast.specs.declared.constraint.Constraint.TheVariants.{ByList, B
 use Rattle.shape_ast.specs.Readings.{ReadShape, component_of, parameter}
 use Rattle.shape_ast.specs.Standing.{IsFor, shape_reading}
 use Rattle.read_plans.specs.PathRows.{path_rows}
-use Rattle.read_plans.specs.ShapeRows.{closed_rows, constraint_rows, optional_rows, own_rows, term_rows, value_way}
+use Rattle.read_plans.specs.ShapeRows.{closed_rows, constraint_rows, optional_rows, value_way}
 use Rattle.read_plans.proofs.Lists.{flat_from, flat_to, listed_one, none_in}
 use Rattle.read_plans.proofs.PathLooks.{path_listed}
 
@@ -52,7 +51,7 @@ property_rows ShDisjoint p q w = record { way = q; kind = ByOut p } ∷ []
 property_rows ShLessThan p q w = record { way = q; kind = ByOut p } ∷ []
 property_rows ShLessThanOrEquals p q w = record { way = q; kind = ByOut p } ∷ []
 property_rows ShClosed p q w = closed_rows p w
-property_rows property p q w = []
+property_rows _ p q w = []
 
 by_property : (q w : List Path) (k : Constraint Term) → constraint_rows q w k ≡ property_rows (parameter_of (component_of k)) (parameter k) q w
 by_property q w (ByTerm by_term.Class p) = refl
@@ -120,12 +119,12 @@ module _ (shapes : List ReadShape) (c : ReadShape) (q : List Path) (row : LookRo
   own_from ShClosed v h i =
       let k = closed_to (same_term v true_literal) w row i in
       inr (inr (subst (λ (x : Term). Told ShClosed x) (same_equal v true_literal k.0) h, k.1))
-  own_from property v h i = absurd (none_in row i)
+  own_from _ v h i = absurd (none_in row i)
 
-  own_to : (property : ShapeProperty) (v : Term) → Told property v → Contains (property_rows property v q w) row → Contains (flat_map (constraint_rows q w) c.constraints) row
-  own_to property v h i =
+  own_to : (j : ShapeProperty) (v : Term) → Told j v → Contains (property_rows j v q w) row → Contains (flat_map (constraint_rows q w) c.constraints) row
+  own_to j v h at =
       flat_to (constraint_rows q w) c.constraints h.0 row h.1
-      (subst (λ (rows : List LookRow). Contains rows row) (sym (by_property q w h.0 ∙ (λ j. property_rows (h.2.0 j) (h.2.1 j) q w))) i)
+      (subst (λ (rows : List LookRow). Contains rows row) (sym (by_property q w h.0 ∙ (λ i. property_rows (h.2.0 i) (h.2.1 i) q w))) at)
 
   pub constraints_from : Contains (flat_map (constraint_rows q w) c.constraints) row → IsOwn
   constraints_from i =

@@ -1,5 +1,5 @@
 -- The rows of a path are those that are listed.
-use Rattle.std.proofs.Common.{List, [], ◌∷◌, ◌++◌, ◌≡◌}
+use Rattle.std.proofs.Common.{List, [], ◌∷◌, ◌++◌}
 use Rattle.std.specs.Prelude.{◌↔◌, Bool, true, false}
 use Rattle.std.specs.List.{Contains}
 use Rattle.shape_model.specs.Looks.{ByIn, ByOut, LookRow, PathLook, SomeLook, ThroughLook, turn, turn_all}

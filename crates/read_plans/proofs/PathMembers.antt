@@ -1,5 +1,5 @@
 -- The rows of the members of a sequence or an alternative are those of a list of them, one after another.
-use Rattle.std.proofs.Common.{◌≡◌, ◌∙◌, ◌<◌, ◌≤◌, ◌+◌, ◌-◌, ℕ, suc, List, [], ◌∷◌, ◌++◌, Vec, Box, Global, length, map, take, drop, drop-cons, get_or, ap, sym, subst, append-nil, arith}
+use Rattle.std.proofs.Common.{◌≡◌, ◌∙◌, ◌<◌, ◌+◌, ◌-◌, ℕ, suc, List, [], ◌∷◌, ◌++◌, Vec, Box, Global, length, map, take, drop, drop-cons, get_or, ap, sym, subst, append-nil, arith}
 use Rattle.std.specs.Prelude.{Bool, true, false}
 use Rattle.std.proofs.lemmas.List.{length-drop, take_all}
 use Rattle.rdf_model.specs.declared.term.Term.{Term}

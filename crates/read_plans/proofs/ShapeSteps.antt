@@ -1,12 +1,12 @@
 -- The rows of a shape at a place, step by step.
-use Rattle.std.proofs.Common.{◌≡◌, ◌∙◌, ◌<◌, ◌≤◌, ◌-◌, ℕ, zero, suc, Bool, true, false, List, [], ◌∷◌, ◌++◌, length, get_or, map, ap, refl, sym, arith}
+use Rattle.std.proofs.Common.{◌≡◌, ◌∙◌, ◌<◌, ◌≤◌, ◌-◌, ℕ, zero, suc, Bool, true, false, List, [], ◌∷◌, ◌++◌, length, get_or, ap, refl, sym, arith}
 use Rattle.std.specs.Prelude.{◌↔◌, IsTrue, Option, Some, None, slice_get, option_map, if◌then◌else◌}
 use Rattle.std.specs.List.{flat_map}
 use Rattle.std.proofs.lemmas.Option.{slice_get-map}
 use Rattle.rdf_model.specs.declared.term.Term.{Term}
 use Rattle.rdf_model.specs.Matching.{same_term}
 use Rattle.rdf_model.proofs.SameTerms.{equal_same, same_equal}
-use Rattle.shape_model.specs.Looks.{ByOutAny, LookRow}
+use Rattle.shape_model.specs.Looks.{ByOutAny}
 use Rattle.shape_model.specs.Paths.{Path}
 use Rattle.shape_model.specs.Vocabulary.{true_literal}
 use Rattle.shape_ast.specs.declared.shape.Shape.{Shape}

@@ -2,3 +2,4 @@ pub mod Rows
 pub mod PathRows
 pub mod MemberRows
 pub mod ShapeRows
+pub mod Laws

@@ -2,6 +2,7 @@ ghost use Rattle.std.specs.Prelude.{◌≡◌, ◌≤◌, ◌<◌, ◌+◌, ◌+
 ghost use Rattle.std.specs.List.{flat_map};
 ghost use Rattle.compiled_paths.specs.PathReadings.{defined_path};
 ghost use Rattle.shape_ast.specs.Readings.{read_shape, read_shapes};
+ghost use Rattle.read_plans.specs.Laws.{ListLooks};
 ghost use Rattle.read_plans.specs.Rows.{Adds, IsStopped, looks_limit, read_looks};
 ghost use Rattle.read_plans.specs.ShapeRows.{levels_limit, plan_rows, shape_rows};
 
@@ -82,6 +83,7 @@ fn push_plan(
 pub fn plan(alloc: Global, shapes: &Shapes, shape: usize) -> Result<Vec<PlannedLook>, PlanFault>
     requires { shape < length shapes.now.shapes }
     ensures rows { IfOk result (λ rows. read_looks rows.items ≡ plan_rows (read_shapes shapes.now.shapes) shape) }
+    ensures looks { IfOk result (λ rows. ListLooks shapes.now.shapes shape (read_looks rows.items)) }
     ensures few { IfOk result (λ rows. length rows.items ≤ looks_limit) }
     ensures wide { IfErr result (λ fault. IsStopped (length (plan_rows (read_shapes shapes.now.shapes) shape)) fault) }
 {

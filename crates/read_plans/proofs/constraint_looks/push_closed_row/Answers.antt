@@ -1,4 +1,4 @@
-use Rattle.std.proofs.Common.{◌≡◌, false, map, sym, subst, arith, List}
+use Rattle.std.proofs.Common.{map, sym, subst, arith, List}
 use Rattle.shape_model.specs.Looks.{LookRow}
 use Rattle.compiled_paths.specs.PathReadings.{defined_path}
 use Rattle.read_plans.specs.Rows.{Adds}

@@ -1,4 +1,4 @@
-use Rattle.std.proofs.Common.{◌≡◌, ◌<◌, ◌+◌, ◌*◌, ◌∷◌, ℕ, List, Bool, length, map, arith, sym, subst}
+use Rattle.std.proofs.Common.{◌<◌, ◌+◌, ◌*◌, ◌∷◌, ℕ, List, Bool, length, map, arith, sym, subst}
 use Rattle.std.proofs.lemmas.Result.{err_from_is_err_and}
 use Rattle.shape_model.specs.Looks.{LookRow}
 use Rattle.shape_model.specs.Paths as defined
