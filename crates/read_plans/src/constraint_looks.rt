@@ -1,5 +1,5 @@
 //! The rows of looks of a shape without those of the shapes that it refers to, and those of its targets.
-ghost use Rattle.std.specs.Prelude.{◌≡◌, ◌↔◌, false, IsTrue, IfOk, map};
+ghost use Rattle.std.specs.Prelude.{◌≡◌, ◌↔◌, ◌∷◌, [], ◌++◌, false, IsTrue, IfOk, map};
 ghost use Rattle.std.specs.List.{flat_map};
 ghost use Rattle.shape_model.specs.Instances as instances;
 ghost use Rattle.shape_model.specs.Paths as defined;
@@ -60,15 +60,37 @@ fn superclasses(alloc: Global) -> Result<Path<Term>, AllocError>
     Ok(Path::ZeroOrMore(Box::new(alloc, Path::Predicate(word))?))
 }
 
+// The way, and then rdf:type.
+fn way_to_types(alloc: Global, way: &[Path<Term>]) -> Result<Sequence<Path<Term>>, AllocError>
+    ensures { IfOk result (λ longer. map defined_path longer ≡ map defined_path way.now ++ defined.Predicate rdf_type ∷ []) }
+{
+    let types = Path::Predicate(type_word(alloc)?);
+    way_along(alloc, way, &types)
+}
+
+// Adds the row of types.
+fn push_type_row(alloc: Global, way: &[Path<Term>], rows: &mut Rows) -> Result<(), PlanFault>
+    ensures { Adds (path_rows false (defined.Predicate rdf_type) (map defined_path way.now)) rows.old rows.new result }
+{
+    let word = type_word(alloc)?;
+    push_row(alloc, way, LookKind::Out(word), rows)
+}
+
+// Adds the row of superclasses.
+fn push_superclass_row(alloc: Global, way: &[Path<Term>], rows: &mut Rows) -> Result<(), PlanFault>
+    ensures { Adds (path_rows false (defined.ZeroOrMore (defined.Predicate sub_class_of)) (map defined_path way.now)) rows.old rows.new result }
+{
+    let above = superclasses(alloc)?;
+    push_path(alloc, &above, false, way, rows)
+}
+
 // Adds the rows of instances of a class: those of rdf:type/rdfs:subClassOf*, after the way.
 fn push_class_rows(alloc: Global, way: &[Path<Term>], rows: &mut Rows) -> Result<(), PlanFault>
     ensures { Adds (path_rows false instances.class_path (map defined_path way.now)) rows.old rows.new result }
 {
-    push_row(alloc, way, LookKind::Out(type_word(alloc)?), rows)?;
-    let types = Path::Predicate(type_word(alloc)?);
-    let classes = way_along(alloc, way, &types)?;
-    let above = superclasses(alloc)?;
-    push_path(alloc, &above, false, classes.as_slice(), rows)
+    push_type_row(alloc, way, rows)?;
+    let classes = way_to_types(alloc, way)?;
+    push_superclass_row(alloc, classes.as_slice(), rows)
 }
 
 // Adds the row of all triples of the nodes at the end of the way, where sh:closed is true (SHACL section 4.8.1).

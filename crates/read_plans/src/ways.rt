@@ -1,14 +1,21 @@
 //! Copies of paths, and ways that are made of them.
-ghost use Rattle.std.specs.Prelude.{◌≡◌, ◌∷◌, [], ◌++◌, IfOk, OnOk, map};
+ghost use Rattle.std.specs.Prelude.{◌≡◌, ◌∷◌, [], ◌++◌, IfOk, OnOk, Ok, map};
 ghost use Rattle.shape_model.specs.Looks.{turn};
 ghost use Rattle.shape_model.specs.Paths as defined;
 ghost use Rattle.compiled_paths.specs.PathReadings.{defined_path, members};
 ghost use Rattle.read_plans.specs.MemberRows.{back_way};
 
-use collections::Sequence;
+use collections::{Sequence, both};
 use compiled_paths::Path;
 use rdf_model::Term;
 use std::alloc::{AllocError, Global};
+
+// The copy in a box, if there is one.
+fn boxed(alloc: Global, copy: Result<Path<Term>, AllocError>) -> Result<Box<Path<Term>>, AllocError>
+    ensures { IfOk result (λ held. copy ≡ Ok held.value) }
+{
+    Ok(Box::new(alloc, copy?)?)
+}
 
 #[cycle(copying)]
 fn copied_path(alloc: Global, path: &Path<Term>) -> Result<Path<Term>, AllocError>
@@ -16,32 +23,24 @@ fn copied_path(alloc: Global, path: &Path<Term>) -> Result<Path<Term>, AllocErro
 {
     match path {
         Path::Predicate(predicate) => Ok(Path::Predicate(predicate.clone()?)),
-        Path::Inverse(inner) => {
-            let copy = copied_path(alloc, inner)?;
-            Ok(Path::Inverse(Box::new(alloc, copy)?))
-        }
+        Path::Inverse(inner) => Ok(Path::Inverse(boxed(alloc, copied_path(alloc, inner))?)),
         Path::Sequence(first, others) => {
-            let copy = copied_path(alloc, first)?;
-            let more = copied_paths(alloc, others)?;
-            Ok(Path::Sequence(Box::new(alloc, copy)?, more))
+            let (first, more) = both(
+                boxed(alloc, copied_path(alloc, first)),
+                copied_paths(alloc, others),
+            )?;
+            Ok(Path::Sequence(first, more))
         }
         Path::Alternative(first, others) => {
-            let copy = copied_path(alloc, first)?;
-            let more = copied_paths(alloc, others)?;
-            Ok(Path::Alternative(Box::new(alloc, copy)?, more))
+            let (first, more) = both(
+                boxed(alloc, copied_path(alloc, first)),
+                copied_paths(alloc, others),
+            )?;
+            Ok(Path::Alternative(first, more))
         }
-        Path::ZeroOrMore(inner) => {
-            let copy = copied_path(alloc, inner)?;
-            Ok(Path::ZeroOrMore(Box::new(alloc, copy)?))
-        }
-        Path::OneOrMore(inner) => {
-            let copy = copied_path(alloc, inner)?;
-            Ok(Path::OneOrMore(Box::new(alloc, copy)?))
-        }
-        Path::ZeroOrOne(inner) => {
-            let copy = copied_path(alloc, inner)?;
-            Ok(Path::ZeroOrOne(Box::new(alloc, copy)?))
-        }
+        Path::ZeroOrMore(inner) => Ok(Path::ZeroOrMore(boxed(alloc, copied_path(alloc, inner))?)),
+        Path::OneOrMore(inner) => Ok(Path::OneOrMore(boxed(alloc, copied_path(alloc, inner))?)),
+        Path::ZeroOrOne(inner) => Ok(Path::ZeroOrOne(boxed(alloc, copied_path(alloc, inner))?)),
     }
 }
 
