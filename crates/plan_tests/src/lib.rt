@@ -1,0 +1,5 @@
+//! Tests of plans of looks: how many rows paths and shapes have, worked out by hand.
+#![tactic(auto)]
+
+#[cfg(test)]
+mod plans;

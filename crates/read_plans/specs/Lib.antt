@@ -1,0 +1,5 @@
+pub mod Rows
+pub mod PathRows
+pub mod MemberRows
+pub mod ShapeRows
+pub mod Laws
