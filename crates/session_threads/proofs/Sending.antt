@@ -131,7 +131,7 @@ shared_send : IsSend shared.the_row
 shared_send = search (core_send, crosses, sendable) depth 60 fits 20000
 
 snap_send : IsSend snap.the_row
-snap_send = search (triples_send, shapes_send, dict_send, crosses, sendable) depth 60 fits 20000
+snap_send = search (data_graph_send, shapes_send, crosses, sendable) depth 60 fits 20000
 
 open_send : IsSend open_transaction.the_row
 open_send = search (transaction_send, snap_send, crosses, sendable) depth 60 fits 20000
