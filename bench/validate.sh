@@ -54,15 +54,9 @@ PEAK
   )
 }
 
-# The class path of Jena. Debian's jar of its core lacks the messages of the Xerces that it holds: they are taken from Xerces' own.
 jena=
-if [ -e /usr/share/java/jena-shacl.jar ] && [ -e /usr/share/java/xercesImpl.jar ] && command -v javac >/dev/null; then
-  jena=$(find /usr/share/java -name '*.jar' | grep -vE -- '-[0-9][0-9.]*\.jar$' |
-    grep -E 'jena|slf4j-api|slf4j-nop|commons-|caffeine|gson|guava|thrift|protobuf|jsonld|titanium|collection|roaring|http|jackson|failureaccess|json' |
-    tr '\n' ':')
-  mkdir "$work/messages" && (cd "$work/messages" && unzip -qo /usr/share/java/xercesImpl.jar 'org/apache/xerces/impl/*' -x '*.class' &&
-    mv org/apache/xerces . && rm -r org)
-  jena=$jena$work/messages:$work
+if found=$("$root/tools/jena_class_path" "$work"); then
+  jena=$found:$work
   javac -cp "$jena" -d "$work" "$root/bench/ValidateRounds.java"
 fi
 
