@@ -66,9 +66,9 @@ fn prints_what_the_devices_allow(rt: HostRuntime) -> Result<(), Fail> {
         let texts = [FIRST_RUN, b"".as_slice()];
         let (ended, out) = run_two(&rt, rt.alloc(), "run", texts, loads, 8, writes)?;
         assert_eq!(rt; ended, status, "load {load}, write {write}");
-        assert_eq!(rt;
-            out.taken(),
-            &PRINTED[..taken],
+        assert_eq!(rt; out.taken().len(), taken, "load {load}, write {write}");
+        assert!(rt;
+            PRINTED.starts_with(out.taken()),
             "load {load}, write {write}"
         );
         assert_eq!(rt; out.calls(), calls, "load {load}, write {write}");
@@ -110,7 +110,8 @@ fn validates_what_the_devices_allow(rt: HostRuntime) -> Result<(), Fail> {
         let texts = [data_text, SHAPES];
         let (ended, out) = run_two(&rt, rt.alloc(), "validate", texts, loads, 8, writes)?;
         assert_eq!(rt; ended.code(), status, "load {load}, write {write}");
-        assert_eq!(rt; out.taken(), &due[..taken], "load {load}, write {write}");
+        assert_eq!(rt; out.taken().len(), taken, "load {load}, write {write}");
+        assert!(rt; due.starts_with(out.taken()), "load {load}, write {write}");
     }
     Ok(())
 }
