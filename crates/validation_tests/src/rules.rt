@@ -136,7 +136,7 @@ fn long_pattern(alloc: Global, letters: usize) -> Result<Vec<Triple>, AllocError
         subject: term(alloc, "e:S")?,
         predicate: term(alloc, "sh:pattern")?,
         object: Term::Literal {
-            lexical: Text::from_string(pattern),
+            lexical: Text::from_string(pattern)?,
             datatype: Text::new(alloc, "http://www.w3.org/2001/XMLSchema#string")?,
             language: None,
         },
@@ -156,7 +156,7 @@ fn long_patterns(rt: HostRuntime) -> Result<(), Fail> {
 
 fn numbered(alloc: Global, number: usize) -> Result<Term, AllocError> {
     let iri = format!(in alloc; "e:n{number}")?;
-    Ok(Term::Iri(Text::from_string(iri)))
+    Ok(Term::Iri(Text::from_string(iri)?))
 }
 
 fn refers(alloc: Global, from: usize, to: usize) -> Result<Triple, AllocError> {
