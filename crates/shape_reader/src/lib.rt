@@ -10,6 +10,7 @@ mod constraint;
 mod fault;
 mod kind;
 mod nodes;
+mod own;
 mod part;
 mod path;
 mod pattern;

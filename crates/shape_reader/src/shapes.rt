@@ -8,6 +8,7 @@ ghost use Rattle.shape_rules.specs.Broken.{IsWellFormed};
 ghost use Rattle.shape_syntax.specs.PathNodes.{ArePathNodes};
 ghost use Rattle.shape_ast.specs.Standing.{AreCompiled};
 ghost use Rattle.shape_reader.specs.Faults.{IsCompileCause};
+ghost use Rattle.shape_reader.specs.Once.{AreOnce};
 ghost use Rattle.shape_reader.specs.Parts.{AreShapes};
 
 use crate::CompileFault;
@@ -48,7 +49,7 @@ fn compile_nodes<M: Maker>(
     Ok(shapes)
 }
 
-/// The shapes of a well-formed shapes graph, compiled (SHACL section 2). The maker builds the patterns, shape by shape
+/// The shapes of a well-formed shapes graph, compiled (SHACL section 2), with each of their parts once. The maker builds the patterns, shape by shape
 /// in the order of nodes.
 ///
 /// Errors: `Pattern` where the maker refused the pattern of a shape under its flags, after which no more are built.
@@ -62,6 +63,7 @@ pub fn compile<M: Maker>(
     ensures answer { MatchResult result
         (λ shapes. AreCompiled shapes.shapes graph.now)
         (λ fault. IsCompileCause graph.now fault (M.refused maker.old) (M.refused maker.new)) }
+    ensures once { IfOk result (λ shapes. AreOnce shapes.shapes) }
     ensures refused { IfOk result (λ _. M.refused maker.new ≡ M.refused maker.old) }
 {
     let paths = path_nodes(alloc, graph)?;

@@ -13,3 +13,6 @@ returns-clause-answer g c =
     let listing = subst (λ (ns : List Term). IsListing term_cmp (IsShape s) ns) (sym c.as_slice-2.ensures.value) c.in_ok-nodes.ensures in
     let done = c.in_ok-shapes.ensures.0 in
     record { stand = stand_for s nodes c.requires.well_formed listing c.in_ok-shapes.shapes done; built = done.built; within = as_many s nodes c.in_ok-shapes.shapes done }
+
+pub returns-clause-once : goal.returns-clause-once
+returns-clause-once g c = c.in_ok-shapes.ensures.0.once
