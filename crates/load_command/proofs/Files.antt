@@ -1,0 +1,1 @@
+-- The files of a load are session files, of no more than 2^32 bytes.
