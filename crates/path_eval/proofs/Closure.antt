@@ -31,7 +31,7 @@ module _ (R : ℕ → ℕ → Type 0) where
   pub then_step : (x y w : ℕ) → Repeated R x y → R y w → Repeated R x w
   then_step x y w c r = (c.0 ++ w ∷ [], chain_more c.0 x y w c.1 r)
 
-  closed_chain : (ns : List ℕ) → ((x y : ℕ) → Contains ns x → R x y → Contains ns y) → (zs : List ℕ) (x y : ℕ) → Contains ns x → NumberChain R x zs y → Contains ns y
+  pub closed_chain : (ns : List ℕ) → ((x y : ℕ) → Contains ns x → R x y → Contains ns y) → (zs : List ℕ) (x y : ℕ) → Contains ns x → NumberChain R x zs y → Contains ns y
   closed_chain ns closed [] x y i c = subst (λ (a : ℕ). Contains ns a) c i
   closed_chain ns closed (z ∷ zs) x y i c = closed_chain ns closed zs z y (closed x z i c.0) c.1
 

@@ -1,6 +1,6 @@
 -- Nodes by their numbers: what is reached from some of them, in chains, and how lists of nodes and of looks grow.
-use Rattle.std.specs.Prelude.{◌≡◌, ◌↔◌, ◌⊎◌, ℕ, List, [], ◌∷◌, ◌++◌, eqb}
-use Rattle.std.specs.List.{Contains, IsDistinct}
+use Rattle.std.specs.Prelude.{◌≡◌, ◌↔◌, ◌⊎◌, ℕ, List, [], ◌∷◌, ◌++◌}
+use Rattle.std.specs.List.{Contains}
 use Rattle.std.specs.Ordering.{nat_cmp}
 use Rattle.collections.specs.Listings.{IsListing}
 use Rattle.rdf_model.specs.declared.look.Look.{Look}
@@ -22,12 +22,12 @@ FromSome {Y} xs R y = (x : ℕ) × Contains xs x × R x y
 abbrev pub Adds : {Y : Type 0} → List Y → List Y → (Y → Type 0) → Type 0
 Adds {Y} old new P = (y : Y) → Contains new y ↔ (Contains old y ⊎ P y)
 
--- the nodes of which P holds have come to the end of the list, unless they were there; none stands there twice
+-- the nodes of which P holds have come to the end of the list, unless they were there
 pub record Enters (old new : List ℕ) (P : ℕ → Type 0) : Type 0 where
   pub more : List ℕ
   pub extended : new ≡ old ++ more
   pub members : Adds old new P
-  pub distinct : IsDistinct eqb old → IsDistinct eqb new
+  pub only : (y : ℕ) → Contains more y → P y
 
 -- From the starts, the walks end at just these nodes, each once, ascending, and just their looks have been added.
 pub record IsFollowed (starts : List ℕ) (R : ℕ → ℕ → Type 0) (L : ℕ → Look ℕ → Type 0) (old new : List (Look ℕ)) (ends : List ℕ) : Type 0 where

@@ -6,9 +6,12 @@
 #![tactic(auto)]
 
 mod instances;
+mod looking;
+mod making;
 mod queries;
 mod visited;
 mod walk;
+mod walker;
 
 pub use instances::{ClassWords, class_instances, is_instance};
 pub use queries::{back, values};

@@ -7,7 +7,7 @@ use Rattle.rdf_model.specs.Numbers.{IsFound}
 use Rattle.path_eval.specs.Relations.{Adds, FromSome}
 use Rattle.path_eval.specs.NumberedWalks.{look_from}
 use Rattle.path_eval.proofs.Growing.{adds_one, adds_same, adds_then, from_nothing, listing_same, some_more}
-use Rattle.path_eval.proofs.walk.edges.Goals as goal
+use Rattle.path_eval.proofs.looking.edges.Goals as goal
 
 pub loop-start-preserved : goal.loop-start-preserved
 loop-start-preserved g c =

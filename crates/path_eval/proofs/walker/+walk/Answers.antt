@@ -1,0 +1,158 @@
+use Rattle.std.proofs.Common.{◌≡◌, ◌∙◌, ◌<◌, ◌≤◌, ◌*◌, ◌+◌, ℕ, List, IfOk, length, drop, ap, arith, sym, subst}
+use Rattle.std.specs.Box.{with_value}
+use Rattle.std.proofs.lemmas.List.{length-append}
+use Rattle.std.proofs.lemmas.Result.{IfOk-weaker}
+use Rattle.rdf_model.specs.declared.look.Look.{Look}
+use Rattle.rdf_model.specs.Numbers.{IsFound}
+use Rattle.path_eval.specs.declared.walker.Walker.{Walker, Here, Edges, Then, Either, More}
+use Rattle.path_eval.specs.Relations.{IsFollowed}
+use Rattle.path_eval.specs.NumberedWalks.{look_from}
+use Rattle.path_eval.specs.Walkers.{Explores, GoesOn, plan_of}
+use Rattle.path_eval.proofs.Going.{advances, edges_on, either_on, either_size, explores_more, explores_none, here_on, more_on, more_size, plan_size, size_same, then_on, then_size}
+use Rattle.path_eval.proofs.walker.+walk.Goals as goal
+
+pub advance-returns : goal.advance-returns
+advance-returns g t c = advances (g.R.Triples.triples c.args.graph.now) c.args.walker.now c.walk_on.new.walker c.args.done c.args.entered.now c.enter_all.new.visited c.entered_after.result.now c.in_ok-ends.ends.items
+    c.deref.result.now c.args.footprint.now c.walk_on.new.footprint c.entered_after.ensures c.deref.ensures.value c.in_ok-ends.ensures c.in_ok-enter_all.ensures
+
+pub explore-loop-done-init : goal.explore-loop-done-init
+explore-loop-done-init g t c = explores_none (g.R.Triples.triples c.args.graph.now) c.args.walker.now c.args.from c.args.entered.now c.args.footprint.now c.requires
+
+pub explore-loop-done-preserved : goal.explore-loop-done-preserved
+explore-loop-done-preserved g t c =
+    let ids = g.R.Triples.triples c.args.graph.now in
+    subst (λ (n : ℕ). Explores ids c.args.walker.now c.advance.new.walker c.args.from n c.args.entered.now c.advance.new.entered c.args.footprint.now c.advance.new.footprint) (sym c.len-done.ensures.len)
+    (explores_more ids c.args.walker.now c.loop-done.walker c.advance.new.walker c.args.from c.loop-done.done c.args.entered.now c.loop-done.entered c.advance.new.entered c.args.footprint.now c.loop-done.footprint
+    c.advance.new.footprint c.requires c.loop-done.invariant c.in_ok-advance.ensures)
+
+pub walk_on-walk_on-requires : goal.walk_on-walk_on-requires
+walk_on-walk_on-requires g t c κs within =
+    let part = c.deref_mut.result.now in
+    let same = size_same part c.in-Then.first.value c.deref_mut.ensures.value in
+    let less : plan_size (plan_of part) * 3 < plan_size (plan_of c.args.walker.now) * 3 = omega (arith, then_size c.args.walker.now c.in-Then.first c.in-Then.second c.in-Then.is, same) in
+    (subst (λ (n : ℕ). plan_size (plan_of part) * 3 < n) c.decreases less, within)
+
+pub walk_on-walk_on-requires-in-Then : goal.walk_on-walk_on-requires-in-Then
+walk_on-walk_on-requires-in-Then g t c κs within =
+    let part = c.deref_mut-in-Then.result.now in
+    let same = size_same part c.in-Then.second.value c.deref_mut-in-Then.ensures.value in
+    let less : plan_size (plan_of part) * 3 < plan_size (plan_of c.args.walker.now) * 3 = omega (arith, then_size c.args.walker.now c.in-Then.first c.in-Then.second c.in-Then.is, same) in
+    (subst (λ (n : ℕ). plan_size (plan_of part) * 3 < n) c.decreases less, within)
+
+pub walk_on-walk_on-requires-in-Either : goal.walk_on-walk_on-requires-in-Either
+walk_on-walk_on-requires-in-Either g t c κs within =
+    let part = c.deref_mut-in-Either.result.now in
+    let same = size_same part c.in-Either.first.value c.deref_mut-in-Either.ensures.value in
+    let less : plan_size (plan_of part) * 3 < plan_size (plan_of c.args.walker.now) * 3 = omega (arith, either_size c.args.walker.now c.in-Either.first c.in-Either.second c.in-Either.is, same) in
+    (subst (λ (n : ℕ). plan_size (plan_of part) * 3 < n) c.decreases less, within)
+
+pub walk_on-walk_on-requires-in-Either-2 : goal.walk_on-walk_on-requires-in-Either-2
+walk_on-walk_on-requires-in-Either-2 g t c κs within =
+    let part = c.deref_mut-in-Either-2.result.now in
+    let same = size_same part c.in-Either.second.value c.deref_mut-in-Either-2.ensures.value in
+    let less : plan_size (plan_of part) * 3 < plan_size (plan_of c.args.walker.now) * 3 = omega (arith, either_size c.args.walker.now c.in-Either.first c.in-Either.second c.in-Either.is, same) in
+    (subst (λ (n : ℕ). plan_size (plan_of part) * 3 < n) c.decreases less, within)
+
+pub walk_on-walk_on-requires-in-More : goal.walk_on-walk_on-requires-in-More
+walk_on-walk_on-requires-in-More g t c κs within =
+    let part = c.deref_mut-in-More.result.now in
+    let same = size_same part c.in-More.inner.value c.deref_mut-in-More.ensures.value in
+    let less : plan_size (plan_of part) * 3 < plan_size (plan_of c.args.walker.now) * 3 = omega (arith, more_size c.args.walker.now c.in-More.inner c.in-More.entered c.in-More.is, same) in
+    (subst (λ (n : ℕ). plan_size (plan_of part) * 3 < n) c.decreases less, within)
+
+pub walk_on-explore-requires : goal.walk_on-explore-requires
+walk_on-explore-requires g t c κs within =
+    let part = c.deref_mut-in-More-2.result.now in
+    let mid = c.walk_on-in-More.new.walker in
+    let same : plan_size (plan_of part) ≡ plan_size (plan_of mid) = size_same part mid c.deref_mut-in-More-2.ensures.value in
+    let kept : plan_size (plan_of mid) ≡ plan_size (plan_of c.deref_mut-in-More.result.now) = ap plan_size c.in_ok-first-in-More.ensures.kept in
+    let inner = size_same c.deref_mut-in-More.result.now c.in-More.inner.value c.deref_mut-in-More.ensures.value in
+    let less : plan_size (plan_of part) * 3 + 2 < plan_size (plan_of c.args.walker.now) * 3 = omega (arith, more_size c.args.walker.now c.in-More.inner c.in-More.entered c.in-More.is, same, kept, inner) in
+    let more = c.in_ok-enter_all-in-More.ensures in
+    let start : c.len-from-in-More.result ≤ length c.enter_all-in-More.new.visited = omega (arith, c.len-from-in-More.ensures.len, ap length more.extended, length-append c.in-More.entered more.more) in
+    (subst (λ (n : ℕ). plan_size (plan_of part) * 3 + 2 < n) c.decreases less, (within, start))
+
+pub walk_on-returns-in-Here : goal.walk_on-returns-in-Here
+walk_on-returns-in-Here g t c =
+    let ids = g.R.Triples.triples c.args.graph.now in
+    let xs = c.args.starts.now in
+    let looks = c.args.footprint.now in
+    subst (λ (w : Walker). IfOk c.copied.result (λ ends. GoesOn ids w w xs looks looks ends.items)) (sym c.in-Here.is)
+    (IfOk-weaker c.copied.result (λ ends. ends.items ≡ xs) (λ ends. GoesOn ids Here Here xs looks looks ends.items) (λ ends e. here_on ids xs ends.items looks e) c.copied.ensures)
+
+pub walk_on-returns-in_ok-enter_all-in-Edges : goal.walk_on-returns-in_ok-enter_all-in-Edges
+walk_on-returns-in_ok-enter_all-in-Edges g t c =
+    let ids = g.R.Triples.triples c.args.graph.now in
+    let xs = c.args.starts.now in
+    let old = c.args.footprint.now in
+    let new = c.edges.new.footprint in
+    let p = c.in-Edges.predicate in
+    let turned = c.in-Edges.turned in
+    let seen = c.in-Edges.seen in
+    let seen' = c.enter_all.new.visited in
+    let R = λ (x y : ℕ). IsFound (look_from turned p x) ids y in
+    let L = λ (x : ℕ) (look : Look ℕ). look ≡ look_from turned p x in
+    let from = subst (λ (l : List ℕ). IfOk c.edges.result (λ ends. IsFollowed l R L old new ends.items)) c.entered_after.ensures c.edges.ensures in
+    let fresh = subst (λ (n : ℕ). IfOk c.edges.result (λ ends. IsFollowed (drop n seen') R L old new ends.items)) c.len-from.ensures.len from in
+    subst (λ (w : Walker). IfOk c.edges.result (λ ends. GoesOn ids w (Edges p turned seen') xs old new ends.items)) (sym c.in-Edges.is)
+    (IfOk-weaker c.edges.result (λ ends. IsFollowed (drop (length seen) seen') R L old new ends.items) (λ ends. GoesOn ids (Edges p turned seen) (Edges p turned seen') xs old new ends.items)
+    (λ ends h. edges_on ids p turned seen seen' xs ends.items old new c.in_ok-enter_all-in-Edges.ensures h) fresh)
+
+pub walk_on-returns-in_ok-middle-in-Then : goal.walk_on-returns-in_ok-middle-in-Then
+walk_on-returns-in_ok-middle-in-Then g t c =
+    let ids = g.R.Triples.triples c.args.graph.now in
+    let xs = c.args.starts.now in
+    let old = c.args.footprint.now in
+    let mid = c.walk_on.new.footprint in
+    let new = c.walk_on-in-Then.new.footprint in
+    let first = c.in-Then.first in
+    let second = c.in-Then.second in
+    let first' = with_value first c.walk_on.new.walker in
+    let second' = with_value second c.walk_on-in-Then.new.walker in
+    let middle = c.in_ok-middle-in-Then.middle.items in
+    let level = c.deref.result.now in
+    let h = subst (λ (w : Walker). GoesOn ids w c.walk_on.new.walker xs old mid middle) c.deref_mut.ensures.value c.in_ok-middle-in-Then.ensures in
+    let k = subst (λ (w : Walker). IfOk c.walk_on-in-Then.result (λ ends. GoesOn ids w c.walk_on-in-Then.new.walker level mid new ends.items)) c.deref_mut-in-Then.ensures.value c.walk_on-in-Then.ensures in
+    subst (λ (w : Walker). IfOk c.walk_on-in-Then.result (λ ends. GoesOn ids w (Then first' second') xs old new ends.items)) (sym c.in-Then.is)
+    (IfOk-weaker c.walk_on-in-Then.result (λ ends. GoesOn ids second.value c.walk_on-in-Then.new.walker level mid new ends.items) (λ ends. GoesOn ids (Then first second) (Then first' second') xs old new ends.items)
+    (λ ends k. then_on ids first first' second second' xs old mid new middle level ends.items c.deref.ensures.value h k) k)
+
+pub walk_on-returns-in_ok-append-in-Either : goal.walk_on-returns-in_ok-append-in-Either
+walk_on-returns-in_ok-append-in-Either g t c =
+    let ids = g.R.Triples.triples c.args.graph.now in
+    let xs = c.args.starts.now in
+    let old = c.args.footprint.now in
+    let mid = c.walk_on-in-Either.new.footprint in
+    let new = c.walk_on-in-Either-2.new.footprint in
+    let first = c.in-Either.first in
+    let second = c.in-Either.second in
+    let first' = with_value first c.walk_on-in-Either.new.walker in
+    let second' = with_value second c.walk_on-in-Either-2.new.walker in
+    let ends = c.in_ok-ends-in-Either.ends.items in
+    let more = c.in_ok-more-in-Either.more.items in
+    let h = subst (λ (w : Walker). GoesOn ids w c.walk_on-in-Either.new.walker xs old mid ends) c.deref_mut-in-Either.ensures.value c.in_ok-ends-in-Either.ensures in
+    let k = subst (λ (w : Walker). GoesOn ids w c.walk_on-in-Either-2.new.walker xs mid new more) c.deref_mut-in-Either-2.ensures.value c.in_ok-more-in-Either.ensures in
+    subst (λ (w : Walker). GoesOn ids w (Either first' second') xs old new c.append.new.self.items) (sym c.in-Either.is)
+    (either_on ids first first' second second' xs old mid new ends more c.append.new.self.items c.in_ok-append-in-Either.ensures.items h k)
+
+pub walk_on-returns-in_ok-explore-in-More : goal.walk_on-returns-in_ok-explore-in-More
+walk_on-returns-in_ok-explore-in-More g t c =
+    let ids = g.R.Triples.triples c.args.graph.now in
+    let xs = c.args.starts.now in
+    let old = c.args.footprint.now in
+    let mid = c.walk_on-in-More.new.footprint in
+    let new = c.explore.new.footprint in
+    let inner = c.in-More.inner in
+    let inner' = with_value inner c.explore.new.walker in
+    let entered = c.in-More.entered in
+    let middle = c.enter_all-in-More.new.visited in
+    let entered' = c.explore.new.entered in
+    let from = c.len-from-in-More.result in
+    let first = c.in_ok-first-in-More.first.items in
+    let level = c.entered_after-in-More.result.now in
+    let h = subst (λ (w : Walker). GoesOn ids w c.walk_on-in-More.new.walker xs old mid first) c.deref_mut-in-More.ensures.value c.in_ok-first-in-More.ensures in
+    let k = subst (λ (w : Walker). Explores ids w c.explore.new.walker from (length entered') middle entered' mid new) c.deref_mut-in-More-2.ensures.value c.in_ok-explore-in-More.ensures in
+    subst (λ (w : Walker). IfOk c.copied-in-More.result (λ ends. GoesOn ids w (More inner' entered') xs old new ends.items)) (sym c.in-More.is)
+    (IfOk-weaker c.copied-in-More.result (λ ends. ends.items ≡ level) (λ ends. GoesOn ids (More inner entered) (More inner' entered') xs old new ends.items)
+    (λ ends e. more_on ids inner inner' c.walk_on-in-More.new.walker from xs first c.deref-in-More.result.now ends.items entered middle entered' old mid new c.len-from-in-More.ensures.len c.deref-in-More.ensures.value
+    h c.in_ok-enter_all-in-More.ensures k (e ∙ c.entered_after-in-More.ensures)) c.copied-in-More.ensures)

@@ -1,0 +1,126 @@
+ghost use Rattle.std.specs.Prelude.{false, true, IfOk};
+ghost use Rattle.path_eval.specs.NumberedWalks.{Backward, Onward, Reaches, ReachesSome};
+ghost use Rattle.path_eval.specs.NumberedLooks.{Reads, ReadsBackward, ReadsOnward, ReadsSome};
+ghost use Rattle.path_eval.specs.Walkers.{IsAnyNumber, IsEither, IsMade, IsMore, IsThen};
+
+use crate::visited::Visited;
+use crate::walker::Walker;
+use compiled_paths::Path;
+use std::alloc::{AllocError, Global};
+
+// By the one, and then by the other.
+fn then_of(alloc: Global, first: Walker, second: Walker) -> Result<Walker, AllocError>
+    ensures { IfOk result (λ walker. IsThen first second walker) }
+{
+    let one = Box::new(alloc, first)?;
+    let other = Box::new(alloc, second)?;
+    Ok(Walker::Then(one, other))
+}
+
+// By the one or by the other.
+fn either_of(alloc: Global, first: Walker, second: Walker) -> Result<Walker, AllocError>
+    ensures { IfOk result (λ walker. IsEither first second walker) }
+{
+    let one = Box::new(alloc, first)?;
+    let other = Box::new(alloc, second)?;
+    Ok(Walker::Either(one, other))
+}
+
+// Once or more often.
+fn more_of(alloc: Global, once: Walker) -> Result<Walker, AllocError>
+    ensures { IfOk result (λ walker. IsMore once walker) }
+{
+    let inner = Box::new(alloc, once)?;
+    Ok(Walker::More(inner, Visited::new(alloc)))
+}
+
+/// None, or once and more often.
+pub(crate) fn any_number(alloc: Global, once: Walker) -> Result<Walker, AllocError>
+    ensures { IfOk result (λ walker. IsAnyNumber once walker) }
+{
+    let more = more_of(alloc, once)?;
+    either_of(alloc, Walker::Here, more)
+}
+
+/// The walker along a path, or turned along the way back.
+#[cycle(making)]
+pub(crate) fn walker_of(alloc: Global, path: &Path<u32>, turned: bool) -> Result<Walker, AllocError>
+    ensures { IfOk result (λ walker. IsMade walker (λ ids. Reaches ids turned path.now) (λ ids. Reads ids turned path.now)) }
+{
+    match path {
+        Path::Predicate(predicate) => Ok(Walker::Edges(*predicate, turned, Visited::new(alloc))),
+        Path::Inverse(inner) => walker_of(alloc, inner, !turned),
+        Path::Sequence(first, others) => {
+            let one = walker_of(alloc, first, turned)?;
+            if turned {
+                let rest = backward_of(alloc, others)?;
+                then_of(alloc, rest, one)
+            } else {
+                let rest = onward_of(alloc, others)?;
+                then_of(alloc, one, rest)
+            }
+        }
+        Path::Alternative(first, others) => {
+            let one = walker_of(alloc, first, turned)?;
+            let rest = any_of(alloc, others, turned)?;
+            either_of(alloc, one, rest)
+        }
+        Path::ZeroOrMore(inner) => {
+            let once = walker_of(alloc, inner, turned)?;
+            any_number(alloc, once)
+        }
+        Path::OneOrMore(inner) => {
+            let once = walker_of(alloc, inner, turned)?;
+            more_of(alloc, once)
+        }
+        Path::ZeroOrOne(inner) => {
+            let once = walker_of(alloc, inner, turned)?;
+            either_of(alloc, Walker::Here, once)
+        }
+    }
+}
+
+// The walker along one path after another.
+#[cycle(making)]
+fn onward_of(alloc: Global, paths: &[Path<u32>]) -> Result<Walker, AllocError>
+    ensures { IfOk result (λ walker. IsMade walker (λ ids. Onward ids paths.now) (λ ids. ReadsOnward ids paths.now)) }
+{
+    let mut rest = Walker::Here;
+    let mut left = paths.len();
+    while left > 0 {
+        left -= 1;
+        let one = walker_of(alloc, &paths[left], false)?;
+        rest = then_of(alloc, one, rest)?;
+    }
+    Ok(rest)
+}
+
+// The same along the ways back, from the last path to the first.
+#[cycle(making)]
+fn backward_of(alloc: Global, paths: &[Path<u32>]) -> Result<Walker, AllocError>
+    ensures { IfOk result (λ walker. IsMade walker (λ ids. Backward ids paths.now) (λ ids. ReadsBackward ids paths.now)) }
+{
+    let mut rest = Walker::Here;
+    let mut left = paths.len();
+    while left > 0 {
+        left -= 1;
+        let one = walker_of(alloc, &paths[left], true)?;
+        rest = then_of(alloc, rest, one)?;
+    }
+    Ok(rest)
+}
+
+// The same along any of the paths.
+#[cycle(making)]
+fn any_of(alloc: Global, paths: &[Path<u32>], turned: bool) -> Result<Walker, AllocError>
+    ensures { IfOk result (λ walker. IsMade walker (λ ids. ReachesSome ids turned paths.now) (λ ids. ReadsSome ids turned paths.now)) }
+{
+    let mut rest = Walker::Nowhere;
+    let mut left = paths.len();
+    while left > 0 {
+        left -= 1;
+        let one = walker_of(alloc, &paths[left], turned)?;
+        rest = either_of(alloc, one, rest)?;
+    }
+    Ok(rest)
+}
