@@ -60,6 +60,13 @@ fn validate<'a>(alloc: Global) -> Result<Command<'a>, AllocError>
         .arg(name(alloc, "shapes"))
 }
 
+fn generate<'a>(alloc: Global) -> Result<Command<'a>, AllocError>
+    ensures app { IfOk result (λ c. app_of c ≡ CommandLine.generate) }
+    ensures local { IfOk result (λ c. (out-Command c).has_globals ≡ false) }
+{
+    Command::new(alloc, "generate").arg(name(alloc, "numbers"))
+}
+
 /// The command that the words are read for.
 pub fn command_line<'a>(alloc: Global) -> Result<Command<'a>, AllocError>
     ensures { IfOk result (λ c. app_of c ≡ CommandLine.command_line) }
@@ -68,5 +75,6 @@ pub fn command_line<'a>(alloc: Global) -> Result<Command<'a>, AllocError>
         .subcommand_required(true)
         .subcommand(run(alloc)?)?
         .subcommand(replay(alloc)?)?
-        .subcommand(validate(alloc)?)
+        .subcommand(validate(alloc)?)?
+        .subcommand(generate(alloc)?)
 }
