@@ -42,7 +42,9 @@ pub enum Call {
         shapes: Text,
     },
     /// Runs a generated load of the numbers from 1 on.
-    Generate { numbers: u32 },
+    Generate {
+        numbers: u32,
+    },
 }
 
 /// Why words are no call.

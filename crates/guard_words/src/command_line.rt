@@ -67,14 +67,21 @@ fn generate<'a>(alloc: Global) -> Result<Command<'a>, AllocError>
     Command::new(alloc, "generate").arg(name(alloc, "numbers"))
 }
 
-/// The command that the words are read for.
-pub fn command_line<'a>(alloc: Global) -> Result<Command<'a>, AllocError>
-    ensures { IfOk result (λ c. app_of c ≡ CommandLine.command_line) }
+// The program's command with those that run session files.
+fn session_commands<'a>(alloc: Global) -> Result<Command<'a>, AllocError>
+    ensures { IfOk result (λ c. app_of c ≡ CommandLine.session_commands) }
 {
     Command::new(alloc, "shacl_guard")
         .subcommand_required(true)
         .subcommand(run(alloc)?)?
-        .subcommand(replay(alloc)?)?
+        .subcommand(replay(alloc)?)
+}
+
+/// The command that the words are read for.
+pub fn command_line<'a>(alloc: Global) -> Result<Command<'a>, AllocError>
+    ensures { IfOk result (λ c. app_of c ≡ CommandLine.command_line) }
+{
+    session_commands(alloc)?
         .subcommand(validate(alloc)?)?
         .subcommand(generate(alloc)?)
 }

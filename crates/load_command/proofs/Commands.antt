@@ -68,7 +68,7 @@ with_block line k body rest whole is inside h s first n =
     let reading = block_reading k (block_text body) s first in
     let b = behind body rest (codes "%%") (n + 1) in
     let left : IsRead (commands_of s (next_after first reading) (items_after (suc (length body)) (n + 1) lines)) =
-        subst (λ items. IsRead (commands_of s (next_after first reading) items)) (sym b.1) (h s (next_after first reading) b.0) in
+    subst (λ items. IsRead (commands_of s (next_after first reading) items)) (sym b.1) (h s (next_after first reading) b.0) in
     subst IsRead
     (sym (by_kind s first n line lines (Block k) kind ∙ ap (λ (o : Option (List (List ℕ))). with_item s first n (Block k) o (λ next. commands_of s next (items_after (lines_of_block o) (n + 1) lines))) (block_of k body rest inside)))
     (one_more (block_command k reading) _ left)
