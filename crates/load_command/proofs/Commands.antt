@@ -28,16 +28,16 @@ by_kind : (s first n : ℕ) (line : List ℕ) (rest : List (List ℕ)) (kind : L
     → commands_of s first (items_after 0 n (line ∷ rest)) ≡ with_item s first n kind (block_after kind rest) (λ next. commands_of s next (items_after (lines_of_block (block_after kind rest)) (n + 1) rest))
 by_kind s first n line rest kind e = ap (λ (k : LineKind). with_item s first n k (block_after k rest) (λ next. commands_of s next (items_after (lines_of_block (block_after k rest)) (n + 1) rest))) e
 
-pub whole_line : (line : List ℕ) (rest : List (List ℕ)) → without_cr line ≡ line → command_text line rest ≡ line
+whole_line : (line : List ℕ) (rest : List (List ℕ)) → without_cr line ≡ line → command_text line rest ≡ line
 whole_line line [] e = refl
 whole_line line (next ∷ more) e = e
 
-pub with_begin : (rest : List (List ℕ)) → AreCommands rest → AreCommands (codes "begin" ∷ rest)
+with_begin : (rest : List (List ℕ)) → AreCommands rest → AreCommands (codes "begin" ∷ rest)
 with_begin rest h s first n =
     let kind : kind_of (command_text (codes "begin") rest) ≡ BeginCommand = ap kind_of (whole_line (codes "begin") rest refl) in
     subst IsRead (sym (by_kind s first n (codes "begin") rest BeginCommand kind)) (one_more Begin _ (h s first (n + 1)))
 
-pub with_commit : (rest : List (List ℕ)) → AreCommands rest → AreCommands (codes "commit" ∷ rest)
+with_commit : (rest : List (List ℕ)) → AreCommands rest → AreCommands (codes "commit" ∷ rest)
 with_commit rest h s first n =
     let kind : kind_of (command_text (codes "commit") rest) ≡ CommitCommand = ap kind_of (whole_line (codes "commit") rest refl) in
     subst IsRead (sym (by_kind s first n (codes "commit") rest CommitCommand kind)) (one_more Commit _ (h s first (n + 1)))
@@ -61,17 +61,22 @@ behind (line ∷ body) rest last n = behind body rest last (n + 1)
 block_of : (k : BlockKind) (body rest : List (List ℕ)) → AreInside body → block_after (Block k) (body ++ codes "%%" ∷ rest) ≡ Some body
 block_of k body rest h = ap (option_map (λ n. take n (body ++ codes "%%" ∷ rest))) (length_of_block body rest h) ∙ ap Some (first_lines body (codes "%%" ∷ rest))
 
-pub with_block : (line : List ℕ) (k : BlockKind) (body rest : List (List ℕ)) → without_cr line ≡ line → kind_of line ≡ Block k → AreInside body → AreCommands rest → AreCommands (line ∷ (body ++ codes "%%" ∷ rest))
+with_block : (line : List ℕ) (k : BlockKind) (body rest : List (List ℕ)) → without_cr line ≡ line → kind_of line ≡ Block k → AreInside body → AreCommands rest → AreCommands (line ∷ (body ++ codes "%%" ∷ rest))
 with_block line k body rest whole is inside h s first n =
     let lines = body ++ codes "%%" ∷ rest in
     let kind : kind_of (command_text line lines) ≡ Block k = ap kind_of (whole_line line lines whole) ∙ is in
     let reading = block_reading k (block_text body) s first in
     let b = behind body rest (codes "%%") (n + 1) in
     let left : IsRead (commands_of s (next_after first reading) (items_after (suc (length body)) (n + 1) lines)) =
-        subst (λ items. IsRead (commands_of s (next_after first reading) items)) (sym b.1) (h s (next_after first reading) b.0) in
+    subst (λ items. IsRead (commands_of s (next_after first reading) items)) (sym b.1) (h s (next_after first reading) b.0) in
     subst IsRead
     (sym (by_kind s first n line lines (Block k) kind ∙ ap (λ (o : Option (List (List ℕ))). with_item s first n (Block k) o (λ next. commands_of s next (items_after (lines_of_block o) (n + 1) lines))) (block_of k body rest inside)))
     (one_more (block_command k reading) _ left)
+
+-- a transaction that is one block
+pub with_one_block : (line : List ℕ) (k : BlockKind) (body rest : List (List ℕ)) → without_cr line ≡ line → kind_of line ≡ Block k → AreInside body → AreCommands rest → AreCommands (codes "begin" ∷ line ∷ (body ++ codes "%%" ∷ codes "commit" ∷ rest))
+with_one_block line k body rest whole is inside h =
+    with_begin (line ∷ (body ++ codes "%%" ∷ codes "commit" ∷ rest)) (with_block line k body (codes "commit" ∷ rest) whole is inside (with_commit rest h))
 
 -- many pieces of lines
 pub with_pieces : (f : ℕ → List (List ℕ)) → ((i : ℕ) (rest : List (List ℕ)) → AreCommands rest → AreCommands (f i ++ rest)) → (is : List ℕ) (rest : List (List ℕ)) → AreCommands rest → AreCommands (flat_map f is ++ rest)

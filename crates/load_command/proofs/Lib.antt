@@ -1,3 +1,4 @@
 pub mod Splitting
 pub mod Commands
 pub mod Files
+pub mod Loading

@@ -1,10 +1,19 @@
-ghost use Rattle.std.specs.Prelude.{◌≡◌, ◌≤◌, length};
+ghost use Rattle.std.specs.Prelude.{◌≡◌, ◌≤◌, ◌<◌, ◌^◌, length};
 ghost use Rattle.std.specs.List.{count_by};
 ghost use Rattle.load_command.specs.Counts;
 ghost use Rattle.load_command.specs.Counts.{count_replies};
 
 use collections::Sequence;
 use session_model::SessionReply;
+
+/// How many replies of two kinds there are.
+#[derive(Clone, Copy, Debug)]
+pub(crate) struct ReplyCounts {
+    /// A transaction was committed.
+    pub(crate) commits: usize,
+    /// A commit was refused by the shapes.
+    pub(crate) refused: usize,
+}
 
 fn is_commit(reply: &SessionReply) -> bool
     ensures { result ≡ Counts.is_commit reply.now }
@@ -18,38 +27,34 @@ fn is_refusal(reply: &SessionReply) -> bool
     matches!(reply, SessionReply::Refused { .. })
 }
 
-fn commits_in(replies: &[SessionReply]) -> usize
-    ensures { result ≡ count_by Counts.is_commit replies.now }
+// Of one session.
+fn count_in(replies: &[SessionReply]) -> ReplyCounts
+    ensures commits { result.commits ≡ count_by Counts.is_commit replies.now }
+    ensures refused { result.refused ≡ count_by Counts.is_refusal replies.now }
+    ensures few_commits { result.commits < 2 ^ 60 }
+    ensures few_refused { result.refused < 2 ^ 60 }
 {
-    replies.iter().filter(|reply| is_commit(reply)).count()
-}
-
-fn refusals_in(replies: &[SessionReply]) -> usize
-    ensures { result ≡ count_by Counts.is_refusal replies.now }
-{
-    replies.iter().filter(|reply| is_refusal(reply)).count()
-}
-
-/// How many transactions of a few sessions were committed.
-pub(crate) fn count_commits(all: &[Sequence<SessionReply>]) -> u128
-    requires { length all.now ≤ 64 }
-    ensures { result ≡ count_replies Counts.is_commit all.now }
-{
-    let mut count = 0;
-    for replies in all {
-        count += commits_in(replies.as_slice()) as u128;
+    let mut commits = 0;
+    let mut refused = 0;
+    for reply in replies {
+        commits += usize::from(is_commit(reply));
+        refused += usize::from(is_refusal(reply));
     }
-    count
+    ReplyCounts { commits, refused }
 }
 
-/// How many commits of a few sessions were refused by the shapes.
-pub(crate) fn count_refusals(all: &[Sequence<SessionReply>]) -> u128
-    requires { length all.now ≤ 64 }
-    ensures { result ≡ count_replies Counts.is_refusal all.now }
+/// Of a few sessions.
+pub(crate) fn count_replies(all: &[Sequence<SessionReply>]) -> ReplyCounts
+    requires { length all.now ≤ 4 }
+    ensures commits { result.commits ≡ count_replies Counts.is_commit all.now }
+    ensures refused { result.refused ≡ count_replies Counts.is_refusal all.now }
 {
-    let mut count = 0;
+    let mut commits = 0;
+    let mut refused = 0;
     for replies in all {
-        count += refusals_in(replies.as_slice()) as u128;
+        let counts = count_in(replies.as_slice());
+        commits += counts.commits;
+        refused += counts.refused;
     }
-    count
+    ReplyCounts { commits, refused }
 }

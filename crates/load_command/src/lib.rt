@@ -7,3 +7,6 @@
 
 mod counting;
 mod reading;
+mod running;
+
+pub use running::run_load;

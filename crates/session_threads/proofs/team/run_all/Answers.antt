@@ -19,8 +19,8 @@ returns g c =
     let met = c.in_ok-keeper-2 in
     let all = reverse met.all.items in
     let limits : core.limits ≡ store.limits = c.close-core.ensures.limits in
-    let n = c.triples.result in
-    let base = runs store files met.keeper core all n met.ensures.keeper met.ensures.opened met.ensures.met c.close-core.ensures.history limits c.close-core.ensures.replays c.triples.ensures in
+    let n = c.triples-triples.result in
+    let base = runs store files met.keeper core all n met.ensures.keeper met.ensures.opened met.ensures.met c.close-core.ensures.history limits c.close-core.ensures.replays c.triples-triples.ensures in
     subst (λ (x : Limits). HasEnd files x c.in_ok-order.order.items c.reverse.new.self.items n) c.in_ok-store.ensures.limits
     (subst (λ (x : List (List SessionReply)). HasEnd files store.limits c.in_ok-order.order.items x n) (sym c.reverse.ensures.items)
     (subst (λ (order : List ℕ). HasEnd files store.limits order all n) (sym c.in_ok-order.ensures) base))
