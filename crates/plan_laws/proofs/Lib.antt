@@ -1,1 +1,3 @@
 mod PathNumbers
+mod Sums
+mod Params
