@@ -1,3 +1,7 @@
 mod PathNumbers
 mod Sums
 mod Params
+mod OwnNumbers
+mod Places
+mod NamedPlaces
+mod Aims
