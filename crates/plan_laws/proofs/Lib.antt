@@ -5,3 +5,4 @@ mod OwnNumbers
 mod Places
 mod NamedPlaces
 mod Aims
+mod PlanNumbers

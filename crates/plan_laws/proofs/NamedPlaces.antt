@@ -89,15 +89,15 @@ module _ (f : ℕ → ℕ) where
       next p = total_append f (if is_for p k then constraint_places k else []) (places_for p ks)
 
 -- the sorts of constraints by their numbers
-term_number : (component : TermComponent) → number (parameter_of (term_component component)) ≤ 6
+pub term_number : (component : TermComponent) → number (parameter_of (term_component component)) ≤ 6
 term_number by_term.Class = omega arith
 term_number _ = omega arith
 
-list_number : (component : ListComponent) → number (parameter_of (list_component component)) ≤ 6
+pub list_number : (component : ListComponent) → number (parameter_of (list_component component)) ≤ 6
 list_number by_list.LanguageIn = omega arith
 list_number by_list.In = omega arith
 
-shape_number : (component : ShapeComponent) → (7 ≤ number (parameter_of (shape_component component))) × (number (parameter_of (shape_component component)) ≤ 8)
+pub shape_number : (component : ShapeComponent) → (7 ≤ number (parameter_of (shape_component component))) × (number (parameter_of (shape_component component)) ≤ 8)
 shape_number by_shape.Not = (omega arith, omega arith)
 shape_number by_shape.Node = (omega arith, omega arith)
 
@@ -106,7 +106,7 @@ shapes_number by_shapes.And = omega arith
 shapes_number by_shapes.Or = omega arith
 shapes_number by_shapes.Xone = omega arith
 
-same_number : (p : ShapeProperty) (k : Constraint Term) → is_for p k ≡ true → number (parameter_of (component_of k)) ≡ number p
+pub same_number : (p : ShapeProperty) (k : Constraint Term) → is_for p k ≡ true → number (parameter_of (component_of k)) ≡ number p
 same_number p k e = eqb-true (number (parameter_of (component_of k))) (number p) e
 
 module _ (shapes : List ReadShape) where

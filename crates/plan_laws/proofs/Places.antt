@@ -8,13 +8,15 @@ use Rattle.std.specs.declared.cmp.Ordering.TheVariants.{Less, Equal, Greater}
 use Rattle.std.proofs.lemmas.Bool.Decides.{nat_tests}
 use Rattle.collections.specs.Listings.{IsListing}
 use Rattle.collections.specs.Ordered.{AllAbove, IsAscending}
-use Rattle.collections.proofs.Members.{below, has_cases, has_equal, has_head, has_tail, same_lists}
+use Rattle.collections.proofs.Members.{below, has_cases, has_equal, has_head, has_tail}
 use Rattle.rdf_model.specs.declared.term.Term.{Term}
 use Rattle.rdf_model.specs.Orders.{term_total}
 use Rattle.rdf_model.specs.Terms.{term_cmp}
 use Rattle.reference_totals.specs.Totals.{SumBy}
+use Rattle.shape_model.proofs.Listings.{one_listing}
 use Rattle.shape_ast.specs.Readings.{ReadShape}
 use Rattle.shape_ast.specs.Standing.{AreAt, IsAt, IsAtSome, shape_cmp}
+use Rattle.read_plans.proofs.Plans.{of_place}
 use Rattle.read_plans.proofs.Referred.{nodes_at, one_at}
 use Rattle.plan_laws.proofs.Sums.{total}
 
@@ -26,18 +28,13 @@ below_at a b false false e f h = let same : a ≡ b = grind (arith, nat_tests) i
 less_from : (a b : ℕ) → nat_cmp a b ≡ Less → a < b
 less_from a b = below_at a b (nat_lt a b) (nat_lt b a) refl refl
 
-in_place : (shapes : List ReadShape) (k : ℕ) (c : ReadShape) → slice_get shapes k ≡ Some c → Contains shapes c
-in_place [] k c e = cc
-in_place (x ∷ xs) zero c e = let f : x ≡ c = cc in has_equal x xs c f
-in_place (x ∷ xs) (suc k) c e = has_tail x xs c (in_place xs k c e)
-
 -- nodes rise with their places
 nodes_rise : (shapes : List ReadShape) → IsAscending shape_cmp shapes → (j k : ℕ) (t u : Term) → j < k → IsAt shapes j t → IsAt shapes k u → term_cmp t u ≡ Less
 nodes_rise [] a j k t u l d e = let h = d.1 in cc
 nodes_rise (x ∷ xs) a j zero t u l d e = absurd (omega (arith, l))
 nodes_rise (x ∷ xs) a zero (suc k) t u l d e =
     let first : x ≡ d.0 = (let h = d.1 in cc) in
-    let low : term_cmp x.node e.0.node ≡ Less = below shape_cmp x xs e.0 a.0 (in_place xs k e.0 e.1) in
+    let low : term_cmp x.node e.0.node ≡ Less = below shape_cmp x xs e.0 a.0 (of_place xs k e.0 e.1) in
     let left : x.node ≡ t = ap (λ (c : ReadShape). c.node) first ∙ d.2 in
     subst (λ (w : Term). term_cmp w u ≡ Less) left (subst (λ (w : Term). term_cmp x.node w ≡ Less) e.2 low)
 nodes_rise (x ∷ xs) a (suc j) (suc k) t u l d e = nodes_rise xs a.1 j k t u (omega (arith, l)) d e
@@ -86,11 +83,16 @@ module _ (shapes : List ReadShape) where
     at_ascending (n ∷ ns) [] a at = absurd at
     at_ascending (n ∷ ns) (t ∷ ts) a at = (at_above n t ns ts at.0 a.0 at.1, at_ascending ns ts a.1 at.1)
 
-    -- the nodes at ascending places, as they are listed
+    -- the nodes at ascending places are a listing
+    pub nodes_listed : (P : Term → Type 0) (ns : List ℕ) → IsAscending nat_cmp ns → All (λ n. n < length shapes) ns → ((t : Term) → P t ↔ IsAtSome shapes ns t) → (us : List Term) × IsListing term_cmp P us × AreAt shapes ns us
+    nodes_listed P ns a within same =
+        let h = nodes_at shapes ns within in (
+          h.0,
+          record { ascending = at_ascending ns h.0 a h.1; members = λ t. (λ c. (same t).1 (at_from ns h.0 h.1 t c), λ p. at_to ns h.0 h.1 t ((same t).0 p)) },
+          h.1,
+        )
+
     pub listed_at : (P : Term → Type 0) (ns : List ℕ) (us : List Term) → IsAscending nat_cmp ns → All (λ n. n < length shapes) ns → IsListing term_cmp P us → ((t : Term) → P t ↔ IsAtSome shapes ns t) → AreAt shapes ns us
     listed_at P ns us a within listing same =
-        let h = nodes_at shapes ns within in
-        subst (λ (ts : List Term). AreAt shapes ns ts) (same_lists term_cmp term_total h.0 us (at_ascending ns h.0 a h.1) listing.ascending (λ t. (
-          λ c. (listing.members t).1 ((same t).1 (at_from ns h.0 h.1 t c)),
-          λ c. at_to ns h.0 h.1 t ((same t).0 ((listing.members t).0 c)),
-        ))) h.1
+        let h = nodes_listed P ns a within same in
+        subst (λ (ts : List Term). AreAt shapes ns ts) (one_listing term_cmp term_total P h.0 us h.1 listing) h.2

@@ -70,14 +70,14 @@ of_place : (o : Option ℕ) (n : ℕ) → o ≡ Some n → Contains (optional_pl
 of_place None n e = cc
 of_place (Some m) n e = has_equal m [] n (cc)
 
-once_from : (ns acc : List ℕ) (n : ℕ) → Contains (with_places acc ns) n → Contains acc n ⊎ Contains ns n
+pub once_from : (ns acc : List ℕ) (n : ℕ) → Contains (with_places acc ns) n → Contains acc n ⊎ Contains ns n
 once_from [] acc n c = inl c
 once_from (m ∷ ns) acc n c = elim (once_from ns (with_item nat_cmp m acc) n c) [
   | inl d ↦ elim (with_cases nat_cmp m acc n d) [ inl e ↦ inr (has_equal m ns n e) | inr k ↦ inl k ]
   | inr d ↦ inr (has_tail m ns n d)
 ]
 
-once_to : (ns acc : List ℕ) (n : ℕ) → Contains acc n ⊎ Contains ns n → Contains (with_places acc ns) n
+pub once_to : (ns acc : List ℕ) (n : ℕ) → Contains acc n ⊎ Contains ns n → Contains (with_places acc ns) n
 once_to [] acc n h = elim h [ inl c ↦ c | inr c ↦ absurd (none_in n c) ]
 once_to (m ∷ ns) acc n h = once_to ns (with_item nat_cmp m acc) n (elim h [
   | inl c ↦ inl (with_old nat_cmp m acc n c)
