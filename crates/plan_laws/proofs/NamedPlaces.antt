@@ -134,10 +134,10 @@ module _ (shapes : List ReadShape) where
         let rest = lists_at p ks (λ j c e. each j (has_tail k ks j c) e) in
         elim (is_for p k) as (λ (b : Bool). is_for p k ≡ b → (ms : List Term) × AreMembersOf s (if b then parameter k ∷ params p ks else params p ks) ms × AreAt shapes ((if b then constraint_places k else []) ++ places_for p ks) ms) [
           | true ↦ λ e. (let here = each k (has_head k ks) e in (
-              here.0 ++ rest.0,
-              (here.0, rest.0, inl here.1, rest.1, refl),
-              at_append shapes (constraint_places k) (places_for p ks) here.0 rest.0 here.2 rest.2,
-            ))
+            here.0 ++ rest.0,
+            (here.0, rest.0, inl here.1, rest.1, refl),
+            at_append shapes (constraint_places k) (places_for p ks) here.0 rest.0 here.2 rest.2,
+          ))
           | false ↦ λ e. rest
         ] refl
 
