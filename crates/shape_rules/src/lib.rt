@@ -13,6 +13,7 @@ mod least;
 mod looks;
 mod passes;
 mod path_looks;
+mod path_steps;
 mod property;
 mod referring;
 mod rows;

@@ -198,14 +198,23 @@ pub(crate) fn most_looks() -> u64
     4096
 }
 
+/// The places of the values that stand for paths.
+pub(crate) fn object_places(alloc: Global, graph: &[Triple]) -> Result<Sequence<Place>, AllocError>
+    requires { IsAscending triple_cmp graph.now }
+    ensures { IfOk result (λ places. ArePathPlaces graph.now places) }
+{
+    let paths = path_nodes(alloc, graph)?;
+    let nodes = objects(alloc, graph)?;
+    let places = path_places(alloc, graph, &paths, nodes.as_slice())?;
+    Ok(places)
+}
+
 /// The looks of the paths for which values stand, as far as they are counted.
 pub(crate) fn path_looks(alloc: Global, graph: &[Triple]) -> Result<BTreeMap<Term, u64>, AllocError>
     requires { IsAscending triple_cmp graph.now }
     ensures { IfOk result (λ table. ArePathLooks graph.now looks_limit table) }
 {
-    let paths = path_nodes(alloc, graph)?;
-    let nodes = objects(alloc, graph)?;
-    let places = path_places(alloc, graph, &paths, nodes.as_slice())?;
+    let places = object_places(alloc, graph)?;
     let table = totals(alloc, places.as_slice(), most_looks())?;
     Ok(table)
 }
