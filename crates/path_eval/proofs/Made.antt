@@ -1,7 +1,6 @@
 -- A walker is made of the walkers of a path's parts.
-use Rattle.std.proofs.Common.{◌≡◌, ◌∙◌, ℕ, suc, ◌+◌, ◌-◌, ◌<◌, ◌≤◌, List, [], ◌∷◌, length, drop, get_or, Bool, true, false, Vec, Box, Global, refl, sym, subst, ap, arith, inl, inr}
+use Rattle.std.proofs.Common.{◌≡◌, ◌∙◌, ℕ, suc, ◌+◌, ◌-◌, ◌<◌, ◌≤◌, List, [], ◌∷◌, length, drop, get_or, Bool, true, false, Vec, Box, Global, sym, subst, ap, arith, inl, inr}
 use Rattle.std.specs.Prelude.{◌⊎◌, ◌↔◌, not}
-use Rattle.std.specs.List.{Contains}
 use Rattle.std.proofs.lemmas.List.{drop_all}
 use Rattle.std.proofs.Math.Seq.{drop-cons}
 use Rattle.rdf_model.specs.declared.ids.Ids.{Ids}
@@ -203,20 +202,20 @@ module _ (paths : List (Path ℕ)) where
   pub some_none : (turned : Bool) → GoesSome paths Nowhere turned (length paths)
   some_none turned = subst (λ (l : List (Path ℕ)). IsMade Nowhere (λ ids. ReachesSome ids turned l) (λ ids. ReadsSome ids turned l)) (sym none_left) made_nowhere
 
-  module _ (i : ℕ) (p q : Path ℕ) (some : 0 < i) (le : i ≤ length paths) (is : get_or paths (i - 1) p ≡ p) (same : q ≡ p) (one rest walker : Walker) where
-    longer : drop (i - 1) paths ≡ q ∷ drop i paths
+  module _ (i : ℕ) (p : Path ℕ) (some : 0 < i) (le : i ≤ length paths) (is : get_or paths (i - 1) p ≡ p) (one rest walker : Walker) where
+    longer : drop (i - 1) paths ≡ p ∷ drop i paths
     longer =
         let back : i - 1 + 1 ≡ i = omega (arith, some) in
-        left_from paths (i - 1) p (omega (arith, some, le)) is ∙ ap (λ (n : ℕ). p ∷ drop n paths) back ∙ ap (λ (r : Path ℕ). r ∷ drop i paths) (sym same)
+        left_from paths (i - 1) p (omega (arith, some, le)) is ∙ ap (λ (n : ℕ). p ∷ drop n paths) back
 
-    pub onward_more : IsMade one (λ ids. Reaches ids false q) (λ ids. Reads ids false q) → GoesOnward paths rest i → IsThen one rest walker → GoesOnward paths walker (i - 1)
+    pub onward_more : IsMade one (λ ids. Reaches ids false p) (λ ids. Reads ids false p) → GoesOnward paths rest i → IsThen one rest walker → GoesOnward paths walker (i - 1)
     onward_more h k j = subst (λ (l : List (Path ℕ)). IsMade walker (λ ids. Onward ids l) (λ ids. ReadsOnward ids l)) (sym longer)
-        (made_then one rest walker (λ ids. Reaches ids false q) (λ ids. Onward ids (drop i paths)) (λ ids. Reads ids false q) (λ ids. ReadsOnward ids (drop i paths)) h k j)
+        (made_then one rest walker (λ ids. Reaches ids false p) (λ ids. Onward ids (drop i paths)) (λ ids. Reads ids false p) (λ ids. ReadsOnward ids (drop i paths)) h k j)
 
-    pub backward_more : IsMade one (λ ids. Reaches ids true q) (λ ids. Reads ids true q) → GoesBackward paths rest i → IsThen rest one walker → GoesBackward paths walker (i - 1)
+    pub backward_more : IsMade one (λ ids. Reaches ids true p) (λ ids. Reads ids true p) → GoesBackward paths rest i → IsThen rest one walker → GoesBackward paths walker (i - 1)
     backward_more h k j = subst (λ (l : List (Path ℕ)). IsMade walker (λ ids. Backward ids l) (λ ids. ReadsBackward ids l)) (sym longer)
-        (made_then rest one walker (λ ids. Backward ids (drop i paths)) (λ ids. Reaches ids true q) (λ ids. ReadsBackward ids (drop i paths)) (λ ids. Reads ids true q) k h j)
+        (made_then rest one walker (λ ids. Backward ids (drop i paths)) (λ ids. Reaches ids true p) (λ ids. ReadsBackward ids (drop i paths)) (λ ids. Reads ids true p) k h j)
 
-    pub some_more : (turned : Bool) → IsMade one (λ ids. Reaches ids turned q) (λ ids. Reads ids turned q) → GoesSome paths rest turned i → IsEither one rest walker → GoesSome paths walker turned (i - 1)
+    pub some_more : (turned : Bool) → IsMade one (λ ids. Reaches ids turned p) (λ ids. Reads ids turned p) → GoesSome paths rest turned i → IsEither one rest walker → GoesSome paths walker turned (i - 1)
     some_more turned h k j = subst (λ (l : List (Path ℕ)). IsMade walker (λ ids. ReachesSome ids turned l) (λ ids. ReadsSome ids turned l)) (sym longer)
-        (made_either one rest walker (λ ids. Reaches ids turned q) (λ ids. ReachesSome ids turned (drop i paths)) (λ ids. Reads ids turned q) (λ ids. ReadsSome ids turned (drop i paths)) h k j)
+        (made_either one rest walker (λ ids. Reaches ids turned p) (λ ids. ReachesSome ids turned (drop i paths)) (λ ids. Reads ids turned p) (λ ids. ReadsSome ids turned (drop i paths)) h k j)
