@@ -1,6 +1,6 @@
 -- A walker that goes on: from its parts, and what it has led to in all.
-use Rattle.std.proofs.Common.{◌≡◌, ◌∙◌, ℕ, suc, zero, ◌+◌, ◌*◌, ◌<◌, ◌≤◌, List, [], ◌∷◌, ◌++◌, length, take, drop, Bool, Box, Global, refl, sym, subst, ap, arith, inl, inr, append_assoc}
-use Rattle.std.specs.Prelude.{◌⊎◌, ◌↔◌}
+use Rattle.std.proofs.Common.{◌≡◌, ◌∙◌, ℕ, suc, zero, ◌+◌, ◌≤◌, List, [], ◌∷◌, ◌++◌, length, take, drop, Bool, Box, Global, refl, sym, subst, ap, arith, inl, inr, append_assoc}
+use Rattle.std.specs.Prelude.{◌⊎◌}
 use Rattle.std.specs.List.{Contains}
 use Rattle.std.specs.Ordering.{nat_cmp}
 use Rattle.std.proofs.lemmas.List.{append-nil, take-append-drop, take_all, length-append, drop-append-le}
@@ -11,7 +11,7 @@ use Rattle.rdf_model.specs.declared.ids.Ids.{Ids}
 use Rattle.rdf_model.specs.declared.look.Look.{Look}
 use Rattle.rdf_model.specs.Numbers.{IsFound}
 use Rattle.path_eval.specs.declared.walker.Walker.{Walker, Here, Nowhere, Edges, Then, Either, More, Then', Either', More'}
-use Rattle.path_eval.specs.Relations.{Enters, FromSome, IsFollowed, NumberChain, Repeated}
+use Rattle.path_eval.specs.Relations.{Enters, FromSome, IsFollowed, Repeated}
 use Rattle.path_eval.specs.NumberedWalks.{look_from}
 use Rattle.path_eval.specs.NumberedLooks.{AtRepeated}
 use Rattle.path_eval.specs.Walkers.{Advances, Again, Along, Explores, Goes, GoesOn, IsClosed, OneOrOther, OneThenOther, Plan, Sees, Stay, Stop, Within, plan_of}
@@ -40,6 +40,9 @@ more_size w inner entered e = ap (λ (v : Walker). plan_size (plan_of v)) e
 
 pub size_same : (v w : Walker) → v ≡ w → plan_size (plan_of v) ≡ plan_size (plan_of w)
 size_same v w e = ap (λ (v : Walker). plan_size (plan_of v)) e
+
+pub same_size : (a b : Plan) → a ≡ b → plan_size a ≡ plan_size b
+same_size a b e = ap plan_size e
 
 pub drop_within : {X : Type 0} → (from done : ℕ) (xs : List X) → from ≤ done → Within (drop done xs) (drop from xs)
 drop_within zero done xs le x c = from_back done xs x c
@@ -121,7 +124,7 @@ module _ (ids : List Ids) where
           λ x i. elim (Contains-append_cases seen e.more x (subst (λ (l : List ℕ). Contains l x) e.extended i)) [
             | inl d ↦ (grown (look_from turned p x) (c.1 x d).0, λ y f. Contains-append_left outs ends y ((c.1 x d).1 y f))
             | inr d ↦ let b = subst (λ (l : List ℕ). Contains l x) (sym new) d in
-            ((h.looks (look_from turned p x)).1 (inr (x, b, refl)), λ y f. Contains-append_right outs ends y ((h.listed.members y).1 (x, b, f)))
+                ((h.looks (look_from turned p x)).1 (inr (x, b, refl)), λ y f. Contains-append_right outs ends y ((h.listed.members y).1 (x, b, f)))
           ],
         );
       }
@@ -162,7 +165,7 @@ module _ (ids : List Ids) where
       closed = λ ins outs c. (
         wider first'.value (ins ++ starts) (ins ++ starts) (outs ++ ends) (outs ++ (ends ++ others)) mid more (λ x i. i) (within_both outs ends outs (ends ++ others) (λ x i. i) (Contains-append_left ends others)) k.grown (h.closed ins outs c.0),
         wider second'.value (ins ++ starts) (ins ++ starts) (outs ++ others) (outs ++ (ends ++ others)) more more (λ x i. i) (within_both outs others outs (ends ++ others) (λ x i. i) (Contains-append_right ends others)) (λ x i. i)
-        (k.closed ins outs (wider second.value ins ins outs outs looks mid (λ x i. i) (λ x i. i) h.grown c.1)),
+            (k.closed ins outs (wider second.value ins ins outs outs looks mid (λ x i. i) (λ x i. i) h.grown c.1)),
       );
     })
 
@@ -256,8 +259,7 @@ module _ (ids : List Ids) where
               ]
               | inr d ↦ Contains-append_left (ins ++ entered) starts x (Contains-append_right ins entered x (subst (λ (l : List ℕ). Contains l x) old d))
             ])
-            (λ x i. (e.members x).1 (Contains-append_cases entered first x i)) (λ look i. i) (h.closed (ins ++ entered) entered c.0) in
-            (
+            (λ x i. (e.members x).1 (Contains-append_cases entered first x i)) (λ look i. i) (h.closed (ins ++ entered) entered c.0) in (
               subst (λ (l : List ℕ). IsClosed ids inner'.value ((ins ++ starts) ++ l) entered' more) (take_all (length entered') entered' (omega arith)) (k.closed (ins ++ starts) a),
               λ x i. elim (Contains-append_cases entered (e.more ++ k.added) x (subst (λ (l : List ℕ). Contains l x) parts i)) [
                 | inl d ↦ Contains-append_left outs ends x (c.1 x d)

@@ -1,12 +1,11 @@
 -- A walker is made of the walkers of a path's parts.
-use Rattle.std.proofs.Common.{◌≡◌, ◌∙◌, ℕ, suc, ◌+◌, ◌-◌, ◌<◌, ◌≤◌, List, [], ◌∷◌, length, drop, get_or, Bool, true, false, Vec, Box, Global, refl, sym, subst, ap, arith, inl, inr}
+use Rattle.std.proofs.Common.{◌≡◌, ◌∙◌, ℕ, ◌+◌, ◌<◌, ◌≤◌, List, [], ◌∷◌, ◌++◌, length, take, drop, Bool, true, false, Vec, Box, Global, refl, sym, subst, ap, arith, inl, inr}
 use Rattle.std.specs.Prelude.{◌⊎◌, ◌↔◌, not}
-use Rattle.std.specs.List.{Contains}
-use Rattle.std.proofs.lemmas.List.{drop_all}
-use Rattle.std.proofs.Math.Seq.{drop-cons}
+use Rattle.std.proofs.lemmas.List.{take-append-drop}
 use Rattle.rdf_model.specs.declared.ids.Ids.{Ids}
 use Rattle.rdf_model.specs.declared.look.Look.{Look}
 use Rattle.compiled_paths.specs.declared.path.Path.{Path, Predicate, Inverse, Sequence, Alternative, ZeroOrMore, OneOrMore, ZeroOrOne}
+use Rattle.compiled_paths.proofs.Sizes.{list_size, path_size}
 use Rattle.path_eval.specs.declared.walker.Walker.{Walker, Here, Nowhere, Edges}
 use Rattle.path_eval.specs.Relations.{NumberChain, Repeated}
 use Rattle.path_eval.specs.NumberedWalks.{Backward, Onward, Reaches, ReachesSome}
@@ -173,50 +172,159 @@ module _ (path : Path ℕ) (turned : Bool) where
         (λ ids. (λ i x look. Reads ids turned (is_first i) x look ⊎ ReadsSome ids turned (are_others i) x look) ∙ sym (alternative_reads ids first others turned) ∙ (λ i. Reads ids turned (sym e i)))
         (made_either one rest walker (λ ids. Reaches ids turned f) (λ ids. ReachesSome ids turned ps) (λ ids. Reads ids turned f) (λ ids. ReadsSome ids turned ps) h k j)
 
--- the first of the paths that are left
-left_from : (paths : List (Path ℕ)) (i : ℕ) (p : Path ℕ) → i < length paths → get_or paths i p ≡ p → drop i paths ≡ p ∷ drop (i + 1) paths
-left_from paths i p lt is =
-    let e : suc i ≡ i + 1 = omega arith in
-    drop-cons paths i p lt ∙ ap (λ (n : ℕ). get_or paths i p ∷ drop n paths) e ∙ ap (λ (q : Path ℕ). q ∷ drop (i + 1) paths) is
+-- how many parts a list of paths has, by two parts of it; a part has fewer
+size_append : (ps qs : List (Path ℕ)) → list_size (ps ++ qs) ≡ list_size ps + list_size qs
+size_append [] qs = omega arith
+size_append (p ∷ ps) qs = omega (arith, size_append ps qs)
 
--- the walkers of the last paths of a list, and of one more
-module _ (paths : List (Path ℕ)) (rest : Walker) where
-  abbrev pub GoesOnward : ℕ → Type 0
-  GoesOnward i = IsMade rest (λ ids. Onward ids (drop i paths)) (λ ids. ReadsOnward ids (drop i paths))
+size_some : (ps : List (Path ℕ)) → length ps ≤ list_size ps
+size_some [] = omega arith
+size_some (p ∷ ps) = omega (arith, size_some ps)
 
-  abbrev pub GoesBackward : ℕ → Type 0
-  GoesBackward i = IsMade rest (λ ids. Backward ids (drop i paths)) (λ ids. ReadsBackward ids (drop i paths))
+pub halves : (paths before after : List (Path ℕ)) (m : ℕ) → before ≡ take m paths → after ≡ drop m paths → before ++ after ≡ paths
+halves paths before after m e d = subst (λ (l : List (Path ℕ)). l ++ after ≡ paths) (sym e) (subst (λ (l : List (Path ℕ)). take m paths ++ l ≡ paths) (sym d) (take-append-drop m paths))
 
-  abbrev pub GoesSome : Bool → ℕ → Type 0
-  GoesSome turned i = IsMade rest (λ ids. ReachesSome ids turned (drop i paths)) (λ ids. ReadsSome ids turned (drop i paths))
+module _ (paths before after : List (Path ℕ)) (is : before ++ after ≡ paths) where
+  both : list_size paths ≡ list_size before + list_size after
+  both = ap list_size (sym is) ∙ size_append before after
+
+  pub before_less : 0 < length after → list_size before < list_size paths
+  before_less some = omega (arith, both, size_some after, some)
+
+  pub after_less : 0 < length before → list_size after < list_size paths
+  after_less some = omega (arith, both, size_some before, some)
+
+pub inner_less : (path : Path ℕ) (f : Path ℕ) (inner : Box (Path ℕ) Global) → f ≡ inner.value → path_size path ≡ path_size inner.value + 1 → path_size f < path_size path
+inner_less path f inner is e = omega (arith, ap path_size is, e)
+
+pub first_less : (path f : Path ℕ) (first : Box (Path ℕ) Global) (others : Vec (Path ℕ) Global) → f ≡ first.value → path_size path ≡ path_size first.value + list_size others.items + 1 → path_size f < path_size path
+first_less path f first others is e = omega (arith, ap path_size is, e)
+
+-- along a list of paths, by two parts of it
+module _ (ids : List Ids) where
+  onward_append : (ps qs : List (Path ℕ)) (x y : ℕ) → ((z : ℕ) × Onward ids ps x z × Onward ids qs z y) ↔ Onward ids (ps ++ qs) x y
+  onward_append [] qs x y = (λ h. subst (λ (z : ℕ). Onward ids qs z y) (sym h.1) h.2, λ h. (x, refl, h))
+  onward_append (p ∷ ps) qs x y = (
+    λ h. (h.1.0, h.1.1, (onward_append ps qs h.1.0 y).0 (h.0, h.1.2, h.2)),
+    λ h. let k = (onward_append ps qs h.0 y).1 h.2 in (k.0, (h.0, h.1, k.1), k.2),
+  )
+
+  reads_onward_append : (ps qs : List (Path ℕ)) (x : ℕ) (look : Look ℕ) → (ReadsOnward ids ps x look ⊎ ((z : ℕ) × Onward ids ps x z × ReadsOnward ids qs z look)) ↔ ReadsOnward ids (ps ++ qs) x look
+  reads_onward_append [] qs x look = (elim [ inl n ↦ absurd n | inr h ↦ subst (λ (z : ℕ). ReadsOnward ids qs z look) (sym h.1) h.2 ], λ h. inr (x, refl, h))
+  reads_onward_append (p ∷ ps) qs x look = (
+    elim [
+      | inl (inl s) ↦ inl s
+      | inl (inr s) ↦ inr (s.0, s.1, (reads_onward_append ps qs s.0 look).0 (inl s.2))
+      | inr h ↦ inr (h.1.0, h.1.1, (reads_onward_append ps qs h.1.0 look).0 (inr (h.0, h.1.2, h.2)))
+    ],
+    elim [
+      | inl s ↦ inl (inl s)
+      | inr h ↦ elim ((reads_onward_append ps qs h.0 look).1 h.2) [ inl s ↦ inl (inr (h.0, h.1, s)) | inr k ↦ inr (k.0, (h.0, h.1, k.1), k.2) ]
+    ],
+  )
+
+  backward_append : (ps qs : List (Path ℕ)) (x y : ℕ) → ((z : ℕ) × Backward ids qs x z × Backward ids ps z y) ↔ Backward ids (ps ++ qs) x y
+  backward_append [] qs x y = (λ h. subst (λ (z : ℕ). Backward ids qs x z) h.2 h.1, λ h. (y, h, refl))
+  backward_append (p ∷ ps) qs x y = (
+    λ h. (h.2.0, (backward_append ps qs x h.2.0).0 (h.0, h.1, h.2.1), h.2.2),
+    λ h. let k = (backward_append ps qs x h.0).1 h.1 in (k.0, k.1, (h.0, k.2, h.2)),
+  )
+
+  reads_backward_append : (ps qs : List (Path ℕ)) (x : ℕ) (look : Look ℕ) → (ReadsBackward ids qs x look ⊎ ((z : ℕ) × Backward ids qs x z × ReadsBackward ids ps z look)) ↔ ReadsBackward ids (ps ++ qs) x look
+  reads_backward_append [] qs x look = (elim [ inl s ↦ s | inr h ↦ absurd h.2 ], λ s. inl s)
+  reads_backward_append (p ∷ ps) qs x look = (
+    elim [
+      | inl s ↦ inl ((reads_backward_append ps qs x look).0 (inl s))
+      | inr k ↦ elim k.2 [
+        | inl s ↦ inl ((reads_backward_append ps qs x look).0 (inr (k.0, k.1, s)))
+        | inr s ↦ inr (s.0, (backward_append ps qs x s.0).0 (k.0, k.1, s.1), s.2)
+      ]
+    ],
+    elim [
+      | inl m ↦ elim ((reads_backward_append ps qs x look).1 m) [ inl s ↦ inl s | inr h ↦ inr (h.0, h.1, inl h.2) ]
+      | inr h ↦ let k = (backward_append ps qs x h.0).1 h.1 in inr (k.0, k.1, inr (h.0, k.2, h.2))
+    ],
+  )
+
+  some_append : (turned : Bool) (ps qs : List (Path ℕ)) (x y : ℕ) → (ReachesSome ids turned ps x y ⊎ ReachesSome ids turned qs x y) ↔ ReachesSome ids turned (ps ++ qs) x y
+  some_append turned [] qs x y = (elim [ inl n ↦ absurd n | inr h ↦ h ], λ h. inr h)
+  some_append turned (p ∷ ps) qs x y = (
+    elim [ inl (inl r) ↦ inl r | inl (inr r) ↦ inr ((some_append turned ps qs x y).0 (inl r)) | inr r ↦ inr ((some_append turned ps qs x y).0 (inr r)) ],
+    elim [ inl r ↦ inl (inl r) | inr h ↦ elim ((some_append turned ps qs x y).1 h) [ inl r ↦ inl (inr r) | inr r ↦ inr r ] ],
+  )
+
+  reads_some_append : (turned : Bool) (ps qs : List (Path ℕ)) (x : ℕ) (look : Look ℕ) → (ReadsSome ids turned ps x look ⊎ ReadsSome ids turned qs x look) ↔ ReadsSome ids turned (ps ++ qs) x look
+  reads_some_append turned [] qs x look = (elim [ inl n ↦ absurd n | inr h ↦ h ], λ h. inr h)
+  reads_some_append turned (p ∷ ps) qs x look = (
+    elim [ inl (inl r) ↦ inl r | inl (inr r) ↦ inr ((reads_some_append turned ps qs x look).0 (inl r)) | inr r ↦ inr ((reads_some_append turned ps qs x look).0 (inr r)) ],
+    elim [ inl r ↦ inl (inl r) | inr h ↦ elim ((reads_some_append turned ps qs x look).1 h) [ inl r ↦ inl (inr r) | inr r ↦ inr r ] ],
+  )
+
+-- the same by facts that hold together
+made_where : (walker : Walker) (R S : List Ids → ℕ → ℕ → Type 0) (L M : List Ids → ℕ → Look ℕ → Type 0) → ((ids : List Ids) (x y : ℕ) → R ids x y ↔ S ids x y) → ((ids : List Ids) (x : ℕ) (look : Look ℕ) → L ids x look ↔ M ids x look)
+    → IsMade walker R L → IsMade walker S M
+made_where walker R S L M e d h = record {
+  fresh = h.fresh;
+  reaches = λ ids x y. (λ g. (e ids x y).0 ((h.reaches ids x y).0 g), λ s. (h.reaches ids x y).1 ((e ids x y).1 s));
+  reads = λ ids x look. (λ g. (d ids x look).0 ((h.reads ids x look).0 g), λ s. (h.reads ids x look).1 ((d ids x look).1 s));
+}
+
+-- the walker of no path, of one, and of two parts of a list
+module _ (walker : Walker) (turned : Bool) (paths : List (Path ℕ)) where
+  abbrev pub GoesOnward : Type 0
+  GoesOnward = IsMade walker (λ ids. Onward ids paths) (λ ids. ReadsOnward ids paths)
+
+  abbrev pub GoesBackward : Type 0
+  GoesBackward = IsMade walker (λ ids. Backward ids paths) (λ ids. ReadsBackward ids paths)
+
+  abbrev pub GoesSome : Type 0
+  GoesSome = IsMade walker (λ ids. ReachesSome ids turned paths) (λ ids. ReadsSome ids turned paths)
 
 module _ (paths : List (Path ℕ)) where
-  none_left : drop (length paths) paths ≡ []
-  none_left = drop_all (length paths) paths (omega arith)
+  pub onward_none : paths ≡ [] → GoesOnward Here false paths
+  onward_none e = subst (GoesOnward Here false) (sym e) made_here
 
-  pub onward_none : GoesOnward paths Here (length paths)
-  onward_none = subst (λ (l : List (Path ℕ)). IsMade Here (λ ids. Onward ids l) (λ ids. ReadsOnward ids l)) (sym none_left) made_here
+  pub backward_none : paths ≡ [] → GoesBackward Here true paths
+  backward_none e = subst (GoesBackward Here true) (sym e) made_here
 
-  pub backward_none : GoesBackward paths Here (length paths)
-  backward_none = subst (λ (l : List (Path ℕ)). IsMade Here (λ ids. Backward ids l) (λ ids. ReadsBackward ids l)) (sym none_left) made_here
+  pub some_none : (turned : Bool) → paths ≡ [] → GoesSome Nowhere turned paths
+  some_none turned e = subst (GoesSome Nowhere turned) (sym e) made_nowhere
 
-  pub some_none : (turned : Bool) → GoesSome paths Nowhere turned (length paths)
-  some_none turned = subst (λ (l : List (Path ℕ)). IsMade Nowhere (λ ids. ReachesSome ids turned l) (λ ids. ReadsSome ids turned l)) (sym none_left) made_nowhere
+  module _ (p : Path ℕ) (is : paths ≡ p ∷ []) (walker : Walker) where
+    pub onward_one : IsMade walker (λ ids. Reaches ids false p) (λ ids. Reads ids false p) → GoesOnward walker false paths
+    onward_one h = subst (GoesOnward walker false) (sym is)
+        (made_where walker (λ ids. Reaches ids false p) (λ ids. Onward ids (p ∷ [])) (λ ids. Reads ids false p) (λ ids. ReadsOnward ids (p ∷ []))
+        (λ ids x y. (λ r. (y, r, refl), λ r. subst (Reaches ids false p x) r.2 r.1)) (λ ids x look. (λ s. inl s, elim [ inl s ↦ s | inr n ↦ absurd n.2 ])) h)
 
-  module _ (i : ℕ) (p q : Path ℕ) (some : 0 < i) (le : i ≤ length paths) (is : get_or paths (i - 1) p ≡ p) (same : q ≡ p) (one rest walker : Walker) where
-    longer : drop (i - 1) paths ≡ q ∷ drop i paths
-    longer =
-        let back : i - 1 + 1 ≡ i = omega (arith, some) in
-        left_from paths (i - 1) p (omega (arith, some, le)) is ∙ ap (λ (n : ℕ). p ∷ drop n paths) back ∙ ap (λ (r : Path ℕ). r ∷ drop i paths) (sym same)
+    pub backward_one : IsMade walker (λ ids. Reaches ids true p) (λ ids. Reads ids true p) → GoesBackward walker true paths
+    backward_one h = subst (GoesBackward walker true) (sym is)
+        (made_where walker (λ ids. Reaches ids true p) (λ ids. Backward ids (p ∷ [])) (λ ids. Reads ids true p) (λ ids. ReadsBackward ids (p ∷ []))
+        (λ ids x y. (λ r. (x, refl, r), λ r. subst (λ (z : ℕ). Reaches ids true p z y) (sym r.1) r.2))
+        (λ ids x look. (λ s. inr (x, refl, s), elim [ inl n ↦ absurd n | inr s ↦ subst (λ (z : ℕ). Reads ids true p z look) (sym s.1) s.2 ])) h)
 
-    pub onward_more : IsMade one (λ ids. Reaches ids false q) (λ ids. Reads ids false q) → GoesOnward paths rest i → IsThen one rest walker → GoesOnward paths walker (i - 1)
-    onward_more h k j = subst (λ (l : List (Path ℕ)). IsMade walker (λ ids. Onward ids l) (λ ids. ReadsOnward ids l)) (sym longer)
-        (made_then one rest walker (λ ids. Reaches ids false q) (λ ids. Onward ids (drop i paths)) (λ ids. Reads ids false q) (λ ids. ReadsOnward ids (drop i paths)) h k j)
+    pub some_one : (turned : Bool) → IsMade walker (λ ids. Reaches ids turned p) (λ ids. Reads ids turned p) → GoesSome walker turned paths
+    some_one turned h = subst (GoesSome walker turned) (sym is)
+        (made_where walker (λ ids. Reaches ids turned p) (λ ids. ReachesSome ids turned (p ∷ [])) (λ ids. Reads ids turned p) (λ ids. ReadsSome ids turned (p ∷ []))
+        (λ ids x y. (λ r. inl r, elim [ inl r ↦ r | inr n ↦ absurd n ])) (λ ids x look. (λ s. inl s, elim [ inl s ↦ s | inr n ↦ absurd n ])) h)
 
-    pub backward_more : IsMade one (λ ids. Reaches ids true q) (λ ids. Reads ids true q) → GoesBackward paths rest i → IsThen rest one walker → GoesBackward paths walker (i - 1)
-    backward_more h k j = subst (λ (l : List (Path ℕ)). IsMade walker (λ ids. Backward ids l) (λ ids. ReadsBackward ids l)) (sym longer)
-        (made_then rest one walker (λ ids. Backward ids (drop i paths)) (λ ids. Reaches ids true q) (λ ids. ReadsBackward ids (drop i paths)) (λ ids. Reads ids true q) k h j)
+  module _ (before after : List (Path ℕ)) (is : before ++ after ≡ paths) (one other walker : Walker) where
+    pub onward_parts : GoesOnward one false before → GoesOnward other false after → IsThen one other walker → GoesOnward walker false paths
+    onward_parts h k j = subst (GoesOnward walker false) is
+        (made_where walker (λ ids x y. (z : ℕ) × Onward ids before x z × Onward ids after z y) (λ ids. Onward ids (before ++ after))
+        (λ ids x look. ReadsOnward ids before x look ⊎ ((z : ℕ) × Onward ids before x z × ReadsOnward ids after z look)) (λ ids. ReadsOnward ids (before ++ after))
+        (λ ids. onward_append ids before after) (λ ids. reads_onward_append ids before after)
+        (made_then one other walker (λ ids. Onward ids before) (λ ids. Onward ids after) (λ ids. ReadsOnward ids before) (λ ids. ReadsOnward ids after) h k j))
 
-    pub some_more : (turned : Bool) → IsMade one (λ ids. Reaches ids turned q) (λ ids. Reads ids turned q) → GoesSome paths rest turned i → IsEither one rest walker → GoesSome paths walker turned (i - 1)
-    some_more turned h k j = subst (λ (l : List (Path ℕ)). IsMade walker (λ ids. ReachesSome ids turned l) (λ ids. ReadsSome ids turned l)) (sym longer)
-        (made_either one rest walker (λ ids. Reaches ids turned q) (λ ids. ReachesSome ids turned (drop i paths)) (λ ids. Reads ids turned q) (λ ids. ReadsSome ids turned (drop i paths)) h k j)
+    pub backward_parts : GoesBackward one true after → GoesBackward other true before → IsThen one other walker → GoesBackward walker true paths
+    backward_parts h k j = subst (GoesBackward walker true) is
+        (made_where walker (λ ids x y. (z : ℕ) × Backward ids after x z × Backward ids before z y) (λ ids. Backward ids (before ++ after))
+        (λ ids x look. ReadsBackward ids after x look ⊎ ((z : ℕ) × Backward ids after x z × ReadsBackward ids before z look)) (λ ids. ReadsBackward ids (before ++ after))
+        (λ ids. backward_append ids before after) (λ ids. reads_backward_append ids before after)
+        (made_then one other walker (λ ids. Backward ids after) (λ ids. Backward ids before) (λ ids. ReadsBackward ids after) (λ ids. ReadsBackward ids before) h k j))
+
+    pub some_parts : (turned : Bool) → GoesSome one turned before → GoesSome other turned after → IsEither one other walker → GoesSome walker turned paths
+    some_parts turned h k j = subst (GoesSome walker turned) is
+        (made_where walker (λ ids x y. ReachesSome ids turned before x y ⊎ ReachesSome ids turned after x y) (λ ids. ReachesSome ids turned (before ++ after))
+        (λ ids x look. ReadsSome ids turned before x look ⊎ ReadsSome ids turned after x look) (λ ids. ReadsSome ids turned (before ++ after))
+        (λ ids. some_append ids turned before after) (λ ids. reads_some_append ids turned before after)
+        (made_either one other walker (λ ids. ReachesSome ids turned before) (λ ids. ReachesSome ids turned after) (λ ids. ReadsSome ids turned before) (λ ids. ReadsSome ids turned after) h k j))

@@ -2,7 +2,8 @@
 //!
 //! `values` and `back` ensure exactly the ends of walks and of walks turned round, each once, ascending,
 //! and exactly the looks that decide them; `is_instance` and `class_instances` say which nodes walk along
-//! the class path to a class. Repetitions go level by level, and each node is gone on from once.
+//! the class path to a class. Each part of a path goes on from each node once, also where a repetition stands
+//! inside a repetition, so a walk takes time linear in the graph times the path.
 #![tactic(auto)]
 
 mod instances;

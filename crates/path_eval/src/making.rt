@@ -80,19 +80,21 @@ pub(crate) fn walker_of(alloc: Global, path: &Path<u32>, turned: bool) -> Result
     }
 }
 
-// The walker along one path after another.
+// The walker along one path after another. It is put together of halves, so that long sequences are not deep.
 #[cycle(making)]
 fn onward_of(alloc: Global, paths: &[Path<u32>]) -> Result<Walker, AllocError>
     ensures { IfOk result (λ walker. IsMade walker (λ ids. Onward ids paths.now) (λ ids. ReadsOnward ids paths.now)) }
 {
-    let mut rest = Walker::Here;
-    let mut left = paths.len();
-    while left > 0 {
-        left -= 1;
-        let one = walker_of(alloc, &paths[left], false)?;
-        rest = then_of(alloc, one, rest)?;
+    if paths.len() > 1 {
+        let (before, after) = paths.split_at(paths.len() / 2);
+        let one = onward_of(alloc, before)?;
+        let other = onward_of(alloc, after)?;
+        return then_of(alloc, one, other);
     }
-    Ok(rest)
+    if paths.len() == 1 {
+        return walker_of(alloc, &paths[0], false);
+    }
+    Ok(Walker::Here)
 }
 
 // The same along the ways back, from the last path to the first.
@@ -100,14 +102,16 @@ fn onward_of(alloc: Global, paths: &[Path<u32>]) -> Result<Walker, AllocError>
 fn backward_of(alloc: Global, paths: &[Path<u32>]) -> Result<Walker, AllocError>
     ensures { IfOk result (λ walker. IsMade walker (λ ids. Backward ids paths.now) (λ ids. ReadsBackward ids paths.now)) }
 {
-    let mut rest = Walker::Here;
-    let mut left = paths.len();
-    while left > 0 {
-        left -= 1;
-        let one = walker_of(alloc, &paths[left], true)?;
-        rest = then_of(alloc, rest, one)?;
+    if paths.len() > 1 {
+        let (before, after) = paths.split_at(paths.len() / 2);
+        let one = backward_of(alloc, after)?;
+        let other = backward_of(alloc, before)?;
+        return then_of(alloc, one, other);
     }
-    Ok(rest)
+    if paths.len() == 1 {
+        return walker_of(alloc, &paths[0], true);
+    }
+    Ok(Walker::Here)
 }
 
 // The same along any of the paths.
@@ -115,12 +119,14 @@ fn backward_of(alloc: Global, paths: &[Path<u32>]) -> Result<Walker, AllocError>
 fn any_of(alloc: Global, paths: &[Path<u32>], turned: bool) -> Result<Walker, AllocError>
     ensures { IfOk result (λ walker. IsMade walker (λ ids. ReachesSome ids turned paths.now) (λ ids. ReadsSome ids turned paths.now)) }
 {
-    let mut rest = Walker::Nowhere;
-    let mut left = paths.len();
-    while left > 0 {
-        left -= 1;
-        let one = walker_of(alloc, &paths[left], turned)?;
-        rest = either_of(alloc, one, rest)?;
+    if paths.len() > 1 {
+        let (before, after) = paths.split_at(paths.len() / 2);
+        let one = any_of(alloc, before, turned)?;
+        let other = any_of(alloc, after, turned)?;
+        return either_of(alloc, one, other);
     }
-    Ok(rest)
+    if paths.len() == 1 {
+        return walker_of(alloc, &paths[0], turned);
+    }
+    Ok(Walker::Nowhere)
 }

@@ -4,6 +4,7 @@ ghost use Rattle.path_eval.specs.NumberedWalks.{Reaches};
 ghost use Rattle.path_eval.specs.NumberedLooks.{AtRepeated, Reads};
 ghost use Rattle.path_eval.specs.Walkers.{Goes, IsNew, Sees, plan_of};
 
+use crate::looking::edges;
 use crate::making::{any_number, walker_of};
 use crate::walker::{Walker, walk_on};
 use collections::sorted_once;
@@ -27,8 +28,8 @@ fn follow<R: Triples>(
     Ok(sorted_once(ends)?)
 }
 
-/// The ends of walks from any of the starts along the path, or turned along the way back.
-pub(crate) fn step<R: Triples>(
+// The ends of walks by a walker that is made for the path.
+fn walked<R: Triples>(
     alloc: Global,
     graph: &R,
     path: &Path<u32>,
@@ -40,6 +41,23 @@ pub(crate) fn step<R: Triples>(
 {
     let walker = walker_of(alloc, path, turned)?;
     follow(alloc, graph, walker, starts, footprint)
+}
+
+/// The ends of walks from any of the starts along the path, or turned along the way back.
+pub(crate) fn step<R: Triples>(
+    alloc: Global,
+    graph: &R,
+    path: &Path<u32>,
+    turned: bool,
+    starts: &[u32],
+    footprint: &mut Footprint,
+) -> Result<Vec<u32>, AllocError>
+    ensures { IfOk result (λ ends. IsFollowed starts.now (Reaches (R.triples graph.now) turned path.now) (Reads (R.triples graph.now) turned path.now) footprint.old footprint.new ends.items) }
+{
+    match path {
+        Path::Predicate(predicate) => edges(alloc, graph, *predicate, turned, starts, footprint),
+        _ => walked(alloc, graph, path, turned, starts, footprint),
+    }
 }
 
 /// The ends of any number of walks one after another.

@@ -41,7 +41,14 @@ pub(crate) fn walk_on<R: Triples>(
         Walker::Edges(predicate, turned, seen) => {
             let from = seen.len();
             enter_all(seen, starts)?;
-            edges(alloc, graph, *predicate, *turned, seen.entered_after(from), footprint)
+            edges(
+                alloc,
+                graph,
+                *predicate,
+                *turned,
+                seen.entered_after(from),
+                footprint,
+            )
         }
         Walker::Then(first, second) => {
             let middle = walk_on(alloc, graph, first, starts, footprint)?;

@@ -1,5 +1,5 @@
 use Rattle.std.proofs.lemmas.Result.{IfOk-weaker}
-use Rattle.path_eval.specs.declared.walker.Walker.{Walker, Here}
+use Rattle.path_eval.specs.declared.walker.Walker.{Here}
 use Rattle.path_eval.specs.Walkers.{IsAnyNumber, IsEither}
 use Rattle.path_eval.proofs.Made.{any_number}
 use Rattle.path_eval.proofs.making.any_number.Goals as goal

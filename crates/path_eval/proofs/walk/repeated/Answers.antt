@@ -1,4 +1,3 @@
-use Rattle.std.proofs.Common.{ℕ}
 use Rattle.std.proofs.lemmas.Result.{IfOk-weaker}
 use Rattle.path_eval.specs.Relations.{IsFollowed, Repeated}
 use Rattle.path_eval.specs.NumberedWalks.{Reaches}

@@ -1,20 +1,11 @@
-use Rattle.std.proofs.Common.{ℕ}
-use Rattle.std.proofs.lemmas.Result.{IfOk-weaker}
+use Rattle.std.proofs.Common.{ℕ, IfOk, sym, subst}
+use Rattle.compiled_paths.specs.declared.path.Path.{Path}
 use Rattle.path_eval.specs.Relations.{IsFollowed}
 use Rattle.path_eval.specs.NumberedWalks.{Reaches}
 use Rattle.path_eval.specs.NumberedLooks.{Reads}
-use Rattle.path_eval.specs.Walkers.{Goes, Sees, plan_of}
-use Rattle.path_eval.proofs.Follow.{followed_same}
 use Rattle.path_eval.proofs.walk.step.Goals as goal
 
-pub returns : goal.returns
-returns g c =
+pub returns-in-Predicate : goal.returns-in-Predicate
+returns-in-Predicate g c =
     let ids = g.R.Triples.triples c.args.graph.now in
-    let xs = c.args.starts.now in
-    let plan = plan_of c.in_ok-walker.walker in
-    let R = Reaches ids c.args.turned c.args.path.now in
-    let L = Reads ids c.args.turned c.args.path.now in
-    let old = c.args.footprint.now in
-    let new = c.follow.new.footprint in
-    IfOk-weaker c.follow.result (λ ends. IsFollowed xs (Goes ids plan) (Sees ids plan) old new ends.items) (λ ends. IsFollowed xs R L old new ends.items)
-    (λ ends h. followed_same xs (Goes ids plan) R (Sees ids plan) L old new ends.items (c.in_ok-walker.ensures.reaches ids) (c.in_ok-walker.ensures.reads ids) h) c.follow.ensures
+    subst (λ (p : Path ℕ). IfOk c.edges.result (λ ends. IsFollowed c.args.starts.now (Reaches ids c.args.turned p) (Reads ids c.args.turned p) c.args.footprint.now c.edges.new.footprint ends.items)) (sym c.in-Predicate.is) c.edges.ensures

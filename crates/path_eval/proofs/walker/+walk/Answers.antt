@@ -8,7 +8,7 @@ use Rattle.path_eval.specs.declared.walker.Walker.{Walker, Here, Edges, Then, Ei
 use Rattle.path_eval.specs.Relations.{IsFollowed}
 use Rattle.path_eval.specs.NumberedWalks.{look_from}
 use Rattle.path_eval.specs.Walkers.{Explores, GoesOn, plan_of}
-use Rattle.path_eval.proofs.Going.{advances, edges_on, either_on, either_size, explores_more, explores_none, here_on, more_on, more_size, plan_size, size_same, then_on, then_size}
+use Rattle.path_eval.proofs.Going.{advances, edges_on, either_on, either_size, explores_more, explores_none, here_on, more_on, more_size, nowhere_on, plan_size, same_size, size_same, then_on, then_size}
 use Rattle.path_eval.proofs.walker.+walk.Goals as goal
 
 pub advance-returns : goal.advance-returns
@@ -65,7 +65,7 @@ walk_on-explore-requires g t c κs within =
     let part = c.deref_mut-in-More-2.result.now in
     let mid = c.walk_on-in-More.new.walker in
     let same : plan_size (plan_of part) ≡ plan_size (plan_of mid) = size_same part mid c.deref_mut-in-More-2.ensures.value in
-    let kept : plan_size (plan_of mid) ≡ plan_size (plan_of c.deref_mut-in-More.result.now) = ap plan_size c.in_ok-first-in-More.ensures.kept in
+    let kept = same_size (plan_of mid) (plan_of c.deref_mut-in-More.result.now) c.in_ok-first-in-More.ensures.kept in
     let inner = size_same c.deref_mut-in-More.result.now c.in-More.inner.value c.deref_mut-in-More.ensures.value in
     let less : plan_size (plan_of part) * 3 + 2 < plan_size (plan_of c.args.walker.now) * 3 = omega (arith, more_size c.args.walker.now c.in-More.inner c.in-More.entered c.in-More.is, same, kept, inner) in
     let more = c.in_ok-enter_all-in-More.ensures in
@@ -156,3 +156,9 @@ walk_on-returns-in_ok-explore-in-More g t c =
     (IfOk-weaker c.copied-in-More.result (λ ends. ends.items ≡ level) (λ ends. GoesOn ids (More inner entered) (More inner' entered') xs old new ends.items)
     (λ ends e. more_on ids inner inner' c.walk_on-in-More.new.walker from xs first c.deref-in-More.result.now ends.items entered middle entered' old mid new c.len-from-in-More.ensures.len c.deref-in-More.ensures.value
     h c.in_ok-enter_all-in-More.ensures k (e ∙ c.entered_after-in-More.ensures)) c.copied-in-More.ensures)
+
+pub walk_on-returns-in-Nowhere : goal.walk_on-returns-in-Nowhere
+walk_on-returns-in-Nowhere g t c =
+    let ids = g.R.Triples.triples c.args.graph.now in
+    let looks = c.args.footprint.now in
+    subst (λ (w : Walker). GoesOn ids w w c.args.starts.now looks looks c.new.result.items) (sym c.in-Nowhere.is) (nowhere_on ids c.args.starts.now c.new.result.items looks c.new.ensures.items)
