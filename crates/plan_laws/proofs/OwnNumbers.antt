@@ -1,5 +1,5 @@
 -- A shape has as many rows of its own as looks are counted of it.
-use Rattle.std.proofs.Common.{◌≡◌, ◌∙◌, ℕ, ◌+◌, ◌*◌, Bool, true, false, List, [], ◌∷◌, ◌++◌, length, refl, sym, ap, subst, arith, inl, inr}
+use Rattle.std.proofs.Common.{◌≡◌, ℕ, ◌+◌, ◌*◌, Bool, true, false, List, [], ◌∷◌, length, refl, sym, subst, arith, inl, inr}
 use Rattle.std.specs.Prelude.{◌↔◌, Option, Some, None, if◌then◌else◌}
 use Rattle.std.specs.List.{Contains, flat_map}
 use Rattle.std.specs.declared.cmp.Ordering.TheVariants.{Less}
@@ -30,7 +30,7 @@ use Rattle.shape_ast.specs.declared.constraint.Constraint.{Constraint}
 use Rattle.shape_ast.specs.declared.constraint.Constraint.TheVariants.{ByList, ByShape, ByShapes, ByTerm}
 use Rattle.shape_ast.specs.Readings.{parameter}
 use Rattle.read_plans.specs.PathRows.{path_rows}
-use Rattle.read_plans.specs.ShapeRows.{closed_rows, constraint_rows, optional_rows}
+use Rattle.read_plans.specs.ShapeRows.{constraint_rows, optional_rows}
 use Rattle.plan_laws.proofs.Params.{is_for, one, params, params_length}
 use Rattle.plan_laws.proofs.PathNumbers.{path_count}
 

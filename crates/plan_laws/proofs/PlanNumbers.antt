@@ -1,8 +1,7 @@
 -- A plan has as many rows as looks are counted of the shape.
-use Rattle.std.proofs.Common.{◌≡◌, ◌∙◌, ℕ, zero, suc, ◌+◌, ◌*◌, ◌<◌, ◌≤◌, Bool, true, false, List, [], ◌∷◌, ◌++◌, length, get_or, refl, sym, ap, subst, arith, inl, inr}
-use Rattle.std.specs.Prelude.{◌⊎◌, ◌↔◌, IsTrue, MatchOption, Option, Some, None, slice_get, if◌then◌else◌}
+use Rattle.std.proofs.Common.{◌≡◌, ℕ, zero, suc, ◌+◌, ◌<◌, ◌≤◌, Bool, true, false, List, [], ◌∷◌, ◌++◌, length, get_or, refl, ap, subst, arith, inl, inr}
+use Rattle.std.specs.Prelude.{◌⊎◌, ◌↔◌, MatchOption, Option, Some, None, if◌then◌else◌}
 use Rattle.std.specs.List.{All, Contains, flat_map, list_any}
-use Rattle.std.specs.FinMap.{nat_cmp-IsAntisymmetric}
 use Rattle.std.specs.Ordering.{nat_cmp}
 use Rattle.std.proofs.lemmas.Cmp.{nat_cmp_total}
 use Rattle.std.proofs.lemmas.List.{length-append}
@@ -10,32 +9,31 @@ use Rattle.std.proofs.lemmas.List.Elements.{All-contains, Contains-append_left, 
 use Rattle.collections.specs.Listings.{IsListing}
 use Rattle.collections.specs.Ordered.{IsAscending, with_item}
 use Rattle.collections.proofs.Ascending.{IsAscending-with_item}
-use Rattle.collections.proofs.Members.{has_cases, has_equal, has_head, has_tail}
+use Rattle.collections.proofs.Members.{has_cases, has_equal}
 use Rattle.rdf_model.specs.declared.term.Term.{Term}
 use Rattle.rdf_model.specs.declared.triple.Triple.{Triple}
 use Rattle.rdf_model.specs.Terms.{term_cmp}
-use Rattle.shape_model.specs.Components.{parameter_of}
 use Rattle.shape_model.specs.Declarations.{values_of}
 use Rattle.shape_model.specs.Instances.{Instance}
 use Rattle.shape_model.specs.Paths.{Path}
-use Rattle.shape_model.specs.Readings.{References, Refers, SameReading, Sibling, reading}
+use Rattle.shape_model.specs.Readings.{Refers, SameReading, Sibling, reading}
 use Rattle.shape_model.specs.ShapeSyntax.{HasProperty, ListOf, TakesMembers}
 use Rattle.shape_model.specs.Vocabulary.{ShAnd, ShClass, ShClosed, ShDeactivated, ShDisjoint, ShEquals, ShLessThan, ShLessThanOrEquals, ShNode, ShNot, ShOr, ShProperty, ShQualifiedMaxCount, ShQualifiedMinCount, ShQualifiedValueShape, ShTargetClass, ShTargetObjectsOf, ShTargetSubjectsOf, ShXone, ShapeProperty, property_iri, rdfs_class, true_literal}
 use Rattle.shape_model.proofs.Declarations.{values_law}
 use Rattle.shape_model.proofs.Surroundings.{reading_back, refers_same}
 use Rattle.reference_totals.specs.Totals.{SumBy}
 use Rattle.shape_rules.specs.Broken.{IsWellFormed}
-use Rattle.shape_rules.specs.Sizes.{AreCounted, AreMembersOf, AreQualified, AreReferred, HasLooks, HasOwnLooks, HasQualifiedCount, HasTargetLooks, IsDeactivated, IsLookWeight, WeighsBy, values}
+use Rattle.shape_rules.specs.Sizes.{AreCounted, AreMembersOf, AreQualified, HasOwnLooks, HasQualifiedCount, HasTargetLooks, IsDeactivated, values}
 use Rattle.shape_rules.specs.declared.property.ShapeProperty.TheVariants as properties
 use Rattle.shape_ast.specs.declared.constraint.Constraint.{Constraint}
 use Rattle.shape_ast.specs.declared.constraint.Constraint.TheVariants.{ByList, ByShape, ByShapes, ByTerm}
 use Rattle.shape_ast.specs.declared.target.Target.TheVariants.{Class, ImplicitClass, ObjectsOf, SubjectsOf}
-use Rattle.shape_ast.specs.Readings.{ReadShape, component_of, parameter}
-use Rattle.shape_ast.specs.Standing.{AreAt, HasMembers, IsAt, IsAtSome, IsFor, IsLinked, ShapeHas, StandFor, shape_reading}
+use Rattle.shape_ast.specs.Readings.{ReadShape, parameter}
+use Rattle.shape_ast.specs.Standing.{AreAt, HasMembers, IsAt, IsFor, IsLinked, StandFor, shape_reading}
 use Rattle.shape_reader.specs.Once.{IsOnce}
 use Rattle.shape_reader.proofs.Names.{shape_same}
 use Rattle.shape_reader.proofs.WellFormed.{one_value}
-use Rattle.read_plans.specs.ShapeRows.{constraint_places, constraint_rows, is_count, optional_place, optional_rows, own_rows, qualified_places, referred_places, rows_with, shape_rows, target_rows, value_way, with_places}
+use Rattle.read_plans.specs.ShapeRows.{constraint_places, constraint_rows, is_count, optional_place, optional_rows, own_rows, qualified_places, referred_places, target_rows, value_way, with_places}
 use Rattle.read_plans.proofs.Lists.{any_from}
 use Rattle.read_plans.proofs.Referred.{IsWithin, count_of, is_counted, named_refers, nodes_at, once_from, once_to}
 use Rattle.plan_laws.proofs.Aims.{aim_numbers, class_back, implicit_if, implicit_number, objects_back, pick_class, pick_objects, pick_subjects, picked, picked_number, subjects_back}
@@ -43,7 +41,7 @@ use Rattle.plan_laws.proofs.NamedPlaces.{list_number, lists_at, members_append, 
 use Rattle.plan_laws.proofs.OwnNumbers.{constraint_numbers, count, count_if, counts_as, path_looks}
 use Rattle.plan_laws.proofs.Params.{for_from, is_for, number, params, params_are}
 use Rattle.plan_laws.proofs.Places.{at_append, listed_at, nodes_listed, sum_at}
-use Rattle.plan_laws.proofs.Sums.{flat_total, sum_append, total, total_append}
+use Rattle.plan_laws.proofs.Sums.{sum_append, total, total_append}
 
 -- the places that a compiled shape names are there
 pub record IsInside (count : ℕ) (c : ReadShape) : Type 0 where

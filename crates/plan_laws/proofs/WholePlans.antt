@@ -1,5 +1,5 @@
 -- The plans of compiled shapes, through all references.
-use Rattle.std.proofs.Common.{◌≡◌, ◌∙◌, ℕ, zero, suc, ◌+◌, ◌<◌, ◌≤◌, Bool, true, false, List, [], ◌∷◌, ◌++◌, length, map, refl, sym, ap, subst, arith, inl, inr}
+use Rattle.std.proofs.Common.{◌≡◌, ℕ, zero, suc, ◌<◌, ◌≤◌, Bool, true, false, List, [], ◌∷◌, ◌++◌, length, refl, sym, ap, subst, arith, inl, inr}
 use Rattle.std.specs.Prelude.{◌⊎◌, Option, Some, None, slice_get, if◌then◌else◌}
 use Rattle.std.specs.List.{Contains, flat_map}
 use Rattle.std.proofs.lemmas.List.{length-append, length-map}
@@ -20,13 +20,12 @@ use Rattle.shape_ast.specs.Readings.{HoldsOfShape, ReadShape, read_shape, read_s
 use Rattle.shape_ast.specs.Standing.{AreCompiled, IsAt, StandFor, StandsIn}
 use Rattle.shape_reader.specs.Once.{IsOnce}
 use Rattle.shape_reader.proofs.Names.{shape_same}
-use Rattle.read_plans.specs.declared.fault.PlanFault.{PlanFault}
 use Rattle.read_plans.specs.declared.fault.PlanFault.TheVariants.{Memory, TooWide}
-use Rattle.read_plans.specs.Rows.{IsStopped, looks_limit}
-use Rattle.read_plans.specs.ShapeRows.{all_target_rows, levels_limit, own_rows, plan_rows, referred_places, rows_with, shape_rows, target_rows, value_way}
+use Rattle.read_plans.specs.Rows.{looks_limit}
+use Rattle.read_plans.specs.ShapeRows.{all_target_rows, levels_limit, own_rows, referred_places, rows_with, shape_rows, target_rows, value_way}
 use Rattle.read_plans.proofs.Lists.{mapped_from}
 use Rattle.read_plans.proofs.Plans.{all_within, of_place}
-use Rattle.plan_laws.specs.Numbers.{AreRead, NoneTooWide, OnlyMemory, PlanNumber, plan_number}
+use Rattle.plan_laws.specs.Numbers.{NoneTooWide, OnlyMemory, PlanNumber, plan_number}
 use Rattle.plan_laws.proofs.PlanNumbers.{IsInside, counted, off_from, off_to, own_looks, refers_to, target_looks}
 use Rattle.plan_laws.proofs.Sums.{flat_total, total}
 

@@ -1,6 +1,6 @@
 -- Places rise with their terms.
-use Rattle.std.proofs.Common.{◌≡◌, ℕ, zero, suc, ◌+◌, ◌<◌, List, [], ◌∷◌, ◌++◌, length, take, get_or, Some, refl, sym, subst, arith, inl, inr}
-use Rattle.std.specs.Prelude.{◌↔◌, ◌⊎◌}
+use Rattle.std.proofs.Common.{◌≡◌, ℕ, zero, suc, ◌<◌, List, [], ◌∷◌, ◌++◌, length, take, get_or, refl, sym, subst, arith, inl, inr}
+use Rattle.std.specs.Prelude.{◌⊎◌}
 use Rattle.std.specs.List.{Contains}
 use Rattle.std.specs.Cmp.{nat_cmp_is, tied_itself}
 use Rattle.std.specs.Ordering.{nat_cmp}
@@ -12,7 +12,7 @@ use Rattle.collections.proofs.Members.{below, has_cases, has_head, has_tail}
 use Rattle.rdf_model.specs.declared.term.Term.{Term}
 use Rattle.rdf_model.specs.Terms.{term_cmp}
 use Rattle.rdf_model.specs.Orders.{term_total}
-use Rattle.shape_syntax.specs.Gathering.{Gives, HasGathered}
+use Rattle.shape_syntax.specs.Gathering.{HasGathered}
 use Rattle.shape_reader.specs.Parts.{IsPlace}
 
 in_place : (xs : List Term) (k : ℕ) (t : Term) → IsPlace xs k t → Contains xs t

@@ -10,7 +10,7 @@ use Rattle.shape_ast.specs.declared.constraint.Constraint.{Constraint}
 use Rattle.shape_ast.specs.Readings.{component_of, parameter}
 use Rattle.shape_reader.specs.Once.{constraint_triple, value_triple}
 use Rattle.shape_reader.specs.Parts.{SaysConstraint}
-use Rattle.shape_reader.proofs.Names.{rule_property, same_iri}
+use Rattle.shape_reader.proofs.Names.{same_iri}
 use Rattle.shape_reader.proofs.Told.{same_parameter, same_property}
 use Rattle.shape_reader.specs.Kinds.{kind}
 

@@ -1,12 +1,10 @@
 -- Some items of a list, in their order.
-use Rattle.std.proofs.Common.{◌≡◌, ◌∙◌, ℕ, zero, suc, ◌+◌, ◌-◌, ◌<◌, ◌≤◌, List, [], ◌∷◌, ◌++◌, length, take, drop, get_or, map, refl, sym, ap, subst, arith, inl, inr}
+use Rattle.std.proofs.Common.{◌≡◌, ◌∙◌, ℕ, zero, suc, ◌+◌, ◌<◌, ◌≤◌, List, [], ◌∷◌, ◌++◌, length, take, drop, get_or, refl, sym, ap, subst, inl, inr}
 use Rattle.std.specs.Prelude.{◌⊎◌}
-use Rattle.std.specs.List.{Contains}
 use Rattle.std.specs.declared.cmp.Ordering.{Ordering}
 use Rattle.std.proofs.lemmas.List.{take_all, take_more}
 use Rattle.collections.specs.Ordered.{AllAbove, IsAscending}
-use Rattle.collections.proofs.Members.{has_cases, has_equal, has_tail}
-use Rattle.shape_reader.specs.Once.{AreDistinct, MayAdd}
+use Rattle.shape_reader.specs.Once.{MayAdd}
 
 abbrev pub SomeOf : {X : Type 0} → List X → List X → Type 0
 SomeOf [] ys = ys ≡ []

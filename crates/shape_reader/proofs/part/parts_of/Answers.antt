@@ -1,4 +1,4 @@
-use Rattle.std.proofs.Common.{[], List, arith, map, subst}
+use Rattle.std.proofs.Common.{[], arith, map, subst}
 use Rattle.rdf_model.specs.declared.term.Term.{Term}
 use Rattle.rdf_model.specs.declared.triple.Triple.{Triple}
 use Rattle.rdf_model.specs.Terms.{triple_cmp}

@@ -1,4 +1,4 @@
-use Rattle.std.proofs.Common.{◌≡◌, ◌∙◌, List, map, sym, subst}
+use Rattle.std.proofs.Common.{◌≡◌, ◌∙◌, map, sym, subst}
 use Rattle.rdf_model.specs.declared.triple.Triple.{Triple}
 use Rattle.shape_rules.specs.declared.property.ShapeProperty.{ShapeProperty}
 use Rattle.shape_rules.specs.Steps.{OfTriple}
