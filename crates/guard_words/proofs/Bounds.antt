@@ -5,7 +5,7 @@ use Rattle.std.specs.Str.Parse.{digits_value}
 use Rattle.std.proofs.lemmas.Bool.Decides.{nat_tests}
 use Rattle.clap.specs.Words.{Row, Text, subcommand_of}
 use Rattle.guard_words.specs.CommandLine.{command_line}
-use Rattle.guard_words.specs.Words.{limit_of, limit_or_default, limits_of_both, limits_in, run_of, replay_of, validate_of, generate_of, size_of, size_of_word, up_to, files_in, history_in, data_in, shapes_in, size_in, call_in, call_of}
+use Rattle.guard_words.specs.Words.{limit_of, limit_or_default, limits_of_both, limits_in, run_of, replay_of, validate_of, generate_of, size_of_word, up_to, files_in, history_in, data_in, shapes_in, size_in, call_in, call_of}
 use Rattle.guard_words.specs.declared.call.Limits.{Limits}
 use Rattle.guard_words.specs.declared.call.Call.{Call}
 use Rattle.guard_words.specs.declared.call.Call.TheVariants.{Run, Replay, Validate, Generate}

@@ -9,10 +9,9 @@ use Rattle.std.proofs.lemmas.Nat.{mod_below}
 use Rattle.load_maker.specs.Workload.{line, lines_text, node, shapes_lines, type_lines, value_lines, commit_lines, transaction_lines, own_lines, workload}
 use Rattle.session_reader.specs.declared.line.BlockKind.TheVariants as blocks
 use Rattle.session_reader.specs.declared.line.Syntax.TheVariants.{NTriples, Turtle}
-use Rattle.session_reader.specs.declared.read_command.ReadCommand.{ReadCommand}
 use Rattle.session_reader.specs.SessionFile.{is_block_end, session_of, commands_of, items_after}
 use Rattle.load_command.proofs.Splitting.{all_of, append_no_lf, append_no_lfs, decimal_no_lf, no_lf, no_lfs, split_lines}
-use Rattle.load_command.proofs.Commands.{AreCommands, AreInside, IsRead, none_left, with_one_block, with_pieces}
+use Rattle.load_command.proofs.Commands.{AreCommands, IsRead, none_left, with_one_block, with_pieces}
 
 abbrev class_text : List ℕ
 class_text = codes " <http://www.w3.org/1999/02/22-rdf-syntax-ns#type> <e:C> ."

@@ -2,3 +2,4 @@ pub mod Splitting
 pub mod Commands
 pub mod Files
 pub mod Loading
+pub mod Sessions

@@ -1,5 +1,5 @@
 -- One session more.
-use Rattle.std.proofs.Common.{◌≡◌, ℕ, ◌+◌, List, [], ◌∷◌, ◌++◌, length, refl, subst, arith}
+use Rattle.std.proofs.Common.{ℕ, ◌+◌, List, [], ◌∷◌, ◌++◌, length, refl, subst, arith}
 use Rattle.outside.specs.Faults.{Refusal}
 use Rattle.session_model.specs.declared.command.Command.{Command}
 use Rattle.session_reader.specs.SessionFile.{IsSession}
