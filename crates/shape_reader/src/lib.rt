@@ -12,6 +12,7 @@ mod kind;
 mod nodes;
 mod part;
 mod path;
+mod path_sizes;
 mod pattern;
 mod place;
 mod read;
