@@ -13,6 +13,7 @@ mod nodes;
 mod own;
 mod part;
 mod path;
+mod path_sizes;
 mod pattern;
 mod place;
 mod read;

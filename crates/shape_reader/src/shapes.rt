@@ -13,6 +13,7 @@ ghost use Rattle.shape_reader.specs.Parts.{AreShapes};
 
 use crate::CompileFault;
 use crate::nodes::shape_nodes;
+use crate::path_sizes::have_room;
 use crate::shape::compile_shape;
 use collections::Sequence;
 use outside::Maker;
@@ -69,6 +70,7 @@ pub fn compile<M: Maker>(
     let paths = path_nodes(alloc, graph)?;
     let turned = turned_properties(alloc, graph)?;
     let nodes = shape_nodes(alloc, graph)?;
+    have_room(alloc, graph, nodes.as_slice())?;
     let shapes = compile_nodes(
         alloc,
         maker,

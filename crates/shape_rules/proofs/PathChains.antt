@@ -32,11 +32,14 @@ list_depth : (s : List Triple) (n : Term) (ps : Paths) → PathsOf s n ps → (m
 list_depth s n (Last p) h = (h.0 ∷ [], (h.1, h.2, h.3), (h.0, has_head h.0 [], member_object s n h.0 h.2.0.0, (p, h.4, refl)))
 list_depth s n (Also p ps) h =
     let rest = list_depth s h.1 ps h.4 in
-    let d = rest.2 in
-    (h.0 ∷ rest.0, (h.1, h.2, rest.1), elim (either (depth_of p) (deepest_of ps)) [
-      | inl e ↦ (h.0, has_head h.0 rest.0, member_object s n h.0 h.2.0.0, (p, h.3, e))
-      | inr e ↦ (d.0, has_tail h.0 rest.0 d.0 d.1, d.2, (d.3.0, d.3.1, e ∙ d.3.2))
-    ])
+    let d = rest.2 in (
+      h.0 ∷ rest.0,
+      (h.1, h.2, rest.1),
+      elim (either (depth_of p) (deepest_of ps)) [
+        | inl e ↦ (h.0, has_head h.0 rest.0, member_object s n h.0 h.2.0.0, (p, h.3, e))
+        | inr e ↦ (d.0, has_tail h.0 rest.0 d.0 d.1, d.2, (d.3.0, d.3.1, e ∙ d.3.2))
+      ],
+    )
 
 part_depth : (s : List Triple) (r : Path) (to : List Term) → IsPart s r to → HasDepth s to (depth_of r)
 part_depth s r to h = subst (λ (ms : List Term). HasDepth s ms (depth_of r)) (sym h.3) (h.0, has_head h.0 [], h.2, (r, h.1, refl))

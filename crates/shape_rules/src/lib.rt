@@ -12,7 +12,7 @@ pub mod laws;
 mod least;
 mod looks;
 mod passes;
-mod path_looks;
+pub mod path_looks;
 mod path_steps;
 mod property;
 mod referring;

@@ -209,13 +209,19 @@ pub(crate) fn object_places(alloc: Global, graph: &[Triple]) -> Result<Sequence<
     Ok(places)
 }
 
-/// The looks of the paths for which values stand, as far as they are counted.
-pub(crate) fn path_looks(alloc: Global, graph: &[Triple]) -> Result<BTreeMap<Term, u64>, AllocError>
-    requires { IsAscending triple_cmp graph.now }
-    ensures { IfOk result (λ table. ArePathLooks graph.now looks_limit table) }
+/// The looks of the paths for which values stand (one for each predicate in them), as far as they are counted: one more
+/// than `most` stands for all that are over it.
+pub fn path_looks(
+    alloc: Global,
+    graph: &[Triple],
+    most: u64,
+) -> Result<BTreeMap<Term, u64>, AllocError>
+    requires graph { IsAscending triple_cmp graph.now }
+    requires most { most + 1 < 2 ^ 64 }
+    ensures { IfOk result (λ table. ArePathLooks graph.now most table) }
 {
     let places = object_places(alloc, graph)?;
-    let table = totals(alloc, places.as_slice(), most_looks())?;
+    let table = totals(alloc, places.as_slice(), most)?;
     Ok(table)
 }
 

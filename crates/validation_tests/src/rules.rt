@@ -235,7 +235,13 @@ fn doubled(alloc: Global, levels: u32, shape: &str) -> Result<Vec<Triple>, Alloc
     for number in 1..=levels {
         let second = number.saturating_add(1000);
         let next = number.saturating_add(1);
-        push_cell(alloc, number, nested(alloc, next, levels)?, blank(second), &mut graph)?;
+        push_cell(
+            alloc,
+            number,
+            nested(alloc, next, levels)?,
+            blank(second),
+            &mut graph,
+        )?;
         push_cell(
             alloc,
             second,
@@ -258,8 +264,13 @@ fn doubled_paths(rt: HostRuntime) -> Result<(), Fail> {
         (256, "%true", ""),
         (257, "%true", "<e:S> 41 -"),
     ] {
-        let line = format!(in alloc; "e:S sh:targetNode e:a; e:S sh:path _1; e:S sh:deactivated {deactivated} =>")?;
-        let found = text_of(alloc, &least(alloc, doubled(alloc, levels, line.as_str())?)?)?;
+        let line = format!(in alloc;
+            "e:S sh:targetNode e:a; e:S sh:path _1; e:S sh:deactivated {deactivated} =>"
+        )?;
+        let found = text_of(
+            alloc,
+            &least(alloc, doubled(alloc, levels, line.as_str())?)?,
+        )?;
         assert_eq!(rt; found.as_str(), expected, "{levels} {deactivated}");
     }
     Ok(())
