@@ -6,7 +6,7 @@ use Rattle.rdf_model.specs.declared.ids.Ids.{Ids}
 use Rattle.rdf_model.specs.declared.look.Look.{Look}
 use Rattle.compiled_paths.specs.declared.path.Path.{Path, Predicate, Inverse, Sequence, Alternative, ZeroOrMore, OneOrMore, ZeroOrOne}
 use Rattle.compiled_paths.proofs.Sizes.{list_size, path_size}
-use Rattle.path_eval.specs.declared.walker.Walker.{Walker, Here, Nowhere, Edges}
+use Rattle.path_eval.specs.declared.walker.Walker.{Walker, Here, Edges}
 use Rattle.path_eval.specs.Relations.{NumberChain, Repeated}
 use Rattle.path_eval.specs.NumberedWalks.{Backward, Onward, Reaches, ReachesSome}
 use Rattle.path_eval.specs.NumberedLooks.{AtRepeated, Reads, ReadsBackward, ReadsOnward, ReadsSome}
@@ -23,9 +23,6 @@ repeated_same R S e x y c = (c.0, chain_same R S e c.0 x y c.1)
 
 pub here_is_new : IsNew Here
 here_is_new ids looks x c = c
-
-pub nowhere_is_new : IsNew Nowhere
-nowhere_is_new ids looks = tt
 
 pub any_number : (once more walker : Walker) → IsMore once more → IsEither Here more walker → IsAnyNumber once walker
 any_number once more walker h k = record { plan = k.plan ∙ ap (OneOrOther Stay) h.plan; fresh = λ n. k.fresh here_is_new (h.fresh n) }
@@ -106,13 +103,6 @@ module _ (a walker : Walker) (R : List Ids → ℕ → ℕ → Type 0) (L : List
   made_optional j = planned walker (OneOrOther Stay (plan_of a)) (λ ids x y. (x ≡ y) ⊎ R ids x y) L (j.fresh here_is_new h.fresh) j.plan
       (λ ids x y. (elim [ inl e ↦ inl e | inr r ↦ inr (there ids x y r) ], elim [ inl e ↦ inl e | inr r ↦ inr (from_there ids x y r) ]))
       (λ ids x look. (elim [ inl n ↦ absurd n | inr s ↦ (h.reads ids x look).0 s ], λ s. inr ((h.reads ids x look).1 s)))
-
--- along nothing
-pub made_here : IsMade Here (λ ids x y. x ≡ y) (λ ids x look. ⊥)
-made_here = record { fresh = here_is_new; reaches = λ ids x y. (λ e. e, λ e. e); reads = λ ids x look. (λ n. n, λ n. n) }
-
-pub made_nowhere : IsMade Nowhere (λ ids x y. ⊥) (λ ids x look. ⊥)
-made_nowhere = record { fresh = nowhere_is_new; reaches = λ ids x y. (λ e. e, λ e. e); reads = λ ids x look. (λ n. n, λ n. n) }
 
 -- the walker of a path, by its kind
 module _ (path : Path ℕ) (turned : Bool) where
@@ -269,7 +259,7 @@ made_where walker R S L M e d h = record {
   reads = λ ids x look. (λ g. (d ids x look).0 ((h.reads ids x look).0 g), λ s. (h.reads ids x look).1 ((d ids x look).1 s));
 }
 
--- the walker of no path, of one, and of two parts of a list
+-- the walker of two parts of a list
 module _ (walker : Walker) (turned : Bool) (paths : List (Path ℕ)) where
   abbrev pub GoesOnward : Type 0
   GoesOnward = IsMade walker (λ ids. Onward ids paths) (λ ids. ReadsOnward ids paths)
@@ -281,32 +271,6 @@ module _ (walker : Walker) (turned : Bool) (paths : List (Path ℕ)) where
   GoesSome = IsMade walker (λ ids. ReachesSome ids turned paths) (λ ids. ReadsSome ids turned paths)
 
 module _ (paths : List (Path ℕ)) where
-  pub onward_none : paths ≡ [] → GoesOnward Here false paths
-  onward_none e = subst (GoesOnward Here false) (sym e) made_here
-
-  pub backward_none : paths ≡ [] → GoesBackward Here true paths
-  backward_none e = subst (GoesBackward Here true) (sym e) made_here
-
-  pub some_none : (turned : Bool) → paths ≡ [] → GoesSome Nowhere turned paths
-  some_none turned e = subst (GoesSome Nowhere turned) (sym e) made_nowhere
-
-  module _ (p : Path ℕ) (is : paths ≡ p ∷ []) (walker : Walker) where
-    pub onward_one : IsMade walker (λ ids. Reaches ids false p) (λ ids. Reads ids false p) → GoesOnward walker false paths
-    onward_one h = subst (GoesOnward walker false) (sym is)
-        (made_where walker (λ ids. Reaches ids false p) (λ ids. Onward ids (p ∷ [])) (λ ids. Reads ids false p) (λ ids. ReadsOnward ids (p ∷ []))
-        (λ ids x y. (λ r. (y, r, refl), λ r. subst (Reaches ids false p x) r.2 r.1)) (λ ids x look. (λ s. inl s, elim [ inl s ↦ s | inr n ↦ absurd n.2 ])) h)
-
-    pub backward_one : IsMade walker (λ ids. Reaches ids true p) (λ ids. Reads ids true p) → GoesBackward walker true paths
-    backward_one h = subst (GoesBackward walker true) (sym is)
-        (made_where walker (λ ids. Reaches ids true p) (λ ids. Backward ids (p ∷ [])) (λ ids. Reads ids true p) (λ ids. ReadsBackward ids (p ∷ []))
-        (λ ids x y. (λ r. (x, refl, r), λ r. subst (λ (z : ℕ). Reaches ids true p z y) (sym r.1) r.2))
-        (λ ids x look. (λ s. inr (x, refl, s), elim [ inl n ↦ absurd n | inr s ↦ subst (λ (z : ℕ). Reads ids true p z look) (sym s.1) s.2 ])) h)
-
-    pub some_one : (turned : Bool) → IsMade walker (λ ids. Reaches ids turned p) (λ ids. Reads ids turned p) → GoesSome walker turned paths
-    some_one turned h = subst (GoesSome walker turned) (sym is)
-        (made_where walker (λ ids. Reaches ids turned p) (λ ids. ReachesSome ids turned (p ∷ [])) (λ ids. Reads ids turned p) (λ ids. ReadsSome ids turned (p ∷ []))
-        (λ ids x y. (λ r. inl r, elim [ inl r ↦ r | inr n ↦ absurd n ])) (λ ids x look. (λ s. inl s, elim [ inl s ↦ s | inr n ↦ absurd n ])) h)
-
   module _ (before after : List (Path ℕ)) (is : before ++ after ≡ paths) (one other walker : Walker) where
     pub onward_parts : GoesOnward one false before → GoesOnward other false after → IsThen one other walker → GoesOnward walker false paths
     onward_parts h k j = subst (GoesOnward walker false) is
