@@ -27,6 +27,12 @@ pub struct Answer {
     pub text: Text,
 }
 
+fn text_of(string: String) -> Result<Text, AllocError>
+    ensures { IfOk result (λ t. t ≡ string_bytes string) }
+{
+    Ok(Text::from_string(string))
+}
+
 // What session files give.
 fn answer_sessions<R: Threads + Wait + Sync, F: Files, M: Maker, G: Gate>(
     rt: &R,
@@ -43,12 +49,16 @@ fn answer_sessions<R: Threads + Wait + Sync, F: Files, M: Maker, G: Gate>(
         (λ s. StopsRequest s (F.holds files.old) (Request.Sessions run.now) before after) }
     ensures refused { OnlyGrows (M.refused maker.old) (M.refused maker.new) }
 {
-    match run_files(rt, alloc, run, files, maker, gate) {
+    let text = match run_files(rt, alloc, run, files, maker, gate) {
+        Ok(text) => text,
+        Err(fault) => return Err(Status::from(fault)),
+    };
+    match text_of(text) {
         Ok(text) => Ok(Answer {
             status: Status::Done,
-            text: Text::from_string(text),
+            text,
         }),
-        Err(fault) => Err(Status::from(fault)),
+        Err(_) => Err(Status::Memory),
     }
 }
 
@@ -86,10 +96,13 @@ fn answer_load<R: Threads + Wait + Sync, M: Maker, G: Gate>(
     ensures load { MatchResult result (λ a. (a.status ≡ Status.Done) × IsLoad n (M.refused maker.old) (M.refused maker.new) a.text) (λ s. s ≡ Status.Memory) }
     ensures refused { OnlyGrows (M.refused maker.old) (M.refused maker.new) }
 {
-    match run_load(rt, alloc, n, maker, gate) {
+    let Ok(text) = run_load(rt, alloc, n, maker, gate) else {
+        return Err(Status::Memory);
+    };
+    match text_of(text) {
         Ok(text) => Ok(Answer {
             status: Status::Done,
-            text: Text::from_string(text),
+            text,
         }),
         Err(_) => Err(Status::Memory),
     }
@@ -141,40 +154,40 @@ fn answer_call<R: Threads + Wait + Sync, F: Files, M: Maker, G: Gate>(
     answer_request(rt, alloc, &request, files, maker, gate)
 }
 
-fn bad_session_line(alloc: Global, session: u32, number: u64) -> Result<String, AllocError>
-    ensures { IfOk result (λ text. string_bytes text ≡ line (codes "error session " ++ decimal session ++ codes " line " ++ decimal number)) }
+fn bad_session_line(alloc: Global, session: u32, number: u64) -> Result<Text, AllocError>
+    ensures { IfOk result (λ text. text ≡ line (codes "error session " ++ decimal session ++ codes " line " ++ decimal number)) }
 {
-    Ok(format!(in alloc; "error session {session} line {number}\n")?)
+    Ok(text_of(format!(in alloc; "error session {session} line {number}\n")?)?)
 }
 
-fn long_file_line(alloc: Global, file: u32) -> Result<String, AllocError>
-    ensures { IfOk result (λ text. string_bytes text ≡ line (codes "error file " ++ decimal file ++ codes " too long")) }
+fn long_file_line(alloc: Global, file: u32) -> Result<Text, AllocError>
+    ensures { IfOk result (λ text. text ≡ line (codes "error file " ++ decimal file ++ codes " too long")) }
 {
-    Ok(format!(in alloc; "error file {file} too long\n")?)
+    Ok(text_of(format!(in alloc; "error file {file} too long\n")?)?)
 }
 
-fn bad_history_line(alloc: Global, place: u64) -> Result<String, AllocError>
-    ensures { IfOk result (λ text. string_bytes text ≡ line (codes "error history " ++ decimal place)) }
+fn bad_history_line(alloc: Global, place: u64) -> Result<Text, AllocError>
+    ensures { IfOk result (λ text. text ≡ line (codes "error history " ++ decimal place)) }
 {
-    Ok(format!(in alloc; "error history {place}\n")?)
+    Ok(text_of(format!(in alloc; "error history {place}\n")?)?)
 }
 
-fn bad_input_line(alloc: Global, bad: &BadInput) -> Result<String, AllocError>
-    ensures { IfOk result (λ text. string_bytes text ≡ line (codes "error " ++ bad_input_text bad.now)) }
+fn bad_input_line(alloc: Global, bad: &BadInput) -> Result<Text, AllocError>
+    ensures { IfOk result (λ text. text ≡ line (codes "error " ++ bad_input_text bad.now)) }
 {
-    Ok(format!(in alloc; "error {bad}\n")?)
+    Ok(text_of(format!(in alloc; "error {bad}\n")?)?)
 }
 
 // The line of an error that has one.
-fn error_string(alloc: Global, status: &Status) -> Result<Option<String>, AllocError>
-    ensures text { IfOk result (λ text. option_map string_bytes text ≡ error_line status.now) }
+fn error_text(alloc: Global, status: &Status) -> Result<Option<Text>, AllocError>
+    ensures text { IfOk result (λ text. text ≡ error_line status.now) }
     ensures memory { IfErr result (λ _. error_line status.now ≢ None) }
 {
     match status {
-        Status::Usage => Ok(Some(String::from_str(alloc, "error usage\n")?)),
+        Status::Usage => Ok(Some(Text::new(alloc, "error usage\n")?)),
         Status::BadSession { session, line } => Ok(Some(bad_session_line(alloc, *session, *line)?)),
         Status::TooLong { file } => Ok(Some(long_file_line(alloc, *file)?)),
-        Status::TooManyFiles => Ok(Some(String::from_str(alloc, "error too many files\n")?)),
+        Status::TooManyFiles => Ok(Some(Text::new(alloc, "error too many files\n")?)),
         Status::BadHistory { place } => Ok(Some(bad_history_line(alloc, *place)?)),
         Status::BadInput(bad) => Ok(Some(bad_input_line(alloc, bad)?)),
         Status::Done | Status::Invalid | Status::ReadFault | Status::WriteFault | Status::Memory =>
@@ -202,11 +215,8 @@ pub fn answer_to<R: Threads + Wait + Sync, F: Files, M: Maker, G: Gate>(
         Ok(answer) => return Ok(answer),
         Err(status) => status,
     };
-    match error_string(alloc, &status) {
-        Ok(Some(text)) => Ok(Answer {
-            status,
-            text: Text::from_string(text),
-        }),
+    match error_text(alloc, &status) {
+        Ok(Some(text)) => Ok(Answer { status, text }),
         Ok(None) => Err(status),
         Err(_) => Err(Status::Memory),
     }
