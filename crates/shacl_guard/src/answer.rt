@@ -27,12 +27,6 @@ pub struct Answer {
     pub text: Text,
 }
 
-fn text_of(string: String) -> Result<Text, AllocError>
-    ensures { IfOk result (λ t. t ≡ string_bytes string) }
-{
-    Ok(Text::from_string(string))
-}
-
 // What session files give.
 fn answer_sessions<R: Threads + Wait + Sync, F: Files, M: Maker, G: Gate>(
     rt: &R,
@@ -53,7 +47,7 @@ fn answer_sessions<R: Threads + Wait + Sync, F: Files, M: Maker, G: Gate>(
         Ok(text) => text,
         Err(fault) => return Err(Status::from(fault)),
     };
-    match text_of(text) {
+    match Text::from_string(text) {
         Ok(text) => Ok(Answer {
             status: Status::Done,
             text,
@@ -99,7 +93,7 @@ fn answer_load<R: Threads + Wait + Sync, M: Maker, G: Gate>(
     let Ok(text) = run_load(rt, alloc, n, maker, gate) else {
         return Err(Status::Memory);
     };
-    match text_of(text) {
+    match Text::from_string(text) {
         Ok(text) => Ok(Answer {
             status: Status::Done,
             text,
@@ -157,25 +151,25 @@ fn answer_call<R: Threads + Wait + Sync, F: Files, M: Maker, G: Gate>(
 fn bad_session_line(alloc: Global, session: u32, number: u64) -> Result<Text, AllocError>
     ensures { IfOk result (λ text. text ≡ line (codes "error session " ++ decimal session ++ codes " line " ++ decimal number)) }
 {
-    Ok(text_of(format!(in alloc; "error session {session} line {number}\n")?)?)
+    Ok(Text::from_string(format!(in alloc; "error session {session} line {number}\n")?)?)
 }
 
 fn long_file_line(alloc: Global, file: u32) -> Result<Text, AllocError>
     ensures { IfOk result (λ text. text ≡ line (codes "error file " ++ decimal file ++ codes " too long")) }
 {
-    Ok(text_of(format!(in alloc; "error file {file} too long\n")?)?)
+    Ok(Text::from_string(format!(in alloc; "error file {file} too long\n")?)?)
 }
 
 fn bad_history_line(alloc: Global, place: u64) -> Result<Text, AllocError>
     ensures { IfOk result (λ text. text ≡ line (codes "error history " ++ decimal place)) }
 {
-    Ok(text_of(format!(in alloc; "error history {place}\n")?)?)
+    Ok(Text::from_string(format!(in alloc; "error history {place}\n")?)?)
 }
 
 fn bad_input_line(alloc: Global, bad: &BadInput) -> Result<Text, AllocError>
     ensures { IfOk result (λ text. text ≡ line (codes "error " ++ bad_input_text bad.now)) }
 {
-    Ok(text_of(format!(in alloc; "error {bad}\n")?)?)
+    Ok(Text::from_string(format!(in alloc; "error {bad}\n")?)?)
 }
 
 // The line of an error that has one.
