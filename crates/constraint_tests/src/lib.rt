@@ -8,6 +8,8 @@ mod checks;
 #[cfg(test)]
 mod graphs;
 #[cfg(test)]
+mod properties;
+#[cfg(test)]
 mod shapes;
 #[cfg(test)]
 mod short_terms;

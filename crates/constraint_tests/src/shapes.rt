@@ -20,6 +20,7 @@ const CLASSES: &str = "\
 Class; e:C; e:v; ; e:v; n
 Class; e:D; e:v; ; e:v; n
 Class; e:C; e:v _1 1^integer x@en; ; e:v 1^integer; nyny
+Class; e:C; five^integer x@EN; ; five^integer; ny
 Class; e:C; ; ; ;";
 
 // The last part has for the shape, the parameter, the answers to the value nodes, whether each conforms.
@@ -27,6 +28,8 @@ const SINGLE: &str = "\
 Node; e:T; e:v e:w _1 1^integer; ; e:w 1^integer; ynyn
 Not; e:T; e:v e:w _1 1^integer; ; e:v _1; ynyn
 Node; e:T; ; ; ; .
+Not; e:T; five^integer x@EN; ; five^integer x@en; yy
+Node; e:T; five^integer x@EN; ; ; yy
 Not; e:T; ; ; ; .";
 
 // Lists of shapes, also of none and with repeats, and such answers for each member.
@@ -42,6 +45,9 @@ Or; e:L; e:v; ; e:v;
 Xone; e:L; e:v; ; e:v;
 And; e:L; e:v e:w; e:T e:T; e:w; yn yn
 Or; e:L; e:v e:w; e:T e:T; e:w; yn yn
+Xone; e:L; e:v; e:T e:T e:T; e:v; n n n
+Xone; e:L; five^integer x@en; e:T e:U; five^integer; yn yy
+Or; e:L; five^integer x@en; e:T; x@en; yn
 And; e:L; ; e:T; ; .";
 
 // The qualified shape and its siblings, and such answers for each; counts of 0, 1 and 2.

@@ -25,6 +25,8 @@ MaxLength; 3^integer; äöü^string 日本^string e:a e:ab _1 five^integer 12^in
 MinLength; 0^integer; ^string _1 e:a;; _1
 MaxLength; 0^integer; ^string _1 a^string;; _1 a^string
 MinLength; 5^decimal; ^string a^string _2;; _2
+MaxLength; 1^integer; 😀^string 😀a^string 😀@en;; 😀a^string
+MinLength; 2^integer; 😀^string 😀a^string five^integer;; 😀^string
 MaxLength; -1^integer; ^string;; ^string
 MinLength; -1^integer; ^string;;
 MaxLength; 9^integer;;;";
@@ -37,6 +39,8 @@ LanguageIn; e:L; x@en-us x@en; en-US^string; x@en
 LanguageIn; e:L; x@en x^string e:a; *^string; x^string e:a
 LanguageIn; e:L; x@en x^string;; x@en x^string
 LanguageIn; e:L; x@fr y@fr z@de; fr^string fr^string; z@de
+LanguageIn; e:L; five^integer x@EN; en^string; five^integer
+LanguageIn; e:L;; en^string;
 LanguageIn; e:L; x@en; ^string _1 e:a; x@en";
 
 // One result for each tag that two value nodes have, whichever their case; texts without a tag share none.
@@ -46,6 +50,8 @@ UniqueLang; true^boolean; x@en x@EN;;
 UniqueLang; true^boolean; a@en b@en c@en;; -|-|en^string
 UniqueLang; true^boolean; x@en x@en-us y@de x^string y^string e:a _1;;
 UniqueLang; true^boolean; a@EN-us b@en-US;; -|-|en-us^string
+UniqueLang; true^boolean; a@en b@EN c@de d@DE e@fr;; -|-|de^string -|-|en^string
+UniqueLang; true^boolean; five^integer six^integer e:a _1 x@en;;
 UniqueLang; true^boolean;;;";
 
 // Patterns that match a part, the whole or nothing; flags, where other terms tell them.
@@ -54,7 +60,10 @@ Pattern; ^a+$^string; aa^string b^string;; b^string
 Pattern; b^string; abc^string e:b xb@en _1 B^string 5^integer;; _1 B^string 5^integer
 Pattern; b^string; abc^string B^string _1; i; _1
 Pattern; ^string; ^string _1 e:a;; _1
-Pattern; [0-9]{2}^string; 12^integer 1^integer five^integer;; 1^integer five^integer";
+Pattern; [0-9]{2}^string; 12^integer 1^integer five^integer;; 1^integer five^integer
+Pattern; ^e:^string; e:a f:a^string _1 e:^string;; f:a^string _1
+Pattern; ^.$^string; a^string 日^string ab^string;; ab^string
+Pattern; x^string;;;";
 
 fn length_rows(alloc: Global, case: &Case<'_>) -> Result<Vec<ResultRow>, AllocError>
     requires nodes { AreNodes case.now.names case.now.values.items }

@@ -29,6 +29,8 @@ MaxInclusive; 2000-01-01Z^date; 2000-01-01Z^date 2000-01-01+01:00^date 2000-01-0
 MinExclusive; 2000-01-01T00:00:00Z^dateTime; 2000-01-01T01:00:00+01:00^dateTime 2000-01-01T00:00:00.1Z^dateTime 1999-12-31T24:00:00Z^dateTime 2001-01-01T00:00:00^dateTime 2001-01-01Z^date;; 2000-01-01T01:00:00+01:00^dateTime 1999-12-31T24:00:00Z^dateTime 2001-01-01T00:00:00^dateTime 2001-01-01Z^date
 MaxExclusive; true^boolean; false^boolean 0^boolean true^boolean 1^boolean;; true^boolean 1^boolean
 MaxExclusive; b^string; a^string b^string ab^string c^string ^string a@en;; b^string c^string a@en
+MinInclusive; 2000-01-01T00:00:00^dateTime; 2000-01-01T00:00:00^dateTime 2000-01-02T00:00:00Z^dateTime 2000-01-01T00:00:00Z^dateTime 1999-12-31T23:59:59^dateTime;; 2000-01-02T00:00:00Z^dateTime 2000-01-01T00:00:00Z^dateTime 1999-12-31T23:59:59^dateTime
+MaxExclusive; 5^integer; e:a _1 five^integer x@en 4^integer;; e:a _1 five^integer x@en
 MinInclusive; 5^integer;;;";
 
 // Terms that are members and value nodes, values alike that are other terms, empty lists, repeated members.
@@ -37,6 +39,8 @@ In; e:L; 5.^decimal .5^decimal; 5.0^decimal; 5.^decimal .5^decimal
 In; e:L; e:a _1 x@en x^string; e:a x@EN e:a; _1 x^string
 In; e:L; e:a 1^integer;; e:a 1^integer
 In; e:L;; e:a;
+In; e:L; five^integer six^integer e:a; five^integer; six^integer e:a
+In; e:L; x@en-US x@en; x@EN-us; x@en
 In; e:L; e:L; e:a; e:L
 In; e:L; _1 _2 x^string; x^string _2 e:a _2; _1
 HasValue; e:v; e:a e:v _1;;
@@ -45,6 +49,8 @@ HasValue; 1^integer; 01^integer 1^decimal 1^string;; -
 HasValue; x@en; x@EN;;
 HasValue; x^string; x@en;; -
 HasValue; _1; _1;;
+HasValue; _1; _2 e:a;; -
+HasValue; five^integer; five^integer;;
 HasValue; e:v;;; -
 Datatype; http://www.w3.org/2001/XMLSchema#integer; 1^integer -1^integer five^integer 1.0^integer ^integer 1^int 1^decimal 1^string e:a _1;; five^integer 1.0^integer ^integer 1^int 1^decimal 1^string e:a _1
 Datatype; http://www.w3.org/2001/XMLSchema#byte; 127^byte 128^byte -128^byte -129^byte +5^byte;; 128^byte -129^byte
@@ -62,10 +68,14 @@ NodeKind; http://www.w3.org/ns/shacl#Literal; e:a _1 x^string;; e:a _1
 NodeKind; http://www.w3.org/ns/shacl#BlankNodeOrIRI; e:a _1 x^string;; x^string
 NodeKind; http://www.w3.org/ns/shacl#BlankNodeOrLiteral; e:a _1 x@en;; e:a
 NodeKind; http://www.w3.org/ns/shacl#IRIOrLiteral; e:a _1 x@en;; _1
+NodeKind; http://www.w3.org/ns/shacl#Literal; five^integer x@EN e:a _1;; e:a _1
+NodeKind; http://www.w3.org/ns/shacl#IRI;;;
 NodeKind; e:IRI; e:a;; e:a
 MinCount; 1^integer; e:a;;
 MinCount; 1^integer;;; -
+MinCount; 1^integer; five^integer;;
 MinCount; 2^integer; e:a;; -
+MinCount; 2^integer; e:a e:a;; -
 MinCount; 0^integer;;;
 MinCount; -1^integer;;;
 MinCount; +2^integer; e:a x^string;;
@@ -73,6 +83,8 @@ MinCount; x^integer;;;
 MaxCount; 0^integer; e:a;; -
 MaxCount; 0^integer;;;
 MaxCount; 1^integer; e:a _1;; -
+MaxCount; 1^integer; e:a e:a;;
+MaxCount; 1^integer; x@en x@EN;;
 MaxCount; 2^integer; e:a _1;;
 MaxCount; -1^integer;;; -
 MaxCount; 1^int; e:a _1;;";
