@@ -11,7 +11,7 @@ const LANG_STRING: &str = "http://www.w3.org/1999/02/22-rdf-syntax-ns#langString
 fn typed(alloc: Global, lexical: &str, name: &str) -> Result<Term, AllocError> {
     Ok(Term::Literal {
         lexical: Text::new(alloc, lexical)?,
-        datatype: Text::from_string(format!(in alloc; "{XSD}{name}")?),
+        datatype: Text::from_string(format!(in alloc; "{XSD}{name}")?)?,
         language: None,
     })
 }
@@ -22,7 +22,7 @@ fn lower(alloc: Global, tag: &str) -> Result<Text, AllocError> {
     for letter in tag.chars() {
         text.push(letter.to_ascii_lowercase())?;
     }
-    Ok(Text::from_string(text))
+    Text::from_string(text)
 }
 
 fn tagged(alloc: Global, lexical: &str, tag: &str) -> Result<Term, AllocError> {

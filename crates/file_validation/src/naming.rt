@@ -1,15 +1,23 @@
+//! A data graph by numbers for its terms, which are named at once with those of a shapes graph.
 ghost use Rattle.std.specs.Prelude.{◌≡◌, ◌++◌, IfOk, OnOk};
 ghost use Rattle.std.specs.List.{flat_map};
-ghost use Rattle.data_graph.specs.DataGraphs.{HaveClassWords};
 ghost use Rattle.store_model.specs.Store.{terms_of};
-ghost use Rattle.term_validation.specs.Named.{AreNamedTriples};
+ghost use Rattle.file_validation.specs.Numbering.{IsNumberedGraph, triples_in};
 
-use rdf_model::{Term, Triple};
+use rdf_model::{Ids, Term, Triple};
 use std::alloc::{AllocError, Global};
 use term_dict::Dict;
+use triple_index::Index;
 
 // How many terms may be named beside rdf:type and rdfs:subClassOf: 2^32 - 1 have numbers.
 const MOST_TERMS: usize = 4_294_967_293;
+
+/// A data graph by the numbers of its terms.
+#[derive(Drop)]
+pub(crate) struct NumberedGraph {
+    pub(crate) names: Dict,
+    pub(crate) triples: Index,
+}
 
 // Adds subject, predicate and object of a triple.
 fn push_terms(terms: &mut Vec<Term>, triple: &Triple) -> Result<(), AllocError>
@@ -31,29 +39,44 @@ fn push_all_terms(terms: &mut Vec<Term>, triples: &[Triple]) -> Result<(), Alloc
     Ok(())
 }
 
-// The terms of both graphs.
-fn terms_in(alloc: Global, graph: &[Triple], shapes: &[Triple]) -> Result<Vec<Term>, AllocError>
-    ensures { IfOk result (λ terms. terms.items ≡ flat_map terms_of graph.now ++ flat_map terms_of shapes.now) }
+// The triples of numbers, three after three.
+fn triples_of(alloc: Global, numbers: &[u32]) -> Result<Vec<Ids>, AllocError>
+    ensures { IfOk result (λ triples. triples.items ≡ triples_in numbers.now) }
 {
-    let mut terms = Vec::new(alloc);
-    push_all_terms(&mut terms, graph)?;
-    push_all_terms(&mut terms, shapes)?;
-    Ok(terms)
+    let mut triples = Vec::with_capacity(alloc, numbers.len() / 3)?;
+    let mut rest = numbers;
+    while let [subject, predicate, object, after @ ..] = rest {
+        triples.push(Ids {
+            subject: *subject,
+            predicate: *predicate,
+            object: *object,
+        })?;
+        rest = after;
+    }
+    Ok(triples)
 }
 
-/// Numbers for the terms of both graphs, which are named at once. It fails for want of memory, or of numbers for the terms.
-pub(crate) fn names_of(
+/// A data graph by numbers for its terms and those of a shapes graph, which are all named at once. It fails for want of
+/// memory, or of numbers for the terms.
+pub(crate) fn numbered(
     alloc: Global,
     graph: &[Triple],
     shapes: &[Triple],
-) -> Result<Dict, AllocError>
-    ensures words { IfOk result (λ names. HaveClassWords names.terms) }
-    ensures graph { IfOk result (λ names. AreNamedTriples names.terms graph.now) }
-    ensures shapes { IfOk result (λ names. AreNamedTriples names.terms shapes.now) }
+) -> Result<NumberedGraph, AllocError>
+    ensures { IfOk result (IsNumberedGraph graph.now shapes.now) }
 {
-    let terms = terms_in(alloc, graph, shapes)?;
+    let mut terms = Vec::new(alloc);
+    push_all_terms(&mut terms, graph)?;
+    let count = terms.len();
+    push_all_terms(&mut terms, shapes)?;
     match Dict::from_terms(alloc, MOST_TERMS, &terms) {
-        Ok((names, _)) => Ok(names),
+        Ok((names, numbers)) => {
+            let triples = triples_of(alloc, &numbers[..count])?;
+            Ok(NumberedGraph {
+                names,
+                triples: Index::from_triples(alloc, &triples)?,
+            })
+        }
         Err(_) => Err(AllocError),
     }
 }

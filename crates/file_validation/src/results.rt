@@ -1,9 +1,10 @@
 ghost use Rattle.std.specs.Prelude.{◌≡◌, ◌<◌, IfOk};
 ghost use Rattle.data_graph.specs.DataGraphs.{HaveClassWords};
+ghost use Rattle.rdf_model.specs.Numbers.{AreNumbered, graph_of};
 ghost use Rattle.shape_model.specs.Validation.{Listing};
 ghost use Rattle.term_validation.specs.Named.{AreNamedTriples};
 
-use crate::naming::names_of;
+use crate::naming::{NumberedGraph, numbered};
 use collections::Sequence;
 use path_eval::ClassWords;
 use rdf_model::Triple;
@@ -13,8 +14,7 @@ use shapes_graph::ShapesGraph;
 use std::alloc::{AllocError, Global};
 use std::marker::Brand;
 use std::sync::ledger::{Blank, Ledger};
-use term_dict::Dict;
-use term_validation::listing as listing_by_names;
+use term_validation::listing_over;
 
 // The numbers of rdf:type and rdfs:subClassOf, which are named first.
 const CLASS_WORDS: ClassWords = ClassWords {
@@ -25,22 +25,29 @@ const CLASS_WORDS: ClassWords = ClassWords {
 // The results, in an own ledger of evaluations.
 fn listing_in<L: Ledger>(
     alloc: Global,
-    names: &Dict,
-    graph: &[Triple],
+    graph: &NumberedGraph,
     shapes: &ShapesGraph,
     blank: Blank,
 ) -> Result<Vec<ResultRow>, AllocError>
-    requires words { HaveClassWords names.now.terms }
-    requires graph { AreNamedTriples names.now.terms graph.now }
-    requires shapes { AreNamedTriples names.now.terms shapes.now }
+    requires words { HaveClassWords graph.now.names.terms }
+    requires graph { AreNumbered graph.now.names.terms graph.now.triples }
+    requires shapes { AreNamedTriples graph.now.names.terms shapes.now }
     requires name { blank.name ≡ L.name }
     requires parts { blank.parts ≡ L.parts }
     requires some { 0 < L.parts }
-    ensures { IfOk result (λ rows. Listing graph.now shapes.now rows.items) }
+    ensures { IfOk result (λ rows. Listing (graph_of graph.now.names.terms graph.now.triples) shapes.now rows.items) }
 {
     let mut steps = Steps::<L>::begin(blank);
+    let names = &graph.names;
     names.is_numbering();
-    let rows = listing_by_names(alloc, names, CLASS_WORDS, graph, shapes, &mut steps)?;
+    let rows = listing_over(
+        alloc,
+        &graph.triples,
+        names,
+        CLASS_WORDS,
+        shapes,
+        &mut steps,
+    )?;
     Ok(rows)
 }
 
@@ -52,7 +59,7 @@ pub(crate) fn listing(
 ) -> Result<Sequence<ResultRow>, AllocError>
     ensures { IfOk result (λ rows. Listing graph.now shapes.now rows) }
 {
-    let names = names_of(alloc, graph, shapes.triples())?;
-    let rows = listing_in::<Brand>(alloc, &names, graph, shapes, Blank::new(1))?;
+    let numbered = numbered(alloc, graph, shapes.triples())?;
+    let rows = listing_in::<Brand>(alloc, &numbered, shapes, Blank::new(1))?;
     Ok(Sequence::from_vec(rows))
 }

@@ -37,7 +37,7 @@ fn validation_of(
     let text = report(alloc, rows.as_slice(), shapes.shapes())?;
     Ok(Validation {
         conforms: rows.is_empty(),
-        report: Text::from_string(text),
+        report: Text::from_string(text)?,
     })
 }
 

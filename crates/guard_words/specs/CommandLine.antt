@@ -29,5 +29,13 @@ replay = with_rule (with_rule (with_rule (with_rule (new_app (codes "replay")) (
 abbrev pub validate : App
 validate = with_rule (with_rule (new_app (codes "validate")) (name_rule (codes "data"))) (name_rule (codes "shapes"))
 
+-- `generate NUMBERS`
+abbrev pub generate : App
+generate = with_rule (new_app (codes "generate")) (name_rule (codes "numbers"))
+
+-- with the commands that run session files
+abbrev pub session_commands : App
+session_commands = with_subcommand (with_subcommand (on_top (λ s. record s { subcommand_required = true }) (new_app (codes "shacl_guard"))) run.top) replay.top
+
 abbrev pub command_line : App
-command_line = with_subcommand (with_subcommand (with_subcommand (on_top (λ s. record s { subcommand_required = true }) (new_app (codes "shacl_guard"))) run.top) replay.top) validate.top
+command_line = with_subcommand (with_subcommand session_commands validate.top) generate.top

@@ -6,11 +6,19 @@ use Rattle.clap.specs.Words.{Row, Text, all_of, fault_of, first_of, subcommand_o
 use Rattle.guard_words.specs.CommandLine.{command_line}
 use Rattle.guard_words.specs.declared.call.Limits.{Limits}
 use Rattle.guard_words.specs.declared.call.Call.{Call}
-use Rattle.guard_words.specs.declared.call.Call.TheVariants.{Run, Replay, Validate}
+use Rattle.guard_words.specs.declared.call.Call.TheVariants.{Run, Replay, Validate, Generate}
 
 -- The number that a text is the decimal of, without sign or leading zero, from 1 to 2,000,000.
 abbrev pub limit_of : List ℕ → Option ℕ
 limit_of text = let n = digits_value 10 text in if bytes_eq text (decimal n) && nat_le 1 n && nat_le n 2000000 then Some n else None
+
+abbrev pub up_to : ℕ → Option ℕ → Option ℕ
+up_to most None = None
+up_to most (Some n) = if nat_le n most then Some n else None
+
+-- The size of a load that a text is the decimal of, without sign or leading zero, from 1 to 100,000.
+abbrev pub size_of : List ℕ → Option ℕ
+size_of text = up_to 100000 (limit_of text)
 
 -- an option that isn't given is 1,000,000
 abbrev pub limit_or_default : Option (List ℕ) → Option ℕ
@@ -41,6 +49,17 @@ validate_of (Some graph) (Some shapes) = Some (Validate graph shapes)
 validate_of None shapes = None
 validate_of (Some graph) None = None
 
+abbrev pub generate_of : Option ℕ → Option Call
+generate_of (Some numbers) = Some (Generate numbers)
+generate_of None = None
+
+abbrev pub size_of_word : Option (List ℕ) → Option ℕ
+size_of_word None = None
+size_of_word (Some text) = size_of text
+
+abbrev pub size_in : List Row → Option ℕ
+size_in rows = size_of_word (first_of (codes "numbers") rows)
+
 abbrev pub files_in : List Row → Option (List (List ℕ))
 files_in rows = all_of (codes "files") rows
 
@@ -59,7 +78,8 @@ call_in None = None
 call_in (Some p) =
     if bytes_eq p.0 (codes "run") then run_of (limits_in p.1) (files_in p.1)
     else if bytes_eq p.0 (codes "replay") then replay_of (limits_in p.1) (history_in p.1) (files_in p.1)
-    else validate_of (data_in p.1) (shapes_in p.1)
+    else if bytes_eq p.0 (codes "validate") then validate_of (data_in p.1) (shapes_in p.1)
+    else generate_of (size_in p.1)
 
 -- The call of words that `clap` takes for the command line, with numbers within their bounds; no other words are one.
 abbrev pub call_of : List Text → Option Call

@@ -5,7 +5,7 @@ ghost use Rattle.guard_words.specs.Faults.{Refuses};
 ghost use Rattle.guard_words.specs.Words;
 
 use crate::command_line::command_line;
-use crate::number::limit;
+use crate::number::{limit, size};
 use clap::error::ErrorKind;
 use clap::{ArgMatches, Error};
 use collections::Sequence;
@@ -40,6 +40,10 @@ pub enum Call {
     Validate {
         data: Text,
         shapes: Text,
+    },
+    /// Runs a generated load of the numbers from 1 on.
+    Generate {
+        numbers: u32,
     },
 }
 
@@ -165,6 +169,19 @@ fn validate_in(alloc: Global, found: &ArgMatches<'_>) -> Result<Call, WordsFault
     })
 }
 
+fn generate_in(found: &ArgMatches<'_>) -> Result<Call, WordsFault>
+    ensures { let call = Words.generate_of (Words.size_in (rows_of (found_of found.now))) in
+        MatchResult result (λ c. call ≡ Some c) (λ fault. Refuses fault call) }
+{
+    let Some(text) = text_at(found, "numbers") else {
+        return Err(WordsFault::Usage);
+    };
+    let Some(numbers) = size(text) else {
+        return Err(WordsFault::Usage);
+    };
+    Ok(Call::Generate { numbers })
+}
+
 fn call_in(alloc: Global, name: &str, found: &ArgMatches<'_>) -> Result<Call, WordsFault>
     ensures { let call = Words.call_in (Some (name.now, rows_of (found_of found.now))) in
         MatchResult result (λ c. call ≡ Some c) (λ fault. Refuses fault call) }
@@ -173,8 +190,10 @@ fn call_in(alloc: Global, name: &str, found: &ArgMatches<'_>) -> Result<Call, Wo
         run_in(alloc, found)
     } else if name == "replay" {
         replay_in(alloc, found)
-    } else {
+    } else if name == "validate" {
         validate_in(alloc, found)
+    } else {
+        generate_in(found)
     }
 }
 

@@ -60,13 +60,28 @@ fn validate<'a>(alloc: Global) -> Result<Command<'a>, AllocError>
         .arg(name(alloc, "shapes"))
 }
 
-/// The command that the words are read for.
-pub fn command_line<'a>(alloc: Global) -> Result<Command<'a>, AllocError>
-    ensures { IfOk result (λ c. app_of c ≡ CommandLine.command_line) }
+fn generate<'a>(alloc: Global) -> Result<Command<'a>, AllocError>
+    ensures app { IfOk result (λ c. app_of c ≡ CommandLine.generate) }
+    ensures local { IfOk result (λ c. (out-Command c).has_globals ≡ false) }
+{
+    Command::new(alloc, "generate").arg(name(alloc, "numbers"))
+}
+
+// The program's command with those that run session files.
+fn session_commands<'a>(alloc: Global) -> Result<Command<'a>, AllocError>
+    ensures { IfOk result (λ c. app_of c ≡ CommandLine.session_commands) }
 {
     Command::new(alloc, "shacl_guard")
         .subcommand_required(true)
         .subcommand(run(alloc)?)?
-        .subcommand(replay(alloc)?)?
-        .subcommand(validate(alloc)?)
+        .subcommand(replay(alloc)?)
+}
+
+/// The command that the words are read for.
+pub fn command_line<'a>(alloc: Global) -> Result<Command<'a>, AllocError>
+    ensures { IfOk result (λ c. app_of c ≡ CommandLine.command_line) }
+{
+    session_commands(alloc)?
+        .subcommand(validate(alloc)?)?
+        .subcommand(generate(alloc)?)
 }

@@ -1,9 +1,12 @@
 ghost use Rattle.std.specs.Prelude.{◌≡◌};
 ghost use Rattle.guard_words.specs.Plain;
-ghost use Rattle.guard_words.specs.Words.{limit_of};
+ghost use Rattle.guard_words.specs.Words.{limit_of, size_of};
 
 // The greatest number of an option.
 const MOST: u32 = 2_000_000;
+
+// The greatest size of a load.
+const LARGEST: u32 = 100_000;
 
 // Whether a text begins with neither a zero nor a plus sign.
 fn begins_plainly(text: &str) -> bool
@@ -23,5 +26,16 @@ pub fn limit(text: &str) -> Option<u32>
         Ok(number) if number <= MOST => Some(number),
         Ok(_) => None,
         Err(_) => None,
+    }
+}
+
+/// The size of a load: digits without sign or leading zero, from 1 to 100,000.
+pub fn size(text: &str) -> Option<u32>
+    ensures { result ≡ size_of text.now }
+{
+    match limit(text) {
+        Some(number) if number <= LARGEST => Some(number),
+        Some(_) => None,
+        None => None,
     }
 }

@@ -91,5 +91,5 @@ pub fn resolve(alloc: Global, base: &str, reference: &str) -> Result<Text, Alloc
         return Text::new(alloc, reference);
     }
     let target = target(alloc, split(base), split(reference))?;
-    Ok(Text::from_string(target))
+    Text::from_string(target)
 }

@@ -14,7 +14,7 @@ pub fn word(alloc: Global, name: &str) -> Result<Term, AllocError>
 {
     let mut iri = String::from_str(alloc, SHACL)?;
     iri.push_str(name)?;
-    Ok(Term::Iri(Text::from_string(iri)))
+    Ok(Term::Iri(Text::from_string(iri)?))
 }
 
 /// Whether two terms are one.

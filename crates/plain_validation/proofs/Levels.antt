@@ -1,5 +1,5 @@
 -- The results of a shape by those that are told of the shapes that it refers to.
-use Rattle.std.proofs.Common.{◌≡◌, ◌∙◌, ℕ, suc, List, [], ◌∷◌, refl, sym, subst, inl, inr}
+use Rattle.std.proofs.Common.{◌≡◌, ◌∙◌, ℕ, suc, List, [], ◌∷◌, refl, sym, subst}
 use Rattle.std.specs.Prelude.{◌↔◌}
 use Rattle.std.specs.List.{Contains}
 use Rattle.collections.specs.Listings.{IsListing}
@@ -23,7 +23,7 @@ use Rattle.plain_validation.specs.Plain.{IsPlain}
 use Rattle.plain_validation.specs.References.{IsEntry, ToldAt}
 
 pub no_pattern : (s : List Triple) → IsPlain s → (n q : Term) → HasProperty s n ShPattern q → ⊥
-no_pattern s plain n q h = (plain (record { subject = n; predicate = property_iri ShPattern; object = q }) h).0 (inr (inl refl))
+no_pattern s plain n q h = plain (record { subject = n; predicate = property_iri ShPattern; object = q }) h refl
 
 pub none_at : (g s : List Triple) (levels : ℕ) (shape f : Term) (rows : List ResultRow) → levels ≡ 0 → rows ≡ [] → Finds (AtDepth levels g (reading s) shape f) rows
 none_at g s levels shape f rows z e =

@@ -2,8 +2,8 @@
 //!
 //! `listing` is the plain, slow form of a validation by SHACL Core (W3C Recommendation of 20 July
 //! 2017): no shape is compiled and no term has a number. It promises the listing that
-//! `shape_model` defines, so faster validations are compared with it in tests. It reads all components but sh:pattern, paths
-//! that are IRIs, and the targets sh:targetNode and sh:targetSubjectsOf; `is_plain` tells of a shapes graph whether that is all it has.
+//! `shape_model` defines, so faster validations are compared with it in tests. It reads all targets, all paths and all components
+//! but sh:pattern; `is_plain` tells of a shapes graph whether it has none.
 #![tactic(auto)]
 
 mod evaluation;

@@ -1,13 +1,13 @@
 // The results of all shapes at their targets.
 ghost use Rattle.std.specs.Prelude.{◌≡◌, ◌∷◌, [], IfOk, length};
-ghost use Rattle.shape_model.specs.Validation.{At};
+ghost use Rattle.shape_model.specs.Validation.{At, IsResult};
 ghost use Rattle.plain_terms.specs.Finds.{Finds, WithSome};
 ghost use Rattle.plain_validation.specs.Plain.{IsPlain};
-ghost use Rattle.plain_validation.specs.Targets.{DeclaredRow, Declares, PlainResult};
+ghost use Rattle.plain_validation.specs.Targets.{ClassRow, DeclaredResult, DeclaredRow, Declares, ImplicitResult, IsValue};
 
 use crate::evaluation::rows_at;
 use collections::Sequence;
-use plain_terms::{alone, is_word, subjects};
+use plain_terms::{alone, class_word, instances_of, is_word, objects_of_each, subjects};
 use rdf_model::{Term, Triple};
 use shape_model::ResultRow;
 use std::alloc::{AllocError, Global};
@@ -46,7 +46,20 @@ fn rows_at_all(
     Ok(rows)
 }
 
-// The targets that a triple of the shapes graph declares (SHACL sections 2.1.3.1 and 2.1.3.4).
+// The nodes that are some node's value of the predicate.
+fn values_of(
+    alloc: Global,
+    graph: &[Triple],
+    predicate: &Term,
+) -> Result<Sequence<Term>, AllocError>
+    ensures { IfOk result (λ found. Finds (IsValue graph.now predicate.now) found) }
+{
+    let nodes = subjects(alloc, graph, predicate)?;
+    let found = objects_of_each(alloc, graph, nodes.as_slice(), predicate)?;
+    Ok(Sequence::from_vec(found))
+}
+
+// The targets that a triple of the shapes graph declares (SHACL section 2.1.3).
 fn declared_targets(
     alloc: Global,
     graph: &[Triple],
@@ -57,8 +70,14 @@ fn declared_targets(
     if is_word(alloc, &triple.predicate, "targetNode")? {
         return Ok(alone(alloc, &triple.object)?);
     }
+    if is_word(alloc, &triple.predicate, "targetClass")? {
+        return Ok(instances_of(alloc, graph, &triple.object)?);
+    }
     if is_word(alloc, &triple.predicate, "targetSubjectsOf")? {
         return Ok(subjects(alloc, graph, &triple.object)?);
+    }
+    if is_word(alloc, &triple.predicate, "targetObjectsOf")? {
+        return Ok(values_of(alloc, graph, &triple.object)?);
     }
     Ok(Sequence::new(alloc))
 }
@@ -78,6 +97,71 @@ fn rows_of_triple(
     Ok(rows)
 }
 
+// The results at all targets that triples of the shapes graph declare.
+fn declared_rows(
+    alloc: Global,
+    graph: &[Triple],
+    shapes: &[Triple],
+) -> Result<Vec<ResultRow>, AllocError>
+    requires { IsPlain shapes.now }
+    ensures { IfOk result (λ rows. Finds (DeclaredResult graph.now shapes.now) rows.items) }
+{
+    let mut rows = Vec::new(alloc);
+    for triple in shapes {
+        let mut more = rows_of_triple(alloc, graph, shapes, triple)?;
+        rows.append(&mut more)?;
+    }
+    Ok(rows)
+}
+
+// The results of a class at its instances.
+fn rows_of_class(
+    alloc: Global,
+    graph: &[Triple],
+    shapes: &[Triple],
+    class: &Term,
+) -> Result<Vec<ResultRow>, AllocError>
+    requires { IsPlain shapes.now }
+    ensures { IfOk result (λ rows. Finds (ClassRow graph.now shapes.now class.now) rows.items) }
+{
+    let targets = instances_of(alloc, graph, class)?;
+    let rows = rows_at_all(alloc, graph, shapes, class, targets.as_slice())?;
+    Ok(rows)
+}
+
+// Those of some classes.
+fn rows_of_classes(
+    alloc: Global,
+    graph: &[Triple],
+    shapes: &[Triple],
+    classes: &[Term],
+) -> Result<Vec<ResultRow>, AllocError>
+    requires { IsPlain shapes.now }
+    ensures { IfOk result (λ rows. Finds (WithSome classes.now (ClassRow graph.now shapes.now)) rows.items) }
+{
+    let mut rows = Vec::new(alloc);
+    for class in classes {
+        let mut more = rows_of_class(alloc, graph, shapes, class)?;
+        rows.append(&mut more)?;
+    }
+    Ok(rows)
+}
+
+// The results of all classes of the shapes graph (SHACL section 2.1.3.3). Those that are no shapes have none.
+fn class_rows(
+    alloc: Global,
+    graph: &[Triple],
+    shapes: &[Triple],
+) -> Result<Vec<ResultRow>, AllocError>
+    requires { IsPlain shapes.now }
+    ensures { IfOk result (λ rows. Finds (ImplicitResult graph.now shapes.now) rows.items) }
+{
+    let kind = class_word(alloc)?;
+    let classes = instances_of(alloc, shapes, &kind)?;
+    let rows = rows_of_classes(alloc, graph, shapes, classes.as_slice())?;
+    Ok(rows)
+}
+
 /// The results of all shapes at their targets, maybe several times.
 pub(crate) fn all_rows(
     alloc: Global,
@@ -85,12 +169,10 @@ pub(crate) fn all_rows(
     shapes: &[Triple],
 ) -> Result<Vec<ResultRow>, AllocError>
     requires { IsPlain shapes.now }
-    ensures { IfOk result (λ rows. Finds (PlainResult graph.now shapes.now) rows.items) }
+    ensures { IfOk result (λ rows. Finds (IsResult graph.now shapes.now) rows.items) }
 {
-    let mut rows = Vec::new(alloc);
-    for triple in shapes {
-        let mut more = rows_of_triple(alloc, graph, shapes, triple)?;
-        rows.append(&mut more)?;
-    }
+    let mut rows = declared_rows(alloc, graph, shapes)?;
+    let mut more = class_rows(alloc, graph, shapes)?;
+    rows.append(&mut more)?;
     Ok(rows)
 }

@@ -4,27 +4,28 @@ ghost use Rattle.collections.specs.Listings.{IsListing};
 ghost use Rattle.rdf_model.specs.Terms.{term_cmp};
 ghost use Rattle.rdf_model.specs.declared.term.Term.{Term as TermData};
 ghost use Rattle.shape_model.specs.Readings.{ValueNode, reading};
-ghost use Rattle.shape_model.specs.Triples.{Has};
+ghost use Rattle.plain_paths.specs.Ways.{LeadsTo};
 ghost use Rattle.plain_terms.specs.Finds.{Finds, WithSome};
-ghost use Rattle.plain_validation.specs.Plain.{IsPlain, PlainValue};
 
 use collections::Sequence;
-use plain_terms::{alone, in_order, objects, parameters};
+use plain_paths::path_values;
+use plain_terms::{alone, in_order, parameters};
 use rdf_model::{Term, Triple};
 use std::alloc::{AllocError, Global};
 
-// The values of some predicates at a node, maybe several times.
-fn objects_along(
+// The nodes to which the paths of some nodes lead, maybe several times.
+fn values_along(
     alloc: Global,
     graph: &[Triple],
+    shapes: &[Triple],
     focus: &Term,
     paths: &[Term],
 ) -> Result<Vec<Term>, AllocError>
-    ensures { IfOk result (λ found. Finds (WithSome paths.now (Has graph.now focus.now)) found.items) }
+    ensures { IfOk result (λ found. Finds (WithSome paths.now (λ node value. LeadsTo graph.now shapes.now node focus.now value)) found.items) }
 {
     let mut found = Vec::new(alloc);
     for path in paths {
-        let mut more = objects(alloc, graph, focus, path)?.into_vec();
+        let mut more = path_values(alloc, graph, shapes, path, focus)?;
         found.append(&mut more)?;
     }
     Ok(found)
@@ -38,13 +39,13 @@ fn values_found(
     shape: &Term,
     focus: &Term,
 ) -> Result<Sequence<Term>, AllocError>
-    ensures { IfOk result (λ values. Finds (PlainValue graph.now shapes.now shape.now focus.now) values) }
+    ensures { IfOk result (λ values. Finds (ValueNode graph.now (reading shapes.now shape.now) focus.now) values) }
 {
     let paths = parameters(alloc, shapes, shape, "path")?;
     if paths.is_empty() {
         return Ok(alone(alloc, focus)?);
     }
-    let found = objects_along(alloc, graph, focus, paths.as_slice())?;
+    let found = values_along(alloc, graph, shapes, focus, paths.as_slice())?;
     Ok(Sequence::from_vec(found))
 }
 
@@ -56,7 +57,6 @@ pub(crate) fn value_nodes(
     shape: &Term,
     focus: &Term,
 ) -> Result<Sequence<Term>, AllocError>
-    requires { IsPlain shapes.now }
     ensures { IfOk result (λ values. IsListing term_cmp (ValueNode graph.now (reading shapes.now shape.now) focus.now) values) }
 {
     let found = values_found(alloc, graph, shapes, shape, focus)?;

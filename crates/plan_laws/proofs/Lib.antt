@@ -1,1 +1,9 @@
 mod PathNumbers
+mod Sums
+mod Params
+mod OwnNumbers
+mod Places
+mod NamedPlaces
+mod Aims
+mod PlanNumbers
+mod WholePlans

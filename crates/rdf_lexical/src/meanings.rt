@@ -64,7 +64,7 @@ fn unescaped(alloc: Global, characters: &[char]) -> Result<Text, AllocError>
         text.push(character)?;
         rest = after(rest, length);
     }
-    Ok(Text::from_string(text))
+    Text::from_string(text)
 }
 
 /// The IRI that an IRIREF stands for, by the token's characters (Turtle section 6.4).
@@ -91,7 +91,7 @@ pub fn plain_text(alloc: Global, characters: &[char]) -> Result<Text, AllocError
         text.push(*character)?;
         rest = after;
     }
-    Ok(Text::from_string(text))
+    Text::from_string(text)
 }
 
 fn lower_case(character: char) -> char
@@ -110,5 +110,5 @@ pub fn lower_text(alloc: Global, characters: &[char]) -> Result<Text, AllocError
         text.push(lower_case(*character))?;
         rest = after;
     }
-    Ok(Text::from_string(text))
+    Text::from_string(text)
 }

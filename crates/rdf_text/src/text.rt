@@ -10,19 +10,21 @@ use std::alloc::{AllocError, Global};
 use std::cmp::Ordering;
 use std::fmt;
 use std::marker::Model;
+use std::sync::ArcStr;
 
-/// A text that owns its characters, ordered by its UTF-8 bytes.
+/// A text, ordered by its UTF-8 bytes. Its clones share its characters.
 #[derive(Debug, Drop)]
 pub struct Text {
-    string: String,
+    characters: ArcStr,
 }
 
 impl Model for Text {
-    ghost use Rattle.std.specs.Prelude.{List, ℕ, string_bytes};
+    ghost use Rattle.std.specs.Prelude.{List, ℕ};
+    ghost use Rattle.std.specs.Arc.{arc_str_bytes};
 
     ghost Value = { List ℕ };
 
-    ghost view = { λ t. string_bytes t.string };
+    ghost view = { λ t. arc_str_bytes t.characters };
 }
 
 impl Text {
@@ -31,21 +33,23 @@ impl Text {
         ensures { IfOk result (λ t. t ≡ characters.now) }
     {
         Ok(Text {
-            string: String::from_str(alloc, characters)?,
+            characters: ArcStr::from_str(alloc, characters)?,
         })
     }
 
-    /// The text that a `String` holds. It takes no memory.
-    pub fn from_string(string: String) -> Text
-        ensures { result ≡ string_bytes string }
+    /// The text that a `String` holds. It copies no character.
+    pub fn from_string(string: String) -> Result<Text, AllocError>
+        ensures { IfOk result (λ t. t ≡ string_bytes string) }
     {
-        Text { string }
+        Ok(Text {
+            characters: ArcStr::from_string(string)?,
+        })
     }
 
     pub fn as_str(&self) -> &str
         ensures { result.now ≡ self.now }
     {
-        self.string.as_str()
+        self.characters.as_str()
     }
 }
 
@@ -64,7 +68,7 @@ impl Clone for Text {
 
     fn clone(&self) -> Result<Text, AllocError> {
         Ok(Text {
-            string: self.string.clone()?,
+            characters: self.characters.clone()?,
         })
     }
 }

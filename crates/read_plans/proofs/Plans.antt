@@ -54,7 +54,7 @@ module _ (y z : Reading) (e : SameReading y z) where
     | inr (inr (inr i)) ↦ inr (inr (inr (i.0, (e.has ShTargetObjectsOf i.0 tt).0 i.1, i.2)))
   ]
 
-of_place : {X : Type 0} → (xs : List X) (n : ℕ) (x : X) → slice_get xs n ≡ Some x → Contains xs x
+pub of_place : {X : Type 0} → (xs : List X) (n : ℕ) (x : X) → slice_get xs n ≡ Some x → Contains xs x
 of_place [] n x e = cc
 of_place (y ∷ ys) zero x e = has_equal y ys x (cc)
 of_place (y ∷ ys) (suc n) x e = has_tail y ys x (of_place ys n x e)
@@ -184,7 +184,7 @@ module _ (shapes : List (Shape Term)) (s : List Triple) (compiled : AreCompiled 
   read_within (ByShape component p shape) h = tt
   read_within (ByShapes component p places) h = h.1
 
-  all_within : (c : ReadShape) → Contains (read_shapes shapes) c → (k : Constraint Term) → Contains c.constraints k → IsWithin (length (read_shapes shapes)) k
+  pub all_within : (c : ReadShape) → Contains (read_shapes shapes) c → (k : Constraint Term) → Contains c.constraints k → IsWithin (length (read_shapes shapes)) k
   all_within c i k d =
       let x = mapped_from (read_shape (λ t. t)) shapes c i in
       let d' = subst (λ (r : ReadShape). Contains r.constraints k) (sym x.2) d in

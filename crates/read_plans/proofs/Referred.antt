@@ -70,14 +70,14 @@ of_place : (o : Option ℕ) (n : ℕ) → o ≡ Some n → Contains (optional_pl
 of_place None n e = cc
 of_place (Some m) n e = has_equal m [] n (cc)
 
-once_from : (ns acc : List ℕ) (n : ℕ) → Contains (with_places acc ns) n → Contains acc n ⊎ Contains ns n
+pub once_from : (ns acc : List ℕ) (n : ℕ) → Contains (with_places acc ns) n → Contains acc n ⊎ Contains ns n
 once_from [] acc n c = inl c
 once_from (m ∷ ns) acc n c = elim (once_from ns (with_item nat_cmp m acc) n c) [
   | inl d ↦ elim (with_cases nat_cmp m acc n d) [ inl e ↦ inr (has_equal m ns n e) | inr k ↦ inl k ]
   | inr d ↦ inr (has_tail m ns n d)
 ]
 
-once_to : (ns acc : List ℕ) (n : ℕ) → Contains acc n ⊎ Contains ns n → Contains (with_places acc ns) n
+pub once_to : (ns acc : List ℕ) (n : ℕ) → Contains acc n ⊎ Contains ns n → Contains (with_places acc ns) n
 once_to [] acc n h = elim h [ inl c ↦ c | inr c ↦ absurd (none_in n c) ]
 once_to (m ∷ ns) acc n h = once_to ns (with_item nat_cmp m acc) n (elim h [
   | inl c ↦ inl (with_old nat_cmp m acc n c)
@@ -191,7 +191,7 @@ module _ (shapes : List ReadShape) (c : ReadShape) where
         let a = several_named l.0 j h.1 t two l.2.0 l.3 h.3 in
         (a.0, of_constraints a.0 (flat_to constraint_places c.constraints l.0 a.0 l.1 a.1), a.2)
 
-    is_counted : HasQualifiedCount Said → list_any is_count c.constraints ≡ true
+    pub is_counted : HasQualifiedCount Said → list_any is_count c.constraints ≡ true
     is_counted h = elim h.1 [
       | inl i ↦ any_to is_count c.constraints i.0 i.1 (counts i.0 ShQualifiedMinCount refl i.2.0)
       | inr i ↦ any_to is_count c.constraints i.0 i.1 (counts i.0 ShQualifiedMaxCount refl i.2.0)
@@ -237,7 +237,7 @@ module _ (shapes : List ReadShape) (c : ReadShape) where
         let all = nodes_at shapes places in_range in
         inr (inr (inr (inr (inr (inl (p, all.0, (ByShapes by_shapes.Xone p places, i, (refl, refl), all.1), of_places shapes places all.0 all.1 n a t at))))))
 
-    count_of : (k : Constraint Term) → Contains c.constraints k → is_count k ≡ true → HasQualifiedCount Said
+    pub count_of : (k : Constraint Term) → Contains c.constraints k → is_count k ≡ true → HasQualifiedCount Said
     count_of (ByTerm by_term.QualifiedMinCount p) i e = (p, inl (ByTerm by_term.QualifiedMinCount p, i, (refl, refl)))
     count_of (ByTerm by_term.QualifiedMaxCount p) i e = (p, inr (ByTerm by_term.QualifiedMaxCount p, i, (refl, refl)))
     count_of (ByTerm component p) i e = cc

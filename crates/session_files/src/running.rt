@@ -38,8 +38,8 @@ fn print_sessions<R: Threads + Wait + Sync, G: Gate>(
     requires few { length all.now ≤ 64 }
     ensures { IfOk result (λ text. (order : List ℕ) × IsPrint all.now limits order (string_bytes text)) }
 {
-    let run = run_all(rt, alloc, limits, all, gate)?;
-    text_of(alloc, &run)
+    let ended = run_all(rt, alloc, limits, all, gate)?;
+    text_of(alloc, &ended.run)
 }
 
 // What a run of the session files prints.

@@ -39,7 +39,7 @@ fn reply_of_find(alloc: Global, triples: &[Triple]) -> Result<SessionReply, Allo
     }
     Ok(SessionReply::Found {
         count: triples.len(),
-        lines: Text::from_string(lines),
+        lines: Text::from_string(lines)?,
     })
 }
 

@@ -51,7 +51,7 @@ fn refusal(
     let text = report(alloc, rows.as_slice(), shapes.shapes())?;
     Ok(SessionReply::Refused {
         count: rows.len(),
-        report: Text::from_string(text),
+        report: Text::from_string(text)?,
     })
 }
 

@@ -56,17 +56,20 @@ sound_met store old new is k o = record { keeper = k; numbered = subst (AllByRec
 -- all sessions were met, and the store stands for the keeper's front
 pub closes : (store : SharedStore) (files : List (List Command)) (k : Keeper) (core : RecordedStore) (last : List SessionState) → IsSound store k → k.opened ≡ length files → core.history ≡ k.pass.known.front → core.limits ≡ store.limits
     → Replays core.limits empty_store core.history core.state → length last ≡ length files → ((i : ℕ) → i < length files → HasAll store.limits (i + 1) (first_state (get_or files i [])) (get_or last i no_session) k.pass)
-    → AllByRecursion (λ s. s.commands ≡ []) last → Follow files store.limits core.history (map (λ s. s.replies) last)
+    → AllByRecursion (λ s. s.commands ≡ []) last → (f : Follow files store.limits core.history (map (λ s. s.replies) last)) × (f.state ≡ core.state)
 closes store files k core last sound n is limits replays count each left =
     let l = store.limits in
-    let at : Replays l empty_store core.history core.state = subst (λ (x : Limits). Replays x empty_store core.history core.state) limits replays in record {
-      state = core.state;
-      last = last;
-      replays = at;
-      opened = sound.keeper.opened core.state (subst (λ (x : List Event). Replays l empty_store x core.state) is at) ∙ n;
-      count = count;
-      numbered = subst (AllByRecursion (λ e. 0 < e.session)) (sym is) (numbered [] k.pass.known.front sound.numbered);
-      each = λ i lt. subst (λ (x : List Event). Follows l (i + 1) empty_store x (first_state (get_or files i [])) (get_or last i no_session)) (sym is) (each i lt).follows;
-      left = left;
-      replies = refl;
-    }
+    let at : Replays l empty_store core.history core.state = subst (λ (x : Limits). Replays x empty_store core.history core.state) limits replays in (
+      record {
+        state = core.state;
+        last = last;
+        replays = at;
+        opened = sound.keeper.opened core.state (subst (λ (x : List Event). Replays l empty_store x core.state) is at) ∙ n;
+        count = count;
+        numbered = subst (AllByRecursion (λ e. 0 < e.session)) (sym is) (numbered [] k.pass.known.front sound.numbered);
+        each = λ i lt. subst (λ (x : List Event). Follows l (i + 1) empty_store x (first_state (get_or files i [])) (get_or last i no_session)) (sym is) (each i lt).follows;
+        left = left;
+        replies = refl;
+      },
+      refl,
+    )

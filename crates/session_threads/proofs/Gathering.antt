@@ -8,10 +8,10 @@ use Rattle.turn_lock.specs.History.{OthersAdded, has_number, reserved, under}
 use Rattle.turn_lock.specs.Callers.{Caller, met_caller}
 use Rattle.store_model.specs.declared.event.Limits.{Limits}
 use Rattle.store_model.specs.declared.event.Event.{Event}
-use Rattle.store_model.specs.Store.{RecordedStore, Replays, empty_store}
+use Rattle.store_model.specs.Store.{RecordedStore, Replays, State, empty_store}
 use Rattle.session_model.specs.declared.command.Command.{Command}
 use Rattle.session_model.specs.declared.reply.SessionReply.{SessionReply}
-use Rattle.session_model.specs.Sessions.{SessionState, no_session, HasReplies}
+use Rattle.session_model.specs.Sessions.{SessionState, no_session}
 use Rattle.thread_model.specs.Following.{Follows, first_state}
 use Rattle.thread_model.proofs.Running.{following_runs}
 use Rattle.guard_store.specs.declared.session.Keeper.{Keeper}
@@ -23,6 +23,7 @@ use Rattle.guard_store.proofs.Turning.{fresh, front_is}
 use Rattle.guard_store.proofs.Opening.{open_event, next_number}
 use Rattle.guard_store.proofs.Telling.{openings_add_one}
 use Rattle.session_threads.specs.Playing.{HasPlayed, PlaysAll}
+use Rattle.session_threads.specs.Ends.{HasEnd}
 use Rattle.session_threads.specs.Team.{HasAll, IsSound, IsStarting, Stands, IsOver, EndsWith, Met}
 use Rattle.session_threads.proofs.Keeping.{follows_append, follows_others, follows_opening}
 use Rattle.session_threads.proofs.Closing.{still_has, now_has, closes}
@@ -85,13 +86,16 @@ met_next store files k c after s all replies m is this that o =
       each = met_each store files k c after s all replies m is this that o;
     }
 
--- all were met, and the store was closed
-pub runs : (store : SharedStore) (files : List (List Command)) (k : Keeper) (core : RecordedStore) (all : List (List SessionReply)) → IsSound store k → k.opened ≡ length files → Met files store.limits 0 k.pass all → core.history ≡ k.pass.known.front → core.limits ≡ store.limits
-    → Replays core.limits empty_store core.history core.state → HasReplies files store.limits (map (λ e. e.session) core.history) all
-runs store files k core all sound n m is limits replays =
+-- all were met, and the store was closed, with so many triples
+pub runs : (store : SharedStore) (files : List (List Command)) (k : Keeper) (core : RecordedStore) (all : List (List SessionReply)) (triples : ℕ) → IsSound store k → k.opened ≡ length files → Met files store.limits 0 k.pass all → core.history ≡ k.pass.known.front → core.limits ≡ store.limits
+    → Replays core.limits empty_store core.history core.state → triples ≡ length core.state.graph → HasEnd files store.limits (map (λ e. e.session) core.history) all triples
+runs store files k core all triples sound n m is limits replays size =
     let count : length m.over ≡ length files = omega (arith, m.count) in
-    subst (HasReplies files store.limits (map (λ e. e.session) core.history)) (sym m.replies)
-    (following_runs files store.limits core.history (map (λ s. s.replies) m.over) (closes store files k core m.over sound n is limits replays count (λ i lt. m.each i i (omega arith) (omega (arith, lt, count))) m.left))
+    let follow = closes store files k core m.over sound n is limits replays count (λ i lt. m.each i i (omega arith) (omega (arith, lt, count))) m.left in
+    let run = following_runs files store.limits core.history (map (λ s. s.replies) m.over) follow.0 in
+    let ends : run.0.last.state ≡ core.state = run.1 ∙ follow.1 in
+    subst (λ (rs : List (List SessionReply)). HasEnd files store.limits (map (λ e. e.session) core.history) rs triples) (sym m.replies)
+    (run.0, size ∙ ap (λ (s : State). length s.graph) (sym ends))
 
 -- of a list that lost its last item, or got one
 get_or_left : {A : Type 0} (xs ys : List A) (k : ℕ) (d : A) → k < length xs → get_or (xs ++ ys) k d ≡ get_or xs k d

@@ -2,3 +2,4 @@ pub mod Places
 pub mod Replies
 pub mod Playing
 pub mod Team
+pub mod Ends

@@ -51,7 +51,7 @@ fn reply_of_find(alloc: Global, triples: &[Triple]) -> Result<SessionReply, Allo
     }
     Ok(SessionReply::Found {
         count: triples.len(),
-        lines: Text::from_string(lines),
+        lines: Text::from_string(lines)?,
     })
 }
 
@@ -121,7 +121,7 @@ fn refusal(
     let text = report(alloc, rows.as_slice(), shapes.shapes())?;
     Ok(SessionReply::Refused {
         count: rows.len(),
-        report: Text::from_string(text),
+        report: Text::from_string(text)?,
     })
 }
 

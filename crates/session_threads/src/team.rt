@@ -1,6 +1,6 @@
 //! Sessions that run beside each other.
 ghost use Rattle.std.specs.Prelude.{◌≡◌, ◌+◌, ◌^◌, ◌<◌, ◌≤◌, [], IfOk, All, length, vec_len, reverse};
-ghost use Rattle.session_model.specs.Sessions.{HasReplies};
+ghost use Rattle.session_threads.specs.Ends.{HasEnd};
 ghost use Rattle.session_threads.specs.Team.{AreNumbered, HasEnded, IsSound, IsStarting, Met};
 
 use crate::play::play_file;
@@ -152,6 +152,14 @@ fn gather(
     Ok((keeper, all))
 }
 
+/// A run of session files that has ended.
+#[derive(Drop)]
+pub struct EndedRun {
+    pub run: Run,
+    /// How many triples the data graph has at the end.
+    pub triples: usize,
+}
+
 /// Runs session files beside each other over a new store, each in a thread of its own; the I-th file is session I. The
 /// gate is told of each event but the openings, in the session's thread, outside turns.
 pub fn run_all<R: Threads + Wait + Sync, G: Gate>(
@@ -160,10 +168,10 @@ pub fn run_all<R: Threads + Wait + Sync, G: Gate>(
     limits: Limits,
     files: &[Sequence<Command>],
     gate: &G,
-) -> Result<Run, AllocError>
+) -> Result<EndedRun, AllocError>
     requires small { limits.terms + 2 < 2 ^ 32 }
     requires few { length files.now ≤ 64 }
-    ensures { IfOk result (λ run. HasReplies files.now limits run.order.items run.replies.items) }
+    ensures { IfOk result (λ ended. HasEnd files.now limits ended.run.order.items ended.run.replies.items ended.triples) }
 {
     let (store, keeper) = Store::new(alloc, limits)?;
     let (keeper, mut players) = open_all(rt, alloc, &store, keeper, files.len())?;
@@ -173,5 +181,9 @@ pub fn run_all<R: Threads + Wait + Sync, G: Gate>(
     replies.reverse();
     let core = store.close(keeper);
     let order = core.order()?;
-    Ok(Run { replies, order })
+    let triples = core.triples();
+    Ok(EndedRun {
+        run: Run { replies, order },
+        triples,
+    })
 }

@@ -23,12 +23,12 @@ use Rattle.validate_command.specs.declared.validated_files.ValidatedFiles.{Valid
 use Rattle.validate_command.specs.Validated.{AreValidated, both_files}
 use Rattle.validate_command.specs.Faults.{StopsValidation}
 use Rattle.shacl_guard.specs.declared.request.Request.{Request}
-use Rattle.shacl_guard.specs.declared.request.Request.TheVariants.{Sessions, Validation}
+use Rattle.shacl_guard.specs.declared.request.Request.TheVariants.{Sessions, Validation, Load}
 use Rattle.shacl_guard.specs.declared.status.Status.{Status}
 use Rattle.shacl_guard.specs.declared.status.Status.TheVariants.{Done, Invalid, Usage, ReadFault, WriteFault, BadSession, Memory, TooLong, TooManyFiles, BadHistory, BadInput}
 use Rattle.shacl_guard.specs.Requests.{Unasked, files_in, request_of}
 use Rattle.shacl_guard.specs.Statuses.{error_line, of_run, of_validation, of_words}
-use Rattle.shacl_guard.specs.Due.{Fails, FailsLoad, Gives, IsDue, IsDueOf, IsRequestDue, RunsOut, StopsCall, StopsRequest}
+use Rattle.shacl_guard.specs.Due.{Fails, FailsLoad, Gives, IsDue, IsDueOf, IsRequestDue, LoadsNone, RunsOut, StopsCall, StopsRequest}
 use Rattle.shacl_guard.specs.Outcome.{Call, IsOutcome, PrintsAll}
 
 -- nothing was loaded
@@ -86,11 +86,16 @@ validation_fails validation.Memory held v before after h none = (h.0, h.1)
 validation_fails (validation.TooLong f) held v before after h none = cc
 validation_fails (validation.BadInput bad) held v before after h none = cc
 
+-- a generated load loads nothing
+load_out : (n : ℕ) (before after : Loads) → LoadsNone before after → RunsOut (Some (Load n)) before after
+load_out n before after h = ((0, h.0 ∙ sym (append-nil before.loaded)), h.1)
+
 request_fails : (s : Status) (held : Option Contents) (q : Request) (before after : Loads) → error_line s ≡ None → StopsRequest s held q before after → Fails s held (Some q) before after
 request_fails s held (Sessions r) before after none h =
     subst (λ (x : Status). Fails x held (Some (Sessions r)) before after) (sym h.1) (run_fails h.0 held r before after h.2 (subst (λ (x : Status). error_line x ≡ None) h.1 none))
 request_fails s held (Validation v) before after none h =
     subst (λ (x : Status). Fails x held (Some (Validation v)) before after) (sym h.1) (validation_fails h.0 held v before after h.2 (subst (λ (x : Status). error_line x ≡ None) h.1 none))
+request_fails s held (Load n) before after none h = subst (λ (x : Status). Fails x held (Some (Load n)) before after) (sym h.0) (load_out n before after h.1)
 
 memory_fails : (s : Status) (held : Option Contents) (q : Option Request) (before after : Loads) → s ≡ Memory → after ≡ before → Fails s held q before after
 memory_fails s held q before after m e = subst (λ (x : Status). Fails x held q before after) (sym m) (nothing q before after e)
@@ -126,6 +131,7 @@ validation_out (validation.BadInput bad) held v before after line h = ((2, h.1.0
 request_out : (s : Status) (held : Option Contents) (q : Request) (before after : Loads) → error_line s ≢ None → StopsRequest s held q before after → RunsOut (Some q) before after
 request_out s held (Sessions r) before after line h = run_out h.0 held r before after (subst (λ (x : Status). error_line x ≢ None) h.1 line) h.2
 request_out s held (Validation v) before after line h = validation_out h.0 held v before after (subst (λ (x : Status). error_line x ≢ None) h.1 line) h.2
+request_out s held (Load n) before after line h = load_out n before after h.1
 
 pub runs_out : (s : Status) (held : Option Contents) (q : Option Request) (before after : Loads) → error_line s ≢ None → StopsCall s held q before after → RunsOut q before after
 runs_out s held None before after line h = nothing None before after h.1
@@ -138,6 +144,7 @@ tells_request : (held : Option Contents) (q : Request) (s : Status) (before afte
 tells_request held (Sessions r) s before after text h = inl h.0
 tells_request held (Validation v) s before after text (true, e, h) = inl e
 tells_request held (Validation v) s before after text (false, e, h) = inr e
+tells_request held (Load n) s before after text h = inl h.0
 
 tells : (held : Option Contents) (q : Option Request) (s : Status) (before after : Loads) (text : List ℕ) → IsDueOf held q s before after text → ((s ≡ Done) ⊎ (s ≡ Invalid)) ⊎ (error_line s ≡ Some text)
 tells held None s before after text h = inr h.2

@@ -1,9 +1,9 @@
--- The limits of a request are within their bounds.
+-- The numbers of a request are within their bounds.
 use Rattle.std.proofs.Common.{◌≡◌, ◌∙◌, ℕ, ◌≤◌, List, Option, Some, None, ap, subst, sym}
 use Rattle.guard_words.specs.declared.call.Call.{Call}
-use Rattle.guard_words.specs.declared.call.Call.TheVariants.{Run, Replay, Validate}
+use Rattle.guard_words.specs.declared.call.Call.TheVariants.{Run, Replay, Validate, Generate}
 use Rattle.guard_words.specs.Words.{call_of}
-use Rattle.guard_words.proofs.Bounds.{run_bound, replay_bound}
+use Rattle.guard_words.proofs.Bounds.{run_bound, replay_bound, generate_bound}
 use Rattle.shacl_guard.specs.declared.request.Request.{Request}
 use Rattle.shacl_guard.specs.Requests.{IsWithin, request_in, request_of}
 
@@ -15,6 +15,7 @@ pub within : (words : List (List ℕ)) (c : Call) (q : Request) → call_of word
 within words (Run l fs) q e is = subst IsWithin (sym (inside q _ is)) (run_bound words l fs e)
 within words (Replay l n fs) q e is = subst IsWithin (sym (inside q _ is)) (replay_bound words l n fs e)
 within words (Validate g s) q e is = subst IsWithin (sym (inside q _ is)) tt
+within words (Generate n) q e is = subst IsWithin (sym (inside q _ is)) (generate_bound words n e)
 
 -- and it is that of the words
 pub asked : (words : List (List ℕ)) (c : Call) (q : Request) → call_of words ≡ Some c → Some q ≡ request_in (Some c) → request_of words ≡ Some q

@@ -3,6 +3,7 @@ ghost use Rattle.std.specs.Fmt.{decimal};
 ghost use Rattle.session_model.specs.Print.{line};
 ghost use Rattle.session_reader.specs.Checking.{OnlyGrows};
 ghost use Rattle.input_files.specs.Loads.{Loads};
+ghost use Rattle.load_command.specs.Load.{IsLoad};
 ghost use Rattle.validate_command.specs.Lines.{bad_input_text};
 ghost use Rattle.shacl_guard.specs.Due.{Fails, Gives, IsDue, StopsCall, StopsRequest};
 ghost use Rattle.shacl_guard.specs.Requests.{IsWithin, request_of};
@@ -10,6 +11,7 @@ ghost use Rattle.shacl_guard.specs.Statuses.{error_line};
 
 use crate::Status;
 use crate::request::{Request, read_request};
+use load_command::run_load;
 use outside::{Files, Gate, Maker};
 use rdf_text::Text;
 use session_files::{SessionRun, run_files};
@@ -72,6 +74,27 @@ fn answer_validation<F: Files, M: Maker>(
     }
 }
 
+// What a generated load gives.
+fn answer_load<R: Threads + Wait + Sync, M: Maker, G: Gate>(
+    rt: &R,
+    alloc: Global,
+    n: u32,
+    maker: &mut M,
+    gate: &G,
+) -> Result<Answer, Status>
+    requires { (1 ≤ n) × (n ≤ 100000) }
+    ensures load { MatchResult result (λ a. (a.status ≡ Status.Done) × IsLoad n (M.refused maker.old) (M.refused maker.new) a.text) (λ s. s ≡ Status.Memory) }
+    ensures refused { OnlyGrows (M.refused maker.old) (M.refused maker.new) }
+{
+    match run_load(rt, alloc, n, maker, gate) {
+        Ok(text) => Ok(Answer {
+            status: Status::Done,
+            text: Text::from_string(text),
+        }),
+        Err(_) => Err(Status::Memory),
+    }
+}
+
 // What a request gives.
 fn answer_request<R: Threads + Wait + Sync, F: Files, M: Maker, G: Gate>(
     rt: &R,
@@ -91,6 +114,7 @@ fn answer_request<R: Threads + Wait + Sync, F: Files, M: Maker, G: Gate>(
     match request {
         Request::Sessions(run) => answer_sessions(rt, alloc, run, files, maker, gate),
         Request::Validation(validated) => answer_validation(alloc, validated, files, maker),
+        Request::Load(n) => answer_load(rt, alloc, *n, maker, gate),
     }
 }
 

@@ -15,6 +15,8 @@ pub enum Request {
     Sessions(SessionRun),
     /// A data graph is validated by a shapes graph.
     Validation(ValidatedFiles),
+    /// The generated load of so many numbers is run.
+    Load(u32),
 }
 
 // The limits of the words as those of a store.
@@ -53,6 +55,7 @@ fn request_in(call: Call) -> Request
             data_file,
             shapes_file: shapes,
         }),
+        Call::Generate { numbers } => Request::Load(numbers),
     }
 }
 

@@ -116,6 +116,44 @@ fn validates_what_the_devices_allow(rt: HostRuntime) -> Result<(), Fail> {
     Ok(())
 }
 
+// What is told of generated loads, in threads whose order is theirs. No file is there.
+#[test]
+fn generated_loads_are_counted(rt: HostRuntime) -> Result<(), Fail> {
+    let alloc = rt.alloc();
+    let rows: [(&str, u8, &[u8]); 6] = [
+        (
+            "1",
+            0,
+            b"generate 1\ncommits 5\nrefused 0\ntriples 2\n".as_slice(),
+        ),
+        (
+            "25",
+            0,
+            b"generate 25\ncommits 27\nrefused 2\ntriples 46\n".as_slice(),
+        ),
+        (
+            "100",
+            0,
+            b"generate 100\ncommits 94\nrefused 10\ntriples 180\n".as_slice(),
+        ),
+        ("0", 2, b"error usage\n".as_slice()),
+        ("025", 2, b"error usage\n".as_slice()),
+        ("100001", 2, b"error usage\n".as_slice()),
+    ];
+    for (size, status, due) in rows {
+        let mut files = MemFiles::new(alloc, Vec::new(alloc), Vec::new(alloc));
+        let mut out = MemSink::new(alloc, 1000, 1000, Vec::new(alloc))?;
+        let mut maker = RegexMaker::new(alloc);
+        let words = ["shacl_guard", "generate", size];
+        let ended = run(
+            &rt, alloc, &words, &mut files, &mut out, &mut maker, &OpenGate,
+        );
+        assert_eq!(rt; ended.code(), status, "{size}");
+        assert_eq!(rt; out.taken(), due, "{size}");
+    }
+    Ok(())
+}
+
 // So often a hold looks for what it waits for, at most; between looks it gives way now and then.
 const TURNS: u64 = 200_000_000;
 

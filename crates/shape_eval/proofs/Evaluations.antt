@@ -2,7 +2,9 @@
 use Rattle.std.proofs.Common.{◌≡◌, ◌∙◌, ℕ, ◌+◌, ◌<◌, ◌≤◌, Bool, List, [], ◌∷◌, ◌++◌, length, map, take, get_or, refl, sym, ap, arith, subst, inl, inr}
 use Rattle.std.specs.Prelude.{◌⊎◌, ◌↔◌, ◌==◌, IsTrue, MatchOption, None, Option, Some, slice_get}
 use Rattle.std.specs.List.{All, Contains}
-use Rattle.std.proofs.lemmas.List.{map-append, take_all}
+use Rattle.std.proofs.Math.ListN.{get_or-append}
+use Rattle.std.proofs.Math.Nat.{eq-or-lt_of_le}
+use Rattle.std.proofs.lemmas.List.{get_or_push, get_or-map, length-map, length_push, map-append, take_all}
 use Rattle.std.proofs.lemmas.List.Elements.{All-contains, All-contains_itself, All-weaker, Contains-append_cases, Contains-append_left, Contains-append_right}
 use Rattle.collections.proofs.Members.{has_cases, has_equal}
 use Rattle.rdf_model.specs.declared.term.Term.{Term}
@@ -10,13 +12,15 @@ use Rattle.rdf_model.specs.declared.triple.Triple.{Triple}
 use Rattle.rdf_model.specs.declared.ids.Ids.{Ids}
 use Rattle.rdf_model.specs.Numbers.{AreNumbered, IsNumbering, term_at, graph_of}
 use Rattle.shape_model.specs.declared.result_row.ResultRow.{ResultRow}
+use Rattle.shape_model.specs.Components.{PropertyRow}
 use Rattle.shape_model.specs.Readings.{reading}
 use Rattle.shape_model.specs.Validation.{AtDepth}
 use Rattle.component_rows.specs.Answers.{AreAnswersTo, Tells}
 use Rattle.component_rows.specs.Listed.{Collects}
 use Rattle.component_rows.specs.Nodes.{HasNode}
-use Rattle.component_rows.proofs.Collecting.{collects_same, loop_end, loop_more}
+use Rattle.component_rows.proofs.Collecting.{collects_same}
 use Rattle.component_rows.proofs.Told.{tells_all, tells_more}
+use Rattle.logic_constraints.specs.Properties.{told_rows, with_property}
 use Rattle.shape_ast.specs.declared.component.TermComponent.{TermComponent}
 use Rattle.shape_ast.specs.declared.component.TermComponent.TheVariants as by_term
 use Rattle.shape_ast.specs.declared.constraint.Constraint.{Constraint}
@@ -27,7 +31,7 @@ use Rattle.shape_ast.specs.Standing.{StandFor}
 use Rattle.shape_eval.specs.declared.told.Told.{Told}
 use Rattle.shape_eval.specs.Around.{around}
 use Rattle.shape_eval.specs.Results.{AtPlace, CollectsAt, CollectsAtEach}
-use Rattle.shape_eval.specs.ShapeRows.{FromSome, PropertyAt}
+use Rattle.shape_eval.specs.ShapeRows.{PropertyAt}
 use Rattle.shape_eval.specs.Told.{AreRight, Asks, AsksSome, ConformsAt, CountAsks, HaveAnswers, answers_of, node_at, node_number, places_in}
 use Rattle.shape_eval.specs.ValueNodes.{AreValueNodes, AtNumbers}
 use Rattle.shape_eval.proofs.Depths.{none_where}
@@ -56,18 +60,37 @@ module _ (terms : List Term) (ids : List Ids) (shapes : List (Shape ℕ)) (level
   answered_all values i answers le ge h s c stand at =
       tells_all (λ k. ConformsAt (graph_of terms ids) s levels c.node (term_at terms (get_or values k 0))) answers i (length values) le ge (h s c stand at)
 
-  -- the results at the value nodes so far
-  abbrev pub CollectedUpTo : List ℕ → ℕ → List ResultRow → Type 0
-  CollectedUpTo values i rows = AtPlace terms shapes place (λ s c. Collects (FromSome (take i values) (λ v r. AtDepth levels (graph_of terms ids) (reading s) c.node (term_at terms v) r)) rows)
+  -- a list of the results at each value node so far
+  abbrev pub ListedUpTo : List ℕ → ℕ → List (List ResultRow) → Type 0
+  ListedUpTo values i lists = (length lists ≡ i)
+      × AtPlace terms shapes place (λ s c. (k : ℕ) → k < i → Collects (AtDepth levels (graph_of terms ids) (reading s) c.node (term_at terms (get_or values k 0))) (get_or lists k []))
 
-  pub collected_more : (values : List ℕ) (i : ℕ) (rows more new : List ResultRow) → i < length values → new ≡ rows ++ more → CollectedUpTo values i rows
-      → CollectsAt terms ids shapes levels place (get_or values i 0) more → CollectedUpTo values (i + 1) new
-  collected_more values i rows more new lt is before h s c stand at =
-      loop_more (λ v r. AtDepth levels (graph_of terms ids) (reading s) c.node (term_at terms v) r) values i 0 rows new lt (before s c stand at) (more, is, h s c stand at)
+  pub listed_more : (values : List ℕ) (i : ℕ) (lists new : List (List ResultRow)) (rows : List ResultRow) → new ≡ lists ++ rows ∷ [] → ListedUpTo values i lists
+      → CollectsAt terms ids shapes levels place (get_or values i 0) rows → ListedUpTo values (i + 1) new
+  listed_more values i lists new rows is before h = (
+    ap (λ (ls : List (List ResultRow)). length ls) is ∙ length_push lists rows ∙ ap (λ (n : ℕ). n + 1) before.0,
+    λ s c stand at k lt. subst (λ (list : List ResultRow). Collects (AtDepth levels (graph_of terms ids) (reading s) c.node (term_at terms (get_or values k 0))) list) (ap (λ (ls : List (List ResultRow)). get_or ls k []) (sym is))
+        (elim (eq-or-lt_of_le {n = k} {m = i} (omega (arith, lt))) [
+          | inl e ↦ subst (λ (list : List ResultRow). Collects (AtDepth levels (graph_of terms ids) (reading s) c.node (term_at terms (get_or values k 0))) list) (sym (get_or_push lists rows [] k (before.0 ∙ sym e)))
+              (subst (λ (n : ℕ). Collects (AtDepth levels (graph_of terms ids) (reading s) c.node (term_at terms (get_or values n 0))) rows) (sym e) (h s c stand at))
+          | inr less ↦ subst (λ (list : List ResultRow). Collects (AtDepth levels (graph_of terms ids) (reading s) c.node (term_at terms (get_or values k 0))) list)
+              (sym (get_or-append lists (rows ∷ []) [] k (subst (λ (n : ℕ). k < n) (sym before.0) less))) (before.1 s c stand at k less)
+        ]),
+  )
 
-  pub collected_all : (values : List ℕ) (i : ℕ) (rows : List ResultRow) → length values ≤ i → CollectedUpTo values i rows → CollectsAtEach terms ids shapes levels place values rows
-  collected_all values i rows le h s c stand at =
-      loop_end (term_at terms) (λ v r. AtDepth levels (graph_of terms ids) (reading s) c.node v r) values i rows le (h s c stand at)
+  -- as the results of the property shape at all of them
+  pub listed_all : (values : List ℕ) (i : ℕ) (lists : List (List ResultRow)) (all : List ResultRow) → length values ≤ i → i ≤ length values → ListedUpTo values i lists
+      → ((within : List Term) (shape : Term) → Collects (PropertyRow (told_rows within values lists) (with_property shape)) all) → CollectsAtEach terms ids shapes levels place values all
+  listed_all values i lists all le ge h given s c stand at =
+      let Gives : Term → ResultRow → Type 0 = λ v r. AtDepth levels (graph_of terms ids) (reading s) c.node v r in
+      collects_same (PropertyRow (told_rows terms values lists) (with_property c.node)) (λ r. (v : Term) × HasNode terms values v × Gives v r) all (λ r. (
+        λ p. (p.2.0, p.2.1, subst (λ (v : Term). Gives v r) p.2.2.2 ((h.1 s c stand at p.2.2.0 (omega (arith, le, p.2.2.1)) r).0 p.2.2.3)),
+        λ q.
+            let k = q.1.0 in
+            let lt : k < length values = subst (λ (n : ℕ). k < n) (length-map values (term_at terms)) q.1.1 in
+            let is : term_at terms (get_or values k 0) ≡ q.0 = sym (get_or-map (term_at terms) values k 0 q.0 lt) ∙ q.1.2 in
+            (c.node, (refl, refl), (q.0, q.1, (k, lt, is, (h.1 s c stand at k (omega (arith, ge, le, lt)) r).1 (subst (λ (v : Term). Gives v r) (sym is) q.2)))),
+      )) (given terms c.node)
 
   -- as results of a property shape
   pub property_at : (values : List ℕ) (f : ℕ) (rows : List ResultRow) → place < length shapes → CollectsAtEach terms ids shapes levels place values rows

@@ -19,6 +19,7 @@ use crate::rights::Permit;
 use crate::told::Told;
 use crate::value_nodes::value_nodes;
 use collections::{Sequence, sorted_once};
+use logic_constraints::property;
 use path_eval::ClassWords;
 use rdf_model::{Footprint, Names, Triples};
 use shape_ast::{Bound, Shape};
@@ -121,14 +122,14 @@ fn rows_at_each<R: Triples, N: Names>(
     ensures rows { IfOk result (λ rows. CollectsAtEach (N.terms names.now) (R.triples graph.now) shapes.now levels place values.now rows.items) }
     ensures looks { OnOk result (AddsAtEach (N.terms names.now) (R.triples graph.now) shapes.now levels place values.now footprint.old footprint.new) }
 {
-    let mut rows = Vec::new(alloc);
+    let mut rows = Vec::with_capacity(alloc, values.len())?;
     for value in values {
-        let mut more = rows_at(
+        let more = rows_at(
             alloc, graph, names, words, shapes, levels, place, *value, footprint,
         )?;
-        rows.append(&mut more)?;
+        rows.push(more)?;
     }
-    Ok(rows)
+    property(alloc, values, &rows)
 }
 
 // The results of the property shapes at the places, at each value node (SHACL section 4.7.2).

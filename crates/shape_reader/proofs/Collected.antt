@@ -13,6 +13,7 @@ use Rattle.shape_rules.specs.Broken.{IsWellFormed}
 use Rattle.shape_ast.specs.declared.shape.Shape.{Shape}
 use Rattle.shape_ast.specs.Readings.{HoldsOfShape, ReadShape, read_shape, read_shapes}
 use Rattle.shape_ast.specs.Standing.{IsBuilt, StandFor, StandsIn}
+use Rattle.shape_reader.specs.Once.{IsOnce}
 use Rattle.shape_reader.specs.Parts.{AreShapes, IsCompiled, IsShapeOf}
 use Rattle.shape_reader.proofs.Speaking.{node_of, speak_for}
 
@@ -27,6 +28,7 @@ module _ (s : List Triple) (nodes : List Term) where
   none_yet = record {
     at = refl;
     compiled = λ c i. absurd (omega arith);
+    once = λ c i. absurd (omega arith);
     built = λ k d l. absurd (omega arith);
     named = λ k d l. absurd (omega arith);
   }
@@ -38,6 +40,8 @@ module _ (s : List Triple) (nodes : List Term) where
         at = ap (map node_of) more ∙ map_push node_of (read_shapes shapes) (read shape) nodes i n l e before.at h.node;
         compiled = subst (λ (all : List ReadShape). (c : ReadShape) → Contains all c → IsCompiled s nodes c) (sym more)
             (all_push (λ (c : ReadShape). IsCompiled s nodes c) (read_shapes shapes) (read shape) before.compiled h.compiled);
+        once = subst (λ (all : List ReadShape). (c : ReadShape) → Contains all c → IsOnce c) (sym more)
+            (all_push (λ (c : ReadShape). IsOnce c) (read_shapes shapes) (read shape) before.once h.once);
         built = grown (IsBuilt (λ t. t)) shapes shape before.built h.built;
         named = grown (HoldsOfShape (StandsIn s) (length nodes)) shapes shape before.named h.named;
       }

@@ -11,3 +11,7 @@ pub mod Assembled
 pub mod Collected
 pub mod Gathered
 pub mod Causes
+pub mod Turns
+pub mod Distinct
+pub mod Rising
+pub mod Sayings

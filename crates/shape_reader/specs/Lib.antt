@@ -1,3 +1,4 @@
 pub mod Kinds
+pub mod Once
 pub mod Parts
 pub mod Faults

@@ -1,11 +1,13 @@
 -- The parts of a compiled shape, as the triples of its node say them.
 use Rattle.std.specs.Prelude.{◌≡◌, ◌⊎◌, ◌↔◌, ℕ, IsTrue, List, [], ◌∷◌, ◌++◌, Option, Some, None, MatchOption, length, map, slice_get}
 use Rattle.std.specs.List.{All, Contains}
+use Rattle.std.specs.Ordering.{nat_cmp}
 use Rattle.collections.specs.Listings.{IsListing}
+use Rattle.collections.specs.Ordered.{IsAscending}
 use Rattle.literal_order.specs.Texts.{string_value}
 use Rattle.rdf_model.specs.declared.term.Term.{Term}
 use Rattle.rdf_model.specs.declared.triple.Triple.{Triple}
-use Rattle.rdf_model.specs.Terms.{term_cmp}
+use Rattle.rdf_model.specs.Terms.{term_cmp, triple_cmp}
 use Rattle.shape_model.specs.Instances.{Instance}
 use Rattle.shape_model.specs.Paths.{Path}
 use Rattle.shape_model.specs.Readings.{Sibling}
@@ -29,6 +31,7 @@ use Rattle.outside.specs.declared.maker.MakeFault.TheVariants as make
 use Rattle.outside.specs.Faults.{Refusal}
 use Rattle.std.specs.Arc.{arc_value}
 use Rattle.shape_model.specs.Patterns.{IsPatternOf}
+use Rattle.shape_reader.specs.Once.{AreDistinct, IsOnce, constraint_triple}
 use Rattle.shape_reader.specs.declared.kind.Kind.{Kind}
 use Rattle.shape_reader.specs.declared.kind.Kind.TheVariants as kinds
 use Rattle.shape_reader.specs.Kinds.{kind}
@@ -151,12 +154,26 @@ abbrev pub IsMakeFault : List Triple → Term → MakeFault → List Refusal →
 IsMakeFault s n make.Refused old new = IsRefused s n old new
 IsMakeFault s n make.Memory old new = new ≡ old
 
+-- the targets of the node, each once
+pub record AreTargets (s : List Triple) (nodes : List Term) (n : Term) (targets : List (Target Term)) : Type 0 where
+  pub said : (x : Target Term) → Contains targets x ↔ IsTarget s nodes n x
+  pub once : AreDistinct targets
+
+-- its constraints, in the order of the triples that say them
+pub record AreConstraints (s : List Triple) (nodes : List Term) (n : Term) (constraints : List (Constraint Term)) : Type 0 where
+  pub said : (x : Constraint Term) → Contains constraints x ↔ SomeValue s n (λ p v. SaysConstraint s nodes p v x)
+  pub once : IsAscending triple_cmp (map (constraint_triple n) constraints)
+
+-- the places of its property shapes, in order
+abbrev pub AreProperties : List Triple → List Term → Term → List ℕ → Type 0
+AreProperties s nodes n places = IsListing nat_cmp (HasPlace s nodes n vocabulary.Property) places
+
 -- the parts of the node but for its path and its pattern, with the node
 pub record ArePartsOf (s : List Triple) (nodes : List Term) (n own : Term) (targets : List (Target Term)) (constraints : List (Constraint Term)) (properties siblings : List ℕ) (severity flags : Option Term) (messages ignored : List Term) : Type 0 where
   pub node : own ≡ n
-  pub targets_said : (x : Target Term) → Contains targets x ↔ IsTarget s nodes n x
-  pub constraints_said : (x : Constraint Term) → Contains constraints x ↔ SomeValue s n (λ p v. SaysConstraint s nodes p v x)
-  pub properties_said : (k : ℕ) → Contains properties k ↔ HasPlace s nodes n vocabulary.Property k
+  pub targets_said : AreTargets s nodes n targets
+  pub constraints_said : AreConstraints s nodes n constraints
+  pub properties_said : AreProperties s nodes n properties
   pub siblings_said : (k : ℕ) → Contains siblings k ↔ HasSibling s nodes n k
   pub severity_said : IsValue s n vocabulary.Severity severity
   pub flags_said : IsValue s n vocabulary.Flags flags
@@ -167,6 +184,7 @@ pub record ArePartsOf (s : List Triple) (nodes : List Term) (n own : Term) (targ
 pub record IsShapeOf (s : List Triple) (nodes : List Term) (n : Term) (shape : Shape Term) : Type 0 where
   pub node : shape.node ≡ n
   pub compiled : IsCompiled s nodes (read_shape (λ t. t) shape)
+  pub once : IsOnce (read_shape (λ t. t) shape)
   pub built : IsBuilt (λ t. t) shape
   pub named : HoldsOfShape (StandsIn s) (length nodes) shape
 
@@ -174,6 +192,7 @@ pub record IsShapeOf (s : List Triple) (nodes : List Term) (n : Term) (shape : S
 pub record AreShapes (s : List Triple) (nodes : List Term) (first : List Term) (shapes : List (Shape Term)) : Type 0 where
   pub at : map (λ (c : ReadShape). c.node) (read_shapes shapes) ≡ first
   pub compiled : (c : ReadShape) → Contains (read_shapes shapes) c → IsCompiled s nodes c
+  pub once : (c : ReadShape) → Contains (read_shapes shapes) c → IsOnce c
   pub built : AreBuilt (λ t. t) shapes
   pub named : All (HoldsOfShape (StandsIn s) (length nodes)) shapes
 

@@ -5,10 +5,11 @@ ghost use Rattle.rdf_model.specs.declared.term.Term.{Term as TermData};
 ghost use Rattle.rdf_model.specs.Terms.{term_cmp, triple_cmp};
 ghost use Rattle.shape_ast.specs.declared.constraint.Constraint.{Constraint as ConstraintData};
 ghost use Rattle.shape_reader.specs.declared.kind.Kind.TheVariants as kinds;
-ghost use Rattle.shape_reader.specs.Parts.{AreShapesOf, IsConstraint, SaysConstraint};
+ghost use Rattle.shape_reader.specs.Once.{constraint_triple};
+ghost use Rattle.shape_reader.specs.Parts.{AreConstraints, AreShapesOf, IsConstraint, SaysConstraint};
 
 use crate::kind::{Kind, kind_of};
-use crate::part::Part;
+use crate::part::{Part, parts_of};
 use crate::place::{place_of, places_of};
 use collections::Sequence;
 use rdf_model::{Term, Triple};
@@ -131,6 +132,8 @@ fn read_constraint(
 impl Part for Constraint<Term> {
     ghost says = { SaysConstraint };
 
+    ghost triple = { constraint_triple };
+
     fn read(
         alloc: Global,
         graph: &[Triple],
@@ -141,4 +144,19 @@ impl Part for Constraint<Term> {
         let found = read_constraint(alloc, graph, nodes, kind_of(property), value)?;
         Ok(found)
     }
+}
+
+/// The constraints of the shape at the node, in the order of the triples that say them.
+pub(crate) fn constraints_of(
+    alloc: Global,
+    graph: &[Triple],
+    nodes: &[Term],
+    node: &Term,
+) -> Result<Sequence<Constraint<Term>>, AllocError>
+    requires graph { IsAscending triple_cmp graph.now }
+    requires nodes { IsAscending term_cmp nodes.now }
+    ensures { IfOk result (λ constraints. AreConstraints graph.now nodes.now node.now constraints) }
+{
+    let constraints = parts_of(alloc, graph, nodes, node)?;
+    Ok(constraints)
 }

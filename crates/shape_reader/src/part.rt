@@ -1,5 +1,5 @@
 //! The parts that the values of a shape's properties say: one way to read them all.
-ghost use Rattle.std.specs.Prelude.{◌≡◌, ◌⊎◌, ◌↔◌, IfOk, OnOk, List, Some};
+ghost use Rattle.std.specs.Prelude.{◌≡◌, ◌⊎◌, ◌↔◌, IfOk, OnOk, List, Some, map};
 ghost use Rattle.std.specs.List.{Contains};
 ghost use Rattle.collections.specs.Ordered.{IsAscending};
 ghost use Rattle.rdf_model.specs.declared.term.Term.{Term as TermData};
@@ -8,18 +8,21 @@ ghost use Rattle.rdf_model.specs.Terms.{term_cmp, triple_cmp};
 ghost use Rattle.shape_rules.specs.declared.property.ShapeProperty.{ShapeProperty as PropertyData};
 ghost use Rattle.shape_rules.specs.Syntax.{SomeValue};
 ghost use Rattle.shape_rules.specs.Steps.{OfTriple};
-ghost use Rattle.shape_syntax.specs.Gathering.{HasGathered};
+ghost use Rattle.shape_reader.specs.Once.{MayAdd, value_triple};
 
+use crate::own::own_triples;
 use collections::Sequence;
 use rdf_model::{Term, Triple};
 use shape_rules::{ShapeProperty, property_of};
-use shape_syntax::lookup::triples_of;
 use std::alloc::{AllocError, Global};
 
 /// What a value of a property says of its shape.
 pub(crate) trait Part {
     /// In the graph, where shapes have places among the nodes, the value of the property says this part.
     ghost says: { List TripleData → List TermData → PropertyData → TermData → Self → Type 0 };
+
+    /// The triple of the node that says this part.
+    ghost triple: { TermData → Self → TripleData };
 
     /// The part that the value says, if it says one.
     fn read(
@@ -31,7 +34,8 @@ pub(crate) trait Part {
     ) -> Result<Option<Self>, AllocError>
         requires graph { IsAscending triple_cmp graph.now }
         requires nodes { IsAscending term_cmp nodes.now }
-        ensures { IfOk result (λ found. (x : Self) → (found ≡ Some x) ↔ says graph.now nodes.now property value.now x) };
+        ensures said { IfOk result (λ found. (x : Self) → (found ≡ Some x) ↔ says graph.now nodes.now property value.now x) }
+        ensures by { IfOk result (λ found. (n : TermData) (x : Self) → found ≡ Some x → triple n x ≡ value_triple n property value.now) };
 }
 
 // Adds the part that the value says.
@@ -45,7 +49,8 @@ fn push_read<P: Part + Drop>(
 ) -> Result<(), AllocError>
     requires graph { IsAscending triple_cmp graph.now }
     requires nodes { IsAscending term_cmp nodes.now }
-    ensures { OnOk result ((x : P) → Contains parts.new x ↔ (Contains parts.old x ⊎ P.says graph.now nodes.now property value.now x)) }
+    ensures said { OnOk result ((x : P) → Contains parts.new x ↔ (Contains parts.old x ⊎ P.says graph.now nodes.now property value.now x)) }
+    ensures by { OnOk result ((n : TermData) → MayAdd (value_triple n property value.now) (map (P.triple n) parts.old) (map (P.triple n) parts.new)) }
 {
     let found = P::read(alloc, graph, nodes, property, value)?;
     match found {
@@ -67,7 +72,8 @@ fn push_part<P: Part + Drop>(
 ) -> Result<(), AllocError>
     requires graph { IsAscending triple_cmp graph.now }
     requires nodes { IsAscending term_cmp nodes.now }
-    ensures { OnOk result ((x : P) → Contains parts.new x ↔ (Contains parts.old x ⊎ OfTriple triple.now (λ p v. P.says graph.now nodes.now p v x))) }
+    ensures said { OnOk result ((x : P) → Contains parts.new x ↔ (Contains parts.old x ⊎ OfTriple triple.now (λ p v. P.says graph.now nodes.now p v x))) }
+    ensures by { OnOk result (MayAdd triple.now (map (P.triple triple.now.subject) parts.old) (map (P.triple triple.now.subject) parts.new)) }
 {
     match property_of(&triple.predicate) {
         Some(property) => {
@@ -78,24 +84,7 @@ fn push_part<P: Part + Drop>(
     }
 }
 
-fn push_parts<P: Part + Drop>(
-    alloc: Global,
-    graph: &[Triple],
-    nodes: &[Term],
-    own: &[Triple],
-    parts: &mut Sequence<P>,
-) -> Result<(), AllocError>
-    requires graph { IsAscending triple_cmp graph.now }
-    requires nodes { IsAscending term_cmp nodes.now }
-    ensures { OnOk result (HasGathered (λ t (x : P). OfTriple t (λ p v. P.says graph.now nodes.now p v x)) own.now parts.old parts.new) }
-{
-    for triple in own {
-        push_part(alloc, graph, nodes, triple, parts)?;
-    }
-    Ok(())
-}
-
-/// The parts of this sort that the values of the node's properties say.
+/// The parts of this sort that the values of the node's properties say, in the order of the triples that say them.
 pub(crate) fn parts_of<P: Part + Drop>(
     alloc: Global,
     graph: &[Triple],
@@ -104,10 +93,13 @@ pub(crate) fn parts_of<P: Part + Drop>(
 ) -> Result<Sequence<P>, AllocError>
     requires graph { IsAscending triple_cmp graph.now }
     requires nodes { IsAscending term_cmp nodes.now }
-    ensures { IfOk result (λ parts. (x : P) → Contains parts x ↔ SomeValue graph.now node.now (λ p v. P.says graph.now nodes.now p v x)) }
+    ensures said { IfOk result (λ parts. (x : P) → Contains parts x ↔ SomeValue graph.now node.now (λ p v. P.says graph.now nodes.now p v x)) }
+    ensures by { IfOk result (λ parts. IsAscending triple_cmp (map (P.triple node.now) parts)) }
 {
-    let own = triples_of(graph, node);
+    let own = own_triples(graph, node);
     let mut parts = Sequence::new(alloc);
-    push_parts(alloc, graph, nodes, own, &mut parts)?;
+    for triple in own {
+        push_part(alloc, graph, nodes, triple, &mut parts)?;
+    }
     Ok(parts)
 }

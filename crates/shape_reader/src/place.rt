@@ -1,6 +1,7 @@
 //! Shapes by their places in the ascending list of their nodes.
-ghost use Rattle.std.specs.Prelude.{◌≡◌, ◌⊎◌, ◌↔◌, ℕ, List, Some, IfOk, OnOk};
+ghost use Rattle.std.specs.Prelude.{◌≡◌, ◌⊎◌, ◌↔◌, ◌++◌, ◌∷◌, [], ℕ, List, Some, IfOk, OnOk};
 ghost use Rattle.std.specs.List.{Contains};
+ghost use Rattle.std.specs.Ordering.{nat_cmp};
 ghost use Rattle.collections.specs.Ordered.{IsAscending};
 ghost use Rattle.rdf_model.specs.Terms.{term_cmp};
 ghost use Rattle.shape_reader.specs.Parts.{ArePlaces, IsPlace};
@@ -43,7 +44,8 @@ pub(crate) fn places_of(
 // Adds the place of the term, if it is one of the nodes.
 fn push_place(nodes: &[Term], term: &Term, places: &mut Sequence<usize>) -> Result<(), AllocError>
     requires { IsAscending term_cmp nodes.now }
-    ensures { OnOk result ((n : ℕ) → Contains places.new n ↔ (Contains places.old n ⊎ IsPlace nodes.now n term.now)) }
+    ensures found { OnOk result ((n : ℕ) → Contains places.new n ↔ (Contains places.old n ⊎ IsPlace nodes.now n term.now)) }
+    ensures by { OnOk result ((places.new ≡ places.old) ⊎ ((n : ℕ) × IsPlace nodes.now n term.now × (places.new ≡ places.old ++ n ∷ []))) }
 {
     match place_of(nodes, term) {
         Some(place) => {
@@ -54,14 +56,15 @@ fn push_place(nodes: &[Term], term: &Term, places: &mut Sequence<usize>) -> Resu
     }
 }
 
-/// The places of those terms that are nodes.
+/// The places of those terms that are nodes, in the order of the terms.
 pub(crate) fn places_among(
     alloc: Global,
     nodes: &[Term],
     terms: &[Term],
 ) -> Result<Sequence<usize>, AllocError>
     requires { IsAscending term_cmp nodes.now }
-    ensures { IfOk result (λ places. (n : ℕ) → Contains places n ↔ Gives (λ t k. IsPlace nodes.now k t) terms.now n) }
+    ensures found { IfOk result (λ places. (n : ℕ) → Contains places n ↔ Gives (λ t k. IsPlace nodes.now k t) terms.now n) }
+    ensures rising { IfOk result (λ places. IsAscending term_cmp terms.now → IsAscending nat_cmp places) }
 {
     let mut places = Sequence::new(alloc);
     for term in terms {

@@ -4,6 +4,7 @@ ghost use Rattle.rdf_model.specs.Terms.{triple_cmp};
 ghost use Rattle.shape_ast.specs.Standing.{AreCompiled};
 ghost use Rattle.shape_rules.specs.Broken.{IsWellFormed};
 ghost use Rattle.shape_reader.specs.Faults.{IsCause};
+ghost use Rattle.shape_reader.specs.Once.{AreOnce};
 
 use crate::ShapeFault;
 use crate::shapes::compile;
@@ -13,8 +14,8 @@ use shape_ast::Shapes;
 use shape_rules::least_broken;
 use std::alloc::Global;
 
-/// The shapes of a shapes graph, compiled, if it is well-formed (SHACL sections 2 and 3.4.2). The maker builds the
-/// patterns, shape by shape in the order of nodes.
+/// The shapes of a shapes graph, compiled, if it is well-formed (SHACL sections 2 and 3.4.2), with each of their parts
+/// once. The maker builds the patterns, shape by shape in the order of nodes.
 ///
 /// Errors: `Rule` where the graph isn't well-formed, with the least row of its broken rules; `Pattern` where it is, and
 /// the maker refused the pattern of a shape under its flags, after which no more are built.
@@ -26,6 +27,7 @@ pub fn read_shapes<M: Maker>(
     requires { IsAscending triple_cmp graph.now }
     ensures answer { MatchResult result (λ shapes. IsWellFormed graph.now × AreCompiled shapes.shapes graph.now)
         (λ fault. IsCause graph.now fault (M.refused maker.old) (M.refused maker.new)) }
+    ensures once { IfOk result (λ shapes. AreOnce shapes.shapes) }
     ensures refused { IfOk result (λ _. M.refused maker.new ≡ M.refused maker.old) }
 {
     let broken = least_broken(alloc, graph)?;

@@ -8,16 +8,14 @@ ghost use Rattle.rdf_model.specs.Terms.{term_cmp, triple_cmp};
 ghost use Rattle.shape_references.specs.Siblings.{IsTurned};
 ghost use Rattle.shape_rules.specs.declared.property.ShapeProperty.TheVariants as properties;
 ghost use Rattle.shape_rules.specs.Broken.{IsWellFormed};
-ghost use Rattle.shape_rules.specs.Syntax.{HasProperty, IsShape, SomeValue};
+ghost use Rattle.shape_rules.specs.Syntax.{HasProperty, IsShape};
 ghost use Rattle.shape_syntax.specs.PathNodes.{ArePathNodes};
-ghost use Rattle.shape_ast.specs.declared.constraint.Constraint.{Constraint as ConstraintData};
-ghost use Rattle.shape_ast.specs.declared.target.Target.{Target as TargetData};
 ghost use Rattle.shape_ast.specs.Readings.{read_optional_path};
 ghost use Rattle.shape_reader.specs.Faults.{IsCompileCause};
-ghost use Rattle.shape_reader.specs.Parts.{ArePartsOf, HasOne, HasPlace, HasSibling, HasTexts, IsIgnored, IsOptionalPath, IsOptionalPattern, IsPatternFault, IsShapeOf, IsTarget, IsValue, SaysConstraint};
+ghost use Rattle.shape_reader.specs.Parts.{AreConstraints, ArePartsOf, AreProperties, AreTargets, HasOne, HasSibling, HasTexts, IsIgnored, IsOptionalPath, IsOptionalPattern, IsPatternFault, IsShapeOf, IsValue};
 
 use crate::CompileFault;
-use crate::part::parts_of;
+use crate::constraint::constraints_of;
 use crate::path::path_of;
 use crate::pattern::pattern_of;
 use crate::target::targets_of;
@@ -55,15 +53,14 @@ fn lists_of(
     requires graph { IsAscending triple_cmp graph.now }
     requires turned { IsListing triple_cmp (IsTurned graph.now) turned.now }
     requires nodes { IsAscending term_cmp nodes.now }
-    ensures targets { IfOk result (λ lists. (x : TargetData TermData) → Contains lists.0.0 x ↔ IsTarget graph.now nodes.now node.now x) }
-    ensures constraints { IfOk result (λ lists. (x : ConstraintData TermData) → Contains lists.0.1 x
-        ↔ SomeValue graph.now node.now (λ p v. SaysConstraint graph.now nodes.now p v x)) }
-    ensures properties { IfOk result (λ lists. (k : ℕ) → Contains lists.1.0 k ↔ HasPlace graph.now nodes.now node.now properties.Property k) }
+    ensures targets { IfOk result (λ lists. AreTargets graph.now nodes.now node.now lists.0.0) }
+    ensures constraints { IfOk result (λ lists. AreConstraints graph.now nodes.now node.now lists.0.1) }
+    ensures properties { IfOk result (λ lists. AreProperties graph.now nodes.now node.now lists.1.0) }
     ensures siblings { IfOk result (λ lists. (k : ℕ) → Contains lists.1.1 k ↔ HasSibling graph.now nodes.now node.now k) }
 {
     let parts = both(
         targets_of(alloc, graph, nodes, node),
-        parts_of(alloc, graph, nodes, node),
+        constraints_of(alloc, graph, nodes, node),
     );
     let places = both(
         properties_of(alloc, graph, nodes, node),

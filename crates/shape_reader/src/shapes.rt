@@ -8,10 +8,12 @@ ghost use Rattle.shape_rules.specs.Broken.{IsWellFormed};
 ghost use Rattle.shape_syntax.specs.PathNodes.{ArePathNodes};
 ghost use Rattle.shape_ast.specs.Standing.{AreCompiled};
 ghost use Rattle.shape_reader.specs.Faults.{IsCompileCause};
+ghost use Rattle.shape_reader.specs.Once.{AreOnce};
 ghost use Rattle.shape_reader.specs.Parts.{AreShapes};
 
 use crate::CompileFault;
 use crate::nodes::shape_nodes;
+use crate::path_sizes::have_room;
 use crate::shape::compile_shape;
 use collections::Sequence;
 use outside::Maker;
@@ -48,7 +50,7 @@ fn compile_nodes<M: Maker>(
     Ok(shapes)
 }
 
-/// The shapes of a well-formed shapes graph, compiled (SHACL section 2). The maker builds the patterns, shape by shape
+/// The shapes of a well-formed shapes graph, compiled (SHACL section 2), with each of their parts once. The maker builds the patterns, shape by shape
 /// in the order of nodes.
 ///
 /// Errors: `Pattern` where the maker refused the pattern of a shape under its flags, after which no more are built.
@@ -62,11 +64,13 @@ pub fn compile<M: Maker>(
     ensures answer { MatchResult result
         (λ shapes. AreCompiled shapes.shapes graph.now)
         (λ fault. IsCompileCause graph.now fault (M.refused maker.old) (M.refused maker.new)) }
+    ensures once { IfOk result (λ shapes. AreOnce shapes.shapes) }
     ensures refused { IfOk result (λ _. M.refused maker.new ≡ M.refused maker.old) }
 {
     let paths = path_nodes(alloc, graph)?;
     let turned = turned_properties(alloc, graph)?;
     let nodes = shape_nodes(alloc, graph)?;
+    have_room(alloc, graph, nodes.as_slice())?;
     let shapes = compile_nodes(
         alloc,
         maker,

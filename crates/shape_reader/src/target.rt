@@ -8,7 +8,8 @@ ghost use Rattle.shape_model.specs.Instances.{Instance};
 ghost use Rattle.shape_model.specs.Vocabulary.{rdfs_class};
 ghost use Rattle.shape_ast.specs.declared.target.Target.{Target as TargetData};
 ghost use Rattle.shape_ast.specs.declared.target.Target.TheVariants.{ImplicitClass};
-ghost use Rattle.shape_reader.specs.Parts.{IsTarget, SaysTarget, target_of};
+ghost use Rattle.shape_reader.specs.Once.{AreDistinct, target_triple};
+ghost use Rattle.shape_reader.specs.Parts.{AreTargets, SaysTarget, target_of};
 
 use crate::part::{Part, parts_of};
 use collections::Sequence;
@@ -34,6 +35,8 @@ fn declared(property: ShapeProperty, value: &Term) -> Result<Option<Target<Term>
 
 impl Part for Target<Term> {
     ghost says = { SaysTarget };
+
+    ghost triple = { target_triple };
 
     fn read(
         _alloc: Global,
@@ -81,7 +84,8 @@ fn push_implicit(
     targets: &mut Sequence<Target<Term>>,
 ) -> Result<(), AllocError>
     requires { IsAscending triple_cmp graph.now }
-    ensures { OnOk result ((x : TargetData TermData) → Contains targets.new x ↔ (Contains targets.old x ⊎ ((ImplicitClass ≡ x) × Instance graph.now node.now rdfs_class))) }
+    ensures said { OnOk result ((x : TargetData TermData) → Contains targets.new x ↔ (Contains targets.old x ⊎ ((ImplicitClass ≡ x) × Instance graph.now node.now rdfs_class))) }
+    ensures once { OnOk result ((Contains targets.old ImplicitClass → ⊥) → AreDistinct targets.old → AreDistinct targets.new) }
 {
     let class = is_class(alloc, graph, node)?;
     if class {
@@ -91,7 +95,7 @@ fn push_implicit(
     Ok(())
 }
 
-/// The targets of the shape at the node.
+/// The targets of the shape at the node, each once.
 pub(crate) fn targets_of(
     alloc: Global,
     graph: &[Triple],
@@ -100,7 +104,7 @@ pub(crate) fn targets_of(
 ) -> Result<Sequence<Target<Term>>, AllocError>
     requires graph { IsAscending triple_cmp graph.now }
     requires nodes { IsAscending term_cmp nodes.now }
-    ensures { IfOk result (λ targets. (x : TargetData TermData) → Contains targets x ↔ IsTarget graph.now nodes.now node.now x) }
+    ensures { IfOk result (λ targets. AreTargets graph.now nodes.now node.now targets) }
 {
     let mut targets = parts_of(alloc, graph, nodes, node)?;
     push_implicit(alloc, graph, node, &mut targets)?;

@@ -10,7 +10,7 @@ ghost use Rattle.shape_references.specs.Siblings.{IsTurned};
 ghost use Rattle.shape_rules.specs.declared.property.ShapeProperty.TheVariants as properties;
 ghost use Rattle.shape_rules.specs.Syntax.{HasProperty};
 ghost use Rattle.shape_syntax.specs.Gathering.{Gives};
-ghost use Rattle.shape_reader.specs.Parts.{HasOne, HasPlace, HasSibling, IsIgnored, IsValue};
+ghost use Rattle.shape_reader.specs.Parts.{AreProperties, HasOne, HasPlace, HasSibling, IsIgnored, IsValue};
 
 use crate::place::{place_of, places_among};
 use collections::{Sequence, sorted_once};
@@ -77,6 +77,21 @@ fn all_values(
     Ok(found)
 }
 
+// The same, each once and in the order of terms.
+fn values_once(
+    alloc: Global,
+    graph: &[Triple],
+    node: &Term,
+    property: ShapeProperty,
+) -> Result<Sequence<Term>, AllocError>
+    requires { IsAscending triple_cmp graph.now }
+    ensures { IfOk result (λ found. IsListing term_cmp (HasProperty graph.now node.now property) found) }
+{
+    let found = all_values(alloc, graph, node, property)?;
+    let sorted = sorted_once(found.into_vec())?;
+    Ok(Sequence::from_vec(sorted))
+}
+
 /// The messages of the shape at the node, in the order of terms (SHACL section 2.1.5).
 pub(crate) fn messages_of(
     alloc: Global,
@@ -86,12 +101,11 @@ pub(crate) fn messages_of(
     requires { IsAscending triple_cmp graph.now }
     ensures { IfOk result (λ messages. IsListing term_cmp (HasProperty graph.now node.now properties.Message) messages) }
 {
-    let found = all_values(alloc, graph, node, ShapeProperty::Message)?;
-    let sorted = sorted_once(found.into_vec())?;
-    Ok(Sequence::from_vec(sorted))
+    let messages = values_once(alloc, graph, node, ShapeProperty::Message)?;
+    Ok(messages)
 }
 
-/// The places among the nodes of the values of sh:property (SHACL section 4.7.2).
+/// The places among the nodes of the values of sh:property, in order (SHACL section 4.7.2).
 pub(crate) fn properties_of(
     alloc: Global,
     graph: &[Triple],
@@ -100,9 +114,9 @@ pub(crate) fn properties_of(
 ) -> Result<Sequence<usize>, AllocError>
     requires graph { IsAscending triple_cmp graph.now }
     requires nodes { IsAscending term_cmp nodes.now }
-    ensures { IfOk result (λ places. (k : ℕ) → Contains places k ↔ HasPlace graph.now nodes.now node.now properties.Property k) }
+    ensures { IfOk result (λ places. AreProperties graph.now nodes.now node.now places) }
 {
-    let found = all_values(alloc, graph, node, ShapeProperty::Property)?;
+    let found = values_once(alloc, graph, node, ShapeProperty::Property)?;
     let places = places_among(alloc, nodes, found.as_slice())?;
     Ok(places)
 }

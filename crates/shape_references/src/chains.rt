@@ -56,8 +56,9 @@ fn nodes_before(
     Ok(nodes)
 }
 
-// The nodes from which a chain of so many references leads: those that refer to one from which a chain of one fewer does.
-fn nodes_with_chain(
+/// The nodes from which a chain of so many references leads: those that refer to one from which a chain of one fewer does.
+/// Each triple of the graph is a reference.
+pub fn nodes_with_chain(
     alloc: Global,
     graph: &[Triple],
     count: usize,

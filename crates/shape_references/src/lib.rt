@@ -3,8 +3,8 @@
 //!
 //! `least_on_loop` takes an ascending graph whose triples are references, and ensures exactly the least node from
 //! which a chain leads to itself, or that there is none. Ranks show of the others that none leads to them, so that
-//! one node is searched. `least_with_chain` ensures as exactly the least node from which a chain of so many references
-//! leads. `push_siblings` ensures exactly a shape's siblings.
+//! one node is searched. `nodes_with_chain` ensures as exactly the nodes from which a chain of so many references
+//! leads, and `least_with_chain` the least of them. `push_siblings` ensures exactly a shape's siblings.
 #![tactic(auto)]
 
 mod below;
@@ -15,6 +15,6 @@ mod nodes;
 mod ranks;
 mod siblings;
 
-pub use chains::least_with_chain;
+pub use chains::{least_with_chain, nodes_with_chain};
 pub use loops::least_on_loop;
 pub use siblings::{push_siblings, turned_properties};

@@ -4,14 +4,8 @@ use Rattle.std.specs.Prelude.{◌⊎◌, ◌↔◌, ◌≤◌}
 use Rattle.std.specs.List.{Contains}
 use Rattle.rdf_model.specs.declared.term.Term.{Term}
 use Rattle.rdf_model.specs.declared.triple.Triple.{Triple}
-use Rattle.shape_model.specs.Paths.{Path}
-use Rattle.shape_syntax.proofs.OnePath.{one_path}
 use Rattle.shape_syntax.specs.Gathering.{Gives}
-use Rattle.shape_syntax.specs.PathDepth.{IsDeep, IsRead, IsTooDeep, depth_of}
-use Rattle.shape_syntax.specs.PathNodes.{IsPath}
 use Rattle.shape_syntax.specs.Subjects.{IsSubject}
-use Rattle.shape_syntax.specs.declared.reading.PathFault.{PathFault}
-use Rattle.shape_syntax.specs.declared.reading.PathFault.TheVariants as path_faults
 use Rattle.shape_rules.specs.declared.property.ShapeProperty.TheVariants as properties
 use Rattle.shape_rules.specs.declared.rule_row.RuleRow.{RuleRow}
 use Rattle.shape_rules.specs.Broken.{HasDeepPath}
@@ -19,21 +13,6 @@ use Rattle.shape_rules.specs.Properties.{property_iri}
 use Rattle.shape_rules.specs.References.{HasLongChain}
 use Rattle.shape_rules.specs.Rows.{row}
 use Rattle.shape_rules.specs.Steps.{DeepPathRow, IsDeepRow}
-
-pub not_deep : (s : List Triple) (n : Term) (levels : ℕ) (p : Path) → IsRead s n levels p → IsDeep s n levels → ⊥
-not_deep s n levels p h d =
-    let shallow : depth_of d.0 ≤ levels = subst (λ (q : Path). depth_of q ≤ levels) (sym (one_path s n p d.0 h.0 d.1)) h.1 in
-    let deep = d.2 in
-    omega arith
-
-pub deep_path : (s : List Triple) (n : Term) (levels : ℕ) → IsTooDeep s n levels → IsDeep s n levels
-deep_path s n levels h = (h.0.0, h.0.1, h.1 h.0.0 h.0.1)
-
--- a fault of the path tells whether it is deep
-pub told_deep : (s : List Triple) (n : Term) (levels : ℕ) (f : PathFault) (deep : Bool) → ((f ≡ path_faults.NotPath) → IsPath s n → ⊥) × ((f ≡ path_faults.TooDeep) → IsTooDeep s n levels)
-    → ((deep ≡ true) × (f ≡ path_faults.TooDeep)) ⊎ ((deep ≡ false) × (f ≡ path_faults.NotPath)) → IsTrue deep ↔ IsDeep s n levels
-told_deep s n levels f deep why (inl h) = (λ k. deep_path s n levels (why.1 h.1), λ d. h.0)
-told_deep s n levels f deep why (inr h) = (λ k. absurd (let e = h.0 in cc), λ d. absurd (why.0 h.1 (d.0, d.1)))
 
 path_subject : (s : List Triple) (n : Term) → HasDeepPath s n → IsSubject s n
 path_subject s n h = (record { subject = n; predicate = property_iri properties.Path; object = h.0 }, h.1, refl)

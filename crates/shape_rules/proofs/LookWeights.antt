@@ -22,7 +22,7 @@ use Rattle.shape_rules.specs.Properties.{property_iri}
 use Rattle.shape_rules.specs.Sizes.{CountsIf, HasOwnLooks, HasPathLooks, HasTargetLooks, HasTooManyLooks, IsLookWeight, WeighsBy, looks_limit, looks_of, values}
 use Rattle.shape_rules.specs.Syntax.{HasProperty}
 use Rattle.shape_rules.proofs.Gathered.{shape_may_be}
-use Rattle.shape_rules.proofs.PathSums.{sh_not_rest}
+use Rattle.shape_rules.proofs.PathParts.{sh_not_rest}
 use Rattle.shape_rules.proofs.Weights.{OneWeight, one_weight}
 
 one_path_looks : (s : List Triple) (v : Term) (a b : ℕ) → HasPathLooks s v a → HasPathLooks s v b → a ≡ b

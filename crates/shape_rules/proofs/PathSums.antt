@@ -1,74 +1,25 @@
 -- The looks of a path are those of the paths of which it is made.
-use Rattle.std.proofs.Common.{◌≡◌, ◌∙◌, ℕ, zero, suc, ◌+◌, ◌<◌, List, [], ◌∷◌, get_or, true, false, refl, sym, ap, subst, arith, inl, inr, codes}
-use Rattle.std.specs.Prelude.{◌≢◌, bytes_eq}
+use Rattle.std.proofs.Common.{◌≡◌, ◌∙◌, ℕ, zero, suc, ◌+◌, ◌<◌, List, [], ◌∷◌, refl, sym, ap, subst, arith, inl, inr}
 use Rattle.std.specs.BTreeMap.{BTreeMap}
 use Rattle.rdf_model.specs.declared.term.Term.{Term}
-use Rattle.rdf_model.specs.declared.term.Term.TheVariants.{Blank, Iri, Literal}
 use Rattle.rdf_model.specs.declared.triple.Triple.{Triple}
-use Rattle.shape_model.specs.Vocabulary.{sh, rdf, rdf_first, rdf_nil, rdf_rest}
-use Rattle.shape_model.specs.Triples.{Has, IsBlank, IsIri}
+use Rattle.shape_model.specs.Triples.{IsIri}
 use Rattle.shape_model.specs.Paths.{Path, Predicate, Inverse, Sequence, Alternative, ZeroOrMore, OneOrMore, ZeroOrOne, Paths, Last, Also}
-use Rattle.shape_model.specs.ShapeSyntax.{HasAlone, ListOf, PathOf, PathsOf}
+use Rattle.shape_model.specs.ShapeSyntax.{ListOf, PathOf, PathsOf}
 use Rattle.shape_syntax.specs.PathDepth.{deepest_of, depth_of}
 use Rattle.shape_syntax.proofs.Lists.{one_list}
-use Rattle.shape_syntax.proofs.PathWays.{no_blank_iri, sh_exact}
+use Rattle.shape_syntax.proofs.PathWays.{no_blank_iri}
 use Rattle.reference_totals.specs.declared.place.Place.{Place}
 use Rattle.reference_totals.specs.Totals.{AreTotals, HasTotal, SumBy, TotalBy, capped}
 use Rattle.reference_totals.proofs.TotalSums.{one_sum, total_from}
 use Rattle.shape_rules.specs.PathLooks.{ArePathLooks, ArePathPlaces, IsMadeOf, IsObject}
 use Rattle.shape_rules.specs.Sizes.{looks_of, looks_of_all}
+use Rattle.shape_rules.proofs.PathParts.{AreParts, IsMadeAs, IsPart, made_as, member_object}
 use Rattle.shape_rules.proofs.Weights.{sum_map_in}
-
--- names that differ in a letter
-letter : ℕ → Term → ℕ
-letter i (Blank session number) = 0
-letter i (Iri text) = get_or text i 0
-letter i (Literal text datatype language) = 0
-
-apart_at : (i : ℕ) (t u : Term) → letter i t ≢ letter i u → t ≢ u
-apart_at i t u apart e = apart (ap (letter i) e)
-
-f_not_r : ◌≢◌ {A = ℕ} 102 114
-f_not_r e = omega arith
-
-n_not_one : ◌≢◌ {A = ℕ} 110 49
-n_not_one e = omega arith
-
-pub first_not_rest : rdf_first ≢ rdf_rest
-unfolding rdf rdf_first rdf_rest letter
-first_not_rest = apart_at 43 rdf_first rdf_rest f_not_r
-
-pub sh_not_rest : (name : List ℕ) → sh name ≢ rdf_rest
-unfolding sh rdf rdf_rest letter
-sh_not_rest name = apart_at 18 (sh name) rdf_rest n_not_one
-
-inverse_differs : codes "alternativePath" ≢ codes "inversePath"
-inverse_differs e = let g : true ≡ false = ap (λ (x : List ℕ). bytes_eq (codes "alternativePath") x) e in cc
-
-zeroOrMore_differs : codes "alternativePath" ≢ codes "zeroOrMorePath"
-zeroOrMore_differs e = let g : true ≡ false = ap (λ (x : List ℕ). bytes_eq (codes "alternativePath") x) e in cc
-
-oneOrMore_differs : codes "alternativePath" ≢ codes "oneOrMorePath"
-oneOrMore_differs e = let g : true ≡ false = ap (λ (x : List ℕ). bytes_eq (codes "alternativePath") x) e in cc
-
-zeroOrOne_differs : codes "alternativePath" ≢ codes "zeroOrOnePath"
-zeroOrOne_differs e = let g : true ≡ false = ap (λ (x : List ℕ). bytes_eq (codes "alternativePath") x) e in cc
-
-nil_not_blank : IsBlank rdf_nil → ⊥
-unfolding rdf rdf_nil
-nil_not_blank b = b
-
--- a node with one triple, whose property is a name of SHACL, is the head of no list
-no_list_at : (s : List Triple) (n : Term) (name : List ℕ) (v : Term) → HasAlone s n name v → (xs : List Term) → ListOf s n xs → ⊥
-no_list_at s n name v alone [] l = nil_not_blank (subst (λ (x : Term). IsBlank x) l.0 alone.0)
-no_list_at s n name v alone (m ∷ ms) l = sh_not_rest name (sym (alone.2 rdf_rest l.0 l.1.1.0).0)
 
 -- the value stands for a path with so many looks, which is less deep than this
 abbrev pub LooksBelow : List Triple → ℕ → Term → ℕ → Type 0
 LooksBelow s deep m a = (r : Path) × PathOf s m r × (a ≡ looks_of r) × (depth_of r < deep) × IsObject s m
-
-member_object : (s : List Triple) (n m : Term) → Has s n rdf_first m → IsObject s m
-member_object s n m h = (record { subject = n; predicate = rdf_first; object = m }, h, first_not_rest, refl)
 
 list_looks : (s : List Triple) (n : Term) (ps : Paths) (deep : ℕ) → deepest_of ps < deep → PathsOf s n ps → (ms : List Term) × ListOf s n ms × SumBy (LooksBelow s deep) ms (looks_of_all ps)
 list_looks s n (Last p) deep l h = (h.0 ∷ [], (h.1, h.2, h.3), (looks_of p, 0, (p, h.4, refl, l, member_object s n h.0 h.2.0.0), refl, omega arith))
@@ -78,65 +29,29 @@ list_looks s n (Also p ps) deep l h =
     let rest = list_looks s h.1 ps deep others h.4 in
     (h.0 ∷ rest.0, (h.1, h.2, rest.1), (looks_of p, looks_of_all ps, (p, h.3, refl, first, member_object s n h.0 h.2.0.0), rest.2, refl))
 
-first_of : (s : List Triple) (n : Term) (ps : Paths) → PathsOf s n ps → (m : Term) × Has s n rdf_first m
-first_of s n (Last p) h = (h.0, h.2.0.0)
-first_of s n (Also p ps) h = (h.0, h.2.0.0)
+-- those of one path, and those of a list
+part_looks : (s : List Triple) (r : Path) (deep : ℕ) (to : List Term) → depth_of r < deep → IsPart s r to → SumBy (LooksBelow s deep) to (looks_of r)
+part_looks s r deep to l h =
+    subst (λ (ms : List Term). SumBy (LooksBelow s deep) ms (looks_of r)) (sym h.3) (looks_of r, 0, (r, h.1, refl, l, h.2), refl, omega arith)
 
--- the list of a sequence or an alternative
-at_list : (s : List Triple) (n : Term) (ps : Paths) (deep : ℕ) (to : List Term) → deepest_of ps < deep → PathsOf s n ps → ListOf s n to → SumBy (LooksBelow s deep) to (looks_of_all ps)
-at_list s n ps deep to l h list =
-    let found = list_looks s n ps deep l h in
-    subst (λ (ms : List Term). SumBy (LooksBelow s deep) ms (looks_of_all ps)) (one_list s n found.0 to found.1 list) found.2
+parts_looks : (s : List Triple) (ps : Paths) (deep : ℕ) (to : List Term) → deepest_of ps < deep → AreParts s ps to → SumBy (LooksBelow s deep) to (looks_of_all ps)
+parts_looks s ps deep to l h =
+    let found = list_looks s h.0 ps deep l h.1 in
+    subst (λ (ms : List Term). SumBy (LooksBelow s deep) ms (looks_of_all ps)) (one_list s h.0 found.0 to found.1 h.2) found.2
 
-module _ (s : List Triple) (n : Term) (deep : ℕ) (to : List Term) (made : IsMadeOf s n to) where
-  turned_looks : (name : List ℕ) → codes "alternativePath" ≢ name → (v : Term) → HasAlone s n name v → (r : Path) → PathOf s v r → depth_of r < deep → SumBy (LooksBelow s deep) to (looks_of r)
-  turned_looks name other v alone r path l = elim made [
-    | inl list ↦ absurd (no_list_at s n name v alone to list)
-    | inr (inl h) ↦
-        let same = alone.2 h.1.0 h.1.1 h.1.2 in
-        elim h.1.3 [
-          | inl k ↦ absurd (other (sh_exact (codes "alternativePath") name (sym k.0 ∙ same.0)))
-          | inr k ↦
-              let object : IsObject s v = (record { subject = n; predicate = sh name; object = v }, alone.1, sh_not_rest name, refl) in
-              let all : SumBy (LooksBelow s deep) (v ∷ []) (looks_of r) = (looks_of r, 0, (r, path, refl, l, object), refl, omega arith) in
-              subst (λ (ms : List Term). SumBy (LooksBelow s deep) ms (looks_of r)) (ap (λ (x : Term). x ∷ []) (sym same.1) ∙ sym k.1) all
-        ]
-    | inr (inr h) ↦ absurd (h.0 (sh name) v alone.1)
-  ]
+-- the looks of the paths of which a path is made
+looks_as : (s : List Triple) (q : Path) (to : List Term) → IsMadeAs s q to → SumBy (LooksBelow s (depth_of q)) to (looks_of q)
+looks_as s (Predicate p) to h = absurd h
+looks_as s (Inverse r) to h = part_looks s r (depth_of r + 1) to (omega arith) h
+looks_as s (Sequence ps) to h = parts_looks s ps (deepest_of ps + 1) to (omega arith) h
+looks_as s (Alternative ps) to h = parts_looks s ps (deepest_of ps + 1) to (omega arith) h
+looks_as s (ZeroOrMore r) to h = part_looks s r (depth_of r + 1) to (omega arith) h
+looks_as s (OneOrMore r) to h = part_looks s r (depth_of r + 1) to (omega arith) h
+looks_as s (ZeroOrOne r) to h = part_looks s r (depth_of r + 1) to (omega arith) h
 
-  sequence_looks : (ps : Paths) → PathsOf s n ps → deepest_of ps < deep → SumBy (LooksBelow s deep) to (looks_of_all ps)
-  sequence_looks ps path l = elim made [
-    | inl list ↦ at_list s n ps deep to l path list
-    | inr (inl h) ↦ let found = list_looks s n ps deep l path in absurd (h.0 found.0 found.1)
-    | inr (inr h) ↦ let m = first_of s n ps path in absurd (h.0 rdf_first m.0 m.1)
-  ]
-
-  offered_looks : (v : Term) → HasAlone s n (codes "alternativePath") v → (ps : Paths) → PathsOf s v ps → deepest_of ps < deep → SumBy (LooksBelow s deep) to (looks_of_all ps)
-  offered_looks v alone ps path l = elim made [
-    | inl list ↦ absurd (no_list_at s n (codes "alternativePath") v alone to list)
-    | inr (inl h) ↦
-        let same = alone.2 h.1.0 h.1.1 h.1.2 in
-        elim h.1.3 [
-          | inl k ↦
-              let here : PathsOf s h.1.1 ps = subst (λ (x : Term). PathsOf s x ps) (sym same.1) path in
-              elim k.1 [
-                | inl list ↦ at_list s h.1.1 ps deep to l here list
-                | inr none ↦ let found = list_looks s h.1.1 ps deep l here in absurd (none.0 found.0 found.1)
-              ]
-          | inr k ↦ absurd (k.0 same.0)
-        ]
-    | inr (inr h) ↦ absurd (h.0 (sh (codes "alternativePath")) v alone.1)
-  ]
-
--- the looks of the paths of which the path of a blank node is made
-made_looks : (s : List Triple) (n : Term) (to : List Term) → IsMadeOf s n to → (IsIri n → ⊥) → (q : Path) → PathOf s n q → SumBy (LooksBelow s (depth_of q)) to (looks_of q)
-made_looks s n to made blank (Predicate p) h = absurd (blank h.1)
-made_looks s n to made blank (Inverse r) h = turned_looks s n (depth_of r + 1) to made (codes "inversePath") (inverse_differs) h.0 h.1 r h.2 (omega arith)
-made_looks s n to made blank (Sequence ps) h = sequence_looks s n (deepest_of ps + 1) to made ps h.2 (omega arith)
-made_looks s n to made blank (Alternative ps) h = offered_looks s n (deepest_of ps + 1) to made h.0 h.1 ps h.3 (omega arith)
-made_looks s n to made blank (ZeroOrMore r) h = turned_looks s n (depth_of r + 1) to made (codes "zeroOrMorePath") (zeroOrMore_differs) h.0 h.1 r h.2 (omega arith)
-made_looks s n to made blank (OneOrMore r) h = turned_looks s n (depth_of r + 1) to made (codes "oneOrMorePath") (oneOrMore_differs) h.0 h.1 r h.2 (omega arith)
-made_looks s n to made blank (ZeroOrOne r) h = turned_looks s n (depth_of r + 1) to made (codes "zeroOrOnePath") (zeroOrOne_differs) h.0 h.1 r h.2 (omega arith)
+-- of the path of a blank node
+pub made_looks : (s : List Triple) (n : Term) (to : List Term) → IsMadeOf s n to → (IsIri n → ⊥) → (q : Path) → PathOf s n q → SumBy (LooksBelow s (depth_of q)) to (looks_of q)
+made_looks s n to made blank q h = looks_as s q to (made_as s n to made blank q h)
 
 -- an IRI has one look
 iri_looks : (s : List Triple) (n : Term) → IsIri n → (q : Path) → PathOf s n q → looks_of q ≡ 1

@@ -1,5 +1,5 @@
 -- How the looks of paths are found: by totals over places, one for each object that stands for a path.
-use Rattle.std.specs.Prelude.{◌≡◌, ◌≢◌, ◌⊎◌, ℕ, List, [], ◌∷◌, Some, codes}
+use Rattle.std.specs.Prelude.{◌≡◌, ◌≢◌, ◌⊎◌, ◌↔◌, ℕ, List, [], ◌∷◌, Some, codes}
 use Rattle.std.specs.List.{Contains}
 use Rattle.std.specs.BTreeMap.{BTreeMap}
 use Rattle.rdf_model.specs.declared.term.Term.{Term}
@@ -8,6 +8,8 @@ use Rattle.shape_model.specs.Vocabulary.{rdf_rest, sh}
 use Rattle.shape_model.specs.Triples.{Has, IsIri}
 use Rattle.shape_model.specs.Paths.{Path}
 use Rattle.shape_model.specs.ShapeSyntax.{ListOf, PathOf}
+use Rattle.shape_syntax.specs.Gathering.{Gives}
+use Rattle.shape_syntax.specs.PathDepth.{IsDeep}
 use Rattle.shape_syntax.specs.PathNodes.{IsPath}
 use Rattle.reference_totals.specs.declared.place.Place.{Place}
 use Rattle.reference_totals.specs.Totals.{capped, entry}
@@ -42,6 +44,21 @@ pub record ArePathPlaces (s : List Triple) (places : List Place) : Type 0 where
 pub record ArePathLooks (s : List Triple) (most : ℕ) (table : BTreeMap Term ℕ) : Type 0 where
   pub sound : (n : Term) (v : ℕ) → entry table n ≡ Some v → (q : Path) × PathOf s n q × (v ≡ capped most (looks_of q))
   pub all : (n : Term) (q : Path) → IsObject s n → PathOf s n q → (v : ℕ) × (entry table n ≡ Some v)
+
+-- the nodes are those, of the objects, that stand for paths that are deeper than this
+abbrev pub AreDeepPaths : List Triple → ℕ → List Term → Type 0
+AreDeepPaths s levels nodes = (n : Term) → IsObject s n → Contains nodes n ↔ IsDeep s n levels
+
+-- a step from a node to one of those of whose paths its path is made; what stands as its predicate tells nothing
+abbrev pub IsStep : Term → Term → Triple → Type 0
+IsStep from to t = t ≡ record { subject = from; predicate = from; object = to }
+
+abbrev pub IsStepOf : Place → Triple → Type 0
+IsStepOf p t = Gives (IsStep p.node) p.to t
+
+-- the steps of all the places
+abbrev pub AreSteps : List Place → List Triple → Type 0
+AreSteps places steps = (t : Triple) → Contains steps t ↔ Gives IsStepOf places t
 
 -- the own looks of a shape, as far as they are counted
 abbrev pub IsCappedLook : List Triple → Term → ℕ → Type 0

@@ -210,7 +210,7 @@ fn all_look_places(
     ensures { IfOk result (λ places. ArePlaces graph.now (IsCappedLook graph.now) places) }
 {
     let turned = turned_properties(alloc, graph)?;
-    let paths = path_looks(alloc, graph)?;
+    let paths = path_looks(alloc, graph, most_looks())?;
     let places = look_places(alloc, graph, turned.as_slice(), &paths, nodes)?;
     Ok(places)
 }

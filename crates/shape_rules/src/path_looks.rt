@@ -198,15 +198,30 @@ pub(crate) fn most_looks() -> u64
     4096
 }
 
-/// The looks of the paths for which values stand, as far as they are counted.
-pub(crate) fn path_looks(alloc: Global, graph: &[Triple]) -> Result<BTreeMap<Term, u64>, AllocError>
+/// The places of the values that stand for paths.
+pub(crate) fn object_places(alloc: Global, graph: &[Triple]) -> Result<Sequence<Place>, AllocError>
     requires { IsAscending triple_cmp graph.now }
-    ensures { IfOk result (λ table. ArePathLooks graph.now looks_limit table) }
+    ensures { IfOk result (λ places. ArePathPlaces graph.now places) }
 {
     let paths = path_nodes(alloc, graph)?;
     let nodes = objects(alloc, graph)?;
     let places = path_places(alloc, graph, &paths, nodes.as_slice())?;
-    let table = totals(alloc, places.as_slice(), most_looks())?;
+    Ok(places)
+}
+
+/// The looks of the paths for which values stand (one for each predicate in them), as far as they are counted: one more
+/// than `most` stands for all that are over it.
+pub fn path_looks(
+    alloc: Global,
+    graph: &[Triple],
+    most: u64,
+) -> Result<BTreeMap<Term, u64>, AllocError>
+    requires graph { IsAscending triple_cmp graph.now }
+    requires most { most + 1 < 2 ^ 64 }
+    ensures { IfOk result (λ table. ArePathLooks graph.now most table) }
+{
+    let places = object_places(alloc, graph)?;
+    let table = totals(alloc, places.as_slice(), most)?;
     Ok(table)
 }
 

@@ -14,7 +14,7 @@ fn literal(alloc: Global, lexical: &str, name: &str) -> Result<Term, AllocError>
     let datatype = format!(in alloc; "http://www.w3.org/2001/XMLSchema#{name}")?;
     Ok(Term::Literal {
         lexical: Text::new(alloc, lexical)?,
-        datatype: Text::from_string(datatype),
+        datatype: Text::from_string(datatype)?,
         language: None,
     })
 }

@@ -117,11 +117,14 @@ get_or-first (f ∷ files) (suc k) lt = get_or-first files k (omega (arith, lt))
 pub following_runs : FollowingRuns
 following_runs files l history all f =
     let ps : List SessionState = map (λ cs. up_to_event None cs []) files in
-    let count : length ps ≡ length files = length-map files (λ cs. up_to_event None cs []) in record {
-      last = world f.state f.last;
-      runs = run l empty_store f.state history ps f.last f.replays (omega (arith, f.opened, count)) (f.count ∙ sym count) f.numbered
-          (λ k lt. let here : k < length files = omega (arith, lt, count) in
-          subst (λ (z : SessionState). Follows l (k + 1) empty_store history z (get_or f.last k no_session)) (sym (get_or-first files k here)) (f.each k here));
-      complete = record { opened = f.opened ∙ sym f.count; left = f.left };
-      replies = f.replies;
-    }
+    let count : length ps ≡ length files = length-map files (λ cs. up_to_event None cs []) in (
+      record {
+        last = world f.state f.last;
+        runs = run l empty_store f.state history ps f.last f.replays (omega (arith, f.opened, count)) (f.count ∙ sym count) f.numbered
+            (λ k lt. let here : k < length files = omega (arith, lt, count) in
+            subst (λ (z : SessionState). Follows l (k + 1) empty_store history z (get_or f.last k no_session)) (sym (get_or-first files k here)) (f.each k here));
+        complete = record { opened = f.opened ∙ sym f.count; left = f.left };
+        replies = f.replies;
+      },
+      refl,
+    )

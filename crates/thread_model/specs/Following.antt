@@ -49,6 +49,7 @@ pub record Follow (files : List (List Command)) (l : Limits) (history : List Eve
   pub left : AllByRecursion (λ s. s.commands ≡ []) last
   pub replies : all ≡ map (λ s. s.replies) last
 
--- A law: such a history is a run of the files in its own order.
+-- A law: such a history is a run of the files in its own order, at whose end the store is in the history's state.
 abbrev pub FollowingRuns : Type 0
-FollowingRuns = (files : List (List Command)) (l : Limits) (history : List Event) (all : List (List SessionReply)) → Follow files l history all → HasReplies files l (map (λ e. e.session) history) all
+FollowingRuns =
+    (files : List (List Command)) (l : Limits) (history : List Event) (all : List (List SessionReply)) (f : Follow files l history all) → (run : HasReplies files l (map (λ e. e.session) history) all) × (run.last.state ≡ f.state)

@@ -7,7 +7,7 @@ use outside::OpenGate;
 use rdf_model::{Pattern, Term, Text, Triple};
 use session_model::Command;
 use session_player::{replay_all, text_of};
-use session_threads::run_all;
+use session_threads::{EndedRun, run_all};
 use std::alloc::{AllocError, Global};
 use std::process::Abort;
 use std::sync::Wait;
@@ -107,7 +107,7 @@ fn run_and_replay<R: Threads + Wait + Abort + Sync>(
 ) -> Result<(), Fail>
     requires { length files.now ≤ 64 }
 {
-    let run = run_all(rt, alloc, LIMITS, files, &OpenGate)?;
+    let EndedRun { run, triples: _ } = run_all(rt, alloc, LIMITS, files, &OpenGate)?;
     let text = text_of(alloc, &run)?;
     let places = places_of(alloc, &run.order)?;
     let Ok(again) = replay_all(alloc, LIMITS, files, &places) else {

@@ -8,7 +8,7 @@ use outside::{EventKind, RegexMaker};
 use session_model::Command;
 use session_player::{Run, replay_all, text_of};
 use session_reader::prepare;
-use session_threads::run_all;
+use session_threads::{EndedRun, run_all};
 use std::alloc::Global;
 use std::process::Abort;
 use std::sync::Wait;
@@ -453,7 +453,7 @@ fn run_held<R: Threads + Wait + Abort + Sync>(
         return Err(Fail::new("there are few files"));
     }
     let gate = HoldingGate::new(kinds, holds);
-    let run = run_all(rt, alloc, LIMITS, files, &gate)?;
+    let EndedRun { run, triples: _ } = run_all(rt, alloc, LIMITS, files, &gate)?;
     assert!(rt; gate.is_through());
     Ok(run)
 }

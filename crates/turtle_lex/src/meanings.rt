@@ -27,7 +27,7 @@ pub fn local_name(alloc: Global, characters: &[char]) -> Result<Text, AllocError
         }
         rest = after;
     }
-    Ok(Text::from_string(text))
+    Text::from_string(text)
 }
 
 // How many characters stand before the first colon.

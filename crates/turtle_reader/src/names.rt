@@ -76,7 +76,7 @@ fn joined(alloc: Global, first: &Text, second: &Text) -> Result<Text, AllocError
     let mut text = String::new(alloc);
     text.push_str(first.as_str())?;
     text.push_str(second.as_str())?;
-    Ok(Text::from_string(text))
+    Text::from_string(text)
 }
 
 /// The prefix of a PNAME_NS or PNAME_LN.

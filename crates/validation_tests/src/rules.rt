@@ -136,7 +136,7 @@ fn long_pattern(alloc: Global, letters: usize) -> Result<Vec<Triple>, AllocError
         subject: term(alloc, "e:S")?,
         predicate: term(alloc, "sh:pattern")?,
         object: Term::Literal {
-            lexical: Text::from_string(pattern),
+            lexical: Text::from_string(pattern)?,
             datatype: Text::new(alloc, "http://www.w3.org/2001/XMLSchema#string")?,
             language: None,
         },
@@ -156,7 +156,7 @@ fn long_patterns(rt: HostRuntime) -> Result<(), Fail> {
 
 fn numbered(alloc: Global, number: usize) -> Result<Term, AllocError> {
     let iri = format!(in alloc; "e:n{number}")?;
-    Ok(Term::Iri(Text::from_string(iri)))
+    Ok(Term::Iri(Text::from_string(iri)?))
 }
 
 fn refers(alloc: Global, from: usize, to: usize) -> Result<Triple, AllocError> {
@@ -192,6 +192,86 @@ fn long_chains(rt: HostRuntime) -> Result<(), Fail> {
     ] {
         let found = text_of(alloc, &least(alloc, chain_to(alloc, last, back)?)?)?;
         assert_eq!(rt; found.as_str(), expected, "{last} {back}");
+    }
+    Ok(())
+}
+
+fn blank(number: u32) -> Term {
+    Term::Blank { session: 1, number }
+}
+
+// The path of a number: a blank node, and behind so many levels the IRI at the end.
+fn nested(alloc: Global, number: u32, levels: u32) -> Result<Term, AllocError> {
+    if number > levels {
+        return term(alloc, "e:p");
+    }
+    Ok(blank(number))
+}
+
+// A cell of a list: its member and the next cell.
+fn push_cell(
+    alloc: Global,
+    cell: u32,
+    member: Term,
+    rest: Term,
+    graph: &mut Vec<Triple>,
+) -> Result<(), AllocError> {
+    graph.push(Triple {
+        subject: blank(cell),
+        predicate: term(alloc, "rdf:first")?,
+        object: member,
+    })?;
+    graph.push(Triple {
+        subject: blank(cell),
+        predicate: term(alloc, "rdf:rest")?,
+        object: rest,
+    })?;
+    Ok(())
+}
+
+// A shape with a path of so many levels, each of them a sequence of twice the next.
+fn doubled(alloc: Global, levels: u32, shape: &str) -> Result<Vec<Triple>, AllocError> {
+    let (mut graph, _) = graph_and_rule(alloc, shape)?;
+    for number in 1..=levels {
+        let second = number.saturating_add(1000);
+        let next = number.saturating_add(1);
+        push_cell(
+            alloc,
+            number,
+            nested(alloc, next, levels)?,
+            blank(second),
+            &mut graph,
+        )?;
+        push_cell(
+            alloc,
+            second,
+            nested(alloc, next, levels)?,
+            term(alloc, "rdf:nil")?,
+            &mut graph,
+        )?;
+    }
+    Ok(graph)
+}
+
+// A path that is doubled so often has 2 to that power looks, which a deactivated shape hasn't.
+#[test]
+fn doubled_paths(rt: HostRuntime) -> Result<(), Fail> {
+    let alloc = rt.alloc();
+    for (levels, deactivated, expected) in [
+        (12, "%false", ""),
+        (13, "%false", "<e:S> 40 -"),
+        (40, "%false", "<e:S> 40 -"),
+        (256, "%true", ""),
+        (257, "%true", "<e:S> 41 -"),
+    ] {
+        let line = format!(in alloc;
+            "e:S sh:targetNode e:a; e:S sh:path _1; e:S sh:deactivated {deactivated} =>"
+        )?;
+        let found = text_of(
+            alloc,
+            &least(alloc, doubled(alloc, levels, line.as_str())?)?,
+        )?;
+        assert_eq!(rt; found.as_str(), expected, "{levels} {deactivated}");
     }
     Ok(())
 }

@@ -14,7 +14,7 @@ const XSD: &str = "http://www.w3.org/2001/XMLSchema#";
 
 fn joined(alloc: Global, first: &str, last: &str) -> Result<Text, AllocError> {
     let text = format!(in alloc; "{first}{last}")?;
-    Ok(Text::from_string(text))
+    Text::from_string(text)
 }
 
 fn literal(alloc: Global, lexical: &str, datatype: &str) -> Result<Term, AllocError> {

@@ -1,12 +1,19 @@
 use Rattle.std.proofs.Common.{List, subst, sym}
 use Rattle.rdf_model.specs.declared.triple.Triple.{Triple}
+use Rattle.rdf_model.specs.Numbers.{graph_of}
 use Rattle.shape_model.specs.Validation.{Listing}
 use Rattle.shape_model.specs.declared.result_row.ResultRow.{ResultRow}
+use Rattle.term_validation.proofs.Members.{same_listing}
 use Rattle.term_validation.specs.Named.{AreNamedTriples}
 use Rattle.file_validation.proofs.results.listing.Goals as goal
 
 pub listing_in-requires-clause-shapes : goal.listing_in-requires-clause-shapes
-listing_in-requires-clause-shapes c = subst (λ (ts : List Triple). AreNamedTriples c.in_ok-names.names.terms ts) c.triples.ensures c.in_ok-names.ensures.shapes
+listing_in-requires-clause-shapes c = subst (λ (ts : List Triple). AreNamedTriples c.in_ok-numbered.numbered.names.terms ts) c.triples.ensures c.in_ok-numbered.ensures.named
 
 pub returns : goal.returns
-returns c = subst (λ (found : List ResultRow). Listing c.args.graph.now c.args.shapes.now found) (sym c.from_vec.ensures) c.in_ok-rows.ensures
+returns c =
+    let numbered = c.in_ok-numbered.numbered in
+    let graph = graph_of numbered.names.terms numbered.triples in
+    let s = c.args.shapes.now in
+    subst (λ (found : List ResultRow). Listing c.args.graph.now s found) (sym c.from_vec.ensures)
+      (same_listing graph c.args.graph.now s c.in_ok-numbered.ensures.index.members _ c.in_ok-rows.ensures)

@@ -1,6 +1,7 @@
-use Rattle.std.proofs.Common.{◌≡◌, reverse, sym, subst}
+use Rattle.std.proofs.Common.{◌≡◌, ℕ, List, reverse, sym, subst}
 use Rattle.store_model.specs.declared.event.Limits.{Limits}
-use Rattle.session_model.specs.Sessions.{HasReplies}
+use Rattle.session_model.specs.declared.reply.SessionReply.{SessionReply}
+use Rattle.session_threads.specs.Ends.{HasEnd}
 use Rattle.session_threads.proofs.Gathering.{runs, sound_new}
 use Rattle.session_threads.proofs.team.run_all.Goals as goal
 
@@ -18,7 +19,8 @@ returns g c =
     let met = c.in_ok-keeper-2 in
     let all = reverse met.all.items in
     let limits : core.limits ≡ store.limits = c.close-core.ensures.limits in
-    let base = runs store files met.keeper core all met.ensures.keeper met.ensures.opened met.ensures.met c.close-core.ensures.history limits c.close-core.ensures.replays in
-    subst (λ (x : Limits). HasReplies files x c.in_ok-order.order.items c.reverse.new.self.items) c.in_ok-store.ensures.limits
-    (subst (HasReplies files store.limits c.in_ok-order.order.items) (sym c.reverse.ensures.items)
-    (subst (λ order. HasReplies files store.limits order all) (sym c.in_ok-order.ensures) base))
+    let n = c.triples-triples.result in
+    let base = runs store files met.keeper core all n met.ensures.keeper met.ensures.opened met.ensures.met c.close-core.ensures.history limits c.close-core.ensures.replays c.triples-triples.ensures in
+    subst (λ (x : Limits). HasEnd files x c.in_ok-order.order.items c.reverse.new.self.items n) c.in_ok-store.ensures.limits
+    (subst (λ (x : List (List SessionReply)). HasEnd files store.limits c.in_ok-order.order.items x n) (sym c.reverse.ensures.items)
+    (subst (λ (order : List ℕ). HasEnd files store.limits order all n) (sym c.in_ok-order.ensures) base))

@@ -1,27 +1,31 @@
-use Rattle.std.proofs.Common.{◌≡◌, ◌∙◌, ◌+◌, ◌-◌, ◌*◌, ◌<◌, ℕ, Bool, List, get_or, length, map, vec_len, ap, arith, rules, sym, subst, inl, inr}
+use Rattle.std.proofs.Common.{◌≡◌, ◌∙◌, ◌+◌, ◌-◌, ◌*◌, ◌<◌, ℕ, Bool, List, [], ◌∷◌, get_or, length, map, vec_len, ap, arith, rules, sym, subst, inl, inr}
 use Rattle.std.specs.Prelude.{◌⊎◌, ◌↔◌, IsTrue}
 use Rattle.std.specs.List.{All, Contains}
-use Rattle.std.proofs.lemmas.List.{length_push}
+use Rattle.std.proofs.lemmas.List.{length-map, length_push, map-append}
 use Rattle.std.proofs.lemmas.List.Elements.{Contains-get_or}
+use Rattle.std.proofs.lemmas.Result.{IfOk-weaker}
+use Rattle.rdf_model.specs.declared.term.Term.{Term}
 use Rattle.rdf_model.specs.declared.triple.Triple.{Triple}
 use Rattle.rdf_model.specs.Numbers.{graph_of, term_at}
 use Rattle.shape_model.specs.declared.result_row.ResultRow.{ResultRow}
+use Rattle.shape_model.specs.Components.{PropertyRow}
 use Rattle.component_rows.specs.Answers.{AreAnswersTo}
 use Rattle.component_rows.specs.Listed.{Collects}
 use Rattle.component_rows.specs.Nodes.{AreNodes, HasNode}
 use Rattle.component_rows.proofs.Collecting.{loop_all, loop_more}
+use Rattle.logic_constraints.specs.Properties.{told_rows, with_property}
 use Rattle.path_eval.specs.Naming.{AddsLooks}
 use Rattle.shape_ast.specs.declared.constraint.Constraint.{Constraint}
 use Rattle.shape_ast.specs.Readings.{named_shapes, read_constraint, read_shape}
 use Rattle.shape_ast.specs.Standing.{IsLinked, StandFor}
 use Rattle.shape_eval.specs.declared.told.Told.{Told}
 use Rattle.shape_eval.specs.Around.{around}
-use Rattle.shape_eval.specs.Looks.{AddsAtPlaces, ConstraintReads, ReadsOfSome}
-use Rattle.shape_eval.specs.Results.{AtPlace, CollectsAt}
+use Rattle.shape_eval.specs.Looks.{AddsAtEach, AddsAtPlaces, ConstraintReads, ReadsOfSome}
+use Rattle.shape_eval.specs.Results.{AtPlace, CollectsAt, CollectsAtEach}
 use Rattle.shape_eval.specs.ShapeRows.{FromSome, OwnRow, PropertyAt}
 use Rattle.shape_eval.specs.Told.{AreRight, AsksSome, ConformsAt, WhereRight, answers_of, node_at}
 use Rattle.shape_eval.proofs.Depths.{all_at, nothing_at}
-use Rattle.shape_eval.proofs.Evaluations.{answered_all, answered_more, collected_all, collected_more, empty_when, entries_have, entries_more, entries_right, entry_right, places_at, property_at, values_at, bound_at}
+use Rattle.shape_eval.proofs.Evaluations.{ListedUpTo, answered_all, answered_more, empty_when, entries_have, entries_more, entries_right, entry_right, listed_all, listed_more, places_at, property_at, values_at, bound_at}
 use Rattle.shape_eval.proofs.Looking.{looked_all, looked_more, looked_none, places_all, places_more, places_none}
 use Rattle.shape_eval.proofs.Reading.{all_looks_at, no_looks_at}
 use Rattle.shape_eval.proofs.Lookups.{named_place, node_got, of_place, taken_at}
@@ -125,18 +129,42 @@ rows_at_each-loop-value-preserved g t c =
     let ids = g.R.Triples.triples c.args.graph.now in
     let before = c.loop-value.invariant in
     record {
-      rows = collected_more terms ids c.args.shapes.now c.args.levels c.args.place c.args.values.now c.loop-value.value-index c.loop-value.rows.items c.in_ok-more.more.items c.append.new.self.items
-          c.loop-value-test.true c.in_ok-append.ensures.items before.rows c.in_ok-more.ensures.rows;
+      rows = listed_more terms ids c.args.shapes.now c.args.levels c.args.place c.args.values.now c.loop-value.value-index (map (λ l. l.items) c.loop-value.rows.items) (map (λ l. l.items) c.push.new.self.items) c.in_ok-more.more.items
+          (ap (λ ls. map (λ l. l.items) ls) c.in_ok-push.ensures.items ∙ map-append (λ l. l.items) c.loop-value.rows.items (c.in_ok-more.more ∷ [])) before.rows c.in_ok-more.ensures.rows;
       looks = looked_more terms ids c.args.shapes.now c.args.levels c.args.place c.args.values.now c.loop-value.value-index c.loop-value-test.true c.args.footprint.now c.loop-value.footprint c.rows_at.new.footprint before.looks c.in_ok-more.ensures.looks;
     }
 
+pub rows_at_each-property-requires : goal.rows_at_each-property-requires
+rows_at_each-property-requires g t c =
+    let many = c.loop-value.invariant.rows.0 in
+    let lists = c.loop-value.rows.items in
+    let mapped = length-map lists (λ list. list.items) in
+    let same = ap (λ ls. length ls) c.deref.ensures.value in
+    omega (arith, many, mapped, same, c.loop-value-test.false, c.loop-value.auto.value-index-end)
+
 pub rows_at_each-returns-clause-rows : goal.rows_at_each-returns-clause-rows
 rows_at_each-returns-clause-rows g t c =
-    collected_all (g.N.Names.terms c.args.names.now) (g.R.Triples.triples c.args.graph.now) c.args.shapes.now c.args.levels c.args.place c.args.values.now c.loop-value.value-index c.loop-value.rows.items c.loop-value-test.false c.loop-value.invariant.rows
+    let terms = g.N.Names.terms c.args.names.now in
+    let ids = g.R.Triples.triples c.args.graph.now in
+    let values = c.args.values.now in
+    let lists : List (List ResultRow) = map (λ list. list.items) c.deref.result.now in
+    let before = subst (λ ls. ListedUpTo terms ids c.args.shapes.now c.args.levels c.args.place values c.loop-value.value-index (map (λ list. list.items) ls)) (sym c.deref.ensures.value) c.loop-value.invariant.rows in
+    IfOk-weaker c.property.result
+    (λ all. (within : List Term) (shape : Term) → Collects (PropertyRow (told_rows within values lists) (with_property shape)) all.items)
+    (λ all. CollectsAtEach terms ids c.args.shapes.now c.args.levels c.args.place values all.items)
+    (λ all given. listed_all terms ids c.args.shapes.now c.args.levels c.args.place values c.loop-value.value-index lists all.items c.loop-value-test.false c.loop-value.auto.value-index-end before given)
+    c.property.ensures
 
 pub rows_at_each-returns-clause-looks : goal.rows_at_each-returns-clause-looks
 rows_at_each-returns-clause-looks g t c =
-    looked_all (g.N.Names.terms c.args.names.now) (g.R.Triples.triples c.args.graph.now) c.args.shapes.now c.args.levels c.args.place c.args.values.now c.loop-value.value-index c.loop-value-test.false c.args.footprint.now c.loop-value.footprint c.loop-value.invariant.looks
+    let terms = g.N.Names.terms c.args.names.now in
+    let ids = g.R.Triples.triples c.args.graph.now in
+    let looks = looked_all terms ids c.args.shapes.now c.args.levels c.args.place c.args.values.now c.loop-value.value-index c.loop-value-test.false c.args.footprint.now c.loop-value.footprint c.loop-value.invariant.looks in
+    IfOk-weaker c.property.result
+    (λ all. (within : List Term) (shape : Term) → Collects (PropertyRow (told_rows within c.args.values.now (map (λ list. list.items) c.deref.result.now)) (with_property shape)) all.items)
+    (λ _. AddsAtEach terms ids c.args.shapes.now c.args.levels c.args.place c.args.values.now c.args.footprint.now c.loop-value.footprint)
+    (λ _ _. looks)
+    c.property.ensures
 
 pub property_rows-loop-place-init : goal.property_rows-loop-place-init
 property_rows-loop-place-init g t c = record {

@@ -1,4 +1,4 @@
-use Rattle.std.proofs.Common.{◌≡◌, ◌+◌, ◌*◌, ℕ, List, get_or, length, map, take}
+use Rattle.std.proofs.Common.{◌≡◌, ◌+◌, ◌*◌, ◌<◌, ℕ, List, [], get_or, length, map, take}
 use Rattle.std.specs.List.{Contains}
 use Rattle.rdf_model.specs.declared.triple.Triple.{Triple}
 use Rattle.rdf_model.specs.Numbers.{graph_of, term_at}
@@ -62,7 +62,8 @@ invariant-rows_at_each-loop-value g l =
     let terms = g.N.Names.terms l.names in
     let ids = g.R.Triples.triples l.graph in
     record {
-      rows : AtPlace terms l.shapes l.place (λ s c. Collects (FromSome (take l.value-index l.values) (λ v r. AtDepth l.levels (graph_of terms ids) (reading s) c.node (term_at terms v) r)) l.rows.items);
+      rows : (length (map (λ list. list.items) l.rows.items) ≡ l.value-index)
+          × AtPlace terms l.shapes l.place (λ s c. (k : ℕ) → k < l.value-index → Collects (AtDepth l.levels (graph_of terms ids) (reading s) c.node (term_at terms (get_or l.values k 0))) (get_or (map (λ list. list.items) l.rows.items) k []));
       looks : AtPlace terms l.shapes l.place (λ s c. AddsLooks terms (ReadsOfSome (take l.value-index l.values) (λ v. ShapeReads l.levels (graph_of terms ids) (reading s) c.node (term_at terms v))) l.fn.footprint l.footprint);
     }
 

@@ -2,21 +2,28 @@ use Rattle.std.proofs.Common.{refl, arith}
 use Rattle.rdf_model.specs.declared.triple.Triple.{Triple}
 use Rattle.shape_syntax.specs.PathDepth.{IsDeep}
 use Rattle.shape_syntax.proofs.Scans.{read_in, none_more, in_all}
+use Rattle.shape_rules.specs.declared.property.ShapeProperty.TheVariants as properties
+use Rattle.shape_rules.proofs.LookWeights.{value_object}
 use Rattle.shape_rules.proofs.deep.has_deep_path.Goals as goal
 
-pub returns-then-deep : goal.returns-then-deep
-returns-then-deep c = (
+pub is_deep-requires-clause-node : goal.is_deep-requires-clause-node
+is_deep-requires-clause-node c =
+    value_object c.args.graph.now c.args.node.now properties.Path c.triple-item.result.object
+    (c.property_values-triple-items.ensures.each c.triple-item.result (read_in c.property_values-triple-items.result.now c.loop-triple.triple-index c.triple-item.result (omega arith) c.triple-item.is))
+
+pub returns-then-is_deep : goal.returns-then-is_deep
+returns-then-is_deep c = (
   λ h. (
     c.triple-item.result.object,
     c.property_values-triple-items.ensures.each c.triple-item.result (read_in c.property_values-triple-items.result.now c.loop-triple.triple-index c.triple-item.result (omega arith) c.triple-item.is),
-    c.in_ok-deep.ensures.0 c.if-deep.true,
+    c.is_deep.ensures.0 c.if-is_deep.true,
   ),
   λ i. refl,
 )
 
 pub loop-triple-preserved : goal.loop-triple-preserved
 loop-triple-preserved c =
-    none_more (λ (t : Triple). IsDeep c.args.graph.now t.object 256) c.property_values-triple-items.result.now c.loop-triple.triple-index c.triple-item.result (omega arith) c.triple-item.is c.loop-triple.invariant (λ d. let k = c.in_ok-deep.ensures.1 d in cc)
+    none_more (λ (t : Triple). IsDeep c.args.graph.now t.object 256) c.property_values-triple-items.result.now c.loop-triple.triple-index c.triple-item.result (omega arith) c.triple-item.is c.loop-triple.invariant (λ d. let k = c.is_deep.ensures.1 d in cc)
 
 pub returns : goal.returns
 returns c = (

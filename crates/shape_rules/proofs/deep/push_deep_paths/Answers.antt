@@ -8,7 +8,7 @@ loop-node-init c = gathered_none (DeepPathRow c.args.graph.now) c.args.nodes.now
 
 pub loop-node-preserved : goal.loop-node-preserved
 loop-node-preserved c = gathered_next (DeepPathRow c.args.graph.now) c.args.nodes.now c.loop-node.node-index c.node-item.result c.args.rows.now c.loop-node.rows c.push_whole.new.rows (omega arith) c.node-item.is c.loop-node.invariant
-    (gave_as _ (DeepPathRow c.args.graph.now c.node-item.result) c.loop-node.rows c.push_whole.new.rows (λ r. (λ h. (c.in_ok-deep.ensures.0 h.0, h.1), λ h. (c.in_ok-deep.ensures.1 h.0, h.1))) c.in_ok-push_whole.ensures)
+    (gave_as _ (DeepPathRow c.args.graph.now c.node-item.result) c.loop-node.rows c.push_whole.new.rows (λ r. (λ h. (c.in_ok-broken.ensures.0 h.0, h.1), λ h. (c.in_ok-broken.ensures.1 h.0, h.1))) c.in_ok-push_whole.ensures)
 
 pub returns : goal.returns
 returns c = gathered_all (DeepPathRow c.args.graph.now) c.args.nodes.now c.loop-node.node-index c.args.rows.now c.loop-node.rows (omega arith) c.loop-node.invariant

@@ -1,0 +1,5 @@
+pub mod Splitting
+pub mod Commands
+pub mod Files
+pub mod Loading
+pub mod Sessions

@@ -1,0 +1,12 @@
+//! Generated loads that are run.
+//!
+//! `run_load` makes the four session files of a load, runs them beside each other and counts. It ensures that what it tells
+//! are the counts of the replies, and of the triples of the data graph at the end, of a run of those files in an order that
+//! is valid for them.
+#![tactic(auto)]
+
+mod counting;
+mod reading;
+mod running;
+
+pub use running::run_load;

@@ -1,0 +1,28 @@
+ghost use Rattle.std.specs.Prelude.{◌≡◌, IfOk, length, map};
+ghost use Rattle.shape_model.specs.Components.{PropertyRow};
+ghost use Rattle.component_rows.specs.Listed.{Collects};
+ghost use Rattle.logic_constraints.specs.Properties.{told_rows, with_property};
+
+use collections::Sequence;
+use shape_model::ResultRow;
+use std::alloc::{AllocError, Global};
+
+/// The results of sh:property (SHACL section 4.7.2) for one property shape: those that the property shape gives at each
+/// value node. There is a list of them for each value node.
+pub fn property(
+    alloc: Global,
+    values: &[u32],
+    rows: &[Vec<ResultRow>],
+) -> Result<Vec<ResultRow>, AllocError>
+    requires { length rows.now ≡ length values.now }
+    ensures { IfOk result (λ all. (terms : _) (shape : _)
+        → Collects (PropertyRow (told_rows terms values.now (map (λ l. l.items) rows.now)) (with_property shape)) all.items) }
+{
+    let mut all = Vec::new(alloc);
+    for list in rows {
+        let copy = Sequence::copied_from(alloc, list)?;
+        let mut more = copy.into_vec();
+        all.append(&mut more)?;
+    }
+    Ok(all)
+}

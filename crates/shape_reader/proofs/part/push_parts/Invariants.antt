@@ -1,8 +1,0 @@
-use Rattle.std.proofs.Common.{take}
-use Rattle.rdf_model.specs.declared.triple.Triple.{Triple}
-use Rattle.shape_syntax.specs.Gathering.{HasGathered}
-use Rattle.shape_rules.specs.Steps.{OfTriple}
-use Rattle.shape_reader.proofs.part.push_parts.Given as goal
-
-abbrev pub invariant-loop-triple : goal.invariant-loop-triple
-invariant-loop-triple g l = HasGathered (λ (t : Triple) x. OfTriple t (λ p v. g.P.Part.says l.graph l.nodes p v x)) (take l.triple-index l.own) l.fn.parts l.parts
