@@ -1,12 +1,12 @@
 -- What a well-formed graph says of a value of a property of a shape.
-use Rattle.std.proofs.Common.{◌≡◌, List, Some, None, IsTrue, refl, sym, inl, inr}
+use Rattle.std.proofs.Common.{◌≡◌, ℕ, List, Some, None, IsTrue, refl, sym, inl, inr}
 use Rattle.literal_order.specs.Texts.{string_value}
 use Rattle.rdf_model.specs.declared.term.Term.{Term}
 use Rattle.rdf_model.specs.declared.term.Term.TheVariants.{Blank, Iri, Literal}
 use Rattle.rdf_model.specs.declared.triple.Triple.{Triple}
 use Rattle.shape_model.specs.ShapeSyntax.{ListOf}
 use Rattle.shape_syntax.proofs.Equals.{same_unless}
-use Rattle.shape_syntax.specs.PathDepth.{IsTooDeep}
+use Rattle.shape_syntax.specs.PathDepth.{IsDeep, IsTooDeep}
 use Rattle.shape_syntax.specs.PathNodes.{IsPath}
 use Rattle.shape_syntax.specs.declared.reading.PathFault.{PathFault}
 use Rattle.shape_syntax.specs.declared.reading.PathFault.TheVariants as path_faults
@@ -19,7 +19,6 @@ use Rattle.shape_rules.specs.Rows.{row}
 use Rattle.shape_rules.specs.Syntax.{HasProperty, IsShape}
 use Rattle.shape_rules.specs.Table.{of_value, takes_one}
 use Rattle.shape_rules.specs.Tests.{has_datatype, is_flags, xsd_string}
-use Rattle.shape_rules.proofs.DeepPaths.{deep_path}
 use Rattle.shape_reader.specs.Parts.{HasOne, HasTexts}
 use Rattle.shape_reader.proofs.Deciding.{list_unless}
 
@@ -32,6 +31,9 @@ no_flags : (v : Term) → string_value v ≡ None → IsTrue (is_flags v) → �
 no_flags (Blank session number) e h = cc
 no_flags (Iri text) e h = cc
 no_flags (Literal text datatype language) e h = cc
+
+deep_path : (s : List Triple) (n : Term) (levels : ℕ) → IsTooDeep s n levels → IsDeep s n levels
+deep_path s n levels h = (h.0.0, h.0.1, h.1 h.0.0 h.0.1)
 
 module _ (s : List Triple) (well : IsWellFormed s) (n : Term) (shape : IsShape s n) where
   -- it passes the test of its property
