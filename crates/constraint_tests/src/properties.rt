@@ -57,11 +57,7 @@ fn rows_at(
 }
 
 // The lists of the last part of a row.
-fn lists_of(
-    alloc: Global,
-    case: &Case<'_>,
-    line: &str,
-) -> Result<Vec<Vec<ResultRow>>, AllocError> {
+fn lists_of(alloc: Global, case: &Case<'_>, line: &str) -> Result<Vec<Vec<ResultRow>>, AllocError> {
     let mut lists = Vec::new(alloc);
     let words = line.split(';').nth(5).unwrap_or("");
     for (node, word) in case.values.iter().zip(words.split_ascii_whitespace()) {

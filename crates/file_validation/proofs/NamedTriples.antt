@@ -66,8 +66,8 @@ prefix_bound named (x ∷ xs) ys (n ∷ ns) a = let le = prefix_bound named xs y
 same_triple : (t : Triple) (x p y : Term) → x ≡ t.subject → p ≡ t.predicate → y ≡ t.object → record { subject = x; predicate = p; object = y } ≡ t
 same_triple t x p y e f h =
     subst (λ (o : Term). record { subject = x; predicate = p; object = o } ≡ t) (sym h)
-      (subst (λ (q : Term). record { subject = x; predicate = q; object = t.object } ≡ t) (sym f)
-        (subst (λ (s : Term). record { subject = s; predicate = t.predicate; object = t.object } ≡ t) (sym e) refl))
+    (subst (λ (q : Term). record { subject = x; predicate = q; object = t.object } ≡ t) (sym f)
+    (subst (λ (s : Term). record { subject = s; predicate = t.predicate; object = t.object } ≡ t) (sym e) refl))
 
 same_more : (t u : Triple) (ts us : List Triple) → t ≡ u → ts ≡ us → t ∷ ts ≡ u ∷ us
 same_more t u ts us e f = cc

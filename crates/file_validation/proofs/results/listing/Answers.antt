@@ -16,4 +16,4 @@ returns c =
     let graph = graph_of numbered.names.terms numbered.triples in
     let s = c.args.shapes.now in
     subst (λ (found : List ResultRow). Listing c.args.graph.now s found) (sym c.from_vec.ensures)
-      (same_listing graph c.args.graph.now s c.in_ok-numbered.ensures.index.members _ c.in_ok-rows.ensures)
+    (same_listing graph c.args.graph.now s c.in_ok-numbered.ensures.index.members _ c.in_ok-rows.ensures)
