@@ -229,49 +229,86 @@ fn push_cell(
     Ok(())
 }
 
-// A shape with a path of so many levels, each of them a sequence of twice the next.
-fn doubled(alloc: Global, levels: u32, shape: &str) -> Result<Vec<Triple>, AllocError> {
+// A node that is a sequence of twice the next.
+fn push_doubled(
+    alloc: Global,
+    number: u32,
+    next: &Term,
+    graph: &mut Vec<Triple>,
+) -> Result<(), AllocError> {
+    let second = number.saturating_add(1000);
+    push_cell(alloc, number, next.clone()?, blank(second), graph)?;
+    push_cell(alloc, second, next.clone()?, term(alloc, "rdf:nil")?, graph)
+}
+
+fn push_inverse(
+    alloc: Global,
+    number: u32,
+    next: Term,
+    graph: &mut Vec<Triple>,
+) -> Result<(), AllocError> {
+    graph.push(Triple {
+        subject: blank(number),
+        predicate: term(alloc, "sh:inversePath")?,
+        object: next,
+    })?;
+    Ok(())
+}
+
+// A shape with a path of so many levels: the first of them sequences of twice the next, the others inverses of the next.
+fn doubled(
+    alloc: Global,
+    doublings: u32,
+    levels: u32,
+    shape: &str,
+) -> Result<Vec<Triple>, AllocError> {
     let (mut graph, _) = graph_and_rule(alloc, shape)?;
     for number in 1..=levels {
-        let second = number.saturating_add(1000);
-        let next = number.saturating_add(1);
-        push_cell(
-            alloc,
-            number,
-            nested(alloc, next, levels)?,
-            blank(second),
-            &mut graph,
-        )?;
-        push_cell(
-            alloc,
-            second,
-            nested(alloc, next, levels)?,
-            term(alloc, "rdf:nil")?,
-            &mut graph,
-        )?;
+        let next = nested(alloc, number.saturating_add(1), levels)?;
+        if number <= doublings {
+            push_doubled(alloc, number, &next, &mut graph)?;
+        } else {
+            push_inverse(alloc, number, next, &mut graph)?;
+        }
     }
     Ok(graph)
 }
 
-// A path that is doubled so often has 2 to that power looks, which a deactivated shape hasn't.
+fn assert_doubled(
+    rt: &impl Abort,
+    alloc: Global,
+    doublings: u32,
+    levels: u32,
+    deactivated: &str,
+    expected: &str,
+) -> Result<(), AllocError> {
+    let line = format!(in alloc;
+        "e:S sh:targetNode e:a; e:S sh:path _1; e:S sh:deactivated {deactivated} =>"
+    )?;
+    let graph = doubled(alloc, doublings, levels, line.as_str())?;
+    let found = text_of(alloc, &least(alloc, graph)?)?;
+    assert_eq!(rt;
+        found.as_str(),
+        expected,
+        "{doublings} {levels} {deactivated}"
+    );
+    Ok(())
+}
+
+// A path that is doubled so often has two to that power looks.
 #[test]
 fn doubled_paths(rt: HostRuntime) -> Result<(), Fail> {
-    let alloc = rt.alloc();
-    for (levels, deactivated, expected) in [
-        (12, "%false", ""),
-        (13, "%false", "<e:S> 40 -"),
-        (40, "%false", "<e:S> 40 -"),
-        (256, "%true", ""),
-        (257, "%true", "<e:S> 41 -"),
-    ] {
-        let line = format!(in alloc;
-            "e:S sh:targetNode e:a; e:S sh:path _1; e:S sh:deactivated {deactivated} =>"
-        )?;
-        let found = text_of(
-            alloc,
-            &least(alloc, doubled(alloc, levels, line.as_str())?)?,
-        )?;
-        assert_eq!(rt; found.as_str(), expected, "{levels} {deactivated}");
+    for (doublings, expected) in [(12, ""), (13, "<e:S> 40 -"), (40, "<e:S> 40 -")] {
+        assert_doubled(&rt, rt.alloc(), doublings, doublings, "%false", expected)?;
+    }
+    Ok(())
+}
+
+// A deactivated shape has none.
+#[test]
+fn deep_doubled_paths(rt: HostRuntime) -> Result<(), Fail> {
+    for (levels, expected) in [(256, ""), (257, "<e:S> 41 -")] {
+        assert_doubled(&rt, rt.alloc(), 40, levels, "%true", expected)?;
     }
     Ok(())
 }
