@@ -1,7 +1,10 @@
-//! Tests of walks along property paths and of targets, as tables of rows that were worked out by hand.
+//! Tests of walks along property paths and of targets: as tables of rows that were worked out by hand, and on
+//! random graphs beside the plain definition.
 #![tactic(auto)]
 
 #[cfg(test)]
+mod random;
+#[cfg(test)]
 mod targets;
 #[cfg(test)]
-mod walks;
+pub(crate) mod walks;

@@ -79,7 +79,7 @@ fn graph(alloc: Global) -> Result<ListGraph, AllocError> {
     Ok(ListGraph::from_triples(triples))
 }
 
-fn top(alloc: Global, stack: &mut Vec<Path<u32>>) -> Result<Box<Path<u32>>, AllocError> {
+pub(crate) fn top(alloc: Global, stack: &mut Vec<Path<u32>>) -> Result<Box<Path<u32>>, AllocError> {
     match stack.pop() {
         Some(path) => Ok(Box::new(alloc, path)?),
         None => Ok(Box::new(alloc, Path::Predicate(0))?),
@@ -103,7 +103,11 @@ fn last(
 }
 
 // A path's next part behind its parts: a predicate, or what is made of the parts before it.
-fn add_part(alloc: Global, stack: &mut Vec<Path<u32>>, byte: u8) -> Result<(), AllocError> {
+pub(crate) fn add_part(
+    alloc: Global,
+    stack: &mut Vec<Path<u32>>,
+    byte: u8,
+) -> Result<(), AllocError> {
     let path = match byte {
         b'^' => Path::Inverse(top(alloc, stack)?),
         b'*' => Path::ZeroOrMore(top(alloc, stack)?),
@@ -136,7 +140,7 @@ fn path(alloc: Global, text: &str) -> Result<Box<Path<u32>>, AllocError> {
 }
 
 // A number whose decimal digits are the nodes.
-fn told(nodes: &[u32]) -> u64 {
+pub(crate) fn told(nodes: &[u32]) -> u64 {
     let mut all: u64 = 0;
     for node in nodes {
         all = all.wrapping_mul(10).wrapping_add(*node as u64);
