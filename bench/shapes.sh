@@ -21,7 +21,8 @@ shapes() {
       above = int(i / 2)
       printf "e:N%d a sh:NodeShape ; sh:targetClass e:C%d ; sh:property e:P%d , e:Q%d , e:R%d , e:S%d , e:T%d ;\n", i, i, i, i, i, i, i
       printf "  sh:and ( e:A%d e:B%d ) ; sh:or ( e:A%d e:D%d ) ; sh:not e:E%d ; sh:message \"Kind %d\"@en", i, i, i, i, i, i
-      printf above > 0 ? " ; sh:node e:N%d .\n" : " .\n", above
+      if (above > 0) printf " ; sh:node e:N%d", above
+      print " ."
       printf "e:P%d sh:path e:p%d ; sh:class e:C%d ; sh:minCount 1 ; sh:maxCount 9 .\n", i, i, i % 7 + 1
       printf "e:Q%d sh:path [ sh:inversePath e:q%d ] ; sh:in ( 1 2 3 4 \"red\" e:C%d ) .\n", i, i % 50, i
       printf "e:R%d sh:path ( e:p%d e:q [ sh:zeroOrMorePath [ sh:zeroOrOnePath e:r ] ] ) ; sh:datatype xsd:string ; sh:minLength 3 .\n", i, i % 50
