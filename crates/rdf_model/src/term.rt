@@ -81,8 +81,8 @@ impl Ord for Term {
                 },
             ) => lexical
                 .cmp(other_lexical)
-                .then(datatype.cmp(other_datatype))
-                .then(language.cmp(other_language)),
+                .then_with(|| datatype.cmp(other_datatype))
+                .then_with(|| language.cmp(other_language)),
             (Term::Literal { .. }, _) => Ordering::Greater,
         }
     }

@@ -41,8 +41,8 @@ impl Ord for Triple {
     fn cmp(&self, other: &Triple) -> Ordering {
         self.subject
             .cmp(&other.subject)
-            .then(self.predicate.cmp(&other.predicate))
-            .then(self.object.cmp(&other.object))
+            .then_with(|| self.predicate.cmp(&other.predicate))
+            .then_with(|| self.object.cmp(&other.object))
     }
 }
 
