@@ -7,7 +7,7 @@ ghost use Rattle.shape_syntax.specs.PathNodes.{ArePathNodes};
 use crate::values::value_of;
 use rdf_model::{Term, Triple};
 use shape_rules::ShapeProperty;
-use shape_rules::path_looks::path_looks_by;
+use shape_rules::path_looks::path_looks;
 use std::alloc::{AllocError, Global};
 use std::collections::{BTreeMap, BTreeSet};
 
@@ -38,7 +38,7 @@ pub(crate) fn have_room(
     requires graph { IsAscending triple_cmp graph.now }
     requires paths { ArePathNodes graph.now paths.now.keys }
 {
-    let sizes = path_looks_by(alloc, graph, paths, MOST_PREDICATES)?;
+    let sizes = path_looks(alloc, graph, paths, MOST_PREDICATES)?;
     for node in nodes {
         if is_too_large(graph, &sizes, node) {
             return Err(AllocError);

@@ -21,7 +21,7 @@ use rdf_model::{Term, Triple};
 use reference_totals::{Place, total_of, totals};
 use shape_syntax::list::list_members;
 use shape_syntax::lookup::triples_of;
-use shape_syntax::paths::{is_path, path_nodes};
+use shape_syntax::paths::is_path;
 use shape_syntax::terms::{is_iri, is_named};
 use std::alloc::{AllocError, Global};
 use std::collections::{BTreeMap, BTreeSet};
@@ -230,7 +230,7 @@ pub(crate) fn looks_of_places(
 
 /// The looks of the paths for which values stand (one for each predicate in them), as far as they are counted: one more
 /// than `most` stands for all that are over it. The graph's `path_nodes` are given.
-pub fn path_looks_by(
+pub fn path_looks(
     alloc: Global,
     graph: &[Triple],
     paths: &BTreeSet<Term>,
@@ -243,22 +243,6 @@ pub fn path_looks_by(
 {
     let places = object_places(alloc, graph, paths)?;
     let table = looks_of_places(alloc, graph, places.as_slice(), most)?;
-    Ok(table)
-}
-
-/// The looks of the paths for which values stand (one for each predicate in them), as far as they are counted: one more
-/// than `most` stands for all that are over it.
-pub fn path_looks(
-    alloc: Global,
-    graph: &[Triple],
-    most: u64,
-) -> Result<BTreeMap<Term, u64>, AllocError>
-    requires graph { IsAscending triple_cmp graph.now }
-    requires most { most + 1 < 2 ^ 64 }
-    ensures { IfOk result (λ table. ArePathLooks graph.now most table) }
-{
-    let paths = path_nodes(alloc, graph)?;
-    let table = path_looks_by(alloc, graph, &paths, most)?;
     Ok(table)
 }
 
