@@ -5,3 +5,4 @@ pub mod Finding
 pub mod Growing
 pub mod Runs
 pub mod Tests
+pub mod AtOnce

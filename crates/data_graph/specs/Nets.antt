@@ -1,6 +1,7 @@
 -- The triples of changes that are in exactly one of two graphs.
-use Rattle.std.specs.Prelude.{Bool, not, ◌&&◌, ◌||◌, List, map}
-use Rattle.std.specs.List.{filter}
+use Rattle.std.specs.Prelude.{◌≡◌, Bool, not, ◌&&◌, ◌||◌, List, map}
+use Rattle.std.specs.List.{Contains, filter}
+use Rattle.std.specs.declared.cmp.Ordering.TheVariants.{Less}
 use Rattle.collections.specs.Ordered.{has_item}
 use Rattle.rdf_model.specs.declared.change.Change.{Change}
 use Rattle.rdf_model.specs.declared.triple.Triple.{Triple}
@@ -12,3 +13,7 @@ is_in_one g h t = (has_item triple_cmp t g && not (has_item triple_cmp t h)) || 
 
 abbrev pub in_one : List Triple → List Triple → List Change → List Triple
 in_one g h net = filter (is_in_one g h) (map changed_triple net)
+
+-- each of the triples is before this one
+abbrev pub ComesLast : List Triple → Triple → Type 0
+ComesLast ts t = (u : Triple) → Contains ts u → triple_cmp u t ≡ Less

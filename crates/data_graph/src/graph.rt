@@ -162,7 +162,7 @@ impl DataGraph {
         requires { AreNamedChanges self.now.terms net.now }
         ensures { IfOk result (λ next. next ≡ with_changes self.now net.now) }
     {
-        let triples = graph_after(&self.triples, net)?;
+        let triples = graph_after(self.alloc, &self.triples, net)?;
         let numbers = self.numbers_after(net)?;
         let names = self.names.share()?;
         Ok(DataGraph {

@@ -8,6 +8,7 @@ ghost use Rattle.std.specs.List.{list_any};
 ghost use Rattle.data_graph.specs.Finding.{changes_asked};
 ghost use Rattle.data_graph.specs.Nets.{is_in_one, in_one};
 
+use crate::at_once::first_graph;
 use collections::sorted_once;
 use page_index::Pages;
 use rdf_model::{Change, Pattern, Triple};
@@ -27,11 +28,8 @@ fn apply_change(graph: &mut Pages<Triple>, change: &Change) -> Result<(), AllocE
     Ok(())
 }
 
-/// The graph after the changes. It shares with the graph what they leave.
-pub(crate) fn graph_after(
-    graph: &Pages<Triple>,
-    net: &[Change],
-) -> Result<Pages<Triple>, AllocError>
+// The graph after the changes, one by one. It shares with the graph what they leave.
+fn graph_after_each(graph: &Pages<Triple>, net: &[Change]) -> Result<Pages<Triple>, AllocError>
     ensures { IfOk result (λ next. next ≡ after graph.now net.now) }
 {
     let mut next = graph.share()?;
@@ -39,6 +37,24 @@ pub(crate) fn graph_after(
         apply_change(&mut next, change)?;
     }
     Ok(next)
+}
+
+/// The graph after the changes. It shares with the graph what they leave. Where the graph has no triple and they
+/// add its triples in order, its pages are built at once.
+pub(crate) fn graph_after(
+    alloc: Global,
+    graph: &Pages<Triple>,
+    net: &[Change],
+) -> Result<Pages<Triple>, AllocError>
+    ensures { IfOk result (λ next. next ≡ after graph.now net.now) }
+{
+    if graph.len() > 0 {
+        return graph_after_each(graph, net);
+    }
+    match first_graph(alloc, net)? {
+        Some(next) => Ok(next),
+        None => graph_after_each(graph, net),
+    }
 }
 
 // The triple that a change adds or removes.
@@ -122,7 +138,7 @@ fn changed_in(
 }
 
 /// The triples that are in exactly one of two graphs, ascending, where the second is the first after
-/// the changes. It looks at no triple but theirs.
+/// the changes. It looks at no triple but theirs; where the first has none, they are all of the second.
 pub fn graph_differing(
     alloc: Global,
     graph: &Pages<Triple>,
@@ -133,6 +149,9 @@ pub fn graph_differing(
     ensures { IfOk result (λ v. v.items ≡ differing graph.now other.now) }
 {
     graph.ascends();
+    if graph.len() == 0 {
+        return other.keys();
+    }
     let triples = changed_in(alloc, graph, other, net)?;
     Ok(sorted_once(triples)?)
 }

@@ -7,6 +7,7 @@
 //! at the triples that the order of triples, or of their numbers, has side by side for its pattern.
 #![tactic(auto)]
 
+mod at_once;
 mod by_number;
 mod graph;
 mod graphs;
