@@ -12,8 +12,9 @@ use Rattle.shape_model.specs.declared.component.Component.TheVariants as compone
 use Rattle.shape_model.specs.declared.result_row.ResultRow.{ResultRow}
 use Rattle.plain_terms.specs.Finds.{Finds, WithSome}
 use Rattle.plain_terms.proofs.FoundItems.{finds_at, finds_both, finds_none, finds_same}
-use Rattle.plain_components.specs.declared.place.Place.{Place}
-use Rattle.plain_components.specs.Around.{AtPlace, ComponentAt, EntryRow, PropertyAt, RowsAt}
+use Rattle.plain_values.specs.declared.place.Place.{Place}
+use Rattle.plain_values.specs.Around.{RowsAt}
+use Rattle.plain_components.specs.Rows.{AtPlace, ComponentAt, EntryRow, PropertyAt}
 
 abbrev pub read_components : List Component
 read_components = components.Class ∷ components.Datatype ∷ components.NodeKind ∷ components.MinCount ∷ components.MaxCount ∷ components.MinExclusive ∷ components.MinInclusive ∷ components.MaxExclusive ∷ components.MaxInclusive ∷ components.MinLength ∷ components.MaxLength ∷ components.LanguageIn ∷ components.UniqueLang ∷ components.Equals ∷ components.Disjoint ∷ components.LessThan ∷ components.LessThanOrEquals ∷ components.Not ∷ components.And ∷ components.Or ∷ components.Xone ∷ components.Node ∷ components.QualifiedMinCount ∷ components.QualifiedMaxCount ∷ components.Closed ∷ components.HasValue ∷ components.In ∷ []

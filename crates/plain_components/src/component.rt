@@ -7,20 +7,18 @@ ghost use Rattle.shape_model.specs.Components.{parameter_of};
 ghost use Rattle.shape_model.specs.declared.component.Component.TheVariants as components;
 ghost use Rattle.shape_model.specs.ShapeSyntax.{HasProperty};
 ghost use Rattle.shape_model.specs.Vocabulary.{ShDeactivated, ShPattern, local_name, true_literal};
-ghost use Rattle.plain_components.specs.Around.{AtPlace, ComponentAt, EntryRow, PropertyAt, RowsAt};
+ghost use Rattle.plain_values.specs.Around.{RowsAt};
+ghost use Rattle.plain_components.specs.Rows.{AtPlace, ComponentAt, EntryRow, PropertyAt};
 ghost use Rattle.plain_terms.specs.Finds.{Finds, WithSome};
 
-use crate::by_list::by_list;
-use crate::by_term::by_term;
 use crate::closed::{closed_rows, unique_lang_rows};
-use crate::others::{
-    class_rows, disjoint_rows, equals_rows, has_value_rows, max_count_rows, min_count_rows,
-    node_rows, not_rows,
-};
 use crate::pairs::pair_rows;
-use crate::place::{Place, Told};
 use crate::qualified::{qualified_rows, true_term};
 use plain_terms::{is_among, parameters};
+use plain_values::{
+    Place, Told, class_rows, disjoint_rows, equals_rows, has_value_rows, list_rows, max_count_rows,
+    min_count_rows, node_rows, not_rows, term_rows,
+};
 use rdf_model::{Term, Triple};
 use shape_model::{Component, ResultRow};
 use std::alloc::{AllocError, Global};
@@ -75,27 +73,27 @@ fn rows_at(
 {
     match component {
         Component::Class => class_rows(alloc, at, parameter),
-        Component::Datatype => by_term(alloc, at, Component::Datatype, parameter),
-        Component::NodeKind => by_term(alloc, at, Component::NodeKind, parameter),
+        Component::Datatype => term_rows(alloc, at, Component::Datatype, parameter),
+        Component::NodeKind => term_rows(alloc, at, Component::NodeKind, parameter),
         Component::MinCount => min_count_rows(alloc, at, parameter),
         Component::MaxCount => max_count_rows(alloc, at, parameter),
-        Component::MinExclusive => by_term(alloc, at, Component::MinExclusive, parameter),
-        Component::MinInclusive => by_term(alloc, at, Component::MinInclusive, parameter),
-        Component::MaxExclusive => by_term(alloc, at, Component::MaxExclusive, parameter),
-        Component::MaxInclusive => by_term(alloc, at, Component::MaxInclusive, parameter),
-        Component::MinLength => by_term(alloc, at, Component::MinLength, parameter),
-        Component::MaxLength => by_term(alloc, at, Component::MaxLength, parameter),
+        Component::MinExclusive => term_rows(alloc, at, Component::MinExclusive, parameter),
+        Component::MinInclusive => term_rows(alloc, at, Component::MinInclusive, parameter),
+        Component::MaxExclusive => term_rows(alloc, at, Component::MaxExclusive, parameter),
+        Component::MaxInclusive => term_rows(alloc, at, Component::MaxInclusive, parameter),
+        Component::MinLength => term_rows(alloc, at, Component::MinLength, parameter),
+        Component::MaxLength => term_rows(alloc, at, Component::MaxLength, parameter),
         Component::Pattern => Ok(Vec::new(alloc)),
-        Component::LanguageIn => by_list(alloc, at, Component::LanguageIn, parameter),
+        Component::LanguageIn => list_rows(alloc, at, Component::LanguageIn, parameter),
         Component::UniqueLang => unique_lang_rows(alloc, at, parameter),
         Component::Equals => equals_rows(alloc, at, parameter),
         Component::Disjoint => disjoint_rows(alloc, at, parameter),
         Component::LessThan => pair_rows(alloc, at, Component::LessThan, parameter),
         Component::LessThanOrEquals => pair_rows(alloc, at, Component::LessThanOrEquals, parameter),
         Component::Not => not_rows(alloc, at, parameter),
-        Component::And => by_list(alloc, at, Component::And, parameter),
-        Component::Or => by_list(alloc, at, Component::Or, parameter),
-        Component::Xone => by_list(alloc, at, Component::Xone, parameter),
+        Component::And => list_rows(alloc, at, Component::And, parameter),
+        Component::Or => list_rows(alloc, at, Component::Or, parameter),
+        Component::Xone => list_rows(alloc, at, Component::Xone, parameter),
         Component::Node => node_rows(alloc, at, parameter),
         Component::QualifiedMinCount => qualified_rows(
             alloc,
@@ -111,7 +109,7 @@ fn rows_at(
         ),
         Component::Closed => closed_rows(alloc, at, parameter),
         Component::HasValue => has_value_rows(alloc, at, parameter),
-        Component::In => by_list(alloc, at, Component::In, parameter),
+        Component::In => list_rows(alloc, at, Component::In, parameter),
     }
 }
 

@@ -15,8 +15,8 @@ use Rattle.shape_model.specs.Validation.{AtDepth, surroundings}
 use Rattle.shape_model.specs.Vocabulary.{ShPattern, property_iri}
 use Rattle.shape_model.specs.declared.result_row.ResultRow.{ResultRow}
 use Rattle.shape_model.proofs.Surroundings.{at_same, reading_itself}
-use Rattle.plain_components.specs.declared.place.Told.{Told}
-use Rattle.plain_components.specs.Around.{IsTold}
+use Rattle.plain_values.specs.declared.place.Told.{Told}
+use Rattle.plain_values.specs.Around.{IsTold}
 use Rattle.plain_terms.specs.Finds.{Finds, WithSome}
 use Rattle.plain_terms.proofs.FoundItems.{finds_at, finds_none, finds_one, finds_same}
 use Rattle.plain_validation.specs.Plain.{IsPlain}

@@ -9,7 +9,8 @@ ghost use Rattle.plain_validation.specs.References.{IsEntry, ToldAt};
 
 use crate::references::referred_shapes;
 use crate::values::value_nodes;
-use plain_components::{Place, Told, place_rows};
+use plain_components::place_rows;
+use plain_values::{Place, Told};
 use rdf_model::{Term, Triple};
 use shape_model::ResultRow;
 use std::alloc::{AllocError, Global};

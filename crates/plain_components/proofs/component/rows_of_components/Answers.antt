@@ -2,7 +2,7 @@ use Rattle.std.proofs.Common.{get_or}
 use Rattle.std.proofs.lemmas.List.{get_or_default}
 use Rattle.std.proofs.lemmas.List.Elements.{Contains-get_or}
 use Rattle.shape_model.specs.declared.component.Component.TheVariants as components
-use Rattle.plain_components.specs.Around.{ComponentAt}
+use Rattle.plain_components.specs.Rows.{ComponentAt}
 use Rattle.plain_terms.proofs.FoundItems.{some_all, some_step}
 use Rattle.plain_components.proofs.component.rows_of_components.Goals as goal
 
