@@ -1,3 +1,4 @@
 pub mod Causes
 pub mod Naming
 pub mod Sizes
+pub mod Taken

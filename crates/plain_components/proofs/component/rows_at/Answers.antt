@@ -62,7 +62,10 @@ returns-in-In c =
     c.list_rows-in-In.ensures)
 
 pub returns-in-Pattern : goal.returns-in-Pattern
-returns-in-Pattern c = absurd (c.requires.read c.in-Pattern.is)
+returns-in-Pattern c = subst (λ (k : Component). IfOk c.pattern_rows.result (λ rows. Finds (RowsAt c.args.at.now k c.args.parameter.now) rows.items)) (sym c.in-Pattern.is) c.pattern_rows.ensures
+
+pub pattern_rows-requires-clause-parameter : goal.pattern_rows-requires-clause-parameter
+pattern_rows-requires-clause-parameter c = subst (λ (k : Component). HasProperty c.args.at.now.shapes.now c.args.at.now.shape.now (parameter_of k) c.args.parameter.now) c.in-Pattern.is c.requires.parameter
 
 pub returns-in-Datatype : goal.returns-in-Datatype
 returns-in-Datatype c = subst (λ (k : Component). IfOk c.term_rows.result (λ rows. Finds (RowsAt c.args.at.now k c.args.parameter.now) rows.items)) (sym c.in-Datatype.is) c.term_rows.ensures
