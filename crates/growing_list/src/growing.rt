@@ -1,17 +1,17 @@
 ghost use Rattle.std.specs.Prelude.{◌≡◌, ◌+◌, ◌<◌, ◌≤◌, [], ◌∷◌, ◌++◌, length, get_or, slice_get, IfOk, OnErr, OnOk, MatchOption, Some};
-ghost use Rattle.growing_list.specs.Chunks.{AreChunks, AreFull, HasOneMore, all_items, full};
+ghost use Rattle.growing_list.specs.Chunks.{AreChunks, AreFull, HasOneMore, full_block};
 
-use crate::chunk::{Chunk, FULL};
+use crate::block::{Block, FULL_BLOCK};
 use collections::ExactClone;
 use std::alloc::{AllocError, Global};
 use std::marker::Model;
 
-/// A list that only grows, in chunks that other lists may share.
+/// A list that only grows, in blocks of chunks that other lists may share.
 ///
 /// Contracts see it as the list of its items.
 pub struct GrowingList<T> {
     alloc: Global,
-    chunks: Vec<Chunk<T>>,
+    blocks: Vec<Block<T>>,
     len: usize,
 }
 
@@ -20,7 +20,7 @@ impl<T: Drop> Drop for GrowingList<T> {
     fn drop(self) {
         let GrowingList {
             alloc: _,
-            chunks: _,
+            blocks: _,
             len: _,
         } = self;
     }
@@ -28,44 +28,44 @@ impl<T: Drop> Drop for GrowingList<T> {
 
 impl<T> Model for GrowingList<T> {
     ghost use Rattle.std.specs.Prelude.{◌≡◌, List, length};
-    ghost use Rattle.growing_list.specs.Chunks.{AreChunks, all_items};
+    ghost use Rattle.growing_list.specs.Chunks.{AreChunks, all_items, full_block};
 
     ghost Value = { List T };
 
-    ghost view = { λ l. all_items l.chunks.items };
+    ghost view = { λ l. all_items l.blocks.items };
 
-    ghost invariant = { λ l. AreChunks l.chunks.items × (l.len ≡ length (all_items l.chunks.items)) };
+    ghost invariant = { λ l. AreChunks full_block l.blocks.items × (l.len ≡ length (all_items l.blocks.items)) };
 }
 
-// The place of the last chunk, where that has room for an item.
-fn place_with_room<T>(chunks: &[Chunk<T>]) -> Option<usize>
-    requires { AreChunks chunks.now }
-    ensures { MatchOption result (AreFull chunks.now) (λ at. (at + 1 ≡ length chunks.now) × (length (get_or chunks.now at []) < full)) }
+// The place of the last block, where that has room for an item.
+fn block_with_room<T>(blocks: &[Block<T>]) -> Option<usize>
+    requires { AreChunks full_block blocks.now }
+    ensures { MatchOption result (AreFull full_block blocks.now) (λ at. (at + 1 ≡ length blocks.now) × (length (get_or blocks.now at []) < full_block)) }
 {
-    let last = chunks.last()?;
-    if last.len() < FULL {
-        return Some(chunks.len() - 1);
+    let last = blocks.last()?;
+    if last.len() < FULL_BLOCK {
+        return Some(blocks.len() - 1);
     }
     None
 }
 
-// Adds an item at the end of the last chunk, or in a chunk of its own where that has no room.
-fn add_item<T: ExactClone + Drop>(
+// Adds an item at the end of the last block, or in a block of its own where that has no room.
+fn add_to_blocks<T: ExactClone + Drop>(
     alloc: Global,
-    chunks: &mut Vec<Chunk<T>>,
+    blocks: &mut Vec<Block<T>>,
     item: T,
 ) -> Result<(), AllocError>
-    requires { AreChunks chunks.old.items }
-    ensures ok { OnOk result (HasOneMore item chunks.old.items chunks.new.items) }
-    ensures err { OnErr result (chunks.new.items ≡ chunks.old.items) }
+    requires { AreChunks full_block blocks.old.items }
+    ensures ok { OnOk result (HasOneMore full_block item blocks.old.items blocks.new.items) }
+    ensures err { OnErr result (blocks.new.items ≡ blocks.old.items) }
 {
-    match place_with_room(chunks) {
+    match block_with_room(blocks) {
         Some(at) => {
-            chunks[at].push(item)?;
+            blocks[at].push(alloc, item)?;
             return Ok(());
         }
         None => {
-            chunks.push(Chunk::of_one(alloc, item)?)?;
+            blocks.push(Block::of_one(alloc, item)?)?;
             return Ok(());
         }
     }
@@ -78,7 +78,7 @@ impl<T> GrowingList<T> {
     {
         GrowingList {
             alloc,
-            chunks: Vec::new(alloc),
+            blocks: Vec::new(alloc),
             len: 0,
         }
     }
@@ -94,22 +94,22 @@ impl<T> GrowingList<T> {
     pub fn get(&self, at: usize) -> Option<&T>
         ensures { MatchOption result (length self.now ≤ at) (λ item. slice_get self.now at ≡ Some item.now) }
     {
-        match self.chunks.get(at / FULL) {
-            Some(chunk) => chunk.get(at % FULL),
+        match self.blocks.get(at / FULL_BLOCK) {
+            Some(block) => block.get(at % FULL_BLOCK),
             None => None,
         }
     }
 }
 
 impl<T: Drop> GrowingList<T> {
-    /// Another list with the same items. It copies no item, only where each chunk stands, and neither
-    /// list sees a later push to the other.
+    /// Another list with the same items. It copies no item, only where each block stands, which is one
+    /// step for each 262,144 items, and neither list sees a later push to the other.
     pub fn share(&self) -> Result<GrowingList<T>, AllocError>
         ensures { IfOk result (λ share. share ≡ self.now) }
     {
         Ok(GrowingList {
             alloc: self.alloc,
-            chunks: self.chunks.clone()?,
+            blocks: self.blocks.clone()?,
             len: self.len,
         })
     }
@@ -125,7 +125,7 @@ impl<T: ExactClone + Drop> GrowingList<T> {
         if self.len == usize::MAX {
             return Err(AllocError);
         }
-        add_item(self.alloc, &mut self.chunks, item)?;
+        add_to_blocks(self.alloc, &mut self.blocks, item)?;
         self.len += 1;
         Ok(())
     }

@@ -1,11 +1,13 @@
 //! A list that only grows.
 //!
 //! A `GrowingList` is seen by contracts as the list of its items. These stand in chunks of one size,
-//! which other lists may share: an item is two index steps away, `share` copies no item, and a push
-//! copies the last chunk alone, where that is shared, so that a share keeps its items whatever is done
-//! to its source.
+//! and the chunks in blocks of one size, which other lists may share: an item is three index steps
+//! away, and `share` copies no item, only where each block stands. A push copies where the chunks of
+//! the last block stand, and the last chunk, each where it is shared, so that a share keeps its items
+//! whatever is done to its source.
 #![tactic(auto)]
 
+mod block;
 mod chunk;
 mod growing;
 

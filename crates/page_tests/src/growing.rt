@@ -59,3 +59,56 @@ fn plain_vectors_agree(rt: HostRuntime) -> Result<(), Fail> {
     same_items(&rt, &list, &plain);
     Ok(())
 }
+
+// A list has numbers at places, and ends behind the last.
+fn has_numbers(rt: &impl Abort, list: &GrowingList<Number>, numbers: &[(usize, u32)], len: usize) {
+    for (at, number) in numbers {
+        assert_eq!(rt; list.get(*at), Some(&Number(*number)));
+    }
+    assert_eq!(rt; list.len(), len);
+    assert!(rt; list.get(len).is_none());
+}
+
+// Shares that are taken before a block is full, where it is, and where there is a second, grow apart.
+#[test]
+fn blocks_grow_apart(rt: HostRuntime) -> Result<(), Fail> {
+    let mut list = GrowingList::new(rt.alloc());
+    for number in 0..262_143u32 {
+        list.push(Number(number))?;
+    }
+    let mut before = list.share()?;
+    list.push(Number(1))?;
+    let mut full = list.share()?;
+    list.push(Number(2))?;
+    let mut behind = list.share()?;
+    list.push(Number(3))?;
+    before.push(Number(4))?;
+    before.push(Number(5))?;
+    full.push(Number(6))?;
+    behind.push(Number(7))?;
+    has_numbers(
+        &rt,
+        &list,
+        &[(262_142, 262_142), (262_143, 1), (262_144, 2), (262_145, 3)],
+        262_146,
+    );
+    has_numbers(
+        &rt,
+        &before,
+        &[(262_142, 262_142), (262_143, 4), (262_144, 5)],
+        262_145,
+    );
+    has_numbers(
+        &rt,
+        &full,
+        &[(262_142, 262_142), (262_143, 1), (262_144, 6)],
+        262_145,
+    );
+    has_numbers(
+        &rt,
+        &behind,
+        &[(262_142, 262_142), (262_143, 1), (262_144, 2), (262_145, 7)],
+        262_146,
+    );
+    Ok(())
+}

@@ -1,5 +1,5 @@
 -- Some items of a list, in their order.
-use Rattle.std.proofs.Common.{◌≡◌, ◌∙◌, ℕ, zero, suc, ◌+◌, ◌<◌, ◌≤◌, List, [], ◌∷◌, ◌++◌, length, take, drop, get_or, refl, sym, ap, subst, inl, inr}
+use Rattle.std.proofs.Common.{◌≡◌, ◌∙◌, ℕ, ◌+◌, ◌<◌, ◌≤◌, List, [], ◌∷◌, ◌++◌, length, take, get_or, refl, sym, ap, subst, inl, inr}
 use Rattle.std.specs.Prelude.{◌⊎◌}
 use Rattle.std.specs.declared.cmp.Ordering.{Ordering}
 use Rattle.std.proofs.lemmas.List.{take_all, take_more}
@@ -35,28 +35,6 @@ module _ {X : Type 0} where
     | inl k ↦ some_ascending R xs ys a.1 k
     | inr k ↦ subst (λ (zs : List X). IsAscending R zs) (sym k.1) (some_above R x xs k.0 a.0 k.2, some_ascending R xs k.0 a.1 k.2)
   ]
-
-  some_drop : (n : ℕ) (xs : List X) → SomeOf xs (drop n xs)
-  some_drop zero xs = some_all xs
-    where
-      some_all : (ys : List X) → SomeOf ys ys
-      some_all [] = refl
-      some_all (y ∷ ys) = inr (ys, refl, some_all ys)
-  some_drop (suc n) [] = refl
-  some_drop (suc n) (x ∷ xs) = inl (some_drop n xs)
-
-  some_take : (n : ℕ) (xs : List X) → SomeOf xs (take n xs)
-  some_take zero xs = none xs
-    where
-      none : (ys : List X) → SomeOf ys []
-      none [] = refl
-      none (y ∷ ys) = inl (none ys)
-  some_take (suc n) [] = refl
-  some_take (suc n) (x ∷ xs) = inr (take n xs, refl, some_take n xs)
-
-  -- a part of an ascending list
-  pub slice_ascending : (R : X → X → Ordering) (n m : ℕ) (xs : List X) → IsAscending R xs → IsAscending R (take n (drop m xs))
-  slice_ascending R n m xs a = some_ascending R (drop m xs) (take n (drop m xs)) (some_ascending R xs (drop m xs) a (some_drop m xs)) (some_take n (drop m xs))
 
   pub some_none : (xs : List X) → SomeOf (take 0 xs) []
   some_none xs = refl

@@ -10,7 +10,6 @@ mod constraint;
 mod fault;
 mod kind;
 mod nodes;
-mod own;
 mod part;
 mod path;
 mod path_sizes;

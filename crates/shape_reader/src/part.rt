@@ -10,10 +10,10 @@ ghost use Rattle.shape_rules.specs.Syntax.{SomeValue};
 ghost use Rattle.shape_rules.specs.Steps.{OfTriple};
 ghost use Rattle.shape_reader.specs.Once.{MayAdd, value_triple};
 
-use crate::own::own_triples;
 use collections::Sequence;
 use rdf_model::{Term, Triple};
 use shape_rules::{ShapeProperty, property_of};
+use shape_syntax::lookup::triples_of;
 use std::alloc::{AllocError, Global};
 
 /// What a value of a property says of its shape.
@@ -96,7 +96,7 @@ pub(crate) fn parts_of<P: Part + Drop>(
     ensures said { IfOk result (λ parts. (x : P) → Contains parts x ↔ SomeValue graph.now node.now (λ p v. P.says graph.now nodes.now p v x)) }
     ensures by { IfOk result (λ parts. IsAscending triple_cmp (map (P.triple node.now) parts)) }
 {
-    let own = own_triples(graph, node);
+    let own = triples_of(graph, node);
     let mut parts = Sequence::new(alloc);
     for triple in own {
         push_part(alloc, graph, nodes, triple, &mut parts)?;

@@ -2,13 +2,14 @@
 //! small graph may say one that no memory holds.
 ghost use Rattle.collections.specs.Ordered.{IsAscending};
 ghost use Rattle.rdf_model.specs.Terms.{triple_cmp};
+ghost use Rattle.shape_syntax.specs.PathNodes.{ArePathNodes};
 
 use crate::values::value_of;
 use rdf_model::{Term, Triple};
 use shape_rules::ShapeProperty;
 use shape_rules::path_looks::path_looks;
 use std::alloc::{AllocError, Global};
-use std::collections::BTreeMap;
+use std::collections::{BTreeMap, BTreeSet};
 
 // Sixteen times as many predicates as rule 40 lets the path of a shape have that isn't deactivated.
 const MOST_PREDICATES: u64 = 65_536;
@@ -28,10 +29,16 @@ fn is_too_large(graph: &[Triple], sizes: &BTreeMap<Term, u64>, node: &Term) -> b
 
 /// Asks before paths are compiled, which then are trees, whether there can be memory for them: a path of a shape that has
 /// more than 65,536 predicates is taken for one that there isn't memory for.
-pub(crate) fn have_room(alloc: Global, graph: &[Triple], nodes: &[Term]) -> Result<(), AllocError>
-    requires { IsAscending triple_cmp graph.now }
+pub(crate) fn have_room(
+    alloc: Global,
+    graph: &[Triple],
+    paths: &BTreeSet<Term>,
+    nodes: &[Term],
+) -> Result<(), AllocError>
+    requires graph { IsAscending triple_cmp graph.now }
+    requires paths { ArePathNodes graph.now paths.now.keys }
 {
-    let sizes = path_looks(alloc, graph, MOST_PREDICATES)?;
+    let sizes = path_looks(alloc, graph, paths, MOST_PREDICATES)?;
     for node in nodes {
         if is_too_large(graph, &sizes, node) {
             return Err(AllocError);

@@ -70,7 +70,7 @@ pub fn compile<M: Maker>(
     let paths = path_nodes(alloc, graph)?;
     let turned = turned_properties(alloc, graph)?;
     let nodes = shape_nodes(alloc, graph)?;
-    have_room(alloc, graph, nodes.as_slice())?;
+    have_room(alloc, graph, &paths, nodes.as_slice())?;
     let shapes = compile_nodes(
         alloc,
         maker,

@@ -14,7 +14,7 @@ use Rattle.shape_syntax.proofs.PathWays.{no_blank_iri}
 use Rattle.reference_totals.specs.declared.place.Place.{Place}
 use Rattle.reference_totals.proofs.TotalSums.{sum_has}
 use Rattle.shape_references.specs.Chains.{AreWithChain, HasChain, IsJoined}
-use Rattle.shape_rules.specs.PathLooks.{AreDeepPaths, ArePathPlaces, AreSteps, IsMadeOf, IsObject}
+use Rattle.shape_rules.specs.PathLooks.{AreDeepPaths, ArePathPlaces, AreSteps, IsObject}
 use Rattle.shape_rules.specs.Sizes.{looks_of}
 use Rattle.shape_rules.proofs.PathParts.{AreParts, IsMadeAs, IsPart, made_as, member_object}
 use Rattle.shape_rules.proofs.PathSums.{LooksBelow, made_looks}

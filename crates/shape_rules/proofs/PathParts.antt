@@ -8,7 +8,6 @@ use Rattle.shape_model.specs.Vocabulary.{sh, rdf, rdf_first, rdf_nil, rdf_rest}
 use Rattle.shape_model.specs.Triples.{Has, IsBlank, IsIri}
 use Rattle.shape_model.specs.Paths.{Path, Predicate, Inverse, Sequence, Alternative, ZeroOrMore, OneOrMore, ZeroOrOne, Paths, Last, Also}
 use Rattle.shape_model.specs.ShapeSyntax.{HasAlone, ListOf, PathOf, PathsOf}
-use Rattle.shape_syntax.proofs.Lists.{one_list}
 use Rattle.shape_syntax.proofs.PathWays.{sh_exact}
 use Rattle.shape_rules.specs.PathLooks.{IsMadeOf, IsObject}
 

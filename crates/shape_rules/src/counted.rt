@@ -23,6 +23,7 @@ use collections::{Sequence, sorted_once};
 use rdf_model::{Term, Triple};
 use shape_references::push_siblings;
 use shape_syntax::list::list_members;
+use shape_syntax::lookup::triples_of;
 use std::alloc::{AllocError, Global};
 
 fn push_objects(triples: &[Triple], nodes: &mut Sequence<Term>) -> Result<(), AllocError>
@@ -165,27 +166,24 @@ fn siblings_of(
     Ok(sorted)
 }
 
-// Adds the qualified value shape and the siblings of the node.
+// Adds the qualified value shape and the siblings of the node, whose triples are given.
 fn push_qualified(
     alloc: Global,
     graph: &[Triple],
     turned: &[Triple],
+    own: &[Triple],
     node: &Term,
     nodes: &mut Sequence<Term>,
 ) -> Result<(), AllocError>
     requires graph { IsAscending triple_cmp graph.now }
     requires turned { IsListing triple_cmp (IsTurned graph.now) turned.now }
+    requires own { IsAscending triple_cmp own.now }
+    requires members { (t : TripleData) → Contains own.now t ↔ (Contains graph.now t × (t.subject ≡ node.now)) }
     ensures { OnOk result (HasAdded (AreQualified graph.now node.now) nodes.old nodes.new) }
 {
-    if has_qualified_count(graph, node) {
+    if has_qualified_count(own, node) {
         let siblings = siblings_of(alloc, graph, turned, node)?;
-        push_values(
-            alloc,
-            graph,
-            node,
-            ShapeProperty::QualifiedValueShape,
-            nodes,
-        )?;
+        push_values(alloc, own, node, ShapeProperty::QualifiedValueShape, nodes)?;
         push_copies(siblings.as_slice(), nodes)?;
         return Ok(());
     }
@@ -205,21 +203,24 @@ fn shapes_at(alloc: Global, graph: &[Triple], node: &Term) -> Result<Sequence<Te
     Ok(nodes)
 }
 
-// The shapes to which the node refers, whether it is deactivated or not.
+// The shapes to which the node refers, whether it is deactivated or not. Its triples are given.
 fn counted_shapes(
     alloc: Global,
     graph: &[Triple],
     turned: &[Triple],
+    own: &[Triple],
     node: &Term,
 ) -> Result<Sequence<Term>, AllocError>
     requires graph { IsAscending triple_cmp graph.now }
     requires turned { IsListing triple_cmp (IsTurned graph.now) turned.now }
+    requires own { IsAscending triple_cmp own.now }
+    requires members { (t : TripleData) → Contains own.now t ↔ (Contains graph.now t × (t.subject ≡ node.now)) }
     ensures { IfOk result (λ nodes. sizes.AreCounted graph.now node.now nodes) }
 {
-    let mut nodes = shapes_at(alloc, graph, node)?;
-    let heads = lists_at(alloc, graph, node)?;
+    let mut nodes = shapes_at(alloc, own, node)?;
+    let heads = lists_at(alloc, own, node)?;
     push_members_of(alloc, graph, heads.as_slice(), &mut nodes)?;
-    push_qualified(alloc, graph, turned, node, &mut nodes)?;
+    push_qualified(alloc, graph, turned, own, node, &mut nodes)?;
     Ok(nodes)
 }
 
@@ -255,9 +256,10 @@ pub(crate) fn referred_shapes(
     requires turned { IsListing triple_cmp (IsTurned graph.now) turned.now }
     ensures { IfOk result (λ nodes. AreReferred graph.now node.now nodes) }
 {
-    if is_deactivated(graph, node) {
+    let own = triples_of(graph, node);
+    if is_deactivated(own, node) {
         return Ok(Sequence::new(alloc));
     }
-    let nodes = counted_shapes(alloc, graph, turned, node)?;
+    let nodes = counted_shapes(alloc, graph, turned, own, node)?;
     Ok(nodes)
 }

@@ -9,7 +9,7 @@ ghost use Rattle.shape_syntax.specs.Gathering.{HasGathered};
 ghost use Rattle.shape_syntax.specs.PathDepth.{IsDeep};
 ghost use Rattle.shape_rules.specs.declared.rule_row.RuleRow.{RuleRow as RowData};
 ghost use Rattle.shape_rules.specs.Broken.{HasDeepPath};
-ghost use Rattle.shape_rules.specs.PathLooks.{AreDeepPaths, IsObject};
+ghost use Rattle.shape_rules.specs.PathLooks.{AreDeepPaths, ArePathPlaces, IsObject};
 ghost use Rattle.shape_rules.specs.Steps.{DeepPathRow, HaveLeast, IsDeepRow};
 ghost use Rattle.shape_rules.specs.Syntax.{IsShape, IsTaken};
 
@@ -17,10 +17,11 @@ use crate::passes::property_values;
 use crate::path_steps::deep_paths;
 use crate::referring::least_with_long_chain;
 use crate::rows::push_whole;
-use crate::shapes::{is_shape_at, taken_shapes};
+use crate::shapes::is_shape_at;
 use crate::{RuleRow, ShapeProperty};
 use collections::Sequence;
 use rdf_model::{Term, Triple};
+use reference_totals::Place;
 use shape_syntax::subjects::subjects;
 use std::alloc::{AllocError, Global};
 use std::collections::BTreeSet;
@@ -94,22 +95,21 @@ fn push_deep_paths(
 }
 
 // The rows of all shapes with a path that is too deep, some of them more than once.
-fn rows_of_paths(alloc: Global, graph: &[Triple]) -> Result<Sequence<RuleRow>, AllocError>
-    requires { IsAscending triple_cmp graph.now }
+fn rows_of_paths(
+    alloc: Global,
+    graph: &[Triple],
+    taken: &[Term],
+    objects: &[Place],
+) -> Result<Sequence<RuleRow>, AllocError>
+    requires graph { IsAscending triple_cmp graph.now }
+    requires taken { IsListing term_cmp (IsTaken graph.now) taken.now }
+    requires objects { ArePathPlaces graph.now objects.now }
     ensures { IfOk result (λ rows. (r : RowData) → Contains rows r ↔ DeepPathRow graph.now r.node r) }
 {
-    let taken = taken_shapes(alloc, graph)?;
-    let deep = deep_paths(alloc, graph, 256)?;
+    let deep = deep_paths(alloc, graph, objects, 256)?;
     let nodes = subjects(alloc, graph)?;
     let mut rows = Sequence::new(alloc);
-    push_deep_paths(
-        alloc,
-        graph,
-        &deep,
-        taken.as_slice(),
-        nodes.as_slice(),
-        &mut rows,
-    )?;
+    push_deep_paths(alloc, graph, &deep, taken, nodes.as_slice(), &mut rows)?;
     Ok(rows)
 }
 
@@ -136,12 +136,20 @@ fn push_chain_row(
     }
 }
 
-/// The rows of the shapes that are too deep, of those with too many references the least alone.
-pub(crate) fn deep_rows(alloc: Global, graph: &[Triple]) -> Result<Sequence<RuleRow>, AllocError>
-    requires { IsAscending triple_cmp graph.now }
+/// The rows of the shapes that are too deep, of those with too many references the least alone. The graph's
+/// `taken_shapes` and `object_places` are given.
+pub(crate) fn deep_rows(
+    alloc: Global,
+    graph: &[Triple],
+    taken: &[Term],
+    objects: &[Place],
+) -> Result<Sequence<RuleRow>, AllocError>
+    requires graph { IsAscending triple_cmp graph.now }
+    requires taken { IsListing term_cmp (IsTaken graph.now) taken.now }
+    requires objects { ArePathPlaces graph.now objects.now }
     ensures { IfOk result (λ rows. HaveLeast (IsDeepRow graph.now) rows) }
 {
-    let mut rows = rows_of_paths(alloc, graph)?;
+    let mut rows = rows_of_paths(alloc, graph, taken, objects)?;
     push_chain_row(alloc, graph, &mut rows)?;
     Ok(rows)
 }

@@ -4,6 +4,7 @@ ghost use Rattle.std.specs.List.{Contains};
 ghost use Rattle.collections.specs.Listings.{IsListing};
 ghost use Rattle.collections.specs.Ordered.{IsAscending};
 ghost use Rattle.rdf_model.specs.declared.term.Term.{Term as TermData};
+ghost use Rattle.rdf_model.specs.declared.triple.Triple.{Triple as TripleData};
 ghost use Rattle.rdf_model.specs.Terms.{term_cmp, triple_cmp};
 ghost use Rattle.shape_model.specs.Instances.{Instance};
 ghost use Rattle.shape_model.specs.Triples.{IsMember};
@@ -15,15 +16,15 @@ ghost use Rattle.shape_rules.specs.declared.property.ShapeProperty.TheVariants a
 ghost use Rattle.shape_rules.specs.declared.rule_row.RuleRow.{RuleRow as RowData};
 ghost use Rattle.shape_rules.specs.Broken.{LooksRow};
 ghost use Rattle.shape_rules.specs.Counted.{ArePlaces, AreWeights, IsPlaceOf, MayBeShape};
-ghost use Rattle.shape_rules.specs.PathLooks.{ArePathLooks, IsCappedLook};
+ghost use Rattle.shape_rules.specs.PathLooks.{ArePathLooks, ArePathPlaces, IsCappedLook};
 ghost use Rattle.shape_rules.specs.Sizes.{CountsIf, HasOwnLooks, HasPathLooks, HasTargetLooks, HasTooManyLooks, IsLookWeight, looks_limit};
 ghost use Rattle.shape_rules.specs.Sizes as sizes;
 ghost use Rattle.shape_rules.specs.Syntax.{HasProperty, IsShape, IsTaken};
 
 use crate::counted::{is_deactivated, is_true_at, referred_shapes, values_at};
-use crate::path_looks::{most_looks, path_looks, path_looks_at};
+use crate::path_looks::{looks_of_places, most_looks, path_looks_at};
 use crate::rows::push_whole;
-use crate::shapes::{is_shape_at, taken_shapes};
+use crate::shapes::is_shape_at;
 use crate::sizes::candidates;
 use crate::terms::has_class;
 use crate::{RuleRow, ShapeProperty};
@@ -32,6 +33,7 @@ use rdf_model::{Term, Triple};
 use reference_totals::{Place, capped_sum, total_of, totals};
 use shape_references::turned_properties;
 use shape_syntax::instance::classes_of;
+use shape_syntax::lookup::triples_of;
 use std::alloc::{AllocError, Global};
 use std::collections::BTreeMap;
 
@@ -104,19 +106,22 @@ fn closed_looks(graph: &[Triple], node: &Term) -> u64
     }
 }
 
-// The looks of the node's path.
+// The looks of the node's path. The node's triples are given.
 fn looks_of_paths(
     alloc: Global,
     graph: &[Triple],
     paths: &BTreeMap<Term, u64>,
+    own: &[Triple],
     node: &Term,
 ) -> Result<u64, AllocError>
     requires graph { IsAscending triple_cmp graph.now }
     requires paths { ArePathLooks graph.now looks_limit paths.now }
-    ensures { IfOk result (λ sum. (k : ℕ) × SumBy (HasPathLooks graph.now) (sizes.values graph.now node.now property_data.Path) k
+    requires own { IsAscending triple_cmp own.now }
+    requires members { (t : TripleData) → Contains own.now t ↔ (Contains graph.now t × (t.subject ≡ node.now)) }
+    ensures { IfOk result (λ sum. (k : ℕ) × SumBy (HasPathLooks graph.now) (sizes.values own.now node.now property_data.Path) k
         × (sum ≡ capped looks_limit k)) }
 {
-    let found = values_at(alloc, graph, node, ShapeProperty::Path)?;
+    let found = values_at(alloc, own, node, ShapeProperty::Path)?;
     let mut sum = 0;
     for value in found.as_slice() {
         sum = capped_sum(sum, path_looks_at(graph, paths, value), most_looks());
@@ -124,21 +129,24 @@ fn looks_of_paths(
     Ok(sum)
 }
 
-// The looks of a node that isn't deactivated, without those of the shapes to which it refers.
+// The looks of a node that isn't deactivated, without those of the shapes to which it refers. Its triples are given.
 fn own_looks(
     alloc: Global,
     graph: &[Triple],
     paths: &BTreeMap<Term, u64>,
+    own: &[Triple],
     node: &Term,
 ) -> Result<u64, AllocError>
     requires graph { IsAscending triple_cmp graph.now }
     requires paths { ArePathLooks graph.now looks_limit paths.now }
+    requires own { IsAscending triple_cmp own.now }
+    requires members { (t : TripleData) → Contains own.now t ↔ (Contains graph.now t × (t.subject ≡ node.now)) }
     ensures { IfOk result (λ sum. (k : ℕ) × HasOwnLooks graph.now node.now k × (sum ≡ capped looks_limit k)) }
 {
-    let path = looks_of_paths(alloc, graph, paths, node)?;
-    let classes = with_two_each(alloc, graph, node, ShapeProperty::Class, path)?;
-    let compared = with_compared(alloc, graph, node, classes)?;
-    Ok(capped_sum(compared, closed_looks(graph, node), most_looks()))
+    let path = looks_of_paths(alloc, graph, paths, own, node)?;
+    let classes = with_two_each(alloc, own, node, ShapeProperty::Class, path)?;
+    let compared = with_compared(alloc, own, node, classes)?;
+    Ok(capped_sum(compared, closed_looks(own, node), most_looks()))
 }
 
 fn look_weight(
@@ -151,11 +159,12 @@ fn look_weight(
     requires paths { ArePathLooks graph.now looks_limit paths.now }
     ensures { IfOk result (λ own. IsCappedLook graph.now node.now own) }
 {
-    if is_deactivated(graph, node) {
+    let own = triples_of(graph, node);
+    if is_deactivated(own, node) {
         return Ok(0);
     }
-    let own = own_looks(alloc, graph, paths, node)?;
-    Ok(own)
+    let looks = own_looks(alloc, graph, paths, own, node)?;
+    Ok(looks)
 }
 
 fn look_place(
@@ -203,14 +212,16 @@ fn look_places(
 fn all_look_places(
     alloc: Global,
     graph: &[Triple],
+    objects: &[Place],
     nodes: &[Term],
 ) -> Result<Sequence<Place>, AllocError>
     requires graph { IsAscending triple_cmp graph.now }
+    requires objects { ArePathPlaces graph.now objects.now }
     requires nodes { (n : TermData) → Contains nodes.now n ↔ MayBeShape graph.now n }
     ensures { IfOk result (λ places. ArePlaces graph.now (IsCappedLook graph.now) places) }
 {
     let turned = turned_properties(alloc, graph)?;
-    let paths = path_looks(alloc, graph, most_looks())?;
+    let paths = looks_of_places(alloc, graph, objects, most_looks())?;
     let places = look_places(alloc, graph, turned.as_slice(), &paths, nodes)?;
     Ok(places)
 }
@@ -219,13 +230,15 @@ fn all_look_places(
 fn looks_of_results(
     alloc: Global,
     graph: &[Triple],
+    objects: &[Place],
     nodes: &[Term],
 ) -> Result<BTreeMap<Term, u64>, AllocError>
     requires graph { IsAscending triple_cmp graph.now }
+    requires objects { ArePathPlaces graph.now objects.now }
     requires nodes { (n : TermData) → Contains nodes.now n ↔ MayBeShape graph.now n }
     ensures { IfOk result (λ table. AreWeights graph.now (IsLookWeight graph.now) looks_limit table) }
 {
-    let places = all_look_places(alloc, graph, nodes)?;
+    let places = all_look_places(alloc, graph, objects, nodes)?;
     let table = totals(alloc, places.as_slice(), most_looks())?;
     Ok(table)
 }
@@ -253,11 +266,12 @@ fn with_targets(alloc: Global, graph: &[Triple], node: &Term, sum: u64) -> Resul
     requires { IsAscending triple_cmp graph.now }
     ensures { IfOk result (λ more. (k : ℕ) × HasTargetLooks graph.now node.now k × (more ≡ capped looks_limit (sum + k))) }
 {
+    let own = triples_of(graph, node);
     let implicit = implicit_looks(alloc, graph, node)?;
-    let classes = with_two_each(alloc, graph, node, ShapeProperty::TargetClass, sum)?;
+    let classes = with_two_each(alloc, own, node, ShapeProperty::TargetClass, sum)?;
     let both = capped_sum(classes, implicit, most_looks());
-    let subjects = with_one_each(alloc, graph, node, ShapeProperty::TargetSubjectsOf, both)?;
-    let all = with_one_each(alloc, graph, node, ShapeProperty::TargetObjectsOf, subjects)?;
+    let subjects = with_one_each(alloc, own, node, ShapeProperty::TargetSubjectsOf, both)?;
+    let all = with_one_each(alloc, own, node, ShapeProperty::TargetObjectsOf, subjects)?;
     Ok(all)
 }
 
@@ -324,25 +338,21 @@ fn push_too_many(
     Ok(())
 }
 
-/// Adds the rows of the shapes with too many looks.
+/// Adds the rows of the shapes with too many looks. The graph's `taken_shapes` and `object_places` are given.
 pub(crate) fn push_looks_rows(
     alloc: Global,
     graph: &[Triple],
+    taken: &[Term],
+    objects: &[Place],
     rows: &mut Sequence<RuleRow>,
 ) -> Result<(), AllocError>
-    requires { IsAscending triple_cmp graph.now }
+    requires graph { IsAscending triple_cmp graph.now }
+    requires taken { IsListing term_cmp (IsTaken graph.now) taken.now }
+    requires objects { ArePathPlaces graph.now objects.now }
     ensures { OnOk result ((r : RowData) → Contains rows.new r ↔ (Contains rows.old r ⊎ LooksRow graph.now r.node r)) }
 {
-    let taken = taken_shapes(alloc, graph)?;
-    let nodes = candidates(alloc, graph, taken.as_slice())?;
-    let table = looks_of_results(alloc, graph, nodes.as_slice())?;
-    push_too_many(
-        alloc,
-        graph,
-        taken.as_slice(),
-        &table,
-        nodes.as_slice(),
-        rows,
-    )?;
+    let nodes = candidates(alloc, graph, taken)?;
+    let table = looks_of_results(alloc, graph, objects, nodes.as_slice())?;
+    push_too_many(alloc, graph, taken, &table, nodes.as_slice(), rows)?;
     Ok(())
 }

@@ -21,7 +21,7 @@ use rdf_model::{Term, Triple};
 use reference_totals::{Place, total_of, totals};
 use shape_syntax::list::list_members;
 use shape_syntax::lookup::triples_of;
-use shape_syntax::paths::{is_path, path_nodes};
+use shape_syntax::paths::is_path;
 use shape_syntax::terms::{is_iri, is_named};
 use std::alloc::{AllocError, Global};
 use std::collections::{BTreeMap, BTreeSet};
@@ -198,30 +198,51 @@ pub(crate) fn most_looks() -> u64
     4096
 }
 
-/// The places of the values that stand for paths.
-pub(crate) fn object_places(alloc: Global, graph: &[Triple]) -> Result<Sequence<Place>, AllocError>
-    requires { IsAscending triple_cmp graph.now }
+/// The places of the values that stand for paths. The graph's `path_nodes` are given.
+pub(crate) fn object_places(
+    alloc: Global,
+    graph: &[Triple],
+    paths: &BTreeSet<Term>,
+) -> Result<Sequence<Place>, AllocError>
+    requires graph { IsAscending triple_cmp graph.now }
+    requires paths { ArePathNodes graph.now paths.now.keys }
     ensures { IfOk result (λ places. ArePathPlaces graph.now places) }
 {
-    let paths = path_nodes(alloc, graph)?;
     let nodes = objects(alloc, graph)?;
-    let places = path_places(alloc, graph, &paths, nodes.as_slice())?;
+    let places = path_places(alloc, graph, paths, nodes.as_slice())?;
     Ok(places)
 }
 
-/// The looks of the paths for which values stand (one for each predicate in them), as far as they are counted: one more
-/// than `most` stands for all that are over it.
-pub fn path_looks(
+/// The looks of the paths for which values stand, by the places of these values, as far as they are counted.
+pub(crate) fn looks_of_places(
     alloc: Global,
     graph: &[Triple],
+    places: &[Place],
     most: u64,
 ) -> Result<BTreeMap<Term, u64>, AllocError>
-    requires graph { IsAscending triple_cmp graph.now }
+    requires places { ArePathPlaces graph.now places.now }
     requires most { most + 1 < 2 ^ 64 }
     ensures { IfOk result (λ table. ArePathLooks graph.now most table) }
 {
-    let places = object_places(alloc, graph)?;
-    let table = totals(alloc, places.as_slice(), most)?;
+    let table = totals(alloc, places, most)?;
+    Ok(table)
+}
+
+/// The looks of the paths for which values stand (one for each predicate in them), as far as they are counted: one more
+/// than `most` stands for all that are over it. The graph's `path_nodes` are given.
+pub fn path_looks(
+    alloc: Global,
+    graph: &[Triple],
+    paths: &BTreeSet<Term>,
+    most: u64,
+) -> Result<BTreeMap<Term, u64>, AllocError>
+    requires graph { IsAscending triple_cmp graph.now }
+    requires paths { ArePathNodes graph.now paths.now.keys }
+    requires most { most + 1 < 2 ^ 64 }
+    ensures { IfOk result (λ table. ArePathLooks graph.now most table) }
+{
+    let places = object_places(alloc, graph, paths)?;
+    let table = looks_of_places(alloc, graph, places.as_slice(), most)?;
     Ok(table)
 }
 

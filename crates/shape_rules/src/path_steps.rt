@@ -1,12 +1,9 @@
 //! The nodes that stand for paths that are nested too deep. They are found by steps from node to node, and not along the
 //! paths: a node that stands in a path many times, or in many paths, is asked once.
 ghost use Rattle.std.specs.Prelude.{◌<◌, ◌+◌, ◌^◌, IfOk, OnOk};
-ghost use Rattle.collections.specs.Ordered.{IsAscending};
-ghost use Rattle.rdf_model.specs.Terms.{triple_cmp};
 ghost use Rattle.shape_syntax.specs.Gathering.{HasGathered};
-ghost use Rattle.shape_rules.specs.PathLooks.{AreDeepPaths, AreSteps, IsStep};
+ghost use Rattle.shape_rules.specs.PathLooks.{AreDeepPaths, ArePathPlaces, AreSteps, IsStep};
 
-use crate::path_looks::object_places;
 use collections::Sequence;
 use rdf_model::{Term, Triple};
 use reference_totals::Place;
@@ -45,18 +42,18 @@ fn path_steps(alloc: Global, places: &[Place]) -> Result<Sequence<Triple>, Alloc
 }
 
 /// The values that stand for paths that are nested deeper than this: those from which more steps lead in a row. Each round
-/// asks all steps, and there are no more rounds than levels.
+/// asks all steps, and there are no more rounds than levels. The graph's `object_places` are given.
 pub(crate) fn deep_paths(
     alloc: Global,
     graph: &[Triple],
+    places: &[Place],
     levels: usize,
 ) -> Result<BTreeSet<Term>, AllocError>
-    requires graph { IsAscending triple_cmp graph.now }
+    requires places { ArePathPlaces graph.now places.now }
     requires levels { levels + 1 < 2 ^ 32 }
     ensures { IfOk result (λ nodes. AreDeepPaths graph.now levels nodes.keys) }
 {
-    let places = object_places(alloc, graph)?;
-    let steps = path_steps(alloc, places.as_slice())?;
+    let steps = path_steps(alloc, places)?;
     let nodes = nodes_with_chain(alloc, steps.as_slice(), levels + 1)?;
     Ok(nodes)
 }

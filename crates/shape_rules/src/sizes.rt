@@ -17,7 +17,7 @@ ghost use Rattle.shape_rules.specs.Syntax.{IsShape, IsTaken};
 use crate::RuleRow;
 use crate::counted::{push_copies, referred_shapes};
 use crate::rows::push_whole;
-use crate::shapes::{is_shape_at, taken_shapes};
+use crate::shapes::is_shape_at;
 use collections::Sequence;
 use rdf_model::{Term, Triple};
 use reference_totals::{Place, total_of, totals};
@@ -154,25 +154,19 @@ fn push_too_large(
     Ok(())
 }
 
-/// Adds the rows of the shapes that are too large.
+/// Adds the rows of the shapes that are too large. The graph's `taken_shapes` are given.
 pub(crate) fn push_size_rows(
     alloc: Global,
     graph: &[Triple],
+    taken: &[Term],
     rows: &mut Sequence<RuleRow>,
 ) -> Result<(), AllocError>
-    requires { IsAscending triple_cmp graph.now }
+    requires graph { IsAscending triple_cmp graph.now }
+    requires taken { IsListing term_cmp (IsTaken graph.now) taken.now }
     ensures { OnOk result ((r : RowData) → Contains rows.new r ↔ (Contains rows.old r ⊎ SizeRow graph.now r.node r)) }
 {
-    let taken = taken_shapes(alloc, graph)?;
-    let nodes = candidates(alloc, graph, taken.as_slice())?;
+    let nodes = candidates(alloc, graph, taken)?;
     let table = sizes_of(alloc, graph, nodes.as_slice())?;
-    push_too_large(
-        alloc,
-        graph,
-        taken.as_slice(),
-        &table,
-        nodes.as_slice(),
-        rows,
-    )?;
+    push_too_large(alloc, graph, taken, &table, nodes.as_slice(), rows)?;
     Ok(())
 }

@@ -9,7 +9,7 @@ ghost use Rattle.shape_syntax.specs.Subjects.{IsSubject};
 
 use crate::list::cell;
 use crate::steps::only_triple;
-use crate::subjects::push_unless_last;
+use crate::subjects::{push_unless_last, subjects};
 use collections::Sequence;
 use rdf_model::{Term, Triple};
 use std::alloc::{AllocError, Global};
@@ -115,10 +115,11 @@ pub(crate) fn from_below(alloc: Global, graph: &[Triple]) -> Result<Sequence<Ter
     requires { IsAscending triple_cmp graph.now }
     ensures { IfOk result (λ nodes. (n : TermData) → IsSubject graph.now n → Contains nodes n) }
 {
+    let starts = subjects(alloc, graph)?;
     let mut entered = BTreeSet::new(alloc);
     let mut nodes = Sequence::new(alloc);
-    for triple in graph {
-        descend(alloc, graph, &triple.subject, &mut entered, &mut nodes)?;
+    for node in starts.as_slice() {
+        descend(alloc, graph, node, &mut entered, &mut nodes)?;
     }
     Ok(nodes)
 }

@@ -1,3 +1,4 @@
 pub mod Places
 pub mod Growing
 pub mod Distinct
+pub mod Once

@@ -1,5 +1,5 @@
-ghost use Rattle.std.specs.Prelude.{◌≡◌, ◌<◌, ◌≤◌, [], ◌∷◌, ◌++◌, IfOk, MatchOption, OnOk, length};
-ghost use Rattle.std.specs.List.{Contains, IsDistinct};
+ghost use Rattle.std.specs.Prelude.{◌≡◌, ◌<◌, ◌≤◌, [], ◌∷◌, ◌++◌, IfOk, MatchOption, OnOk, get_or, length, map};
+ghost use Rattle.std.specs.List.{AllByRecursion, Contains, IsDistinct};
 ghost use Rattle.std.specs.Ordering.{eq_by_cmp};
 ghost use Rattle.rdf_model.specs.Matching.{same_term};
 ghost use Rattle.rdf_model.specs.Terms.{term_cmp};
@@ -8,7 +8,7 @@ ghost use Rattle.term_dict.specs.Entries.{entries_from, entry};
 ghost use Rattle.term_dict.specs.Names.{AreNumbersOf, IsNumberOf, with_term, with_terms};
 
 use crate::entry::{ByTerm, NamedTerm};
-use crate::met::MetTerm;
+use crate::met::{MetTerm, met_of};
 use growing_list::GrowingList;
 use page_index::Pages;
 use rdf_model::Term;
@@ -188,7 +188,39 @@ pub(crate) fn table_of(alloc: Global, terms: &[MetTerm]) -> Result<Table, AllocE
     })
 }
 
-// The table with each of the terms, and their numbers.
+// The table with each of the terms that were met, and their numbers.
+fn with_met(
+    alloc: Global,
+    table: Table,
+    terms: &[MetTerm],
+) -> Result<(Table, Vec<usize>), AllocError>
+    ensures table { IfOk result (λ next. next.0 ≡ with_terms table terms.now) }
+    ensures numbers { IfOk result (λ next. AreNumbersOf next.0 terms.now next.1.items) }
+{
+    let mut numbers = Vec::with_capacity(alloc, terms.len())?;
+    let mut table = table;
+    for met in terms {
+        let (next, number) = table.with(met.term)?;
+        table = next;
+        numbers.push(number)?;
+    }
+    Ok((table, numbers))
+}
+
+// The numbers that stand at the places.
+fn numbers_at(alloc: Global, numbers: &[usize], places: &[usize]) -> Result<Vec<usize>, AllocError>
+    requires { AllByRecursion (λ p. p < length numbers.now) places.now }
+    ensures { IfOk result (λ found. found.items ≡ map (λ p. get_or numbers.now p 0) places.now) }
+{
+    let mut found = Vec::with_capacity(alloc, places.len())?;
+    for place in places {
+        found.push(numbers[*place])?;
+    }
+    Ok(found)
+}
+
+// The table with each of the terms, and their numbers. A term is looked up once, however often it stands
+// in the list.
 pub(crate) fn with_all(
     alloc: Global,
     table: Table,
@@ -197,12 +229,8 @@ pub(crate) fn with_all(
     ensures table { IfOk result (λ next. next.0 ≡ with_terms table terms.now) }
     ensures numbers { IfOk result (λ next. AreNumbersOf next.0 terms.now next.1.items) }
 {
-    let mut numbers = Vec::with_capacity(alloc, terms.len())?;
-    let mut table = table;
-    for term in terms {
-        let (next, number) = table.with(term)?;
-        table = next;
-        numbers.push(number)?;
-    }
-    Ok((table, numbers))
+    let (met, places) = met_of(alloc, terms)?;
+    let (next, numbers) = with_met(alloc, table, met.terms())?;
+    let found = numbers_at(alloc, &numbers, &places)?;
+    Ok((next, found))
 }

@@ -1,7 +1,9 @@
-use Rattle.std.proofs.Common.{inl, inr}
+use Rattle.std.proofs.Common.{List, inl, inr, sym, subst}
 use Rattle.std.specs.Prelude.{◌⊎◌, ◌↔◌}
 use Rattle.shape_rules.specs.declared.rule_row.RuleRow.{RuleRow}
 use Rattle.shape_rules.specs.Broken.{LooksRow, SizeRow}
+use Rattle.reference_totals.specs.declared.place.Place.{Place}
+use Rattle.shape_rules.specs.PathLooks.{ArePathPlaces}
 use Rattle.shape_rules.specs.Steps.{IsDeepRow, IsLimitRow}
 use Rattle.shape_rules.proofs.LeastRows.{have_as, have_more}
 use Rattle.shape_rules.proofs.least.limit_rows.Goals as goal
@@ -11,6 +13,12 @@ three A B C = (
   λ h. elim h [ inl k ↦ elim k [ inl a ↦ inl a | inr b ↦ inr (inl b) ] | inr c ↦ inr (inr c) ],
   λ h. elim h [ inl a ↦ inl (inl a) | inr k ↦ elim k [ inl b ↦ inl (inr b) | inr c ↦ inr c ] ],
 )
+
+pub deep_rows-requires-clause-objects : goal.deep_rows-requires-clause-objects
+deep_rows-requires-clause-objects c = subst (λ (places : List Place). ArePathPlaces c.args.graph.now places) (sym c.as_slice.ensures) c.in_ok-objects.ensures
+
+pub push_looks_rows-requires-clause-objects : goal.push_looks_rows-requires-clause-objects
+push_looks_rows-requires-clause-objects c = subst (λ (places : List Place). ArePathPlaces c.args.graph.now places) (sym c.as_slice-2.ensures) c.in_ok-objects.ensures
 
 pub returns : goal.returns
 returns c =

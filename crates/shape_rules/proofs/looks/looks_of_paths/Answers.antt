@@ -3,9 +3,11 @@ use Rattle.std.specs.List.{Contains}
 use Rattle.rdf_model.specs.declared.term.Term.{Term}
 use Rattle.shape_syntax.proofs.Scans.{read_in}
 use Rattle.reference_totals.specs.Totals.{capped}
+use Rattle.shape_rules.specs.declared.property.ShapeProperty.{ShapeProperty}
 use Rattle.shape_rules.specs.declared.property.ShapeProperty.TheVariants as properties
 use Rattle.shape_rules.specs.Sizes.{looks_limit}
 use Rattle.shape_rules.proofs.LookWeights.{paths_next, value_object}
+use Rattle.shape_rules.proofs.OwnTriples.{own_values}
 use Rattle.shape_rules.proofs.Referred.{is_value}
 use Rattle.shape_rules.proofs.looks.looks_of_paths.Goals as goal
 
@@ -13,7 +15,8 @@ pub path_looks_at-requires-clause-node : goal.path_looks_at-requires-clause-node
 path_looks_at-requires-clause-node c =
     let items = c.as_slice-value-items.result.now in
     let here = read_in items c.loop-value.value-index c.value-item.result (omega arith) c.value-item.is in
-    let there = subst (λ (vs : List Term). Contains vs c.value-item.result) (c.as_slice-value-items.ensures.value ∙ c.in_ok-found.ensures) here in
+    let same = ap (λ (of : ShapeProperty → List Term). of properties.Path) (own_values c.args.graph.now c.args.own.now c.args.node.now c.requires.members) in
+    let there = subst (λ (vs : List Term). Contains vs c.value-item.result) (c.as_slice-value-items.ensures.value ∙ c.in_ok-found.ensures ∙ same) here in
     value_object c.args.graph.now c.args.node.now properties.Path c.value-item.result (is_value c.args.graph.now c.args.node.now properties.Path c.value-item.result there)
 
 pub loop-value-preserved : goal.loop-value-preserved

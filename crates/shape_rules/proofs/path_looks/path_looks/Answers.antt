@@ -1,5 +1,7 @@
-use Rattle.shape_rules.proofs.PathSums.{are_looks}
+use Rattle.std.proofs.Common.{List, sym, subst}
+use Rattle.reference_totals.specs.declared.place.Place.{Place}
+use Rattle.shape_rules.specs.PathLooks.{ArePathPlaces}
 use Rattle.shape_rules.proofs.path_looks.path_looks.Goals as goal
 
-pub returns : goal.returns
-returns c = are_looks c.args.graph.now c.in_ok-places.places c.in_ok-places.ensures c.args.most c.in_ok-table.table (rw c.as_slice.ensures at c.in_ok-table.ensures)
+pub looks_of_places-requires-clause-places : goal.looks_of_places-requires-clause-places
+looks_of_places-requires-clause-places c = subst (λ (places : List Place). ArePathPlaces c.args.graph.now places) (sym c.as_slice.ensures) c.in_ok-places.ensures

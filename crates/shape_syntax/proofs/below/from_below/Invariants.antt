@@ -1,7 +1,7 @@
 use Rattle.std.proofs.Common.{take}
 use Rattle.std.specs.List.{Contains}
-use Rattle.rdf_model.specs.declared.triple.Triple.{Triple}
+use Rattle.rdf_model.specs.declared.term.Term.{Term}
 use Rattle.shape_syntax.proofs.below.from_below.Given as goal
 
-abbrev pub invariant-loop-triple : goal.invariant-loop-triple
-invariant-loop-triple l = (t : Triple) → Contains (take l.triple-index l.graph) t → Contains l.nodes t.subject
+abbrev pub invariant-loop-node : goal.invariant-loop-node
+invariant-loop-node l = (n : Term) → Contains (take l.node-index l.node-items) n → Contains l.nodes n
