@@ -1,4 +1,3 @@
 pub mod Causes
 pub mod Naming
 pub mod Sizes
-pub mod Taken

@@ -6,7 +6,6 @@
 
 mod fault;
 mod names;
-mod patterns;
 mod rows;
 
 pub use fault::RowsFault;

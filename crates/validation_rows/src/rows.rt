@@ -14,11 +14,11 @@ ghost use Rattle.validation_rows.specs.Rows.{AreListings, IsCause, IsRead};
 
 use crate::RowsFault;
 use crate::names::{class_words, names_of};
-use crate::patterns::built_patterns;
 use collections::Sequence;
 use ntriples_text::{ReadFault, read};
 use outside::Maker;
 use path_eval::ClassWords;
+use pattern_table::built_patterns;
 use rdf_model::{ListNames, Triple};
 use shape_eval::Steps;
 use shape_model::ResultRow;
@@ -141,7 +141,8 @@ fn listings(
 }
 
 /// The results of validating a data graph by a shapes graph (SHACL section 3.6), both N-Triples texts, found in two ways: by
-/// compiled shapes, and straight from the triples. The two lists are one. Blank nodes of the data belong to session 1 and those of the shapes to session 2, each numbered from 1.
+/// compiled shapes, and straight from the triples. The two lists are one. Blank nodes of the data belong to session 1 and those
+/// of the shapes to session 2, each numbered from 1.
 ///
 /// A fault tells its cause: the data is refused first, then the shapes, then a broken rule, then a pattern. It takes time
 /// with the square of the texts' sizes and more, and is meant for small ones.

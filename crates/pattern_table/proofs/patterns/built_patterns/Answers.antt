@@ -1,9 +1,9 @@
 use Rattle.std.proofs.Common.{List, subst}
 use Rattle.rdf_model.specs.declared.term.Term.{Term}
 use Rattle.shape_ast.specs.declared.shape.Shape.{Shape}
-use Rattle.validation_rows.specs.Patterns.{AreTaken}
-use Rattle.validation_rows.proofs.Taken.{are_patterns}
-use Rattle.validation_rows.proofs.patterns.built_patterns.Goals as goal
+use Rattle.pattern_table.specs.Patterns.{AreTaken}
+use Rattle.pattern_table.proofs.Taken.{are_patterns}
+use Rattle.pattern_table.proofs.patterns.built_patterns.Goals as goal
 
 pub returns : goal.returns
 returns c =

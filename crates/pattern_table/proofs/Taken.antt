@@ -21,14 +21,21 @@ use Rattle.shape_ast.specs.declared.shape.Shape.{Shape}
 use Rattle.shape_syntax.proofs.Scans.{cases_more, read_in}
 use Rattle.plain_patterns.specs.Built.{ArePatternsOf, IsBuilt}
 use Rattle.plain_patterns.specs.declared.built.BuiltPattern.{BuiltPattern}
-use Rattle.validation_rows.specs.Patterns.{AreTaken, IsTaken, IsTakenOf}
+use Rattle.pattern_table.specs.Patterns.{Adds, AreTaken, IsTaken, IsTakenOf}
+
+never : {X : Type 0} → (x : X) → None ≡ Some x → ⊥
+never x e = cc
+
+-- the pattern of a shape is added
+pub adds_one : (s : Shape Term) (q : Pattern Term) (p : BuiltPattern) (old new : List BuiltPattern) → s.pattern ≡ Some q → IsTakenOf q s.flags p → new ≡ old ++ p ∷ [] → Adds s old new
+adds_one s q p old new has taken e = subst (λ (o : Option (Pattern Term)). MatchOption o (new ≡ old) (λ k. (x : BuiltPattern) × IsTakenOf k s.flags x × (new ≡ old ++ x ∷ []))) (sym has) (p, taken, e)
 
 -- the steps of a walk over the shapes
 module _ (all : List (Shape Term)) where
   pub none_taken : AreTaken all (take 0 all) []
   none_taken = record { each = (λ p c. absurd (omega (arith, c.1))); one = (λ s q c e. absurd (omega (arith, c.1))) }
 
-  pub taken_more : (i : ℕ) (s : Shape Term) (q : Pattern Term) (patterns new : List BuiltPattern) (p : BuiltPattern) → i < length all → s ≡ get_or all i s → s.pattern ≡ Some q → IsTakenOf q s.flags p → new ≡ patterns ++ p ∷ []
+  taken_more : (i : ℕ) (s : Shape Term) (q : Pattern Term) (patterns new : List BuiltPattern) (p : BuiltPattern) → i < length all → s ≡ get_or all i s → s.pattern ≡ Some q → IsTakenOf q s.flags p → new ≡ patterns ++ p ∷ []
       → AreTaken all (take i all) patterns → AreTaken all (take (i + 1) all) new
   taken_more i s q patterns new p l is has taken e h =
       subst (λ (ps : List BuiltPattern). AreTaken all (take (i + 1) all) ps) (sym e) (record {
@@ -45,22 +52,27 @@ module _ (all : List (Shape Term)) where
         ];
       })
 
-  pub taken_skip : (i : ℕ) (s : Shape Term) (patterns : List BuiltPattern) → i < length all → s ≡ get_or all i s → s.pattern ≡ None → AreTaken all (take i all) patterns → AreTaken all (take (i + 1) all) patterns
-  taken_skip i s patterns l is has h = record {
+  taken_skip : (i : ℕ) (s : Shape Term) (patterns new : List BuiltPattern) → i < length all → s ≡ get_or all i s → s.pattern ≡ None → new ≡ patterns → AreTaken all (take i all) patterns → AreTaken all (take (i + 1) all) new
+  taken_skip i s patterns new l is has e h = subst (λ (ps : List BuiltPattern). AreTaken all (take (i + 1) all) ps) (sym e) (record {
     each = h.each;
     one = λ x r c e_x. elim (cases_more all i s l is x c) [
       | inl k ↦ h.one x r k e_x
-      | inr same ↦ (let never : None ≡ Some r = sym has ∙ ap (λ (y : Shape Term). y.pattern) same ∙ e_x in cc)
+      | inr same ↦ absurd (never r (sym has ∙ ap (λ (y : Shape Term). y.pattern) same ∙ e_x))
     ];
-  }
+  })
+
+  -- a step
+  pub taken_on : (i : ℕ) (s : Shape Term) (patterns new : List BuiltPattern) → i < length all → s ≡ get_or all i s → Adds s patterns new → AreTaken all (take i all) patterns → AreTaken all (take (i + 1) all) new
+  taken_on i s patterns new l is adds h =
+      elim s.pattern as (λ o. s.pattern ≡ o → MatchOption o (new ≡ patterns) (λ q. (p : BuiltPattern) × IsTakenOf q s.flags p × (new ≡ patterns ++ p ∷ [])) → AreTaken all (take (i + 1) all) new) [
+        | None ↦ (λ has e. taken_skip i s patterns new l is has e h)
+        | Some q ↦ (λ has a. taken_more i s q patterns new a.0 l is has a.1 a.2 h)
+      ] refl adds
 
 -- terms are read as they are
 read_itself : (o : Option Term) → read_optional (λ (t : Term). t) o ≡ o
 read_itself None = refl
 read_itself (Some t) = refl
-
-never : {X : Type 0} → (x : X) → None ≡ Some x → ⊥
-never x e = cc
 
 read_back : (o : Option (Pattern Term)) (q : Term) → read_pattern (λ (t : Term). t) o ≡ Some q → (k : Pattern Term) × (o ≡ Some k) × (k.parameter ≡ q)
 read_back None q e = absurd (never q e)

@@ -1,9 +1,9 @@
 // The patterns of a shapes graph, as its compiled shapes have them.
-ghost use Rattle.std.specs.Prelude.{◌≡◌, ℕ, List, IfOk, Some};
+ghost use Rattle.std.specs.Prelude.{◌≡◌, ℕ, List, IfOk, OnOk, Some};
 ghost use Rattle.literal_order.specs.Texts.{string_value};
 ghost use Rattle.plain_patterns.specs.Built.{ArePatternsOf};
 ghost use Rattle.shape_ast.specs.Standing.{HasFlagsText};
-ghost use Rattle.validation_rows.specs.Patterns.{AreTaken, IsTakenOf};
+ghost use Rattle.pattern_table.specs.Patterns.{Adds, AreTaken, IsTakenOf};
 
 use plain_patterns::BuiltPattern;
 use rdf_model::{Term, Text};
@@ -47,24 +47,36 @@ fn built_pattern(
     })
 }
 
+// Adds the pattern of the shape, if it has one.
+fn push_pattern(
+    alloc: Global,
+    shape: &Shape<Term>,
+    found: &mut Vec<BuiltPattern>,
+) -> Result<(), AllocError>
+    ensures { OnOk result (Adds shape.now found.old.items found.new.items) }
+{
+    match &shape.pattern {
+        Some(pattern) => {
+            found.push(built_pattern(alloc, pattern, &shape.flags)?)?;
+            Ok(())
+        }
+        None => Ok(()),
+    }
+}
+
 // Those of some compiled shapes.
 fn patterns_of(alloc: Global, shapes: &[Shape<Term>]) -> Result<Vec<BuiltPattern>, AllocError>
     ensures { IfOk result (λ found. AreTaken shapes.now shapes.now found.items) }
 {
     let mut found = Vec::new(alloc);
     for shape in shapes {
-        if let Some(pattern) = &shape.pattern {
-            found.push(built_pattern(alloc, pattern, &shape.flags)?)?;
-        }
+        push_pattern(alloc, shape, &mut found)?;
     }
     Ok(found)
 }
 
 /// The patterns of the shapes graph, built under the flags of its shapes. The regexes are shared.
-pub fn built_patterns(
-    alloc: Global,
-    shapes: &ShapesGraph,
-) -> Result<Vec<BuiltPattern>, AllocError>
+pub fn built_patterns(alloc: Global, shapes: &ShapesGraph) -> Result<Vec<BuiltPattern>, AllocError>
     ensures { IfOk result (λ patterns. ArePatternsOf shapes.now patterns.items) }
 {
     let compiled = shapes.shapes();

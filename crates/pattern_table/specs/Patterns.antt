@@ -1,5 +1,5 @@
 -- The patterns of compiled shapes, taken out of them with their flags.
-use Rattle.std.specs.Prelude.{◌≡◌, ℕ, List, Option, Some}
+use Rattle.std.specs.Prelude.{◌≡◌, ℕ, List, [], ◌∷◌, ◌++◌, Option, Some, MatchOption}
 use Rattle.std.specs.Arc.{arc_value}
 use Rattle.std.specs.List.{Contains}
 use Rattle.rdf_model.specs.declared.term.Term.{Term}
@@ -16,6 +16,10 @@ pub record IsTakenOf (q : Pattern Term) (flags : Option Term) (p : BuiltPattern)
 
 abbrev pub IsTaken : Shape Term → BuiltPattern → Type 0
 IsTaken s p = (q : Pattern Term) × (s.pattern ≡ Some q) × IsTakenOf q s.flags p
+
+-- one is taken of the shape and added, if the shape has a pattern
+abbrev pub Adds : Shape Term → List BuiltPattern → List BuiltPattern → Type 0
+Adds s old new = MatchOption s.pattern (new ≡ old) (λ q. (p : BuiltPattern) × IsTakenOf q s.flags p × (new ≡ old ++ p ∷ []))
 
 -- Each of the patterns is taken of one of all shapes, and one is taken of each of the front shapes that has a pattern.
 pub record AreTaken (all front : List (Shape Term)) (patterns : List BuiltPattern) : Type 0 where
