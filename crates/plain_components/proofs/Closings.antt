@@ -18,10 +18,11 @@ use Rattle.shape_syntax.proofs.Equals.{negated, negation}
 use Rattle.shape_syntax.proofs.Scans.{contains_member, member_contains}
 use Rattle.plain_terms.specs.Finds.{Finds, IsListed, WithSome}
 use Rattle.plain_terms.proofs.FoundItems.{finds_at, finds_both, finds_none, finds_same}
-use Rattle.plain_components.specs.declared.place.Place.{Place}
-use Rattle.plain_components.specs.Around.{ForbiddenRow, QualifiedAt, QualifiedRow, RowsAt, around}
+use Rattle.plain_values.specs.declared.place.Place.{Place}
+use Rattle.plain_values.specs.Around.{RowsAt, around}
+use Rattle.plain_components.specs.Rows.{ForbiddenRow, QualifiedAt, QualifiedRow}
 use Rattle.plain_components.specs.Siblings.{HasSiblings, IsCousin}
-use Rattle.plain_components.specs.Tests.{MeetsQualified}
+use Rattle.plain_components.specs.Siblings.{MeetsQualified}
 
 first_of : {X : Type 0} → (P : X → Type 0) (xs : List X) → Finds P xs → (xs ≡ [] → ⊥) → (x : X) × P x
 first_of P [] h some = absurd (some refl)

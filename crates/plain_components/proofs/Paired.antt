@@ -6,10 +6,11 @@ use Rattle.shape_model.specs.declared.component.Component.{Component}
 use Rattle.shape_model.specs.declared.result_row.ResultRow.{ResultRow}
 use Rattle.shape_model.specs.Components.{found_beside}
 use Rattle.shape_model.specs.Triples.{Has}
-use Rattle.plain_components.specs.declared.place.Place.{Place}
-use Rattle.plain_components.specs.Around.{PairRow, PairsAt, SharedRow, TagRow, TagsAt, row_at}
+use Rattle.plain_values.specs.declared.place.Place.{Place}
+use Rattle.plain_values.specs.Around.{row_at}
+use Rattle.plain_components.specs.Rows.{PairRow, PairsAt, SharedRow, TagRow, TagsAt}
 use Rattle.plain_components.specs.Pairs.{Stands}
-use Rattle.plain_components.proofs.Languages.{one_tag}
+use Rattle.plain_values.proofs.Languages.{one_tag}
 use Rattle.shape_model.specs.TermTests.{HasTag}
 use Rattle.plain_terms.specs.Finds.{Finds, WithSome}
 use Rattle.plain_terms.proofs.FoundItems.{finds_at, finds_same}

@@ -1,4 +1,3 @@
-pub mod Around
-pub mod Tests
+pub mod Rows
 pub mod Pairs
 pub mod Siblings

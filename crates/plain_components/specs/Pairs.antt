@@ -1,8 +1,7 @@
 -- Tests of a value node and another term.
-use Rattle.std.specs.Prelude.{◌≡◌, ℕ, List, Option, None}
+use Rattle.std.specs.Prelude.{◌≡◌, ℕ, List}
 use Rattle.std.specs.List.{Contains}
 use Rattle.rdf_model.specs.declared.term.Term.{Term}
-use Rattle.rdf_model.specs.declared.term.Term.TheVariants.{Blank, Iri, Literal}
 use Rattle.shape_model.specs.declared.component.Component.{Component}
 use Rattle.shape_model.specs.declared.component.Component.TheVariants as components
 use Rattle.shape_model.specs.TermTests.{HasTag, IsAtMost, IsLess}
@@ -12,12 +11,6 @@ abbrev pub Stands : Component → Term → Term → Type 0
 Stands components.LessThan v w = IsLess v w
 Stands components.LessThanOrEquals v w = IsAtMost v w
 Stands c v w = Unit {0}
-
--- the language tag of a literal that has one
-abbrev pub tag_of : Term → Option (List ℕ)
-tag_of (Blank session number) = None
-tag_of (Iri iri) = None
-tag_of (Literal text datatype language) = language
 
 -- another term has the language tag, and some other term of the list does
 abbrev pub Shares : List ℕ → Term → Term → Type 0

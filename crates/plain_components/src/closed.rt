@@ -5,14 +5,14 @@ ghost use Rattle.shape_model.specs.Readings.{IsAllowed};
 ghost use Rattle.shape_model.specs.Triples.{IsIri};
 ghost use Rattle.shape_model.specs.Vocabulary as vocabulary;
 ghost use Rattle.shape_model.specs.declared.component.Component.TheVariants as components;
-ghost use Rattle.plain_components.specs.Around.{ForbiddenRow, IsForbidden, RowsAt, TriplesAt, found_triple, row_at};
+ghost use Rattle.plain_values.specs.Around.{RowsAt, row_at};
+ghost use Rattle.plain_components.specs.Rows.{ForbiddenRow, IsForbidden, TriplesAt, found_triple};
 ghost use Rattle.plain_terms.specs.Finds.{Finds, WithSome};
 
 use crate::pairs::tag_rows;
-use crate::place::Place;
-use crate::rows::row_alone;
 use collections::both;
 use plain_terms::{TermTest, chosen, is_among, members_of_each, parameters, parameters_of_each};
+use plain_values::{Place, row_alone};
 use rdf_model::{Term, Triple};
 use shape_model::{Component, ResultRow};
 use std::alloc::{AllocError, Global};

@@ -4,23 +4,22 @@ ghost use Rattle.std.specs.List.{Contains};
 ghost use Rattle.collections.specs.Ordered.{IsAscending};
 ghost use Rattle.rdf_model.specs.Terms.{term_cmp};
 ghost use Rattle.shape_model.specs.Components.{parameter_of};
-ghost use Rattle.shape_model.specs.declared.component.Component.TheVariants as components;
 ghost use Rattle.shape_model.specs.ShapeSyntax.{HasProperty};
-ghost use Rattle.shape_model.specs.Vocabulary.{ShDeactivated, ShPattern, local_name, true_literal};
-ghost use Rattle.plain_components.specs.Around.{AtPlace, ComponentAt, EntryRow, PropertyAt, RowsAt};
+ghost use Rattle.shape_model.specs.Vocabulary.{ShDeactivated, local_name, true_literal};
+ghost use Rattle.plain_values.specs.Around.{RowsAt};
+ghost use Rattle.plain_patterns.specs.Built.{ArePatternsOf};
+ghost use Rattle.plain_components.specs.Rows.{AtPlace, ComponentAt, EntryRow, PropertyAt};
 ghost use Rattle.plain_terms.specs.Finds.{Finds, WithSome};
 
-use crate::by_list::by_list;
-use crate::by_term::by_term;
 use crate::closed::{closed_rows, unique_lang_rows};
-use crate::others::{
-    class_rows, disjoint_rows, equals_rows, has_value_rows, max_count_rows, min_count_rows,
-    node_rows, not_rows,
-};
 use crate::pairs::pair_rows;
-use crate::place::{Place, Told};
 use crate::qualified::{qualified_rows, true_term};
+use plain_patterns::{BuiltPattern, pattern_rows};
 use plain_terms::{is_among, parameters};
+use plain_values::{
+    Place, Told, class_rows, disjoint_rows, equals_rows, has_value_rows, list_rows, max_count_rows,
+    min_count_rows, node_rows, not_rows, term_rows,
+};
 use rdf_model::{Term, Triple};
 use shape_model::{Component, ResultRow};
 use std::alloc::{AllocError, Global};
@@ -65,37 +64,38 @@ fn parameter_name(component: Component) -> &'static str
 fn rows_at(
     alloc: Global,
     at: &Place<'_>,
+    patterns: &[BuiltPattern],
     component: Component,
     parameter: &Term,
 ) -> Result<Vec<ResultRow>, AllocError>
     requires values { IsAscending term_cmp at.now.values.now }
     requires parameter { HasProperty at.now.shapes.now at.now.shape.now (parameter_of component) parameter.now }
-    requires read { component ≡ components.Pattern → ⊥ }
+    requires patterns { ArePatternsOf at.now.shapes.now patterns.now }
     ensures { IfOk result (λ rows. Finds (RowsAt at.now component parameter.now) rows.items) }
 {
     match component {
         Component::Class => class_rows(alloc, at, parameter),
-        Component::Datatype => by_term(alloc, at, Component::Datatype, parameter),
-        Component::NodeKind => by_term(alloc, at, Component::NodeKind, parameter),
+        Component::Datatype => term_rows(alloc, at, Component::Datatype, parameter),
+        Component::NodeKind => term_rows(alloc, at, Component::NodeKind, parameter),
         Component::MinCount => min_count_rows(alloc, at, parameter),
         Component::MaxCount => max_count_rows(alloc, at, parameter),
-        Component::MinExclusive => by_term(alloc, at, Component::MinExclusive, parameter),
-        Component::MinInclusive => by_term(alloc, at, Component::MinInclusive, parameter),
-        Component::MaxExclusive => by_term(alloc, at, Component::MaxExclusive, parameter),
-        Component::MaxInclusive => by_term(alloc, at, Component::MaxInclusive, parameter),
-        Component::MinLength => by_term(alloc, at, Component::MinLength, parameter),
-        Component::MaxLength => by_term(alloc, at, Component::MaxLength, parameter),
-        Component::Pattern => Ok(Vec::new(alloc)),
-        Component::LanguageIn => by_list(alloc, at, Component::LanguageIn, parameter),
+        Component::MinExclusive => term_rows(alloc, at, Component::MinExclusive, parameter),
+        Component::MinInclusive => term_rows(alloc, at, Component::MinInclusive, parameter),
+        Component::MaxExclusive => term_rows(alloc, at, Component::MaxExclusive, parameter),
+        Component::MaxInclusive => term_rows(alloc, at, Component::MaxInclusive, parameter),
+        Component::MinLength => term_rows(alloc, at, Component::MinLength, parameter),
+        Component::MaxLength => term_rows(alloc, at, Component::MaxLength, parameter),
+        Component::Pattern => pattern_rows(alloc, at, patterns, parameter),
+        Component::LanguageIn => list_rows(alloc, at, Component::LanguageIn, parameter),
         Component::UniqueLang => unique_lang_rows(alloc, at, parameter),
         Component::Equals => equals_rows(alloc, at, parameter),
         Component::Disjoint => disjoint_rows(alloc, at, parameter),
         Component::LessThan => pair_rows(alloc, at, Component::LessThan, parameter),
         Component::LessThanOrEquals => pair_rows(alloc, at, Component::LessThanOrEquals, parameter),
         Component::Not => not_rows(alloc, at, parameter),
-        Component::And => by_list(alloc, at, Component::And, parameter),
-        Component::Or => by_list(alloc, at, Component::Or, parameter),
-        Component::Xone => by_list(alloc, at, Component::Xone, parameter),
+        Component::And => list_rows(alloc, at, Component::And, parameter),
+        Component::Or => list_rows(alloc, at, Component::Or, parameter),
+        Component::Xone => list_rows(alloc, at, Component::Xone, parameter),
         Component::Node => node_rows(alloc, at, parameter),
         Component::QualifiedMinCount => qualified_rows(
             alloc,
@@ -111,7 +111,7 @@ fn rows_at(
         ),
         Component::Closed => closed_rows(alloc, at, parameter),
         Component::HasValue => has_value_rows(alloc, at, parameter),
-        Component::In => by_list(alloc, at, Component::In, parameter),
+        Component::In => list_rows(alloc, at, Component::In, parameter),
     }
 }
 
@@ -119,17 +119,18 @@ fn rows_at(
 fn rows_at_each(
     alloc: Global,
     at: &Place<'_>,
+    patterns: &[BuiltPattern],
     component: Component,
     parameters: &[Term],
 ) -> Result<Vec<ResultRow>, AllocError>
     requires values { IsAscending term_cmp at.now.values.now }
     requires parameters { (q : _) → Contains parameters.now q → HasProperty at.now.shapes.now at.now.shape.now (parameter_of component) q }
-    requires read { component ≡ components.Pattern → ⊥ }
+    requires patterns { ArePatternsOf at.now.shapes.now patterns.now }
     ensures { IfOk result (λ rows. Finds (WithSome parameters.now (RowsAt at.now component)) rows.items) }
 {
     let mut rows = Vec::new(alloc);
     for parameter in parameters {
-        let mut more = rows_at(alloc, at, component, parameter)?;
+        let mut more = rows_at(alloc, at, patterns, component, parameter)?;
         rows.append(&mut more)?;
     }
     Ok(rows)
@@ -139,18 +140,19 @@ fn rows_at_each(
 fn component_rows(
     alloc: Global,
     at: &Place<'_>,
+    patterns: &[BuiltPattern],
     component: Component,
 ) -> Result<Vec<ResultRow>, AllocError>
     requires values { IsAscending term_cmp at.now.values.now }
-    requires read { component ≡ components.Pattern → ⊥ }
+    requires patterns { ArePatternsOf at.now.shapes.now patterns.now }
     ensures { IfOk result (λ rows. Finds (ComponentAt at.now component) rows.items) }
 {
     let found = parameters(alloc, at.shapes, at.shape, parameter_name(component))?;
-    let rows = rows_at_each(alloc, at, component, found.as_slice())?;
+    let rows = rows_at_each(alloc, at, patterns, component, found.as_slice())?;
     Ok(rows)
 }
 
-const COMPONENTS: [Component; 27] = [
+const COMPONENTS: [Component; 28] = [
     Component::Class,
     Component::Datatype,
     Component::NodeKind,
@@ -162,6 +164,7 @@ const COMPONENTS: [Component; 27] = [
     Component::MaxInclusive,
     Component::MinLength,
     Component::MaxLength,
+    Component::Pattern,
     Component::LanguageIn,
     Component::UniqueLang,
     Component::Equals,
@@ -184,15 +187,16 @@ const COMPONENTS: [Component; 27] = [
 fn rows_of_components(
     alloc: Global,
     at: &Place<'_>,
+    patterns: &[BuiltPattern],
     list: &[Component],
 ) -> Result<Vec<ResultRow>, AllocError>
     requires values { IsAscending term_cmp at.now.values.now }
-    requires read { (c : _) → Contains list.now c → c ≡ components.Pattern → ⊥ }
+    requires patterns { ArePatternsOf at.now.shapes.now patterns.now }
     ensures { IfOk result (λ rows. Finds (WithSome list.now (ComponentAt at.now)) rows.items) }
 {
     let mut rows = Vec::new(alloc);
     for component in list {
-        let mut more = component_rows(alloc, at, *component)?;
+        let mut more = component_rows(alloc, at, patterns, *component)?;
         rows.append(&mut more)?;
     }
     Ok(rows)
@@ -242,16 +246,21 @@ fn is_deactivated(alloc: Global, shapes: &[Triple], shape: &Term) -> Result<bool
     Ok(is_among(found.as_slice(), &yes))
 }
 
-/// The results of the shape at the focus node (SHACL section 3.4), for a shape without sh:pattern. The value nodes ascend.
-pub fn place_rows(alloc: Global, at: &Place<'_>) -> Result<Vec<ResultRow>, AllocError>
+/// The results of the shape at the focus node (SHACL section 3.4), where the patterns of the shapes graph are built. The value nodes
+/// ascend.
+pub fn place_rows(
+    alloc: Global,
+    at: &Place<'_>,
+    patterns: &[BuiltPattern],
+) -> Result<Vec<ResultRow>, AllocError>
     requires values { IsAscending term_cmp at.now.values.now }
-    requires read { (q : _) → HasProperty at.now.shapes.now at.now.shape.now ShPattern q → ⊥ }
+    requires patterns { ArePatternsOf at.now.shapes.now patterns.now }
     ensures { IfOk result (λ rows. Finds (AtPlace at.now) rows.items) }
 {
     if is_deactivated(alloc, at.shapes, at.shape)? {
         return Ok(Vec::new(alloc));
     }
-    let mut rows = rows_of_components(alloc, at, &COMPONENTS)?;
+    let mut rows = rows_of_components(alloc, at, patterns, &COMPONENTS)?;
     let mut more = property_rows(alloc, at)?;
     rows.append(&mut more)?;
     Ok(rows)

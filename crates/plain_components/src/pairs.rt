@@ -5,15 +5,13 @@ ghost use Rattle.shape_model.specs.Components.{found_beside};
 ghost use Rattle.shape_model.specs.TermTests.{HasTag};
 ghost use Rattle.shape_model.specs.Vocabulary as vocabulary;
 ghost use Rattle.shape_model.specs.declared.component.Component.TheVariants as components;
-ghost use Rattle.plain_components.specs.Around.{PairRow, PairsAt, SharedRow, TagRow, TagsAt, found_tag, row_at};
+ghost use Rattle.plain_values.specs.Around.{row_at};
+ghost use Rattle.plain_components.specs.Rows.{PairRow, PairsAt, SharedRow, TagRow, TagsAt, found_tag};
 ghost use Rattle.plain_components.specs.Pairs.{Shares, SharesSome, Stands};
 ghost use Rattle.plain_terms.specs.Finds.{Finds, WithSome};
 
-use crate::by_list::tag;
-use crate::by_term::{is_at_most, is_less};
-use crate::place::Place;
-use crate::rows::{row_alone, row_beside};
 use plain_terms::{TermTest, chosen, is_among, is_same, objects};
+use plain_values::{Place, is_at_most, is_less, row_alone, row_beside, tag};
 use rdf_model::Term;
 use rdf_text::Text;
 use shape_model::{Component, ResultRow};

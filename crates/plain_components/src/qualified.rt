@@ -4,17 +4,14 @@ ghost use Rattle.rdf_model.specs.declared.term.Term.{Term as TermData};
 ghost use Rattle.shape_model.specs.Readings.{Sibling};
 ghost use Rattle.shape_model.specs.ShapeSyntax.{HasProperty};
 ghost use Rattle.shape_model.specs.Vocabulary as vocabulary;
-ghost use Rattle.plain_components.specs.Around.{QualifiedAt, QualifiedRow};
+ghost use Rattle.plain_components.specs.Rows.{QualifiedAt, QualifiedRow};
 ghost use Rattle.plain_components.specs.Siblings.{HasSiblings, IsCousin};
-ghost use Rattle.plain_components.specs.Tests.{IsWrong};
+ghost use Rattle.plain_components.specs.Siblings.{IsWrong};
 ghost use Rattle.plain_terms.specs.Finds.{Finds, WithSome};
 
-use crate::by_term::{is_fewer, is_more};
-use crate::logic::{Demand, conforms, is_unmet};
-use crate::others::{Outside, row_if};
-use crate::place::{Place, Told};
 use collections::Sequence;
 use plain_terms::{TermTest, chosen, in_order, is_among, owners, parameters, parameters_of_each};
+use plain_values::{Demand, Outside, Place, Told, conforms, is_fewer, is_more, is_unmet, row_if};
 use rdf_model::{Term, Text, Triple};
 use shape_model::{Component, ResultRow};
 use std::alloc::{AllocError, Global};
@@ -95,7 +92,7 @@ struct Qualified<'a> {
 }
 
 impl TermTest for Qualified<'_> {
-    ghost use Rattle.plain_components.specs.Tests.{MeetsQualified};
+    ghost use Rattle.plain_components.specs.Siblings.{MeetsQualified};
 
     ghost accepts = { λ t v. MeetsQualified t.told.now t.shape.now t.siblings.now v };
 

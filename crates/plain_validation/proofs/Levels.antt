@@ -10,20 +10,14 @@ use Rattle.shape_model.specs.Components.{AtIn, Surroundings}
 use Rattle.shape_model.specs.Instances.{Instance}
 use Rattle.shape_model.specs.Triples.{Has}
 use Rattle.shape_model.specs.Readings.{Refers, ValueNode, reading}
-use Rattle.shape_model.specs.ShapeSyntax.{HasProperty}
 use Rattle.shape_model.specs.Validation.{AtDepth, surroundings}
-use Rattle.shape_model.specs.Vocabulary.{ShPattern, property_iri}
 use Rattle.shape_model.specs.declared.result_row.ResultRow.{ResultRow}
 use Rattle.shape_model.proofs.Surroundings.{at_same, reading_itself}
-use Rattle.plain_components.specs.declared.place.Told.{Told}
-use Rattle.plain_components.specs.Around.{IsTold}
+use Rattle.plain_values.specs.declared.place.Told.{Told}
+use Rattle.plain_values.specs.Around.{IsTold}
 use Rattle.plain_terms.specs.Finds.{Finds, WithSome}
 use Rattle.plain_terms.proofs.FoundItems.{finds_at, finds_none, finds_one, finds_same}
-use Rattle.plain_validation.specs.Plain.{IsPlain}
 use Rattle.plain_validation.specs.References.{IsEntry, ToldAt}
-
-pub no_pattern : (s : List Triple) → IsPlain s → (n q : Term) → HasProperty s n ShPattern q → ⊥
-no_pattern s plain n q h = plain (record { subject = n; predicate = property_iri ShPattern; object = q }) h refl
 
 pub none_at : (g s : List Triple) (levels : ℕ) (shape f : Term) (rows : List ResultRow) → levels ≡ 0 → rows ≡ [] → Finds (AtDepth levels g (reading s) shape f) rows
 none_at g s levels shape f rows z e =

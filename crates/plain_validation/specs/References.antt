@@ -6,7 +6,7 @@ use Rattle.shape_model.specs.Readings.{reading}
 use Rattle.shape_model.specs.Triples.{Has}
 use Rattle.shape_model.specs.Validation.{AtDepth}
 use Rattle.shape_model.specs.declared.result_row.ResultRow.{ResultRow}
-use Rattle.plain_components.specs.declared.place.Told.{Told}
+use Rattle.plain_values.specs.declared.place.Told.{Told}
 use Rattle.plain_terms.specs.Finds.{IsListed}
 
 -- a value of the property at the shape, or a member of a list that is one

@@ -3,13 +3,15 @@ ghost use Rattle.std.specs.Prelude.{◌≡◌, IfOk};
 ghost use Rattle.std.specs.List.{Contains};
 ghost use Rattle.shape_model.specs.Readings.{reading};
 ghost use Rattle.shape_model.specs.Validation.{AtDepth};
+ghost use Rattle.plain_patterns.specs.Built.{ArePatternsOf};
 ghost use Rattle.plain_terms.specs.Finds.{Finds, WithSome};
-ghost use Rattle.plain_validation.specs.Plain.{IsPlain};
 ghost use Rattle.plain_validation.specs.References.{IsEntry, ToldAt};
 
 use crate::references::referred_shapes;
 use crate::values::value_nodes;
-use plain_components::{Place, Told, place_rows};
+use plain_components::place_rows;
+use plain_patterns::BuiltPattern;
+use plain_values::{Place, Told};
 use rdf_model::{Term, Triple};
 use shape_model::ResultRow;
 use std::alloc::{AllocError, Global};
@@ -46,16 +48,17 @@ fn told_by(
     alloc: Global,
     graph: &[Triple],
     shapes: &[Triple],
+    patterns: &[BuiltPattern],
     levels: usize,
     shape: &Term,
     nodes: &[Term],
 ) -> Result<Vec<Told>, AllocError>
-    requires { IsPlain shapes.now }
+    requires { ArePatternsOf shapes.now patterns.now }
     ensures { IfOk result (λ told. Finds (WithSome nodes.now (ToldAt levels graph.now shapes.now shape.now)) told.items) }
 {
     let mut told = Vec::new(alloc);
     for node in nodes {
-        let rows = rows_at(alloc, graph, shapes, levels, shape, node)?;
+        let rows = rows_at(alloc, graph, shapes, patterns, levels, shape, node)?;
         let mut more = as_told(alloc, shape, node, &rows)?;
         told.append(&mut more)?;
     }
@@ -68,16 +71,17 @@ fn told_by_each(
     alloc: Global,
     graph: &[Triple],
     shapes: &[Triple],
+    patterns: &[BuiltPattern],
     levels: usize,
     referred: &[Term],
     nodes: &[Term],
 ) -> Result<Vec<Told>, AllocError>
-    requires { IsPlain shapes.now }
+    requires { ArePatternsOf shapes.now patterns.now }
     ensures { IfOk result (λ told. Finds (WithSome referred.now (λ m. WithSome nodes.now (ToldAt levels graph.now shapes.now m))) told.items) }
 {
     let mut told = Vec::new(alloc);
     for shape in referred {
-        let mut more = told_by(alloc, graph, shapes, levels, shape, nodes)?;
+        let mut more = told_by(alloc, graph, shapes, patterns, levels, shape, nodes)?;
         told.append(&mut more)?;
     }
     Ok(told)
@@ -89,11 +93,12 @@ pub(crate) fn rows_at(
     alloc: Global,
     graph: &[Triple],
     shapes: &[Triple],
+    patterns: &[BuiltPattern],
     levels: usize,
     shape: &Term,
     focus: &Term,
 ) -> Result<Vec<ResultRow>, AllocError>
-    requires { IsPlain shapes.now }
+    requires { ArePatternsOf shapes.now patterns.now }
     ensures { IfOk result (λ rows. Finds (AtDepth levels graph.now (reading shapes.now) shape.now focus.now) rows.items) }
 {
     if levels == 0 {
@@ -102,7 +107,15 @@ pub(crate) fn rows_at(
     let found = value_nodes(alloc, graph, shapes, shape, focus)?;
     let values = found.as_slice();
     let referred = referred_shapes(alloc, shapes, shape)?;
-    let told = told_by_each(alloc, graph, shapes, levels - 1, &referred, values)?;
+    let told = told_by_each(
+        alloc,
+        graph,
+        shapes,
+        patterns,
+        levels - 1,
+        &referred,
+        values,
+    )?;
     let at = Place {
         graph,
         shapes,
@@ -111,6 +124,6 @@ pub(crate) fn rows_at(
         focus,
         values,
     };
-    let rows = place_rows(alloc, &at)?;
+    let rows = place_rows(alloc, &at, patterns)?;
     Ok(rows)
 }

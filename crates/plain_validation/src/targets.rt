@@ -1,12 +1,13 @@
 // The results of all shapes at their targets.
 ghost use Rattle.std.specs.Prelude.{◌≡◌, ◌∷◌, [], IfOk, length};
 ghost use Rattle.shape_model.specs.Validation.{At, IsResult};
+ghost use Rattle.plain_patterns.specs.Built.{ArePatternsOf};
 ghost use Rattle.plain_terms.specs.Finds.{Finds, WithSome};
-ghost use Rattle.plain_validation.specs.Plain.{IsPlain};
 ghost use Rattle.plain_validation.specs.Targets.{ClassRow, DeclaredResult, DeclaredRow, Declares, ImplicitResult, IsValue};
 
 use crate::evaluation::rows_at;
 use collections::Sequence;
+use plain_patterns::BuiltPattern;
 use plain_terms::{alone, class_word, instances_of, is_word, objects_of_each, subjects};
 use rdf_model::{Term, Triple};
 use shape_model::ResultRow;
@@ -17,13 +18,22 @@ fn rows_of_shape(
     alloc: Global,
     graph: &[Triple],
     shapes: &[Triple],
+    patterns: &[BuiltPattern],
     shape: &Term,
     focus: &Term,
 ) -> Result<Vec<ResultRow>, AllocError>
-    requires { IsPlain shapes.now }
+    requires { ArePatternsOf shapes.now patterns.now }
     ensures { IfOk result (λ rows. Finds (At graph.now shapes.now shape.now focus.now) rows.items) }
 {
-    let rows = rows_at(alloc, graph, shapes, shapes.len() + 1, shape, focus)?;
+    let rows = rows_at(
+        alloc,
+        graph,
+        shapes,
+        patterns,
+        shapes.len() + 1,
+        shape,
+        focus,
+    )?;
     Ok(rows)
 }
 
@@ -32,15 +42,16 @@ fn rows_at_all(
     alloc: Global,
     graph: &[Triple],
     shapes: &[Triple],
+    patterns: &[BuiltPattern],
     shape: &Term,
     targets: &[Term],
 ) -> Result<Vec<ResultRow>, AllocError>
-    requires { IsPlain shapes.now }
+    requires { ArePatternsOf shapes.now patterns.now }
     ensures { IfOk result (λ rows. Finds (WithSome targets.now (At graph.now shapes.now shape.now)) rows.items) }
 {
     let mut rows = Vec::new(alloc);
     for target in targets {
-        let mut more = rows_of_shape(alloc, graph, shapes, shape, target)?;
+        let mut more = rows_of_shape(alloc, graph, shapes, patterns, shape, target)?;
         rows.append(&mut more)?;
     }
     Ok(rows)
@@ -87,13 +98,21 @@ fn rows_of_triple(
     alloc: Global,
     graph: &[Triple],
     shapes: &[Triple],
+    patterns: &[BuiltPattern],
     triple: &Triple,
 ) -> Result<Vec<ResultRow>, AllocError>
-    requires { IsPlain shapes.now }
+    requires { ArePatternsOf shapes.now patterns.now }
     ensures { IfOk result (λ rows. Finds (DeclaredRow graph.now shapes.now triple.now) rows.items) }
 {
     let targets = declared_targets(alloc, graph, triple)?;
-    let rows = rows_at_all(alloc, graph, shapes, &triple.subject, targets.as_slice())?;
+    let rows = rows_at_all(
+        alloc,
+        graph,
+        shapes,
+        patterns,
+        &triple.subject,
+        targets.as_slice(),
+    )?;
     Ok(rows)
 }
 
@@ -102,13 +121,14 @@ fn declared_rows(
     alloc: Global,
     graph: &[Triple],
     shapes: &[Triple],
+    patterns: &[BuiltPattern],
 ) -> Result<Vec<ResultRow>, AllocError>
-    requires { IsPlain shapes.now }
+    requires { ArePatternsOf shapes.now patterns.now }
     ensures { IfOk result (λ rows. Finds (DeclaredResult graph.now shapes.now) rows.items) }
 {
     let mut rows = Vec::new(alloc);
     for triple in shapes {
-        let mut more = rows_of_triple(alloc, graph, shapes, triple)?;
+        let mut more = rows_of_triple(alloc, graph, shapes, patterns, triple)?;
         rows.append(&mut more)?;
     }
     Ok(rows)
@@ -119,13 +139,14 @@ fn rows_of_class(
     alloc: Global,
     graph: &[Triple],
     shapes: &[Triple],
+    patterns: &[BuiltPattern],
     class: &Term,
 ) -> Result<Vec<ResultRow>, AllocError>
-    requires { IsPlain shapes.now }
+    requires { ArePatternsOf shapes.now patterns.now }
     ensures { IfOk result (λ rows. Finds (ClassRow graph.now shapes.now class.now) rows.items) }
 {
     let targets = instances_of(alloc, graph, class)?;
-    let rows = rows_at_all(alloc, graph, shapes, class, targets.as_slice())?;
+    let rows = rows_at_all(alloc, graph, shapes, patterns, class, targets.as_slice())?;
     Ok(rows)
 }
 
@@ -134,14 +155,15 @@ fn rows_of_classes(
     alloc: Global,
     graph: &[Triple],
     shapes: &[Triple],
+    patterns: &[BuiltPattern],
     classes: &[Term],
 ) -> Result<Vec<ResultRow>, AllocError>
-    requires { IsPlain shapes.now }
+    requires { ArePatternsOf shapes.now patterns.now }
     ensures { IfOk result (λ rows. Finds (WithSome classes.now (ClassRow graph.now shapes.now)) rows.items) }
 {
     let mut rows = Vec::new(alloc);
     for class in classes {
-        let mut more = rows_of_class(alloc, graph, shapes, class)?;
+        let mut more = rows_of_class(alloc, graph, shapes, patterns, class)?;
         rows.append(&mut more)?;
     }
     Ok(rows)
@@ -152,13 +174,14 @@ fn class_rows(
     alloc: Global,
     graph: &[Triple],
     shapes: &[Triple],
+    patterns: &[BuiltPattern],
 ) -> Result<Vec<ResultRow>, AllocError>
-    requires { IsPlain shapes.now }
+    requires { ArePatternsOf shapes.now patterns.now }
     ensures { IfOk result (λ rows. Finds (ImplicitResult graph.now shapes.now) rows.items) }
 {
     let kind = class_word(alloc)?;
     let classes = instances_of(alloc, shapes, &kind)?;
-    let rows = rows_of_classes(alloc, graph, shapes, classes.as_slice())?;
+    let rows = rows_of_classes(alloc, graph, shapes, patterns, classes.as_slice())?;
     Ok(rows)
 }
 
@@ -167,12 +190,13 @@ pub(crate) fn all_rows(
     alloc: Global,
     graph: &[Triple],
     shapes: &[Triple],
+    patterns: &[BuiltPattern],
 ) -> Result<Vec<ResultRow>, AllocError>
-    requires { IsPlain shapes.now }
+    requires { ArePatternsOf shapes.now patterns.now }
     ensures { IfOk result (λ rows. Finds (IsResult graph.now shapes.now) rows.items) }
 {
-    let mut rows = declared_rows(alloc, graph, shapes)?;
-    let mut more = class_rows(alloc, graph, shapes)?;
+    let mut rows = declared_rows(alloc, graph, shapes, patterns)?;
+    let mut more = class_rows(alloc, graph, shapes, patterns)?;
     rows.append(&mut more)?;
     Ok(rows)
 }

@@ -83,6 +83,9 @@ const VALUES: &[&str] = &[
     "\"1.5\"^^<xsd:decimal>",
     "\"one\"^^<xsd:integer>",
     "\"ab\"",
+    "\"AB\"",
+    "\"a\\nb\"",
+    "\"a.b\"@en",
     "\"a\"@en",
     "\"b\"@EN",
     "\"c\"@en",
@@ -142,7 +145,8 @@ const CONSTRAINTS: &[&str] = &[
     "<e:S> <sh:maxInclusive> \"1\"^^<xsd:integer> .\n",
     "<e:S> <sh:minLength> \"2\"^^<xsd:integer> .\n",
     "<e:S> <sh:maxLength> \"1\"^^<xsd:integer> .\n",
-    "<e:S> <sh:pattern> \"B\" .\n|<e:S> <sh:pattern> \"^A\" .\n<e:S> <sh:flags> \"i\" .\n",
+    "<e:S> <sh:pattern> \"B\" .\n|<e:S> <sh:pattern> \"^a.b$\" .\n|<e:S> <sh:pattern> \"^A\" .\n<e:S> <sh:flags> \"i\" .\n|<e:S> <sh:pattern> \"^a.b$\" .\n<e:S> <sh:flags> \"s\" .\n|<e:S> <sh:pattern> \"^b$\" .\n<e:S> <sh:flags> \"m\" .\n|<e:S> <sh:pattern> \"a b$\" .\n<e:S> <sh:flags> \"x\" .\n|<e:S> <sh:pattern> \"A .b\" .\n<e:S> <sh:flags> \"ixs\" .\n",
+    "<e:S> <sh:node> <e:V> .\n<e:V> <sh:pattern> \"b\" .\n|<e:S> <sh:node> <e:V> .\n<e:V> <sh:pattern> \"b\" .\n<e:V> <sh:flags> \"i\" .\n|<e:S> <sh:not> <e:V> .\n<e:V> <sh:pattern> \"^a.b\" .\n<e:V> <sh:flags> \"s\" .\n",
     "<e:S> <sh:languageIn> _:t .\n_:t <rdf:first> \"en\" .\n_:t <rdf:rest> <rdf:nil> .\n|<e:S> <sh:languageIn> _:t .\n_:t <rdf:first> \"de\" .\n_:t <rdf:rest> <rdf:nil> .\n",
     "<e:S> <sh:equals> <e:q> .\n",
     "<e:S> <sh:disjoint> <e:q> .\n",
@@ -203,7 +207,6 @@ fn shapes_text(alloc: Global, draws: &mut Draws, turn: usize) -> Result<String, 
 #[derive(Drop)]
 struct Tally {
     with_results: u32,
-    plain: u32,
     components: Vec<Component>,
 }
 
@@ -247,11 +250,7 @@ fn try_one(
     match both_listings(alloc, &mut maker, graph.as_bytes(), shapes.as_bytes()) {
         Ok(BothListings { plain, compiled }) => {
             note(tally, compiled.as_slice())?;
-            if let Some(plain) = &plain {
-                tally.plain = tally.plain.saturating_add(1);
-                assert_same(rt, plain.as_slice(), compiled.as_slice(), shapes.as_str())?;
-            }
-            Ok(())
+            assert_same(rt, plain.as_slice(), compiled.as_slice(), shapes.as_str())
         }
         Err(fault) => {
             assert!(rt; false, "{fault:?} {shapes}");
@@ -260,7 +259,7 @@ fn try_one(
     }
 }
 
-const GRAPHS: usize = 160;
+const GRAPHS: usize = 240;
 
 #[test]
 fn both_ways_agree_on_graphs_at_random(rt: HostRuntime) -> Result<(), Fail> {
@@ -268,17 +267,14 @@ fn both_ways_agree_on_graphs_at_random(rt: HostRuntime) -> Result<(), Fail> {
     let mut draws = Draws { state: 1 };
     let mut tally = Tally {
         with_results: 0,
-        plain: 0,
         components: Vec::new(alloc),
     };
     for turn in 0..GRAPHS {
         try_one(&rt, alloc, &mut draws, turn, &mut tally)?;
     }
     let with_results = tally.with_results;
-    let plain = tally.plain;
     let components = tally.components.len();
-    assert!(rt; with_results > 80 && with_results < 160, "{with_results}");
-    assert!(rt; plain > 140, "{plain}");
+    assert!(rt; with_results > 120 && with_results < 240, "{with_results}");
     assert!(rt; components == 28, "{:?}", tally.components);
     Ok(())
 }

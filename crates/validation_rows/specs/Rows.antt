@@ -1,5 +1,5 @@
 -- What the validation of a data graph by a shapes graph answers, where both are N-Triples texts.
-use Rattle.std.specs.Prelude.{◌≡◌, ℕ, List, Ok, Err, MatchOption}
+use Rattle.std.specs.Prelude.{◌≡◌, ℕ, List, Ok, Err}
 use Rattle.rdf_model.specs.declared.triple.Triple.{Triple}
 use Rattle.rdf_lexical.specs.declared.refusal.RefusalKind.{RefusalKind}
 use Rattle.ntriples_text.specs.Document.{reads}
@@ -10,7 +10,6 @@ use Rattle.outside.specs.Faults.{Refusal}
 use Rattle.shape_reader.specs.Parts.{IsRefused as HasRefused}
 use Rattle.shape_reader.specs.declared.fault.ShapeFault.{ShapeFault}
 use Rattle.shape_reader.specs.declared.fault.ShapeFault.TheVariants as faults
-use Rattle.plain_validation.specs.Plain.{IsPlain}
 use Rattle.validation_rows.specs.declared.fault.RowsFault.{RowsFault}
 use Rattle.validation_rows.specs.declared.fault.RowsFault.TheVariants.{Data, Shapes, Rule, Pattern, Memory}
 use Rattle.validation_rows.specs.declared.rows.BothListings.{BothListings}
@@ -23,8 +22,7 @@ abbrev pub IsRefused : ℕ → List ℕ → ℕ → RefusalKind → Type 0
 IsRefused session text line kind = reads text session 1 ≡ Err (line, kind)
 
 -- The compiled list is the listing (SHACL 3.6) of the data's triples under those of the shapes, which are well-formed
--- (SHACL 3.4.2); so is the plain one, which is there where the plain program reads all that the shapes have. The data is
--- session 1, the shapes are session 2.
+-- (SHACL 3.4.2); so is the plain one. The data is session 1, the shapes are session 2.
 pub record AreListings (data_text shapes_text : List ℕ) (both : BothListings) : Type 0 where
   pub graph : List Triple
   pub shapes_graph : List Triple
@@ -32,7 +30,7 @@ pub record AreListings (data_text shapes_text : List ℕ) (both : BothListings) 
   pub shapes_read : IsRead 2 shapes_text shapes_graph
   pub well_formed : IsWellFormed shapes_graph
   pub compiled : Listing graph shapes_graph both.compiled
-  pub plain : MatchOption both.plain (IsPlain shapes_graph → ⊥) (λ rows. IsPlain shapes_graph × Listing graph shapes_graph rows)
+  pub plain : Listing graph shapes_graph both.plain
 
 -- the shapes are read, after the data
 abbrev pub HasShapes : List ℕ → List ℕ → List Triple → Type 0

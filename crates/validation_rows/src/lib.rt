@@ -1,8 +1,7 @@
 //! The results of a small data graph under a shapes graph, found in two ways from two texts.
 //!
-//! `both_listings` reads both graphs as N-Triples, and lists the results by compiled shapes and, where the plain
-//! program reads all that the shapes have, straight from the triples. It ensures that each list is the listing of SHACL, so
-//! that they are one, and for each fault its cause.
+//! `both_listings` reads both graphs as N-Triples, and lists the results by compiled shapes and straight from the triples. It
+//! ensures that each list is the listing of SHACL, so that they are one, and for each fault its cause.
 #![tactic(auto)]
 
 mod fault;

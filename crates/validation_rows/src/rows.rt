@@ -1,9 +1,8 @@
-ghost use Rattle.std.specs.Prelude.{◌≡◌, ◌+◌, ◌*◌, ◌≤◌, ◌<◌, ◌^◌, length, IfOk, MatchOption, MatchResult};
+ghost use Rattle.std.specs.Prelude.{◌≡◌, ◌+◌, ◌*◌, ◌≤◌, ◌<◌, ◌^◌, length, IfOk, MatchResult};
 ghost use Rattle.collections.specs.Ordered.{IsAscending};
 ghost use Rattle.compiled_paths.specs.PathReadings.{IsNamed};
 ghost use Rattle.ntriples_text.specs.Document.{reads};
 ghost use Rattle.path_eval.specs.Instances.{AreClassWords};
-ghost use Rattle.plain_validation.specs.Plain.{IsPlain};
 ghost use Rattle.rdf_lexical.specs.Refusals.{Refuses};
 ghost use Rattle.rdf_model.specs.Numbers.{IsNumbering};
 ghost use Rattle.rdf_model.specs.Terms.{triple_cmp};
@@ -19,7 +18,7 @@ use collections::Sequence;
 use ntriples_text::{ReadFault, read};
 use outside::Maker;
 use path_eval::ClassWords;
-use plain_validation::is_plain;
+use pattern_table::built_patterns;
 use rdf_model::{ListNames, Triple};
 use shape_eval::Steps;
 use shape_model::ResultRow;
@@ -39,9 +38,8 @@ const SHAPES_SESSION: u32 = 2;
 pub struct BothListings {
     /// As compiled shapes find them, by the numbers of terms.
     pub compiled: Sequence<ResultRow>,
-    /// As they are found straight from the triples of both graphs; there where the plain program reads all that the shapes
-    /// have.
-    pub plain: Option<Sequence<ResultRow>>,
+    /// As they are found straight from the triples of both graphs.
+    pub plain: Sequence<ResultRow>,
 }
 
 // The triples of a text, whose blank nodes belong to the session and are numbered from 1.
@@ -111,19 +109,17 @@ fn compiled_listing(
     compiled_in::<Brand>(alloc, &names, words, graph, shapes, Blank::new(1))
 }
 
-// The results straight from the triples, where the plain program reads all that the shapes have.
+// The results straight from the triples.
 fn plain_listing(
     alloc: Global,
     graph: &[Triple],
-    shapes: &[Triple],
-) -> Result<Option<Sequence<ResultRow>>, AllocError>
-    ensures { IfOk result (λ found. MatchOption found (IsPlain shapes.now → ⊥) (λ rows. IsPlain shapes.now × Listing graph.now shapes.now rows)) }
+    shapes: &ShapesGraph,
+) -> Result<Vec<ResultRow>, AllocError>
+    ensures { IfOk result (λ rows. Listing graph.now shapes.now rows.items) }
 {
-    if !is_plain(alloc, shapes)? {
-        return Ok(None);
-    }
-    let rows = plain_validation::listing(alloc, graph, shapes)?;
-    Ok(Some(Sequence::from_vec(rows)))
+    let patterns = built_patterns(alloc, shapes)?;
+    let rows = plain_validation::listing(alloc, graph, shapes.triples(), &patterns)?;
+    Ok(rows)
 }
 
 // The results in both ways.
@@ -134,19 +130,19 @@ fn listings(
 ) -> Result<BothListings, AllocError>
     requires few { 3 * (length graph.now + length shapes.now) + 2 < 2 ^ 32 }
     ensures compiled { IfOk result (λ both. Listing graph.now shapes.now both.compiled) }
-    ensures plain { IfOk result (λ both. MatchOption both.plain (IsPlain shapes.now → ⊥) (λ rows. IsPlain shapes.now × Listing graph.now shapes.now rows)) }
+    ensures plain { IfOk result (λ both. Listing graph.now shapes.now both.plain) }
 {
     let compiled = compiled_listing(alloc, graph, shapes)?;
-    let plain = plain_listing(alloc, graph, shapes.triples())?;
+    let plain = plain_listing(alloc, graph, shapes)?;
     Ok(BothListings {
         compiled: Sequence::from_vec(compiled),
-        plain,
+        plain: Sequence::from_vec(plain),
     })
 }
 
 /// The results of validating a data graph by a shapes graph (SHACL section 3.6), both N-Triples texts, found in two ways: by
-/// compiled shapes, and, where the plain program reads all that the shapes have, straight from the triples. The two lists
-/// are one. Blank nodes of the data belong to session 1 and those of the shapes to session 2, each numbered from 1.
+/// compiled shapes, and straight from the triples. The two lists are one. Blank nodes of the data belong to session 1 and those
+/// of the shapes to session 2, each numbered from 1.
 ///
 /// A fault tells its cause: the data is refused first, then the shapes, then a broken rule, then a pattern. It takes time
 /// with the square of the texts' sizes and more, and is meant for small ones.
@@ -158,7 +154,7 @@ pub fn both_listings<M: Maker>(
 ) -> Result<BothListings, RowsFault>
     requires { length data_text.now + length shapes_text.now < 2 ^ 30 }
     ensures answer { MatchResult result (AreListings data_text.now shapes_text.now) (IsCause data_text.now shapes_text.now (M.refused maker.old) (M.refused maker.new)) }
-    ensures one { IfOk result (λ both. MatchOption both.plain (Unit {0}) (λ rows. rows ≡ both.compiled)) }
+    ensures one { IfOk result (λ both. both.plain ≡ both.compiled) }
     ensures refused { IfOk result (λ _. M.refused maker.new ≡ M.refused maker.old) }
 {
     let graph = match triples_of(alloc, DATA_SESSION, data_text) {

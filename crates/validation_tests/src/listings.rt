@@ -1,7 +1,5 @@
 use crate::short_forms::{push_optional, text_of_rows};
-use collections::Sequence;
 use outside::RegexMaker;
-use shape_model::ResultRow;
 use std::alloc::{AllocError, Global};
 use std::process::Abort;
 use std::test::Fail;
@@ -332,18 +330,6 @@ fn text_of_fault(alloc: Global, fault: &RowsFault) -> Result<String, AllocError>
     }
 }
 
-// The rows of the plain program, or those by compiled shapes where it doesn't read all that the shapes have.
-fn text_of_plain(
-    alloc: Global,
-    plain: &Option<Sequence<ResultRow>>,
-    compiled: &str,
-) -> Result<String, AllocError> {
-    match plain {
-        Some(rows) => text_of_rows(alloc, rows.as_slice()),
-        None => String::from_str(alloc, compiled),
-    }
-}
-
 // What the case's texts give in both ways.
 fn answers(rt: &impl Abort, alloc: Global, case: &Case) -> Result<(String, String), Fail> {
     let graph = expanded(alloc, case.graph)?;
@@ -352,8 +338,8 @@ fn answers(rt: &impl Abort, alloc: Global, case: &Case) -> Result<(String, Strin
     let mut maker = RegexMaker::new(alloc);
     match both_listings(alloc, &mut maker, graph.as_bytes(), shapes.as_bytes()) {
         Ok(BothListings { plain, compiled }) => {
+            let plain = text_of_rows(alloc, plain.as_slice())?;
             let compiled = text_of_rows(alloc, compiled.as_slice())?;
-            let plain = text_of_plain(alloc, &plain, compiled.as_str())?;
             Ok((plain, compiled))
         }
         Err(fault) => Ok((text_of_fault(alloc, &fault)?, text_of_fault(alloc, &fault)?)),

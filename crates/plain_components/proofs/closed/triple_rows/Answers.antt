@@ -1,6 +1,7 @@
 use Rattle.std.proofs.Common.{[], ◌∷◌}
 use Rattle.shape_model.specs.declared.component.Component.TheVariants as components
-use Rattle.plain_components.specs.Around.{ForbiddenRow, IsForbidden, found_triple, row_at}
+use Rattle.plain_values.specs.Around.{row_at}
+use Rattle.plain_components.specs.Rows.{ForbiddenRow, IsForbidden, found_triple}
 use Rattle.plain_terms.proofs.FoundItems.{no_result, one_result, some_all, some_skip, some_step}
 use Rattle.plain_components.proofs.closed.triple_rows.Goals as goal
 use Rattle.plain_components.proofs.closed.triple_rows.Goals.{then-is_forbidden+in_ok-triple_row+in_ok-push, else-is_forbidden}

@@ -1,6 +1,6 @@
 use Rattle.std.proofs.Common.{take}
 use Rattle.plain_terms.specs.Finds.{Finds, WithSome}
-use Rattle.plain_components.specs.Around.{ForbiddenRow}
+use Rattle.plain_components.specs.Rows.{ForbiddenRow}
 use Rattle.plain_components.proofs.closed.triple_rows.Given as goal
 
 abbrev pub invariant-loop-triple : goal.invariant-loop-triple

@@ -1,4 +1,5 @@
-use Rattle.plain_components.specs.Around.{RowsAt, TagsAt}
+use Rattle.plain_values.specs.Around.{RowsAt}
+use Rattle.plain_components.specs.Rows.{TagsAt}
 use Rattle.shape_model.specs.declared.component.Component.TheVariants as components
 use Rattle.plain_terms.proofs.FoundItems.{finds_same}
 use Rattle.plain_components.proofs.Closings.{not_unique}

@@ -1,6 +1,6 @@
 use Rattle.std.proofs.Common.{arith}
 use Rattle.shape_syntax.proofs.Scans.{read_in}
-use Rattle.plain_components.specs.Around.{RowsAt}
+use Rattle.plain_values.specs.Around.{RowsAt}
 use Rattle.plain_terms.proofs.FoundItems.{some_all, some_step}
 use Rattle.plain_components.proofs.component.rows_at_each.Goals as goal
 

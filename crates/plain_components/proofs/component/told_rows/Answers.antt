@@ -1,6 +1,6 @@
 use Rattle.std.proofs.Common.{[], ◌∷◌}
 use Rattle.std.specs.List.{Contains}
-use Rattle.plain_components.specs.Around.{EntryRow}
+use Rattle.plain_components.specs.Rows.{EntryRow}
 use Rattle.plain_terms.proofs.FoundItems.{no_result, one_result, some_all, some_skip, some_step}
 use Rattle.plain_components.proofs.component.told_rows.Goals as goal
 use Rattle.plain_components.proofs.component.told_rows.Goals.{then-is_of_property+in_ok-clone+in_ok-push, else-is_of_property}

@@ -1,6 +1,6 @@
 use Rattle.std.proofs.Common.{take}
 use Rattle.plain_terms.specs.Finds.{Finds, WithSome}
-use Rattle.plain_components.specs.Around.{EntryRow}
+use Rattle.plain_components.specs.Rows.{EntryRow}
 use Rattle.plain_components.proofs.component.told_rows.Given as goal
 
 abbrev pub invariant-loop-entry : goal.invariant-loop-entry

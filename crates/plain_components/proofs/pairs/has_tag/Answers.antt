@@ -1,6 +1,6 @@
 use Rattle.std.proofs.Common.{ℕ, List, refl, subst}
 use Rattle.shape_model.specs.TermTests.{HasTag}
-use Rattle.plain_components.proofs.Languages.{no_tag, one_tag, tag_found}
+use Rattle.plain_values.proofs.Languages.{no_tag, one_tag, tag_found}
 use Rattle.plain_components.proofs.pairs.has_tag.Goals as goal
 
 pub returns-in-Some : goal.returns-in-Some

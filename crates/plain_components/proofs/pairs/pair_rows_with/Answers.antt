@@ -1,4 +1,4 @@
-use Rattle.plain_components.specs.Around.{PairRow}
+use Rattle.plain_components.specs.Rows.{PairRow}
 use Rattle.plain_terms.proofs.FoundItems.{some_all, some_step}
 use Rattle.plain_components.proofs.pairs.pair_rows_with.Goals as goal
 

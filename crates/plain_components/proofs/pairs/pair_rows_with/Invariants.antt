@@ -1,6 +1,6 @@
 use Rattle.std.proofs.Common.{take}
 use Rattle.plain_terms.specs.Finds.{Finds, WithSome}
-use Rattle.plain_components.specs.Around.{PairRow}
+use Rattle.plain_components.specs.Rows.{PairRow}
 use Rattle.plain_components.proofs.pairs.pair_rows_with.Given as goal
 
 abbrev pub invariant-loop-value : goal.invariant-loop-value

@@ -2,9 +2,9 @@ use Rattle.std.proofs.Common.{◌≡◌, [], ◌∷◌}
 use Rattle.shape_model.specs.declared.result_row.ResultRow.{ResultRow}
 use Rattle.shape_model.specs.Components.{found_beside}
 use Rattle.rdf_model.specs.declared.term.Term.{Term}
-use Rattle.plain_components.specs.Around.{row_at}
+use Rattle.plain_values.specs.Around.{row_at}
 use Rattle.plain_terms.proofs.FoundItems.{some_all, some_step}
-use Rattle.plain_components.proofs.Made.{is_one}
+use Rattle.plain_values.proofs.Made.{is_one}
 use Rattle.plain_components.proofs.pairs.rows_beside.Goals as goal
 
 pub loop-other-preserved : goal.loop-other-preserved

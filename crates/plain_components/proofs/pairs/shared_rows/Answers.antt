@@ -1,7 +1,8 @@
 use Rattle.std.proofs.Common.{◌∙◌, List, [], ◌∷◌, ◌++◌, ap}
 use Rattle.shape_model.specs.declared.component.Component.TheVariants as components
 use Rattle.shape_model.specs.declared.result_row.ResultRow.{ResultRow}
-use Rattle.plain_components.specs.Around.{SharedRow, found_tag, row_at}
+use Rattle.plain_values.specs.Around.{row_at}
+use Rattle.plain_components.specs.Rows.{SharedRow, found_tag}
 use Rattle.plain_components.specs.Pairs.{SharesSome}
 use Rattle.plain_terms.proofs.FoundItems.{finds_at, finds_none, one_result}
 use Rattle.plain_components.proofs.pairs.shared_rows.Goals as goal

@@ -1,4 +1,4 @@
-use Rattle.plain_components.specs.Around.{TagRow}
+use Rattle.plain_components.specs.Rows.{TagRow}
 use Rattle.plain_terms.proofs.FoundItems.{some_all, some_step}
 use Rattle.plain_components.proofs.Paired.{tags_made}
 use Rattle.plain_components.proofs.pairs.tag_rows.Goals as goal

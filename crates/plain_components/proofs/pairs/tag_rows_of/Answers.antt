@@ -2,8 +2,8 @@ use Rattle.std.proofs.Common.{[], refl}
 use Rattle.std.proofs.lemmas.Result.{IfOk-weaker}
 use Rattle.plain_terms.specs.Finds.{Finds}
 use Rattle.plain_terms.proofs.FoundItems.{finds_at, finds_none}
-use Rattle.plain_components.specs.Around.{SharedRow, TagRow}
-use Rattle.plain_components.proofs.Languages.{no_tag, tag_found}
+use Rattle.plain_components.specs.Rows.{SharedRow, TagRow}
+use Rattle.plain_values.proofs.Languages.{no_tag, tag_found}
 use Rattle.plain_components.proofs.Paired.{tag_made}
 use Rattle.plain_components.proofs.pairs.tag_rows_of.Goals as goal
 

@@ -1,6 +1,6 @@
 use Rattle.shape_model.specs.Readings.{Sibling}
 use Rattle.plain_terms.proofs.FoundItems.{finds_at}
-use Rattle.plain_components.specs.Tests.{IsWrong}
+use Rattle.plain_components.specs.Siblings.{IsWrong}
 use Rattle.plain_components.proofs.Closings.{qualified_made}
 use Rattle.plain_components.proofs.qualified.qualified_rows.Goals as goal
 

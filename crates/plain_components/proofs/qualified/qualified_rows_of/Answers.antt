@@ -1,9 +1,9 @@
 use Rattle.shape_model.specs.Components.{IsQualified}
 use Rattle.shape_model.specs.Readings.{reading}
-use Rattle.plain_components.specs.Around.{around}
-use Rattle.plain_components.specs.Tests.{IsWrong}
+use Rattle.plain_values.specs.Around.{around}
+use Rattle.plain_components.specs.Siblings.{IsWrong}
 use Rattle.plain_components.proofs.Closings.{qualified_nodes}
-use Rattle.plain_components.proofs.Made.{counted_by}
+use Rattle.plain_values.proofs.Made.{counted_by}
 use Rattle.plain_components.proofs.qualified.qualified_rows_of.Goals as goal
 
 pub returns : goal.returns

@@ -1,5 +1,5 @@
-use Rattle.plain_components.specs.Around.{QualifiedRow}
-use Rattle.plain_components.specs.Tests.{IsWrong}
+use Rattle.plain_components.specs.Rows.{QualifiedRow}
+use Rattle.plain_components.specs.Siblings.{IsWrong}
 use Rattle.plain_terms.proofs.FoundItems.{some_all, some_step}
 use Rattle.plain_components.proofs.qualified.qualified_rows_of_each.Goals as goal
 

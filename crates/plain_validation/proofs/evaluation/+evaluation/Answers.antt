@@ -7,7 +7,7 @@ use Rattle.shape_model.specs.Readings.{ValueNode, reading}
 use Rattle.plain_terms.specs.Finds.{WithSome}
 use Rattle.plain_terms.proofs.FoundItems.{finds_at, some_all, some_step}
 use Rattle.plain_validation.specs.References.{ToldAt}
-use Rattle.plain_validation.proofs.Levels.{level_found, listing_at, no_pattern, none_at, told_found}
+use Rattle.plain_validation.proofs.Levels.{level_found, listing_at, none_at, told_found}
 use Rattle.plain_validation.proofs.evaluation.+evaluation.Goals as goal
 
 pub told_by-loop-node-preserved : goal.told_by-loop-node-preserved
@@ -35,9 +35,6 @@ rows_at-returns-then-levels-eq0 t c = none_at c.args.graph.now c.args.shapes.now
 
 pub rows_at-place_rows-requires-clause-values : goal.rows_at-place_rows-requires-clause-values
 rows_at-place_rows-requires-clause-values t c = subst (λ (vs : List Term). IsAscending term_cmp vs) (sym c.as_slice-values.ensures) c.in_ok-found.ensures.ascending
-
-pub rows_at-place_rows-requires-clause-read : goal.rows_at-place_rows-requires-clause-read
-rows_at-place_rows-requires-clause-read t c = no_pattern c.args.shapes.now c.requires c.args.shape.now
 
 pub rows_at-returns : goal.rows_at-returns
 rows_at-returns t c =

@@ -1,13 +1,14 @@
-use Rattle.std.proofs.Common.{List, IsTrue, sym, subst}
-use Rattle.shape_model.specs.declared.result_row.ResultRow.{ResultRow}
+use Rattle.std.proofs.Common.{List, sym, subst}
+use Rattle.rdf_model.specs.declared.triple.Triple.{Triple}
 use Rattle.shape_model.specs.Validation.{Listing}
+use Rattle.plain_patterns.specs.Built.{ArePatternsOf}
+use Rattle.plain_patterns.specs.declared.built.BuiltPattern.{BuiltPattern}
 use Rattle.validation_rows.proofs.rows.plain_listing.Goals as goal
 
 pub listing-requires : goal.listing-requires
-listing-requires c = let k : IsTrue c.in_ok-is_plain.field-0 = cc in c.in_ok-is_plain.ensures.0 k
+listing-requires c =
+    let patterns = subst (λ (ps : List BuiltPattern). ArePatternsOf c.args.shapes.now ps) (sym c.deref.ensures.value) c.in_ok-patterns.ensures in
+    subst (λ (s : List Triple). ArePatternsOf s c.deref.result.now) (sym c.triples.ensures) patterns
 
 pub returns : goal.returns
-returns c = let k : IsTrue c.in_ok-is_plain.field-0 = cc in (
-  c.in_ok-is_plain.ensures.0 k,
-  subst (λ (rows : List ResultRow). Listing c.args.graph.now c.args.shapes.now rows) (sym c.from_vec.ensures) c.in_ok-rows.ensures,
-)
+returns c = subst (λ (s : List Triple). Listing c.args.graph.now s c.in_ok-rows.rows.items) c.triples.ensures c.in_ok-rows.ensures
