@@ -5,7 +5,6 @@ use Rattle.rdf_lexical.specs.declared.refusal.RefusalKind.{RefusalKind}
 use Rattle.ntriples_text.specs.Document.{reads}
 use Rattle.shape_model.specs.Validation.{Listing}
 use Rattle.shape_rules.specs.Broken.{IsLeast, IsWellFormed}
-use Rattle.shape_rules.specs.declared.rule_row.RuleRow.{RuleRow}
 use Rattle.outside.specs.Faults.{Refusal}
 use Rattle.shape_reader.specs.Parts.{IsRefused as HasRefused}
 use Rattle.shape_reader.specs.declared.fault.ShapeFault.{ShapeFault}

@@ -1,6 +1,5 @@
 ghost use Rattle.std.specs.Prelude.{◌≡◌, ◌+◌, ◌*◌, ◌≤◌, ◌<◌, ◌^◌, length, IfOk, MatchResult};
 ghost use Rattle.collections.specs.Ordered.{IsAscending};
-ghost use Rattle.compiled_paths.specs.PathReadings.{IsNamed};
 ghost use Rattle.ntriples_text.specs.Document.{reads};
 ghost use Rattle.path_eval.specs.Instances.{AreClassWords};
 ghost use Rattle.rdf_lexical.specs.Refusals.{Refuses};
