@@ -7,7 +7,7 @@ root=$(cd "$(dirname "$0")/.." && pwd)
 sizes=("$@")
 [ ${#sizes[@]} -gt 0 ] || sizes=(1000 10000 100000 400000 1000000)
 many=1000
-most=50000
+most=20000
 work=$(mktemp -d)
 trap 'rm -rf "$work"' EXIT
 
@@ -55,9 +55,9 @@ for size in "${sizes[@]}"; do
   measured "$work/filled.session"
   alone=$milliseconds
   echo "one transaction of $size triples: $alone ms, at most $megabytes MB"
-  { cat "$work/filled.session"; singles "$many" 0; } >"$work/singles.session"
+  { cat "$work/filled.session"; singles "$most" 0; } >"$work/singles.session"
   measured "$work/singles.session"
-  echo "  then $many transactions of one triple: $(((milliseconds - alone) * 1000 / many)) µs each"
+  echo "  then $most transactions of one triple: $(((milliseconds - alone) * 1000 / most)) µs each"
   { cat "$work/filled.session"; begins "$most"; } >"$work/begins.session"
   measured "$work/begins.session"
   echo "  then $most begins: $(((milliseconds - alone) * 1000 / most)) µs each"
