@@ -7,8 +7,8 @@ root=$(cd "$(dirname "$0")/.." && pwd)
 copy=$(mktemp -d)
 trap 'rm -rf "$copy"' EXIT
 mkdir -p "$copy/crates/page_bench/src"
-cp -r "$root/crates/collections" "$root/crates/page_index" "$copy/crates"
-printf 'collections:\npage_index: collections\npage_bench: page_index collections\n' > "$copy/crates.txt"
+cp -r "$root/crates/collections" "$root/crates/page_tree" "$root/crates/page_index" "$copy/crates"
+printf 'collections:\npage_tree: collections\npage_index: page_tree collections\npage_bench: page_index collections\n' > "$copy/crates.txt"
 cat > "$copy/crates/page_bench/src/main.rt" <<'PROGRAM'
 //! Times a set of pages.
 #![tactic(auto)]

@@ -2,9 +2,9 @@
 use Rattle.std.proofs.Common.{◌≡◌, ◌∙◌, ℕ, ◌+◌, ◌<◌, ◌≤◌, List, [], ◌∷◌, ◌++◌, length, take, drop, sym, subst, ap, arith, append_assoc, append-nil, length-append, take-append-drop}
 use Rattle.std.specs.declared.cmp.Ordering.{Ordering}
 use Rattle.collections.specs.Ordered.{IsAscending}
-use Rattle.page_index.specs.Blocks.{Block, AreBelow, AreSound, keys_of, height_of}
+use Rattle.page_tree.specs.Blocks.{Block, AreBelow, AreSound, keys_of, height_of}
 use Rattle.page_index.specs.Levels.{AddsPages}
-use Rattle.page_index.proofs.Sides.{keys-append, below-append, below-take, below-drop, height-is, sound-own, sound-take, sound-drop, ascending-take, ascending-drop}
+use Rattle.page_tree.proofs.Sides.{keys-append, below-append, below-take, below-drop, height-is, sound-own, sound-take, sound-drop, ascending-take, ascending-drop}
 
 -- one page more
 pub adds_one : {K : Type 0} (h n : ℕ) (ks : List K) (old new : List (Block K)) (e : Block K) → new ≡ old ++ e ∷ [] → e.page.keys ≡ ks → AreBelow h (e ∷ []) → 2 ≤ n → AddsPages h ks n old new

@@ -7,9 +7,9 @@ use Rattle.std.specs.Ordering.{match_ordering, is_eq}
 use Rattle.std.specs.Cmp.{IsTotalOrder, tied_back}
 use Rattle.collections.specs.Ordered.{IsAscending, with_item, without_item, has_item}
 use Rattle.collections.proofs.Ascending.{IsAscending-with_item, IsAscending-without_item}
-use Rattle.page_index.specs.Blocks.{Image}
+use Rattle.page_tree.specs.Blocks.{Image}
 use Rattle.page_index.specs.Root.{root_keys, IsRoot}
-use Rattle.page_index.proofs.Keys.{turned, above_lower, has-none}
+use Rattle.page_tree.proofs.Keys.{turned, above_lower, has-none}
 
 module _ {X : Type 0} (R : X → X → Ordering) (o : IsTotalOrder R) (x : X) where
   tied_has : (k : X) (ks : List X) → R x k ≡ Equal → has_item R x (k ∷ ks) ≡ true

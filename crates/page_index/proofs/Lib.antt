@@ -1,14 +1,3 @@
-pub mod Keys
 pub mod Built
-pub mod Found
-pub mod Sides
-pub mod Edits
-pub mod Opened
-pub mod Places
-pub mod Swaps
-pub mod Changes
-pub mod Steps
 pub mod Counts
-pub mod Reached
-pub mod Above
 pub mod Ranges

@@ -9,9 +9,9 @@ use Rattle.std.proofs.lemmas.Cmp.{tied_itself}
 use Rattle.std.proofs.lemmas.Option.{same_Some, none-some}
 use Rattle.collections.specs.Ordered.{AllAbove, IsAscending}
 use Rattle.page_index.specs.Reading.{AllReached, IsRising, first_reached, is_within, keys_above}
-use Rattle.page_index.proofs.Reached.{none-beyond, reached-above}
-use Rattle.page_index.proofs.Above.{all-above}
-use Rattle.page_index.proofs.Keys.{turned}
+use Rattle.page_tree.proofs.Reached.{none-beyond, reached-above}
+use Rattle.page_tree.proofs.Above.{all-above}
+use Rattle.page_tree.proofs.Keys.{turned}
 
 at_least : (c : Ordering) → (c ≡ Less → ⊥) → is_ge c ≡ true
 at_least Less n = absurd (n refl)

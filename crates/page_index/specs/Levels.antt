@@ -1,6 +1,6 @@
 -- Pages that are built side by side.
 use Rattle.std.specs.Prelude.{◌≡◌, ℕ, ◌+◌, ◌<◌, ◌≤◌, List, ◌++◌, length}
-use Rattle.page_index.specs.Blocks.{Block, AreBelow, keys_of}
+use Rattle.page_tree.specs.Blocks.{Block, AreBelow, keys_of}
 
 -- pages below the height h with these keys were added: some, and at most half as many as there were parts
 pub record AddsPages {K : Type 0} (h : ℕ) (keys : List K) (parts : ℕ) (old new : List (Block K)) : Type 0 where

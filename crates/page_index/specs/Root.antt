@@ -2,7 +2,7 @@
 use Rattle.std.specs.Prelude.{◌≡◌, ℕ, List, [], length, Option, None, Some}
 use Rattle.std.specs.declared.cmp.Ordering.{Ordering}
 use Rattle.collections.specs.Ordered.{IsAscending}
-use Rattle.page_index.specs.Blocks.{Image}
+use Rattle.page_tree.specs.Blocks.{Image}
 
 -- the keys below a root, if there is one
 abbrev pub root_keys : {K : Type 0} → Option (Image K) → List K

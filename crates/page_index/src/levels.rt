@@ -2,12 +2,11 @@
 ghost use Rattle.std.specs.Prelude.{◌≡◌, [], ◌+◌, ◌<◌, ◌≤◌, length, IfOk, OnOk};
 ghost use Rattle.std.specs.Arc.{arc_value};
 ghost use Rattle.collections.specs.Ordered.{IsAscending};
-ghost use Rattle.page_index.specs.Blocks.{AreSound, keys_of, height_of, least, most};
+ghost use Rattle.page_tree.specs.Blocks.{AreSound, keys_of, height_of, least, most};
 ghost use Rattle.page_index.specs.Levels.{AddsPages};
 
-use crate::page::{Entry, MOST, Node, Page};
-use crate::parts::{copied, inner_entry, leaf_entry};
-use collections::ExactClone;
+use collections::{ExactClone, Sequence};
+use page_tree::{Entry, MOST, Page, inner_entry, leaf_entry};
 use std::alloc::{AllocError, Global};
 use std::sync::Arc;
 
@@ -116,10 +115,7 @@ fn root_over<K: Ord + ExactClone + Drop>(
     while level.len() > MOST {
         level = level_above(alloc, &level)?;
     }
-    let page = Page {
-        node: Node::Inner(level),
-    };
-    Ok(Arc::new(alloc, page)?)
+    Ok(Arc::new(alloc, Page::over(level))?)
 }
 
 // A root with these keys.
@@ -131,10 +127,8 @@ pub(crate) fn root_of<K: Ord + ExactClone + Drop>(
     ensures { IfOk result (λ root. (arc_value root).keys ≡ keys.now) }
 {
     if keys.len() <= MOST {
-        let page = Page {
-            node: Node::Leaf(copied(alloc, keys)?),
-        };
-        return Ok(Arc::new(alloc, page)?);
+        let copies = Sequence::copied_from(alloc, keys)?;
+        return Ok(Arc::new(alloc, Page::leaf(copies.into_vec()))?);
     }
     root_over(alloc, leaves(alloc, keys)?)
 }

@@ -6,17 +6,9 @@
 //! keeps its keys whatever is done to its source.
 #![tactic(auto)]
 
-mod insertion;
 mod iter;
-mod leaf;
 mod levels;
-mod page;
 mod pages;
-mod parts;
-mod place;
-mod reading;
-mod removal;
-mod run;
 
 pub use iter::Iter;
 pub use pages::Pages;

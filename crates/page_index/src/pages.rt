@@ -7,13 +7,12 @@ ghost use Rattle.page_index.specs.Reading.{IsRising, IsRun, first_reached, is_wi
 ghost use Rattle.std.specs.Arc.{arc_value};
 ghost use Rattle.std.specs.Option.{option_map};
 ghost use Rattle.page_index.specs.Root.{root_keys};
-ghost use Rattle.page_index.specs.Blocks.{IsRemovable, most};
+ghost use Rattle.page_tree.specs.Blocks.{IsRemovable, most};
 
 use crate::iter::Iter;
 use crate::levels::root_of;
-use crate::page::{MOST, Node, Page};
-use crate::parts::{halves, pair_entries};
 use collections::ExactClone;
+use page_tree::{MOST, Page, over_halves};
 use std::alloc::{AllocError, Global};
 use std::cmp::Ordering;
 use std::marker::Model;
@@ -258,12 +257,7 @@ fn room_at_root<K: Ord + ExactClone + Drop>(
     if root.width() < MOST {
         return Ok(());
     }
-    let pair = halves(alloc, root)?;
-    let entries = pair_entries(alloc, pair)?;
-    let page = Page {
-        node: Node::Inner(entries),
-    };
-    *root = Arc::new(alloc, page)?;
+    *root = Arc::new(alloc, over_halves(alloc, root)?)?;
     Ok(())
 }
 
@@ -272,25 +266,12 @@ fn settle_root<K: Ord + Drop>(root: &mut Arc<Page<K>>) -> Result<(), AllocError>
     ensures keys { (arc_value root.new).keys ≡ (arc_value root.old).keys }
     ensures wide { OnOk result (IsRemovable (arc_value root.new)) }
 {
-    let below = match only_page(root) {
+    let below = match root.only_below() {
         None => return Ok(()),
         Some(page) => Arc::try_clone(page)?,
     };
     *root = below;
     Ok(())
-}
-
-// The page below another, where it is the only one.
-fn only_page<K: Ord>(page: &Page<K>) -> Option<&Arc<Page<K>>>
-    ensures { MatchOption result (IsRemovable page.now) (λ below. ((arc_value below.now).keys ≡ page.now.keys) × IsRemovable (arc_value below.now)) }
-{
-    match &page.node {
-        Node::Inner(entries) if entries.len() == 1 => {
-            let entry = &entries[0];
-            Some(&entry.page)
-        }
-        _ => None,
-    }
 }
 
 // Puts a key below the root, and says whether it is new.
@@ -313,10 +294,7 @@ fn first_page<K: Ord + Drop>(alloc: Global, key: K) -> Result<Arc<Page<K>>, Allo
 {
     let mut keys = Vec::new(alloc);
     keys.push(key)?;
-    let page = Page {
-        node: Node::Leaf(keys),
-    };
-    Ok(Arc::new(alloc, page)?)
+    Ok(Arc::new(alloc, Page::leaf(keys))?)
 }
 
 // Puts a key below a root, or makes one of it, and says whether it is new.

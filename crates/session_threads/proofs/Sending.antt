@@ -15,7 +15,7 @@ use mathlib.Core.List.{[], ◌∷◌}
 use Rattle.std.specs.contracts.alloc.Global as heap
 use Rattle.collections.specs.contracts.sequence.Sequence as sequence
 use Rattle.commit_core.proofs.history.History.TheLaws.TheKnot as history_knot
-use Rattle.page_index.proofs.page.Entry.TheLaws.TheKnot as page_knot
+use Rattle.page_tree.proofs.page.Entry.TheLaws.TheKnot as page_knot
 use Rattle.page_index.specs.contracts.pages.Pages as pages
 use Rattle.growing_list.specs.contracts.growing.GrowingList as growing
 use Rattle.session_threads.proofs.ShapesCrossing as compiled

@@ -1,5 +1,5 @@
 use Rattle.std.specs.Option.{option_map}
-use Rattle.page_index.proofs.Above.{run-then}
+use Rattle.page_tree.proofs.Above.{run-then}
 use Rattle.page_index.proofs.iter.next_keys.Goals as goal
 
 pub returns : goal.returns

@@ -1,5 +1,5 @@
 use Rattle.std.proofs.Common.{◌+◌, length, arith}
-use Rattle.page_index.specs.Blocks.{keys_of, height_of}
+use Rattle.page_tree.specs.Blocks.{keys_of, height_of}
 use Rattle.page_index.proofs.Built.{adds_one}
 use Rattle.page_index.proofs.levels.add_inner_page.Goals as goal
 

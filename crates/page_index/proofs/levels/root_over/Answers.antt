@@ -1,15 +1,15 @@
 use Rattle.std.proofs.Common.{◌∙◌, ◌≤◌, length, ap, arith}
-use Rattle.page_index.specs.Blocks.{Image}
+use Rattle.page_tree.specs.Blocks.{Image}
 use Rattle.page_index.proofs.Built.{higher}
 use Rattle.page_index.proofs.levels.root_over.Goals as goal
 
-pub invariant_of-page : goal.invariant_of-page
-invariant_of-page g c =
+pub over-requires : goal.over-requires
+over-requires g c =
     let few : length c.loop-alloc.level.items ≤ 64 = (let f = c.loop-alloc-test.false in let n = c.len.ensures in omega arith) in
-    (few, c.loop-alloc.invariant.some, c.loop-alloc.invariant.sound)
+    record { sound = c.loop-alloc.invariant.sound; size = (c.loop-alloc.invariant.some, few) }
 
 pub returns : goal.returns
-returns g c = ap (λ (d : Image g.row.K.Denot). d.keys) c.in_ok-new.ensures.ok ∙ c.loop-alloc.invariant.keys
+returns g c = ap (λ (d : Image g.row.K.Denot). d.keys) c.in_ok-new.ensures.ok ∙ ap (λ (d : Image g.row.K.Denot). d.keys) c.over.ensures ∙ c.loop-alloc.invariant.keys
 
 pub loop-alloc-preserved : goal.loop-alloc-preserved
 loop-alloc-preserved g c =

@@ -1,5 +1,5 @@
 use Rattle.std.proofs.Common.{◌≡◌, ◌<◌, length}
-use Rattle.page_index.specs.Blocks.{AreSound, keys_of, height_of}
+use Rattle.page_tree.specs.Blocks.{AreSound, keys_of, height_of}
 use Rattle.page_index.proofs.levels.root_over.Given as goal
 
 abbrev pub invariant-loop-alloc : goal.invariant-loop-alloc

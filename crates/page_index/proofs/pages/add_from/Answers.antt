@@ -3,7 +3,7 @@ use Rattle.std.specs.Prelude.{Some, OnOk, filter}
 use Rattle.std.specs.Ordering.{is_lt, is_ge, is_gt}
 use Rattle.collections.specs.Ordered.{IsAscending}
 use Rattle.page_index.specs.Reading.{keys_above}
-use Rattle.page_index.proofs.Above.{filter-ascends}
+use Rattle.page_tree.proofs.Above.{filter-ascends}
 use Rattle.page_index.proofs.Ranges.{front-stays, none-after, not_below}
 use Rattle.page_index.proofs.pages.add_from.Goals as goal
 

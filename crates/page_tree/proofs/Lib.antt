@@ -1,0 +1,11 @@
+pub mod Keys
+pub mod Found
+pub mod Sides
+pub mod Edits
+pub mod Opened
+pub mod Places
+pub mod Swaps
+pub mod Changes
+pub mod Steps
+pub mod Reached
+pub mod Above

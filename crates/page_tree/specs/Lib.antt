@@ -1,0 +1,4 @@
+pub mod Blocks
+pub mod PageFalls
+pub mod Pages
+pub mod Reading
