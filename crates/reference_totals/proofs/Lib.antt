@@ -1,2 +1,4 @@
 pub mod TotalSums
+pub mod Numbered
 pub mod Asked
+pub mod Telling

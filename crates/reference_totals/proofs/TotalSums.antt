@@ -1,11 +1,11 @@
 -- Sums of totals, and that a node has one total.
-use Rattle.std.proofs.Common.{◌≡◌, ◌∙◌, ℕ, zero, suc, ◌+◌, ◌≤◌, min, List, [], ◌∷◌, ◌++◌, refl, sym, ap, subst, arith, Some}
+use Rattle.std.proofs.Common.{◌≡◌, ◌∙◌, ℕ, zero, suc, ◌+◌, ◌≤◌, min, List, [], ◌∷◌, ◌++◌, refl, sym, ap, subst, arith, Option, Some}
 use Rattle.std.specs.List.{Contains}
 use Rattle.std.specs.BTreeMap.{BTreeMap}
 use Rattle.rdf_model.specs.declared.term.Term.{Term}
 use Rattle.reference_totals.specs.declared.place.Place.{Place}
-use Rattle.reference_totals.specs.Totals.{HasTotal, HaveOnePlace, OneTotalLaw, SumBy, TotalBy, capped, entry}
-use Rattle.reference_totals.specs.Rounds.{AreSound}
+use Rattle.reference_totals.specs.Totals.{HasTotal, HaveOnePlace, OneTotalLaw, SumBy, TotalBy, capped}
+use Rattle.reference_totals.specs.Rounds.{AreSound, total_known}
 
 pub sum_map : {X : Type 0} → (T U : X → ℕ → Type 0) (xs : List X) (k : ℕ) → ((x : X) (a : ℕ) → T x a → U x a) → SumBy T xs k → SumBy U xs k
 sum_map T U [] k f h = h
@@ -56,12 +56,12 @@ capped_step : (most w a b c : ℕ) → capped most (w + capped most a + b) ≡ c
 capped_step most w a b c e = omega arith
 
 -- sums of totals that are counted so far are the sums of totals, as far as they are counted
-pub sum_counted : (places : List Place) (most : ℕ) (table : BTreeMap Term ℕ) → AreSound places most table → (ns : List Term) (k : ℕ)
-    → SumBy (λ m a. entry table m ≡ Some a) ns k → (j : ℕ) × SumBy (HasTotal places) ns j × ((w : ℕ) → capped most (w + k) ≡ capped most (w + j))
-sum_counted places most table sound [] k h = (0, refl, λ w. ap (λ z. capped most (w + z)) h)
-sum_counted places most table sound (n ∷ ns) k h =
+pub sum_counted : (places : List Place) (most : ℕ) (numbers : BTreeMap Term ℕ) (known : List (Option ℕ)) → AreSound places most numbers known → (ns : List Term) (k : ℕ)
+    → SumBy (λ m a. total_known numbers known m ≡ Some a) ns k → (j : ℕ) × SumBy (HasTotal places) ns j × ((w : ℕ) → capped most (w + k) ≡ capped most (w + j))
+sum_counted places most numbers known sound [] k h = (0, refl, λ w. ap (λ z. capped most (w + z)) h)
+sum_counted places most numbers known sound (n ∷ ns) k h =
     let first = sound n h.0 h.2 in
-    let rest = sum_counted places most table sound ns h.1 h.3 in (
+    let rest = sum_counted places most numbers known sound ns h.1 h.3 in (
       first.0 + rest.0,
       (first.0, rest.0, first.1, rest.1, refl),
       λ w.

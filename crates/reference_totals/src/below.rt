@@ -1,10 +1,8 @@
 // The places in an order in which those to which a place refers come before it, where they don't lead back to it.
 
-use crate::Place;
+use crate::numbers::NumberedPlace;
 use collections::Sequence;
-use rdf_model::Term;
 use std::alloc::{AllocError, Global};
-use std::collections::{BTreeMap, BTreeSet};
 
 #[derive(Copy, Clone)]
 enum Visit {
@@ -14,41 +12,40 @@ enum Visit {
     Leave(usize),
 }
 
-// The index of the last place of each node.
-fn indices_of(alloc: Global, places: &[Place]) -> Result<BTreeMap<Term, usize>, AllocError> {
-    let mut indices = BTreeMap::new(alloc);
-    for (index, place) in places.iter().enumerate() {
-        let _ = indices.insert(place.node.clone()?, index)?;
-    }
-    Ok(indices)
-}
-
 // The places to which the place refers are next, and then the place itself.
 fn push_visits(
-    indices: &BTreeMap<Term, usize>,
-    place: &Place,
+    place: &NumberedPlace,
     index: usize,
     stack: &mut Vec<Visit>,
 ) -> Result<(), AllocError> {
     stack.push(Visit::Leave(index))?;
-    for node in place.to.as_slice() {
-        if let Some(next) = indices.get(node) {
-            stack.push(Visit::Enter(*next))?;
+    for next in place.to.as_slice() {
+        if let Some(number) = next {
+            stack.push(Visit::Enter(*number))?;
         }
     }
     Ok(())
 }
 
+// Marks the place, and says whether it wasn't marked before.
+fn mark(entered: &mut [bool], index: usize) -> bool {
+    let Some(is_entered) = entered.get_mut(index) else {
+        return false;
+    };
+    let is_new = !*is_entered;
+    *is_entered = true;
+    is_new
+}
+
 fn enter(
-    places: &[Place],
-    indices: &BTreeMap<Term, usize>,
+    places: &[NumberedPlace],
     index: usize,
-    entered: &mut BTreeSet<usize>,
+    entered: &mut [bool],
     stack: &mut Vec<Visit>,
 ) -> Result<(), AllocError> {
-    if entered.insert(index)? {
+    if mark(entered, index) {
         if let Some(place) = places.get(index) {
-            push_visits(indices, place, index, stack)?;
+            push_visits(place, index, stack)?;
         }
     }
     Ok(())
@@ -57,17 +54,16 @@ fn enter(
 // Adds what the place leads to, as far as it hasn't been entered.
 fn descend(
     alloc: Global,
-    places: &[Place],
-    indices: &BTreeMap<Term, usize>,
+    places: &[NumberedPlace],
     start: usize,
-    entered: &mut BTreeSet<usize>,
+    entered: &mut [bool],
     order: &mut Sequence<usize>,
 ) -> Result<(), AllocError> {
     let mut stack = Vec::new(alloc);
     stack.push(Visit::Enter(start))?;
     for _ in 0..u64::MAX {
         match stack.pop() {
-            Some(Visit::Enter(index)) => enter(places, indices, index, entered, &mut stack)?,
+            Some(Visit::Enter(index)) => enter(places, index, entered, &mut stack)?,
             Some(Visit::Leave(index)) => order.push(index)?,
             None => break,
         }
@@ -76,12 +72,14 @@ fn descend(
 }
 
 /// The indices of the places. That each is there isn't ensured, nor is their order: both save time and no more.
-pub(crate) fn from_below(alloc: Global, places: &[Place]) -> Result<Sequence<usize>, AllocError> {
-    let indices = indices_of(alloc, places)?;
-    let mut entered = BTreeSet::new(alloc);
+pub(crate) fn from_below(
+    alloc: Global,
+    places: &[NumberedPlace],
+) -> Result<Sequence<usize>, AllocError> {
+    let mut entered = vec![in alloc; false; places.len()]?;
     let mut order = Sequence::new(alloc);
     for start in 0..places.len() {
-        descend(alloc, places, &indices, start, &mut entered, &mut order)?;
+        descend(alloc, places, start, entered.as_mut_slice(), &mut order)?;
     }
     Ok(order)
 }

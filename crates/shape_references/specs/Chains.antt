@@ -1,5 +1,5 @@
 -- Chains of references, from node to node.
-use Rattle.std.specs.Prelude.{◌≢◌, ◌↔◌, ℕ, zero, suc, List, [], ◌∷◌}
+use Rattle.std.specs.Prelude.{◌≡◌, ◌≢◌, ◌⊎◌, ◌↔◌, Bool, true, false, ℕ, zero, suc, List, [], ◌∷◌}
 use Rattle.std.specs.List.{Contains}
 use Rattle.std.specs.declared.cmp.Ordering.TheVariants.{Greater}
 use Rattle.rdf_model.specs.declared.term.Term.{Term}
@@ -31,6 +31,15 @@ IsJoined g a b = (p : Term) × Has g a p b
 
 abbrev pub HasLoopAt : List Triple → Term → Type 0
 HasLoopAt g n = IsOnLoop (IsJoined g) n
+
+-- from the object of the triple a chain leads to its subject, or it is its subject
+abbrev pub LeadsBack : List Triple → Triple → Type 0
+LeadsBack g t = (t.object ≡ t.subject) ⊎ LeadsTo (IsJoined g) t.object t.subject
+
+-- a loop is found at the subject of the triple, or there is none that begins with it
+abbrev pub TellsLoop : List Triple → Triple → Bool → Type 0
+TellsLoop g t true = HasLoopAt g t.subject
+TellsLoop g t false = LeadsBack g t → ⊥
 
 -- the first of the nodes from which a chain leads to themselves
 abbrev pub IsLeastOnLoop : List Triple → Term → Type 0

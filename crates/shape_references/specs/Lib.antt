@@ -1,4 +1,5 @@
 pub mod Chains
 pub mod Asking
+pub mod Steps
 pub mod Ranks
 pub mod Siblings

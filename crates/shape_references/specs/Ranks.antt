@@ -1,19 +1,17 @@
--- Ranks of nodes.
-use Rattle.std.specs.Prelude.{◌≤◌, ℕ, List, Option, Some, None}
+-- Ranks of nodes, by their numbers.
+use Rattle.std.specs.Prelude.{◌≤◌, ◌<◌, ℕ, List, Option, Some, None, length, get_or}
 use Rattle.std.specs.List.{Contains}
-use Rattle.std.specs.BTreeMap.{BTreeMap, get_by}
-use Rattle.rdf_model.specs.declared.term.Term.{Term}
-use Rattle.rdf_model.specs.declared.triple.Triple.{Triple}
-use Rattle.rdf_model.specs.Terms.{term_cmp}
+use Rattle.shape_references.specs.declared.steps.Step.{Step}
 
-abbrev pub number_of : Option ℕ → ℕ
-number_of None = 0
-number_of (Some n) = n
+-- the rank at the number; that of a node without a number is above all others
+abbrev pub rank_in : List ℕ → Option ℕ → ℕ
+rank_in ranks None = length ranks
+rank_in ranks (Some i) = get_or ranks i 0
 
--- the rank of the node, and 0 where it has none
-abbrev pub rank_in : BTreeMap Term ℕ → Term → ℕ
-rank_in ranks n = number_of (get_by (term_cmp n) ranks)
+-- no step leads to a lower rank
+abbrev pub AreLevel : List Step → List ℕ → Type 0
+AreLevel steps ranks = (s : Step) → Contains steps s → rank_in ranks s.from ≤ rank_in ranks s.to
 
--- no triple leads to a lower rank
-abbrev pub AreLevel : List Triple → BTreeMap Term ℕ → Type 0
-AreLevel g ranks = (t : Triple) → Contains g t → rank_in ranks t.subject ≤ rank_in ranks t.object
+-- the step leads to a higher rank
+abbrev pub Rises : List ℕ → Step → Type 0
+Rises ranks s = rank_in ranks s.from < rank_in ranks s.to

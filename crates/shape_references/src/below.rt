@@ -1,102 +1,72 @@
-// The nodes of a graph in an order in which those that a node refers to come before it, where they don't lead back to it.
-ghost use Rattle.std.specs.Prelude.{◌≡◌, ◌⊎◌, IfOk, OnOk};
-ghost use Rattle.std.specs.List.{Contains};
-ghost use Rattle.collections.specs.Ordered.{IsAscending};
-ghost use Rattle.rdf_model.specs.declared.term.Term.{Term as TermData};
-ghost use Rattle.rdf_model.specs.Terms.{triple_cmp};
-ghost use Rattle.shape_syntax.specs.Subjects.{IsSubject};
+// The numbers of a graph's nodes in an order in which those that a node refers to come before it, where they don't lead
+// back to it.
 
+use crate::steps::{Step, mark};
 use collections::Sequence;
-use rdf_model::{Term, Triple};
-use shape_syntax::lookup::triples_of;
 use std::alloc::{AllocError, Global};
-use std::collections::BTreeSet;
 
-#[derive(Drop)]
+#[derive(Copy, Clone)]
 enum Visit {
     // A node that may not have been entered.
-    Enter(Term),
+    Enter(usize),
     // One of which what it refers to has been left.
-    Leave(Term),
+    Leave(usize),
 }
 
-// What the node refers to is next, and then the node itself.
-fn push_visits(graph: &[Triple], node: &Term, stack: &mut Vec<Visit>) -> Result<(), AllocError>
-    requires { IsAscending triple_cmp graph.now }
-{
-    stack.push(Visit::Leave(node.clone()?))?;
-    for triple in triples_of(graph, node) {
-        stack.push(Visit::Enter(triple.object.clone()?))?;
+fn starts_at(step: Step, number: usize) -> bool {
+    match step.from {
+        Some(from) => from == number,
+        None => false,
     }
-    Ok(())
 }
 
-fn enter(
-    graph: &[Triple],
-    node: Term,
-    entered: &mut BTreeSet<Term>,
-    stack: &mut Vec<Visit>,
-) -> Result<(), AllocError>
-    requires { IsAscending triple_cmp graph.now }
-{
-    if entered.insert(node.clone()?)? {
-        return push_visits(graph, &node, stack);
-    }
-    Ok(())
-}
-
-fn perform(
-    graph: &[Triple],
-    visit: Visit,
-    entered: &mut BTreeSet<Term>,
-    stack: &mut Vec<Visit>,
-    nodes: &mut Sequence<Term>,
-) -> Result<(), AllocError>
-    requires { IsAscending triple_cmp graph.now }
-    ensures { OnOk result ((n : TermData) → Contains nodes.old n → Contains nodes.new n) }
-{
-    match visit {
-        Visit::Enter(node) => {
-            enter(graph, node, entered, stack)?;
-            Ok(())
+// What the node refers to is next, and then the node itself. Its steps stand together from the first, which has its number.
+fn push_visits(steps: &[Step], number: usize, stack: &mut Vec<Visit>) -> Result<(), AllocError> {
+    stack.push(Visit::Leave(number))?;
+    for index in number..steps.len() {
+        let step = steps[index];
+        if !starts_at(step, number) {
+            break;
         }
-        Visit::Leave(node) => {
-            nodes.push(node)?;
-            Ok(())
+        if let Some(next) = step.to {
+            stack.push(Visit::Enter(next))?;
         }
     }
+    Ok(())
 }
 
 // Adds what the node leads to, as far as it hasn't been entered.
 fn descend(
     alloc: Global,
-    graph: &[Triple],
-    start: &Term,
-    entered: &mut BTreeSet<Term>,
-    nodes: &mut Sequence<Term>,
-) -> Result<(), AllocError>
-    requires { IsAscending triple_cmp graph.now }
-    ensures { OnOk result ((n : TermData) → Contains nodes.old n → Contains nodes.new n) }
-{
+    steps: &[Step],
+    start: usize,
+    entered: &mut [bool],
+    order: &mut Sequence<usize>,
+) -> Result<(), AllocError> {
     let mut stack = Vec::new(alloc);
-    stack.push(Visit::Enter(start.clone()?))?;
+    stack.push(Visit::Enter(start))?;
     for _ in 0..u64::MAX {
-        let Some(visit) = stack.pop() else {
-            break;
-        };
-        perform(graph, visit, entered, &mut stack, nodes)?;
+        match stack.pop() {
+            Some(Visit::Enter(number)) => {
+                if mark(entered, number) {
+                    push_visits(steps, number, &mut stack)?;
+                }
+            }
+            Some(Visit::Leave(number)) => order.push(number)?,
+            None => break,
+        }
     }
     Ok(())
 }
 
-/// The nodes of the graph. That each is there isn't ensured, nor is their order: both save time and no more.
-pub(crate) fn from_below(alloc: Global, graph: &[Triple]) -> Result<Sequence<Term>, AllocError>
-    requires { IsAscending triple_cmp graph.now }
-{
-    let mut entered = BTreeSet::new(alloc);
-    let mut nodes = Sequence::new(alloc);
-    for triple in graph {
-        descend(alloc, graph, &triple.subject, &mut entered, &mut nodes)?;
+/// The numbers of the nodes. That each is there isn't ensured, nor is their order: both save time and no more.
+pub(crate) fn from_below(alloc: Global, steps: &[Step]) -> Result<Sequence<usize>, AllocError> {
+    let mut entered = vec![in alloc; false; steps.len()]?;
+    let mut order = Sequence::new(alloc);
+    for step in steps {
+        if let Some(start) = step.from {
+            descend(alloc, steps, start, entered.as_mut_slice(), &mut order)?;
+        }
     }
-    Ok(nodes)
+    Ok(order)
 }

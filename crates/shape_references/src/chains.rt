@@ -1,57 +1,47 @@
 //! The least node from which a chain of so many references leads.
-ghost use Rattle.std.specs.Prelude.{◌≡◌, ◌≢◌, ◌⊎◌, ◌↔◌, ◌<◌, IfOk, OnOk, MatchOption};
+ghost use Rattle.std.specs.Prelude.{◌≡◌, ◌≢◌, ◌⊎◌, ◌↔◌, ◌<◌, true, false, IfOk, OnOk, MatchOption, get_or, length};
 ghost use Rattle.std.specs.List.{Contains};
 ghost use Rattle.std.specs.declared.cmp.Ordering.TheVariants.{Greater};
 ghost use Rattle.rdf_model.specs.declared.term.Term.{Term as TermData};
 ghost use Rattle.rdf_model.specs.Terms.{term_cmp};
-ghost use Rattle.shape_syntax.specs.Gathering.{Gives};
-ghost use Rattle.shape_syntax.specs.Subjects.{IsSubject};
 ghost use Rattle.shape_references.specs.Chains.{AreWithChain, HasChain, IsJoined, IsLeastWithChain};
+ghost use Rattle.shape_references.specs.Steps.{IsAtMark};
 
-use crate::nodes::{is_in, put};
+use crate::marks::{is_marked, marks_with_chain};
+use crate::nodes::put;
+use crate::steps::steps_of;
 use rdf_model::{Term, Triple};
 use std::alloc::{AllocError, Global};
 use std::collections::BTreeSet;
 
-// The nodes from which one reference leads.
-fn subjects_of(alloc: Global, graph: &[Triple]) -> Result<BTreeSet<Term>, AllocError>
-    ensures { IfOk result (λ nodes. (n : TermData) → Contains nodes.keys n ↔ IsSubject graph.now n) }
-{
-    let mut nodes = BTreeSet::new(alloc);
-    for triple in graph {
-        put(&mut nodes, &triple.subject)?;
-    }
-    Ok(nodes)
-}
-
-// Puts in the triple's subject, if its object is one of the goals.
-fn put_before(
-    goals: &BTreeSet<Term>,
+// Puts in the subject of the triple at the index, if there is a mark.
+fn put_marked(
+    marks: &[bool],
+    index: usize,
     triple: &Triple,
     nodes: &mut BTreeSet<Term>,
 ) -> Result<(), AllocError>
     ensures { OnOk result ((n : TermData) → Contains nodes.new.keys n
-        ↔ (Contains nodes.old.keys n ⊎ (Contains goals.now.keys triple.now.object × (triple.now.subject ≡ n)))) }
+        ↔ (Contains nodes.old.keys n ⊎ ((get_or marks.now index false ≡ true) × (triple.now.subject ≡ n)))) }
 {
-    if is_in(goals, &triple.object) {
+    if is_marked(marks, Some(index)) {
         put(nodes, &triple.subject)?;
         return Ok(());
     }
     Ok(())
 }
 
-// The nodes that refer to one of the goals.
-fn nodes_before(
+// The nodes that stand at the marks.
+fn marked_nodes(
     alloc: Global,
     graph: &[Triple],
-    goals: &BTreeSet<Term>,
+    marks: &[bool],
 ) -> Result<BTreeSet<Term>, AllocError>
-    ensures { IfOk result (λ nodes. (n : TermData) → Contains nodes.keys n
-        ↔ Gives (λ t m. Contains goals.now.keys t.object × (t.subject ≡ m)) graph.now n) }
+    ensures { IfOk result (λ nodes. (n : TermData) → Contains nodes.keys n ↔ IsAtMark graph.now marks.now (length graph.now) n) }
 {
     let mut nodes = BTreeSet::new(alloc);
-    for triple in graph {
-        put_before(goals, triple, &mut nodes)?;
+    for (index, triple) in graph.iter().enumerate() {
+        put_marked(marks, index, triple, &mut nodes)?;
     }
     Ok(nodes)
 }
@@ -66,13 +56,9 @@ pub fn nodes_with_chain(
     requires { 0 < count }
     ensures { IfOk result (λ nodes. AreWithChain graph.now count nodes.keys) }
 {
-    let mut nodes = subjects_of(alloc, graph)?;
-    for _length in 1..count {
-        if nodes.is_empty() {
-            return Ok(nodes);
-        }
-        nodes = nodes_before(alloc, graph, &nodes)?;
-    }
+    let steps = steps_of(alloc, graph)?;
+    let marks = marks_with_chain(alloc, steps.as_slice(), count)?;
+    let nodes = marked_nodes(alloc, graph, marks.as_slice())?;
     Ok(nodes)
 }
 

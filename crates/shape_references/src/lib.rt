@@ -3,7 +3,7 @@
 //!
 //! `least_on_loop` takes an ascending graph whose triples are references, and ensures exactly the least node from
 //! which a chain leads to itself, or that there is none. Ranks show of the others that none leads to them, so that
-//! one node is searched. `nodes_with_chain` ensures as exactly the nodes from which a chain of so many references
+//! one node is searched; they are found by numbers of the nodes. `nodes_with_chain` ensures as exactly the nodes from which a chain of so many references
 //! leads, and `least_with_chain` the least of them. `push_siblings` ensures exactly a shape's siblings.
 #![tactic(auto)]
 
@@ -11,9 +11,11 @@ mod below;
 mod chains;
 mod leading;
 mod loops;
+mod marks;
 mod nodes;
 mod ranks;
 mod siblings;
+mod steps;
 
 pub use chains::{least_with_chain, nodes_with_chain};
 pub use loops::least_on_loop;

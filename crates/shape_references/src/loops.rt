@@ -1,98 +1,119 @@
 //! The least node from which a chain leads to itself.
-ghost use Rattle.std.specs.Prelude.{◌↔◌, IsTrue, IfOk, OnOk, MatchOption};
-ghost use Rattle.std.specs.List.{Contains};
-ghost use Rattle.collections.specs.Listings.{IsListing};
+ghost use Rattle.std.specs.Prelude.{◌≡◌, ◌↔◌, ◌<◌, Some, IsTrue, IfOk, OnOk, MatchOption, length, slice_get};
 ghost use Rattle.collections.specs.Ordered.{IsAscending};
 ghost use Rattle.rdf_model.specs.declared.term.Term.{Term as TermData};
-ghost use Rattle.rdf_model.specs.Terms.{term_cmp, triple_cmp};
-ghost use Rattle.shape_syntax.specs.Subjects.{IsSubject};
-ghost use Rattle.shape_references.specs.Chains.{HasLoopAt, IsLeastOnLoop};
+ghost use Rattle.rdf_model.specs.declared.triple.Triple.{Triple as TripleData};
+ghost use Rattle.rdf_model.specs.Terms.{triple_cmp};
+ghost use Rattle.shape_references.specs.Chains.{HasLoopAt, IsLeastOnLoop, TellsLoop};
 ghost use Rattle.shape_references.specs.Asking.{ArePending};
+ghost use Rattle.shape_references.specs.Steps.{AreSteps};
 ghost use Rattle.shape_references.specs.Ranks.{AreLevel};
 
 use crate::below::from_below;
 use crate::leading::leads_back;
-use crate::ranks::{are_level, is_apart, ranks_of};
-use collections::{Sequence, sorted_once};
+use crate::ranks::{are_level, ranks_of, rises};
+use crate::steps::{Step, steps_of};
+use collections::Sequence;
 use rdf_model::{Term, Triple};
-use shape_syntax::subjects::subjects;
 use std::alloc::{AllocError, Global};
-use std::collections::BTreeMap;
 
-fn push_nodes(nodes: &[Term], pending: &mut Sequence<Term>) -> Result<(), AllocError>
-    ensures { OnOk result ((n : TermData) → Contains nodes.now n → Contains pending.new n) }
-{
-    for node in nodes {
-        pending.push(node.clone()?)?;
+// Adds the subjects that stand at the numbers.
+fn push_numbered(
+    graph: &[Triple],
+    numbers: &[usize],
+    pending: &mut Sequence<Term>,
+) -> Result<(), AllocError> {
+    for number in numbers {
+        if let Some(triple) = graph.get(*number) {
+            pending.push(triple.subject.clone()?)?;
+        }
     }
     Ok(())
 }
 
+fn push_subjects(graph: &[Triple], pending: &mut Sequence<Term>) -> Result<(), AllocError>
+    ensures { OnOk result (ArePending graph.now pending.new) }
+{
+    for triple in graph {
+        pending.push(triple.subject.clone()?)?;
+    }
+    Ok(())
+}
+
+// Whether a chain leads from the node to itself. The subjects are asked in the order of `from_below`.
 fn is_on_loop(
     alloc: Global,
     graph: &[Triple],
-    ranks: &BTreeMap<Term, usize>,
-    level: bool,
-    pending: &[Term],
+    below: &[usize],
     node: &Term,
 ) -> Result<bool, AllocError>
-    requires graph { IsAscending triple_cmp graph.now }
-    requires level { IsTrue level → AreLevel graph.now ranks.now }
-    requires pending { ArePending graph.now pending.now }
+    requires { IsAscending triple_cmp graph.now }
     ensures { IfOk result (λ found. IsTrue found ↔ HasLoopAt graph.now node.now) }
 {
-    if is_apart(graph, ranks, level, node) {
+    let mut pending = Sequence::new(alloc);
+    push_numbered(graph, below, &mut pending)?;
+    push_subjects(graph, &mut pending)?;
+    leads_back(alloc, graph, pending.as_slice(), node)
+}
+
+// Whether a chain leads from the subject of the triple at the index to itself; not, where none begins with this triple.
+fn finds_loop(
+    alloc: Global,
+    graph: &[Triple],
+    steps: &[Step],
+    ranks: &[usize],
+    level: bool,
+    below: &[usize],
+    index: usize,
+) -> Result<bool, AllocError>
+    requires graph { IsAscending triple_cmp graph.now }
+    requires steps { AreSteps graph.now steps.now }
+    requires level { IsTrue level → AreLevel steps.now ranks.now }
+    requires index { index < length graph.now }
+    ensures { IfOk result (λ found. (t : TripleData) → slice_get graph.now index ≡ Some t → TellsLoop graph.now t found) }
+{
+    if level && rises(ranks, steps[index]) {
         return Ok(false);
     }
-    leads_back(alloc, graph, pending, node)
+    let found = is_on_loop(alloc, graph, below, &graph[index].subject)?;
+    Ok(found)
 }
 
 // The first of the subjects from which a chain leads to itself.
 fn first_on_loop<'a>(
     alloc: Global,
-    graph: &[Triple],
-    ranks: &BTreeMap<Term, usize>,
-    pending: &[Term],
-    nodes: &'a [Term],
+    graph: &'a [Triple],
+    steps: &[Step],
+    ranks: &[usize],
+    below: &[usize],
 ) -> Result<Option<&'a Term>, AllocError>
     requires graph { IsAscending triple_cmp graph.now }
-    requires pending { ArePending graph.now pending.now }
-    requires nodes { IsListing term_cmp (IsSubject graph.now) nodes.now }
+    requires steps { AreSteps graph.now steps.now }
     ensures { IfOk result (λ found. MatchOption found ((n : TermData) → HasLoopAt graph.now n → ⊥) (λ n. IsLeastOnLoop graph.now n.now)) }
 {
-    let level = are_level(graph, ranks);
-    for node in nodes {
-        let found = is_on_loop(alloc, graph, ranks, level, pending, node)?;
+    let level = are_level(steps, ranks);
+    for (index, triple) in graph.iter().enumerate() {
+        let found = finds_loop(alloc, graph, steps, ranks, level, below, index)?;
         if found {
-            return Ok(Some(node));
+            return Ok(Some(&triple.subject));
         }
     }
     Ok(None)
 }
 
-fn sorted_subjects(alloc: Global, graph: &[Triple]) -> Result<Vec<Term>, AllocError>
-    ensures { IfOk result (λ nodes. IsListing term_cmp (IsSubject graph.now) nodes.items) }
-{
-    let found = subjects(alloc, graph)?;
-    let sorted = sorted_once(found.into_vec())?;
-    Ok(sorted)
-}
-
-// The least of the subjects on a loop, which are asked in the order of `from_below`.
-fn least_among(
+// The least node on a loop, as ranks show it. The nodes stand in the order of `from_below`.
+fn least_by_ranks(
     alloc: Global,
     graph: &[Triple],
-    ranks: &BTreeMap<Term, usize>,
-    below: Sequence<Term>,
-    nodes: &[Term],
+    steps: &[Step],
+    below: &[usize],
 ) -> Result<Option<Term>, AllocError>
     requires graph { IsAscending triple_cmp graph.now }
-    requires nodes { IsListing term_cmp (IsSubject graph.now) nodes.now }
+    requires steps { AreSteps graph.now steps.now }
     ensures { IfOk result (λ found. MatchOption found ((n : TermData) → HasLoopAt graph.now n → ⊥) (λ n. IsLeastOnLoop graph.now n)) }
 {
-    let mut pending = below;
-    push_nodes(nodes, &mut pending)?;
-    match first_on_loop(alloc, graph, ranks, pending.as_slice(), nodes)? {
+    let ranks = ranks_of(alloc, steps, below)?;
+    match first_on_loop(alloc, graph, steps, ranks.as_slice(), below)? {
         Some(node) => Ok(Some(node.clone()?)),
         None => Ok(None),
     }
@@ -103,8 +124,7 @@ pub fn least_on_loop(alloc: Global, graph: &[Triple]) -> Result<Option<Term>, Al
     requires { IsAscending triple_cmp graph.now }
     ensures { IfOk result (λ found. MatchOption found ((n : TermData) → HasLoopAt graph.now n → ⊥) (λ n. IsLeastOnLoop graph.now n)) }
 {
-    let below = from_below(alloc, graph)?;
-    let ranks = ranks_of(alloc, graph, below.as_slice())?;
-    let nodes = sorted_subjects(alloc, graph)?;
-    least_among(alloc, graph, &ranks, below, nodes.as_slice())
+    let steps = steps_of(alloc, graph)?;
+    let below = from_below(alloc, steps.as_slice())?;
+    least_by_ranks(alloc, graph, steps.as_slice(), below.as_slice())
 }

@@ -218,8 +218,8 @@ fn is_property(term: &Term) -> bool
     is_named(term, "http://www.w3.org/ns/shacl#property")
 }
 
-/// The triple turned round.
-pub(crate) fn turn_of(triple: &Triple) -> Result<Triple, AllocError>
+// The triple turned round.
+fn turn_of(triple: &Triple) -> Result<Triple, AllocError>
     ensures { IfOk result (λ turn. turn ≡ record { subject = triple.now.object; predicate = triple.now.predicate; object = triple.now.subject }) }
 {
     Ok(Triple {

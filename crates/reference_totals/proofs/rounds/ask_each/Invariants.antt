@@ -3,4 +3,4 @@ use Rattle.reference_totals.specs.Rounds.{WereAsked}
 use Rattle.reference_totals.proofs.rounds.ask_each.Given as goal
 
 abbrev pub invariant-loop-index : goal.invariant-loop-index
-invariant-loop-index l = WereAsked l.places l.most l.index-index (take l.index-index l.waiting) l.fn.table l.table l.left
+invariant-loop-index l = WereAsked l.places l.most l.index-index (take l.index-index l.waiting) l.fn.known l.known l.left

@@ -1,6 +1,7 @@
 use Rattle.std.proofs.Common.{◌≡◌, ◌+◌, ℕ, take, Some}
-use Rattle.reference_totals.specs.Totals.{SumBy, capped, entry}
+use Rattle.reference_totals.specs.Totals.{SumBy, capped}
+use Rattle.reference_totals.specs.Rounds.{total_in}
 use Rattle.reference_totals.proofs.sums.shown_total.Given as goal
 
-abbrev pub invariant-loop-node : goal.invariant-loop-node
-invariant-loop-node l = (k : ℕ) × SumBy (λ m a. entry l.table m ≡ Some a) (take l.node-index l.place.to) k × (l.sum ≡ capped l.most (l.place.own + k))
+abbrev pub invariant-loop-number : goal.invariant-loop-number
+invariant-loop-number l = (k : ℕ) × SumBy (λ j a. total_in l.known j ≡ Some a) (take l.number-index l.place.to) k × (l.sum ≡ capped l.most (l.place.own + k))
