@@ -10,7 +10,7 @@ use Rattle.rdf_model.specs.declared.term.Term.{Term}
 use Rattle.rdf_model.specs.Orders.{term_total}
 use Rattle.rdf_model.specs.Terms.{term_cmp}
 use Rattle.shape_model.specs.Instances.{class_path}
-use Rattle.shape_rules.specs.Sizes.{CountsIf}
+use Rattle.shape_sizes.specs.Sizes.{CountsIf}
 use Rattle.shape_ast.specs.declared.target.Target.{Target}
 use Rattle.shape_ast.specs.declared.target.Target.TheVariants.{Node, Class, ImplicitClass, SubjectsOf, ObjectsOf}
 use Rattle.read_plans.specs.ShapeRows.{target_rows}

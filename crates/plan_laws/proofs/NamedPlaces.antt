@@ -10,7 +10,7 @@ use Rattle.rdf_model.specs.declared.triple.Triple.{Triple}
 use Rattle.shape_model.specs.Components.{parameter_of}
 use Rattle.shape_model.specs.ShapeSyntax.{ListOf}
 use Rattle.shape_model.specs.Vocabulary.{ShAnd, ShNode, ShNot, ShOr, ShXone, ShapeProperty}
-use Rattle.shape_rules.specs.Sizes.{AreMembersOf}
+use Rattle.shape_sizes.specs.Sizes.{AreMembersOf}
 use Rattle.shape_ast.specs.declared.component.TermComponent.{TermComponent}
 use Rattle.shape_ast.specs.declared.component.TermComponent.TheVariants as by_term
 use Rattle.shape_ast.specs.declared.component.ListComponent.{ListComponent}

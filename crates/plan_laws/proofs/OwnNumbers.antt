@@ -21,7 +21,7 @@ use Rattle.shape_model.specs.ShapeSyntax.{HasProperty, PathOf}
 use Rattle.shape_model.specs.Vocabulary.{ShClass, ShClosed, ShDisjoint, ShEquals, ShLessThan, ShLessThanOrEquals, ShPath, property_iri, true_literal}
 use Rattle.shape_model.proofs.Declarations.{values_law}
 use Rattle.reference_totals.specs.Totals.{SumBy}
-use Rattle.shape_rules.specs.Sizes.{CountsIf, HasPathLooks, looks_of}
+use Rattle.shape_sizes.specs.Sizes.{CountsIf, HasPathLooks, looks_of}
 use Rattle.shape_ast.specs.declared.component.TermComponent.TheVariants as by_term
 use Rattle.shape_ast.specs.declared.component.ListComponent.TheVariants as by_list
 use Rattle.shape_ast.specs.declared.component.ShapeComponent.TheVariants as by_shape

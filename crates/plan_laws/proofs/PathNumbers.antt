@@ -4,7 +4,7 @@ use Rattle.std.specs.Prelude.{Bool, true, false}
 use Rattle.std.proofs.lemmas.List.{length-append}
 use Rattle.shape_model.specs.Looks.{turn, turn_all}
 use Rattle.shape_model.specs.Paths.{Also, Alternative, Inverse, Last, OneOrMore, Path, Paths, Predicate, Sequence, ZeroOrMore, ZeroOrOne}
-use Rattle.shape_rules.specs.Sizes.{looks_of, looks_of_all}
+use Rattle.shape_sizes.specs.Sizes.{looks_of, looks_of_all}
 use Rattle.read_plans.specs.PathRows.{path_rows, some_rows, through_rows}
 
 mutual

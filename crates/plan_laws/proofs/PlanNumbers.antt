@@ -23,8 +23,8 @@ use Rattle.shape_model.proofs.Declarations.{values_law}
 use Rattle.shape_model.proofs.Surroundings.{reading_back, refers_same}
 use Rattle.reference_totals.specs.Totals.{SumBy}
 use Rattle.shape_rules.specs.Broken.{IsWellFormed}
-use Rattle.shape_rules.specs.Sizes.{AreCounted, AreMembersOf, AreQualified, HasOwnLooks, HasQualifiedCount, HasTargetLooks, IsDeactivated, values}
-use Rattle.shape_rules.specs.declared.property.ShapeProperty.TheVariants as properties
+use Rattle.shape_sizes.specs.Sizes.{AreCounted, AreMembersOf, AreQualified, HasOwnLooks, HasQualifiedCount, HasTargetLooks, IsDeactivated, values}
+use Rattle.shape_properties.specs.declared.property.ShapeProperty.TheVariants as properties
 use Rattle.shape_ast.specs.declared.constraint.Constraint.{Constraint}
 use Rattle.shape_ast.specs.declared.constraint.Constraint.TheVariants.{ByList, ByShape, ByShapes, ByTerm}
 use Rattle.shape_ast.specs.declared.target.Target.TheVariants.{Class, ImplicitClass, ObjectsOf, SubjectsOf}

@@ -9,11 +9,11 @@ use Rattle.rdf_model.specs.declared.triple.Triple.{Triple}
 use Rattle.shape_model.specs.Paths.{Path}
 use Rattle.shape_model.specs.Readings.{IsShallow, References, reading}
 use Rattle.shape_rules.specs.Broken.{IsWellFormed}
-use Rattle.shape_rules.specs.References.{chain_limit}
+use Rattle.shape_sizes.specs.References.{chain_limit}
 use Rattle.shape_rules.specs.Rows.{row}
-use Rattle.shape_rules.specs.Sizes.{AreReferred, IsLookWeight, WeighsBy}
-use Rattle.shape_rules.specs.Sizes as rules
-use Rattle.shape_rules.specs.Syntax.{IsShape}
+use Rattle.shape_sizes.specs.Sizes.{AreReferred, IsLookWeight, WeighsBy}
+use Rattle.shape_sizes.specs.Sizes as rules
+use Rattle.shape_properties.specs.Syntax.{IsShape}
 use Rattle.shape_rules.proofs.Shallow.{shallow}
 use Rattle.shape_ast.specs.declared.shape.Shape.{Shape}
 use Rattle.shape_ast.specs.Readings.{HoldsOfShape, ReadShape, read_shape, read_shapes}

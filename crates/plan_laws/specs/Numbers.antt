@@ -4,7 +4,7 @@ use Rattle.rdf_model.specs.declared.term.Term.{Term}
 use Rattle.rdf_model.specs.declared.triple.Triple.{Triple}
 use Rattle.shape_model.specs.Paths.{Path}
 use Rattle.shape_rules.specs.Broken.{IsWellFormed}
-use Rattle.shape_rules.specs.Sizes.{HasLooks, looks_of}
+use Rattle.shape_sizes.specs.Sizes.{HasLooks, looks_of}
 use Rattle.shape_ast.specs.declared.shape.Shape.{Shape}
 use Rattle.shape_ast.specs.Readings.{ReadShape, read_shapes}
 use Rattle.shape_ast.specs.Standing.{AreCompiled}

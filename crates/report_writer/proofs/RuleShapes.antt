@@ -5,11 +5,11 @@ use Rattle.rdf_model.specs.declared.triple.Triple.{Triple}
 use Rattle.shape_model.specs.Vocabulary.{ShapeProperty, property_iri, ShClass, ShDatatype, ShNodeKind, ShMinCount, ShMaxCount, ShMinExclusive, ShMinInclusive, ShMaxExclusive, ShMaxInclusive, ShMinLength, ShMaxLength, ShPattern, ShFlags, ShLanguageIn, ShUniqueLang, ShEquals, ShDisjoint, ShLessThan, ShLessThanOrEquals, ShNot, ShAnd, ShOr, ShXone, ShNode, ShProperty, ShQualifiedValueShape, ShQualifiedMinCount, ShQualifiedMaxCount, ShQualifiedValueShapesDisjoint, ShClosed, ShIgnoredProperties, ShHasValue, ShIn, ShDeactivated, ShPath, ShTargetNode, ShTargetClass, ShTargetSubjectsOf, ShTargetObjectsOf}
 use Rattle.shape_model.specs.ShapeSyntax.{HasProperty, IsShape, ListOf, MakesShape, TakesShape, TakesShapes}
 use Rattle.shape_model.specs.Triples.{Has, IsMember}
-use Rattle.shape_rules.specs.declared.property.ShapeProperty.{ShapeProperty as RuleProperty}
-use Rattle.shape_rules.specs.declared.property.ShapeProperty.TheVariants as properties
-use Rattle.shape_rules.specs.Properties.{property_iri as rule_iri}
-use Rattle.shape_rules.specs.Table.{role}
-use Rattle.shape_rules.specs.Syntax.{IsTaken, makes_shape, IsShape as IsRuleShape}
+use Rattle.shape_properties.specs.declared.property.ShapeProperty.{ShapeProperty as RuleProperty}
+use Rattle.shape_properties.specs.declared.property.ShapeProperty.TheVariants as properties
+use Rattle.shape_properties.specs.Properties.{property_iri as rule_iri}
+use Rattle.shape_properties.specs.Table.{role}
+use Rattle.shape_properties.specs.Syntax.{IsTaken, makes_shape, IsShape as IsRuleShape}
 
 -- the property is one of the rules that makes its subject a shape
 makes : (p : ShapeProperty) → MakesShape p → (q : RuleProperty) × (property_iri p ≡ rule_iri q) × IsTrue (makes_shape (role q))

@@ -9,9 +9,9 @@ use Rattle.shape_model.specs.ShapeSyntax.{HasProperty, IsShape, PathOf}
 use Rattle.shape_model.specs.Vocabulary.{ShPath}
 use Rattle.shape_syntax.specs.PathDepth.{depth_of}
 use Rattle.shape_syntax.proofs.Equals.{same_unless}
-use Rattle.shape_rules.specs.declared.property.ShapeProperty.TheVariants as properties
+use Rattle.shape_properties.specs.declared.property.ShapeProperty.TheVariants as properties
 use Rattle.shape_rules.specs.Broken.{IsWellFormed}
-use Rattle.shape_rules.specs.Properties.{property_iri}
+use Rattle.shape_properties.specs.Properties.{property_iri}
 use Rattle.shape_rules.specs.Rows.{row}
 use Rattle.report_writer.specs.GraphPaths.{level_limit}
 use Rattle.report_writer.proofs.RuleShapes.{rule_shape}

@@ -7,9 +7,9 @@ use Rattle.rdf_model.specs.declared.triple.Triple.{Triple}
 use Rattle.rdf_model.specs.Terms.{triple_cmp}
 use Rattle.compiled_paths.specs.declared.path.Path.{Path}
 use Rattle.shape_model.specs.Vocabulary.{true_literal}
-use Rattle.shape_rules.specs.declared.property.ShapeProperty.TheVariants as vocabulary
+use Rattle.shape_properties.specs.declared.property.ShapeProperty.TheVariants as vocabulary
 use Rattle.shape_rules.specs.Broken.{IsWellFormed}
-use Rattle.shape_rules.specs.Syntax.{HasProperty, IsShape}
+use Rattle.shape_properties.specs.Syntax.{HasProperty, IsShape}
 use Rattle.shape_ast.specs.declared.constraint.Constraint.{Constraint}
 use Rattle.shape_ast.specs.declared.pattern.Pattern.{Pattern}
 use Rattle.shape_ast.specs.declared.shape.Shape.{Shape}

@@ -1,23 +1,19 @@
 -- What was gathered says what the triples of a node say.
-use Rattle.std.proofs.Common.{◌≡◌, ℕ, List, [], Option, Some, refl, subst, arith, inl, inr}
+use Rattle.std.proofs.Common.{◌≡◌, ℕ, List, [], Option, Some, subst, arith, inl, inr}
 use Rattle.std.specs.Prelude.{◌↔◌, ◌⊎◌}
 use Rattle.std.specs.List.{Contains}
 use Rattle.rdf_model.specs.declared.term.Term.{Term}
 use Rattle.rdf_model.specs.declared.triple.Triple.{Triple}
 use Rattle.shape_model.specs.Readings.{Sibling}
-use Rattle.shape_model.specs.ShapeSyntax.{IsShape, ListOf}
+use Rattle.shape_model.specs.ShapeSyntax.{ListOf}
 use Rattle.shape_model.specs.Triples.{IsMember}
-use Rattle.shape_model.specs.Vocabulary.{rdf_type}
 use Rattle.shape_syntax.proofs.Lists.{one_list}
 use Rattle.shape_syntax.proofs.Scans.{contains_member, member_contains}
-use Rattle.shape_rules.specs.declared.property.ShapeProperty.{ShapeProperty}
-use Rattle.shape_rules.specs.declared.property.ShapeProperty.TheVariants as vocabulary
-use Rattle.shape_rules.specs.Properties.{property_iri}
-use Rattle.shape_rules.specs.Syntax.{HasProperty, IsTaken, IsShape as IsRuleShape}
-use Rattle.shape_syntax.specs.Gathering.{Gives, HasGathered}
-use Rattle.shape_syntax.specs.Subjects.{IsSubject}
-use Rattle.shape_reader.specs.Parts.{HasOne, HasPlace, HasSibling, IsIgnored, IsPlace, IsShapeAt}
-use Rattle.shape_reader.proofs.Names.{shape_same}
+use Rattle.shape_properties.specs.declared.property.ShapeProperty.{ShapeProperty}
+use Rattle.shape_properties.specs.declared.property.ShapeProperty.TheVariants as vocabulary
+use Rattle.shape_properties.specs.Syntax.{HasProperty}
+use Rattle.shape_syntax.specs.Gathering.{Gives}
+use Rattle.shape_reader.specs.Parts.{HasOne, HasPlace, HasSibling, IsIgnored, IsPlace}
 
 module _ (s : List Triple) (nodes : List Term) (n : Term) where
   pub values_placed : (p : ShapeProperty) (found : List Term) (ks : List ℕ) → ((v : Term) → Contains found v ↔ HasProperty s n p v) → ((k : ℕ) → Contains ks k ↔ Gives (λ (t : Term) (j : ℕ). IsPlace nodes j t) found k) → (k : ℕ) → Contains ks k ↔ HasPlace s nodes n p k
@@ -48,24 +44,3 @@ module _ (s : List Triple) (nodes : List Term) (n : Term) where
 
   pub ignored_none : ((t : Term) → IsIgnored s n t → ⊥) → (t : Term) → Contains [] t ↔ IsIgnored s n t
   ignored_none lacks t = (λ c. absurd (let l = c.1 in omega arith), λ g. absurd (lacks t g))
-
--- the nodes that are shapes are subjects that are, or are taken
-pub all_nodes : (s : List Triple) (taken found nodes : List Term) → ((n : Term) → Contains taken n ↔ IsTaken s n) → ((n : Term) → Contains found n ↔ IsSubject s n) → HasGathered (IsShapeAt s) found taken nodes → (n : Term) → Contains nodes n ↔ IsShape s n
-all_nodes s taken found nodes is_taken is_found all n = (
-  λ c. (shape_same s n).0 (elim ((all n).0 c) [
-    | inl t ↦ inr (inr (inr ((is_taken n).0 t)))
-    | inr g ↦ g.2.1
-  ]),
-  λ h. let k = (shape_same s n).1 h in (all n).1 (from k k),
-)
-  where
-    at : (p v : Term) → Contains s (record { subject = n; predicate = p; object = v }) → IsRuleShape s n → Gives (IsShapeAt s) found n
-    at p v c h = (n, (is_found n).1 (record { subject = n; predicate = p; object = v }, c, refl), (refl, h))
-
-    from : IsRuleShape s n → IsRuleShape s n → Contains taken n ⊎ Gives (IsShapeAt s) found n
-    from h k = elim h [
-      | inl i ↦ inr (at rdf_type i.0 i.1 k)
-      | inr (inl i) ↦ inr (at rdf_type i.0 i.1 k)
-      | inr (inr (inl m)) ↦ inr (at (property_iri m.0) m.1 m.2 k)
-      | inr (inr (inr t)) ↦ inl ((is_taken n).1 t)
-    ]

@@ -19,13 +19,13 @@ use Rattle.compiled_paths.specs.PathReadings.{HasEach, HoldsOfAll, HoldsOfEach, 
 use Rattle.compiled_paths.proofs.Names.{each_named}
 use Rattle.shape_syntax.proofs.Items.{get_within}
 use Rattle.shape_syntax.proofs.Scans.{contains_member, has_cases}
-use Rattle.shape_rules.specs.declared.property.ShapeProperty.{ShapeProperty}
-use Rattle.shape_rules.specs.declared.property.ShapeProperty.TheVariants as properties
-use Rattle.shape_rules.specs.Properties.{property_iri}
-use Rattle.shape_rules.specs.Syntax.{HasProperty, IsShape, Takes}
-use Rattle.shape_rules.specs.Table.{role}
-use Rattle.shape_rules.specs.declared.table.Role.{Role}
-use Rattle.shape_rules.specs.declared.table.Role.TheVariants as roles
+use Rattle.shape_properties.specs.declared.property.ShapeProperty.{ShapeProperty}
+use Rattle.shape_properties.specs.declared.property.ShapeProperty.TheVariants as properties
+use Rattle.shape_properties.specs.Properties.{property_iri}
+use Rattle.shape_properties.specs.Syntax.{HasProperty, IsShape, Takes}
+use Rattle.shape_properties.specs.Table.{role}
+use Rattle.shape_properties.specs.declared.table.Role.{Role}
+use Rattle.shape_properties.specs.declared.table.Role.TheVariants as roles
 use Rattle.shape_ast.specs.declared.constraint.Constraint.{Constraint}
 use Rattle.shape_ast.specs.declared.constraint.Constraint.TheVariants.{ByTerm, ByList, ByShape, ByShapes}
 use Rattle.shape_ast.specs.declared.pattern.Pattern.{Pattern}

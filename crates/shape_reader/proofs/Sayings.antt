@@ -4,8 +4,8 @@ use Rattle.rdf_model.specs.declared.term.Term.{Term}
 use Rattle.rdf_model.specs.declared.triple.Triple.{Triple}
 use Rattle.shape_model.specs.Components.{parameter_of}
 use Rattle.shape_model.specs.Vocabulary.{property_iri}
-use Rattle.shape_rules.specs.declared.property.ShapeProperty.{ShapeProperty}
-use Rattle.shape_rules.specs.Properties.{property_iri as rule_iri}
+use Rattle.shape_properties.specs.declared.property.ShapeProperty.{ShapeProperty}
+use Rattle.shape_properties.specs.Properties.{property_iri as rule_iri}
 use Rattle.shape_ast.specs.declared.constraint.Constraint.{Constraint}
 use Rattle.shape_ast.specs.Readings.{component_of, parameter}
 use Rattle.shape_reader.specs.Once.{constraint_triple, value_triple}

@@ -20,11 +20,11 @@ use Rattle.shape_model.specs.Triples.{Has}
 use Rattle.shape_model.specs.Vocabulary.{ShapeProperty, sh, ShClass, ShDatatype, ShNodeKind, ShMinCount, ShMaxCount, ShMinExclusive, ShMinInclusive, ShMaxExclusive, ShMaxInclusive, ShMinLength, ShMaxLength, ShPattern, ShFlags, ShLanguageIn, ShUniqueLang, ShEquals, ShDisjoint, ShLessThan, ShLessThanOrEquals, ShNot, ShAnd, ShOr, ShXone, ShNode, ShProperty, ShQualifiedValueShape, ShQualifiedMinCount, ShQualifiedMaxCount, ShQualifiedValueShapesDisjoint, ShClosed, ShIgnoredProperties, ShHasValue, ShIn, ShDeactivated, ShPath, ShTargetNode, ShTargetClass, ShTargetSubjectsOf, ShTargetObjectsOf}
 use Rattle.shape_syntax.proofs.Items.{get_in, get_map, map_get, place_in}
 use Rattle.shape_syntax.proofs.Scans.{contains_member, image_from, image_of, member_contains}
-use Rattle.shape_rules.specs.declared.property.ShapeProperty.{ShapeProperty as RuleProperty}
-use Rattle.shape_rules.specs.declared.property.ShapeProperty.TheVariants as properties
+use Rattle.shape_properties.specs.declared.property.ShapeProperty.{ShapeProperty as RuleProperty}
+use Rattle.shape_properties.specs.declared.property.ShapeProperty.TheVariants as properties
 use Rattle.shape_rules.specs.Broken.{IsWellFormed}
-use Rattle.shape_rules.specs.Syntax.{Takes, HasProperty as HasRuleProperty, IsShape as IsRuleShape}
-use Rattle.shape_rules.specs.Table.{role, takes_one}
+use Rattle.shape_properties.specs.Syntax.{Takes, HasProperty as HasRuleProperty, IsShape as IsRuleShape}
+use Rattle.shape_properties.specs.Table.{role, takes_one}
 use Rattle.shape_syntax.proofs.OnePath.{one_path}
 use Rattle.shape_ast.specs.declared.component.TermComponent.TheVariants as by_term
 use Rattle.shape_ast.specs.declared.component.ListComponent.TheVariants as by_list

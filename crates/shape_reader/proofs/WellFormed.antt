@@ -10,15 +10,15 @@ use Rattle.shape_syntax.specs.PathDepth.{IsDeep, IsTooDeep}
 use Rattle.shape_syntax.specs.PathNodes.{IsPath}
 use Rattle.shape_syntax.specs.declared.reading.PathFault.{PathFault}
 use Rattle.shape_syntax.specs.declared.reading.PathFault.TheVariants as path_faults
-use Rattle.shape_rules.specs.declared.property.ShapeProperty.{ShapeProperty}
-use Rattle.shape_rules.specs.declared.property.ShapeProperty.TheVariants as properties
-use Rattle.shape_rules.specs.declared.table.Test.TheVariants as tests
+use Rattle.shape_properties.specs.declared.property.ShapeProperty.{ShapeProperty}
+use Rattle.shape_properties.specs.declared.property.ShapeProperty.TheVariants as properties
+use Rattle.shape_properties.specs.declared.table.Test.TheVariants as tests
 use Rattle.shape_rules.specs.Broken.{IsWellFormed, Passes}
-use Rattle.shape_rules.specs.Properties.{property_iri}
+use Rattle.shape_properties.specs.Properties.{property_iri}
 use Rattle.shape_rules.specs.Rows.{row}
-use Rattle.shape_rules.specs.Syntax.{HasProperty, IsShape}
-use Rattle.shape_rules.specs.Table.{of_value, takes_one}
-use Rattle.shape_rules.specs.Tests.{has_datatype, is_flags, xsd_string}
+use Rattle.shape_properties.specs.Syntax.{HasProperty, IsShape}
+use Rattle.shape_properties.specs.Table.{of_value, takes_one}
+use Rattle.shape_properties.specs.Tests.{has_datatype, is_flags, xsd_string}
 use Rattle.shape_reader.specs.Parts.{HasOne, HasTexts}
 use Rattle.shape_reader.proofs.Deciding.{list_unless}
 

@@ -1,6 +1,6 @@
 -- What a constraint keeps of a value of a parameter (SHACL section 4), by the property.
-use Rattle.shape_rules.specs.declared.property.ShapeProperty.{ShapeProperty}
-use Rattle.shape_rules.specs.declared.property.ShapeProperty.TheVariants as properties
+use Rattle.shape_properties.specs.declared.property.ShapeProperty.{ShapeProperty}
+use Rattle.shape_properties.specs.declared.property.ShapeProperty.TheVariants as properties
 use Rattle.shape_ast.specs.declared.component.TermComponent.TheVariants as by_term
 use Rattle.shape_ast.specs.declared.component.ListComponent.TheVariants as by_list
 use Rattle.shape_ast.specs.declared.component.ShapeComponent.TheVariants as by_shape

@@ -8,8 +8,8 @@ use Rattle.rdf_model.specs.declared.triple.Triple.{Triple}
 use Rattle.rdf_model.specs.Terms.{triple_cmp}
 use Rattle.shape_model.specs.Components.{parameter_of}
 use Rattle.shape_model.specs.Vocabulary.{property_iri, rdf_type, rdfs_class, ShTargetClass, ShTargetNode, ShTargetObjectsOf, ShTargetSubjectsOf}
-use Rattle.shape_rules.specs.declared.property.ShapeProperty.{ShapeProperty}
-use Rattle.shape_rules.specs.Properties.{property_iri as rule_iri}
+use Rattle.shape_properties.specs.declared.property.ShapeProperty.{ShapeProperty}
+use Rattle.shape_properties.specs.Properties.{property_iri as rule_iri}
 use Rattle.shape_ast.specs.declared.constraint.Constraint.{Constraint}
 use Rattle.shape_ast.specs.declared.shape.Shape.{Shape}
 use Rattle.shape_ast.specs.declared.target.Target.{Target}

@@ -13,9 +13,9 @@ use Rattle.shape_model.specs.Paths.{Path}
 use Rattle.shape_model.specs.Readings.{Sibling}
 use Rattle.shape_model.specs.ShapeSyntax.{ListOf, PathOf}
 use Rattle.shape_model.specs.Vocabulary.{rdfs_class, true_literal}
-use Rattle.shape_rules.specs.declared.property.ShapeProperty.{ShapeProperty}
-use Rattle.shape_rules.specs.declared.property.ShapeProperty.TheVariants as vocabulary
-use Rattle.shape_rules.specs.Syntax.{HasProperty, IsListed, SomeValue, IsShape as IsRuleShape}
+use Rattle.shape_properties.specs.declared.property.ShapeProperty.{ShapeProperty}
+use Rattle.shape_properties.specs.declared.property.ShapeProperty.TheVariants as vocabulary
+use Rattle.shape_properties.specs.Syntax.{HasProperty, IsListed, SomeValue}
 use Rattle.shape_ast.specs.declared.constraint.Constraint.{Constraint}
 use Rattle.shape_ast.specs.declared.constraint.Constraint.TheVariants.{ByTerm, ByList, ByShape, ByShapes}
 use Rattle.shape_ast.specs.declared.pattern.Pattern.{Pattern}
@@ -35,10 +35,6 @@ use Rattle.shape_reader.specs.Once.{AreDistinct, IsOnce, constraint_triple}
 use Rattle.shape_reader.specs.declared.kind.Kind.{Kind}
 use Rattle.shape_reader.specs.declared.kind.Kind.TheVariants as kinds
 use Rattle.shape_reader.specs.Kinds.{kind}
-
--- n is this node, which is a shape
-abbrev pub IsShapeAt : List Triple → Term → Term → Type 0
-IsShapeAt s m n = (m ≡ n) × IsRuleShape s n
 
 -- the term stands at this place of the nodes
 abbrev pub IsPlace : List Term → ℕ → Term → Type 0

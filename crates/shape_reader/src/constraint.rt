@@ -14,7 +14,7 @@ use crate::place::{place_of, places_of};
 use collections::Sequence;
 use rdf_model::{Term, Triple};
 use shape_ast::{Constraint, ListComponent, ShapeComponent, ShapesComponent};
-use shape_rules::ShapeProperty;
+use shape_properties::ShapeProperty;
 use shape_syntax::list::list_members;
 use std::alloc::{AllocError, Global};
 

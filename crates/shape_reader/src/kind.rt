@@ -2,7 +2,7 @@ ghost use Rattle.std.specs.Prelude.{◌≡◌};
 ghost use Rattle.shape_reader.specs.Kinds;
 
 use shape_ast::{ListComponent, ShapeComponent, ShapesComponent, TermComponent};
-use shape_rules::ShapeProperty;
+use shape_properties::ShapeProperty;
 
 /// What a constraint keeps of a value of its parameter, with the component.
 #[derive(Clone, Copy)]

@@ -9,7 +9,6 @@
 mod constraint;
 mod fault;
 mod kind;
-mod nodes;
 mod part;
 mod path;
 mod path_sizes;

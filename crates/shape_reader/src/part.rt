@@ -5,14 +5,14 @@ ghost use Rattle.collections.specs.Ordered.{IsAscending};
 ghost use Rattle.rdf_model.specs.declared.term.Term.{Term as TermData};
 ghost use Rattle.rdf_model.specs.declared.triple.Triple.{Triple as TripleData};
 ghost use Rattle.rdf_model.specs.Terms.{term_cmp, triple_cmp};
-ghost use Rattle.shape_rules.specs.declared.property.ShapeProperty.{ShapeProperty as PropertyData};
-ghost use Rattle.shape_rules.specs.Syntax.{SomeValue};
-ghost use Rattle.shape_rules.specs.Steps.{OfTriple};
+ghost use Rattle.shape_properties.specs.declared.property.ShapeProperty.{ShapeProperty as PropertyData};
+ghost use Rattle.shape_properties.specs.Syntax.{SomeValue};
+ghost use Rattle.shape_properties.specs.OfProperties.{OfTriple};
 ghost use Rattle.shape_reader.specs.Once.{MayAdd, value_triple};
 
 use collections::Sequence;
 use rdf_model::{Term, Triple};
-use shape_rules::{ShapeProperty, property_of};
+use shape_properties::{ShapeProperty, property_of};
 use shape_syntax::lookup::triples_of;
 use std::alloc::{AllocError, Global};
 

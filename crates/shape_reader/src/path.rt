@@ -6,13 +6,13 @@ ghost use Rattle.shape_syntax.specs.PathNodes.{ArePathNodes};
 ghost use Rattle.shape_syntax.specs.declared.reading.PathFault.TheVariants as path_faults;
 ghost use Rattle.shape_ast.specs.Readings.{read_optional_path};
 ghost use Rattle.shape_rules.specs.Broken.{IsWellFormed};
-ghost use Rattle.shape_rules.specs.Syntax.{IsShape};
+ghost use Rattle.shape_properties.specs.Syntax.{IsShape};
 ghost use Rattle.shape_reader.specs.Parts.{IsOptionalPath};
 
 use crate::values::value_of;
 use compiled_paths::Path;
 use rdf_model::{Term, Triple};
-use shape_rules::ShapeProperty;
+use shape_properties::ShapeProperty;
 use shape_syntax::{PathFault, read_path};
 use std::alloc::{AllocError, Global};
 use std::collections::BTreeSet;

@@ -4,7 +4,7 @@ ghost use Rattle.std.specs.Arc.{arc_value};
 ghost use Rattle.collections.specs.Ordered.{IsAscending};
 ghost use Rattle.literal_order.specs.Texts.{string_value};
 ghost use Rattle.rdf_model.specs.Terms.{triple_cmp};
-ghost use Rattle.shape_rules.specs.declared.property.ShapeProperty.TheVariants as properties;
+ghost use Rattle.shape_properties.specs.declared.property.ShapeProperty.TheVariants as properties;
 ghost use Rattle.shape_reader.specs.Parts.{HasTexts, IsFlagsText, IsMakeFault, IsOptionalPattern};
 
 use crate::values::value_of;
@@ -12,7 +12,7 @@ use outside::{MakeFault, Maker};
 use rdf_model::{Term, Triple};
 use regex::Regex;
 use shape_ast::Pattern;
-use shape_rules::ShapeProperty;
+use shape_properties::ShapeProperty;
 use std::alloc::{AllocError, Global};
 use std::sync::Arc;
 

@@ -3,16 +3,42 @@ ghost use Rattle.collections.specs.Ordered.{IsAscending};
 ghost use Rattle.rdf_model.specs.Terms.{triple_cmp};
 ghost use Rattle.shape_ast.specs.Standing.{AreCompiled};
 ghost use Rattle.shape_rules.specs.Broken.{IsWellFormed};
+ghost use Rattle.shape_sizes.specs.Surveys.{IsSurvey};
 ghost use Rattle.shape_reader.specs.Faults.{IsCause};
 ghost use Rattle.shape_reader.specs.Once.{AreOnce};
 
 use crate::ShapeFault;
-use crate::shapes::compile;
+use crate::shapes::compile_of;
 use outside::Maker;
 use rdf_model::Triple;
 use shape_ast::Shapes;
-use shape_rules::least_broken;
+use shape_rules::least_broken_of;
+use shape_sizes::{Survey, survey_of};
 use std::alloc::Global;
+
+// The shapes, by the graph's survey.
+fn read_of<M: Maker>(
+    alloc: Global,
+    maker: &mut M,
+    graph: &[Triple],
+    survey: &Survey,
+) -> Result<Shapes, ShapeFault>
+    requires ascending { IsAscending triple_cmp graph.now }
+    requires survey { IsSurvey graph.now survey.now }
+    ensures answer { MatchResult result (λ shapes. IsWellFormed graph.now × AreCompiled shapes.shapes graph.now)
+        (λ fault. IsCause graph.now fault (M.refused maker.old) (M.refused maker.new)) }
+    ensures once { IfOk result (λ shapes. AreOnce shapes.shapes) }
+    ensures refused { IfOk result (λ _. M.refused maker.new ≡ M.refused maker.old) }
+{
+    let broken = least_broken_of(alloc, graph, survey)?;
+    match broken {
+        Some(row) => Err(ShapeFault::Rule(row)),
+        None => {
+            let shapes = compile_of(alloc, maker, graph, survey)?;
+            Ok(shapes)
+        }
+    }
+}
 
 /// The shapes of a shapes graph, compiled, if it is well-formed (SHACL sections 2 and 3.4.2), with each of their parts
 /// once. The maker builds the patterns, shape by shape in the order of nodes.
@@ -30,12 +56,7 @@ pub fn read_shapes<M: Maker>(
     ensures once { IfOk result (λ shapes. AreOnce shapes.shapes) }
     ensures refused { IfOk result (λ _. M.refused maker.new ≡ M.refused maker.old) }
 {
-    let broken = least_broken(alloc, graph)?;
-    match broken {
-        Some(row) => Err(ShapeFault::Rule(row)),
-        None => {
-            let shapes = compile(alloc, maker, graph)?;
-            Ok(shapes)
-        }
-    }
+    let survey = survey_of(alloc, graph)?;
+    let shapes = read_of(alloc, maker, graph, &survey)?;
+    Ok(shapes)
 }

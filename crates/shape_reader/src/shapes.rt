@@ -5,6 +5,7 @@ ghost use Rattle.rdf_model.specs.Terms.{term_cmp, triple_cmp};
 ghost use Rattle.shape_model.specs.ShapeSyntax.{IsShape};
 ghost use Rattle.shape_references.specs.Siblings.{IsTurned};
 ghost use Rattle.shape_rules.specs.Broken.{IsWellFormed};
+ghost use Rattle.shape_sizes.specs.Surveys.{IsSurvey};
 ghost use Rattle.shape_syntax.specs.PathNodes.{ArePathNodes};
 ghost use Rattle.shape_ast.specs.Standing.{AreCompiled};
 ghost use Rattle.shape_reader.specs.Faults.{IsCompileCause};
@@ -12,7 +13,6 @@ ghost use Rattle.shape_reader.specs.Once.{AreOnce};
 ghost use Rattle.shape_reader.specs.Parts.{AreShapes};
 
 use crate::CompileFault;
-use crate::nodes::shape_nodes;
 use crate::path_sizes::have_room;
 use crate::shape::compile_shape;
 use collections::Sequence;
@@ -20,7 +20,7 @@ use outside::Maker;
 use rdf_model::{Term, Triple};
 use shape_ast::{Shape, Shapes};
 use shape_references::turned_properties;
-use shape_syntax::paths::path_nodes;
+use shape_sizes::{Survey, survey_of};
 use std::alloc::Global;
 use std::collections::BTreeSet;
 
@@ -50,6 +50,35 @@ fn compile_nodes<M: Maker>(
     Ok(shapes)
 }
 
+/// The shapes of the graph, as `compile` has them, by the graph's survey.
+pub(crate) fn compile_of<M: Maker>(
+    alloc: Global,
+    maker: &mut M,
+    graph: &[Triple],
+    survey: &Survey,
+) -> Result<Shapes, CompileFault>
+    requires ascending { IsAscending triple_cmp graph.now }
+    requires well_formed { IsWellFormed graph.now }
+    requires survey { IsSurvey graph.now survey.now }
+    ensures answer { MatchResult result
+        (λ shapes. AreCompiled shapes.shapes graph.now)
+        (λ fault. IsCompileCause graph.now fault (M.refused maker.old) (M.refused maker.new)) }
+    ensures once { IfOk result (λ shapes. AreOnce shapes.shapes) }
+    ensures refused { IfOk result (λ _. M.refused maker.new ≡ M.refused maker.old) }
+{
+    let turned = turned_properties(alloc, graph)?;
+    have_room(alloc, graph, survey)?;
+    let shapes = compile_nodes(
+        alloc,
+        maker,
+        graph,
+        &survey.paths,
+        turned.as_slice(),
+        survey.shapes.as_slice(),
+    )?;
+    Ok(Shapes { shapes })
+}
+
 /// The shapes of a well-formed shapes graph, compiled (SHACL section 2), with each of their parts once. The maker builds the patterns, shape by shape
 /// in the order of nodes.
 ///
@@ -67,17 +96,7 @@ pub fn compile<M: Maker>(
     ensures once { IfOk result (λ shapes. AreOnce shapes.shapes) }
     ensures refused { IfOk result (λ _. M.refused maker.new ≡ M.refused maker.old) }
 {
-    let paths = path_nodes(alloc, graph)?;
-    let turned = turned_properties(alloc, graph)?;
-    let nodes = shape_nodes(alloc, graph)?;
-    have_room(alloc, graph, &paths, nodes.as_slice())?;
-    let shapes = compile_nodes(
-        alloc,
-        maker,
-        graph,
-        &paths,
-        turned.as_slice(),
-        nodes.as_slice(),
-    )?;
-    Ok(Shapes { shapes })
+    let survey = survey_of(alloc, graph)?;
+    let shapes = compile_of(alloc, maker, graph, &survey)?;
+    Ok(shapes)
 }

@@ -15,7 +15,7 @@ use crate::part::{Part, parts_of};
 use collections::Sequence;
 use rdf_model::{Term, Triple};
 use shape_ast::Target;
-use shape_rules::ShapeProperty;
+use shape_properties::ShapeProperty;
 use shape_syntax::instance::classes_of;
 use shape_syntax::terms::is_named;
 use std::alloc::{AllocError, Global};

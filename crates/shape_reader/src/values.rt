@@ -1,5 +1,5 @@
 //! The values of single properties of a shape.
-ghost use Rattle.std.specs.Prelude.{◌≡◌, ◌⊎◌, ◌↔◌, ℕ, Some, IsTrue, IfOk, OnOk, MatchOption};
+ghost use Rattle.std.specs.Prelude.{◌≡◌, ◌↔◌, ℕ, Some, IsTrue, IfOk, MatchOption};
 ghost use Rattle.std.specs.List.{Contains};
 ghost use Rattle.collections.specs.Listings.{IsListing};
 ghost use Rattle.collections.specs.Ordered.{IsAscending};
@@ -7,16 +7,16 @@ ghost use Rattle.rdf_model.specs.declared.term.Term.{Term as TermData};
 ghost use Rattle.rdf_model.specs.Terms.{term_cmp, triple_cmp};
 ghost use Rattle.shape_model.specs.Vocabulary.{true_literal};
 ghost use Rattle.shape_references.specs.Siblings.{IsTurned};
-ghost use Rattle.shape_rules.specs.declared.property.ShapeProperty.TheVariants as properties;
-ghost use Rattle.shape_rules.specs.Syntax.{HasProperty};
+ghost use Rattle.shape_properties.specs.declared.property.ShapeProperty.TheVariants as properties;
+ghost use Rattle.shape_properties.specs.Syntax.{HasProperty};
 ghost use Rattle.shape_syntax.specs.Gathering.{Gives};
 ghost use Rattle.shape_reader.specs.Parts.{AreProperties, HasOne, HasPlace, HasSibling, IsIgnored, IsValue};
 
 use crate::place::{place_of, places_among};
 use collections::{Sequence, sorted_once};
 use rdf_model::{Term, Triple};
+use shape_properties::ShapeProperty;
 use shape_references::push_siblings;
-use shape_rules::ShapeProperty;
 use shape_syntax::list::list_members;
 use shape_syntax::lookup::values;
 use std::alloc::{AllocError, Global};

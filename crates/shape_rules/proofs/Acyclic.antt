@@ -5,9 +5,9 @@ use Rattle.rdf_model.specs.declared.triple.Triple.{Triple}
 use Rattle.shape_model.specs.Readings as read
 use Rattle.shape_model.specs.Readings.{References, reading}
 use Rattle.shape_references.specs.Chains.{Chain}
-use Rattle.shape_rules.specs.declared.property.ShapeProperty.TheVariants as properties
+use Rattle.shape_properties.specs.declared.property.ShapeProperty.TheVariants as properties
 use Rattle.shape_rules.specs.Laws.{AcyclicLaw}
-use Rattle.shape_rules.specs.References.{Refers}
+use Rattle.shape_sizes.specs.References.{Refers}
 use Rattle.shape_rules.specs.Rows.{row}
 
 pub refers : (s : List Triple) (a t : Term) → read.Refers (reading s a) t → Refers s a t

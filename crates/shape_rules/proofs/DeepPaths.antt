@@ -1,27 +1,21 @@
 -- Paths that are too deep, as they are found.
-use Rattle.std.proofs.Common.{◌≡◌, List, None, refl, sym, subst, ap, inl, inr}
+use Rattle.std.proofs.Common.{◌≡◌, List, None, sym, subst, ap, inl, inr}
 use Rattle.std.specs.Prelude.{◌⊎◌, ◌↔◌}
 use Rattle.std.specs.List.{Contains}
 use Rattle.rdf_model.specs.declared.term.Term.{Term}
 use Rattle.rdf_model.specs.declared.triple.Triple.{Triple}
 use Rattle.shape_syntax.specs.Gathering.{Gives}
-use Rattle.shape_syntax.specs.Subjects.{IsSubject}
-use Rattle.shape_rules.specs.declared.property.ShapeProperty.TheVariants as properties
 use Rattle.shape_rules.specs.declared.rule_row.RuleRow.{RuleRow}
-use Rattle.shape_rules.specs.Broken.{HasDeepPath}
-use Rattle.shape_rules.specs.Properties.{property_iri}
-use Rattle.shape_rules.specs.References.{HasLongChain}
+use Rattle.shape_sizes.specs.References.{HasLongChain}
 use Rattle.shape_rules.specs.Rows.{row}
 use Rattle.shape_rules.specs.Steps.{DeepPathRow, IsDeepRow}
+use Rattle.shape_properties.specs.Syntax.{IsShape}
 
-path_subject : (s : List Triple) (n : Term) → HasDeepPath s n → IsSubject s n
-path_subject s n h = (record { subject = n; predicate = property_iri properties.Path; object = h.0 }, h.1, refl)
-
--- the rows of all subjects are those of all nodes
-pub all_deep : (s : List Triple) (nodes : List Term) → ((n : Term) → Contains nodes n ↔ IsSubject s n) → (r : RuleRow) → Gives (DeepPathRow s) nodes r ↔ DeepPathRow s r.node r
+-- the rows of all shapes are those of all nodes
+pub all_deep : (s : List Triple) (nodes : List Term) → ((n : Term) → Contains nodes n ↔ IsShape s n) → (r : RuleRow) → Gives (DeepPathRow s) nodes r ↔ DeepPathRow s r.node r
 all_deep s nodes all r = (
   λ h. subst (λ (n : Term). DeepPathRow s n r) (sym (ap (λ (q : RuleRow). q.node) h.2.1)) h.2,
-  λ h. (r.node, (all r.node).1 (path_subject s r.node h.0.1), h),
+  λ h. (r.node, (all r.node).1 h.0.0, h),
 )
 
 -- a row by rule 41 is that of a path or of a chain

@@ -5,7 +5,7 @@ use Rattle.rdf_model.specs.declared.triple.Triple.{Triple}
 use Rattle.shape_model.specs.Readings.{References, reading}
 use Rattle.shape_references.specs.Chains.{HasChain}
 use Rattle.shape_rules.specs.Laws.{ShallowLaw}
-use Rattle.shape_rules.specs.References.{Refers}
+use Rattle.shape_sizes.specs.References.{Refers}
 use Rattle.shape_rules.specs.Rows.{row}
 use Rattle.shape_rules.proofs.Acyclic.{refers}
 

@@ -4,7 +4,7 @@ use Rattle.rdf_model.specs.declared.triple.Triple.{Triple}
 use Rattle.shape_model.specs.Readings.{IsAcyclic, IsShallow}
 use Rattle.shape_rules.specs.declared.rule_row.RuleRow.{RuleRow}
 use Rattle.shape_rules.specs.Broken.{IsLeast, IsWellFormed}
-use Rattle.shape_rules.specs.References.{chain_limit}
+use Rattle.shape_sizes.specs.References.{chain_limit}
 
 -- In a well-formed shapes graph the results of no shape rest on those of itself.
 abbrev pub AcyclicLaw : Type 0

@@ -1,12 +1,4 @@
-pub mod Properties
-pub mod Table
 pub mod Rows
-pub mod Tests
-pub mod Syntax
-pub mod References
 pub mod Broken
 pub mod Steps
 pub mod Laws
-pub mod Sizes
-pub mod Counted
-pub mod PathLooks

@@ -9,20 +9,19 @@ ghost use Rattle.shape_syntax.specs.Gathering.{HasGathered};
 ghost use Rattle.shape_syntax.specs.PathDepth.{IsDeep};
 ghost use Rattle.shape_rules.specs.declared.rule_row.RuleRow.{RuleRow as RowData};
 ghost use Rattle.shape_rules.specs.Broken.{HasDeepPath};
-ghost use Rattle.shape_rules.specs.PathLooks.{AreDeepPaths, ArePathPlaces, IsObject};
+ghost use Rattle.shape_sizes.specs.PathLooks.{AreDeepPaths, MayBePath};
 ghost use Rattle.shape_rules.specs.Steps.{DeepPathRow, HaveLeast, IsDeepRow};
-ghost use Rattle.shape_rules.specs.Syntax.{IsShape, IsTaken};
+ghost use Rattle.shape_sizes.specs.Surveys.{IsSurvey};
+ghost use Rattle.shape_properties.specs.Syntax.{IsShape};
 
-use crate::passes::property_values;
-use crate::path_steps::deep_paths;
-use crate::referring::least_with_long_chain;
+use crate::RuleRow;
 use crate::rows::push_whole;
-use crate::shapes::is_shape_at;
-use crate::{RuleRow, ShapeProperty};
 use collections::Sequence;
 use rdf_model::{Term, Triple};
-use reference_totals::Place;
-use shape_syntax::subjects::subjects;
+use shape_properties::ShapeProperty;
+use shape_properties::values::property_values;
+use shape_sizes::path_steps::deep_paths;
+use shape_sizes::{Survey, least_with_long_chain};
 use std::alloc::{AllocError, Global};
 use std::collections::BTreeSet;
 
@@ -35,7 +34,7 @@ fn is_in(nodes: &BTreeSet<Term>, node: &Term) -> bool
 // Whether the value stands for a path that is nested deeper than 256.
 fn is_deep(graph: &[Triple], deep: &BTreeSet<Term>, node: &Term) -> bool
     requires deep { AreDeepPaths graph.now 256 deep.now.keys }
-    requires node { IsObject graph.now node.now }
+    requires node { MayBePath graph.now node.now }
     ensures { IsTrue result ↔ IsDeep graph.now node.now 256 }
 {
     is_in(deep, node)
@@ -54,62 +53,37 @@ fn has_deep_path(graph: &[Triple], deep: &BTreeSet<Term>, node: &Term) -> bool
     false
 }
 
-fn is_shape_with_deep_path(
-    alloc: Global,
-    graph: &[Triple],
-    deep: &BTreeSet<Term>,
-    taken: &[Term],
-    node: &Term,
-) -> Result<bool, AllocError>
-    requires graph { IsAscending triple_cmp graph.now }
-    requires deep { AreDeepPaths graph.now 256 deep.now.keys }
-    requires taken { IsListing term_cmp (IsTaken graph.now) taken.now }
-    ensures { IfOk result (λ broken. IsTrue broken ↔ (IsShape graph.now node.now × HasDeepPath graph.now node.now)) }
-{
-    if has_deep_path(graph, deep, node) {
-        let shape = is_shape_at(alloc, graph, taken, node)?;
-        return Ok(shape);
-    }
-    Ok(false)
-}
-
-// Adds a row for each of the nodes that is a shape with a path that is too deep.
+// Adds a row for each of the nodes, which are shapes, whose path is too deep.
 fn push_deep_paths(
-    alloc: Global,
     graph: &[Triple],
     deep: &BTreeSet<Term>,
-    taken: &[Term],
     nodes: &[Term],
     rows: &mut Sequence<RuleRow>,
 ) -> Result<(), AllocError>
     requires graph { IsAscending triple_cmp graph.now }
     requires deep { AreDeepPaths graph.now 256 deep.now.keys }
-    requires taken { IsListing term_cmp (IsTaken graph.now) taken.now }
+    requires nodes { IsListing term_cmp (IsShape graph.now) nodes.now }
     ensures { OnOk result (HasGathered (DeepPathRow graph.now) nodes.now rows.old rows.new) }
 {
     for node in nodes {
-        let broken = is_shape_with_deep_path(alloc, graph, deep, taken, node)?;
-        push_whole(broken, node, 41, rows)?;
+        push_whole(has_deep_path(graph, deep, node), node, 41, rows)?;
     }
     Ok(())
 }
 
-// The rows of all shapes with a path that is too deep, some of them more than once.
+// The rows of all shapes with a path that is too deep.
 fn rows_of_paths(
     alloc: Global,
     graph: &[Triple],
-    taken: &[Term],
-    objects: &[Place],
+    survey: &Survey,
 ) -> Result<Sequence<RuleRow>, AllocError>
     requires graph { IsAscending triple_cmp graph.now }
-    requires taken { IsListing term_cmp (IsTaken graph.now) taken.now }
-    requires objects { ArePathPlaces graph.now objects.now }
+    requires survey { IsSurvey graph.now survey.now }
     ensures { IfOk result (λ rows. (r : RowData) → Contains rows r ↔ DeepPathRow graph.now r.node r) }
 {
-    let deep = deep_paths(alloc, graph, objects, 256)?;
-    let nodes = subjects(alloc, graph)?;
+    let deep = deep_paths(alloc, graph, survey.places.as_slice(), 256)?;
     let mut rows = Sequence::new(alloc);
-    push_deep_paths(alloc, graph, &deep, taken, nodes.as_slice(), &mut rows)?;
+    push_deep_paths(graph, &deep, survey.shapes.as_slice(), &mut rows)?;
     Ok(rows)
 }
 
@@ -117,13 +91,14 @@ fn rows_of_paths(
 fn push_chain_row(
     alloc: Global,
     graph: &[Triple],
+    survey: &Survey,
     rows: &mut Sequence<RuleRow>,
 ) -> Result<(), AllocError>
-    requires graph { IsAscending triple_cmp graph.now }
+    requires survey { IsSurvey graph.now survey.now }
     requires rows { (r : RowData) → Contains rows.now r ↔ DeepPathRow graph.now r.node r }
     ensures { OnOk result (HaveLeast (IsDeepRow graph.now) rows.new) }
 {
-    match least_with_long_chain(alloc, graph)? {
+    match least_with_long_chain(alloc, graph, survey.references.as_slice())? {
         Some(node) => {
             rows.push(RuleRow {
                 node,
@@ -136,20 +111,17 @@ fn push_chain_row(
     }
 }
 
-/// The rows of the shapes that are too deep, of those with too many references the least alone. The graph's
-/// `taken_shapes` and `object_places` are given.
+/// The rows of the shapes that are too deep, of those with too many references the least alone.
 pub(crate) fn deep_rows(
     alloc: Global,
     graph: &[Triple],
-    taken: &[Term],
-    objects: &[Place],
+    survey: &Survey,
 ) -> Result<Sequence<RuleRow>, AllocError>
     requires graph { IsAscending triple_cmp graph.now }
-    requires taken { IsListing term_cmp (IsTaken graph.now) taken.now }
-    requires objects { ArePathPlaces graph.now objects.now }
+    requires survey { IsSurvey graph.now survey.now }
     ensures { IfOk result (λ rows. HaveLeast (IsDeepRow graph.now) rows) }
 {
-    let mut rows = rows_of_paths(alloc, graph, taken, objects)?;
-    push_chain_row(alloc, graph, &mut rows)?;
+    let mut rows = rows_of_paths(alloc, graph, survey)?;
+    push_chain_row(alloc, graph, survey, &mut rows)?;
     Ok(rows)
 }

@@ -1,51 +1,25 @@
 //! The tests that the rules make of terms, some of them in the graph.
-ghost use Rattle.std.specs.Prelude.{◌≡◌, ◌≢◌, ◌⊎◌, ◌+◌, ◌<◌, ◌↔◌, IsTrue, IfOk, List, length};
-ghost use Rattle.std.specs.List.{Contains};
+ghost use Rattle.std.specs.Prelude.{◌≢◌, ◌<◌, ◌↔◌, IsTrue, IfOk, List};
 ghost use Rattle.collections.specs.Ordered.{IsAscending};
 ghost use Rattle.rdf_model.specs.declared.term.Term.{Term as TermData};
-ghost use Rattle.rdf_model.specs.declared.triple.Triple.{Triple as TripleData};
 ghost use Rattle.rdf_model.specs.Terms.{triple_cmp};
 ghost use Rattle.shape_syntax.specs.PathNodes.{ArePathNodes};
 ghost use Rattle.shape_model.specs.Triples.{IsIri, IsMember, IsLiteral};
 ghost use Rattle.shape_model.specs.ShapeSyntax.{ListOf};
-ghost use Rattle.shape_rules.specs.Properties.{property_iri};
-ghost use Rattle.shape_rules.specs.Syntax.{HasPath, HasProperty};
+ghost use Rattle.shape_properties.specs.Syntax.{HasPath, HasProperty};
 ghost use Rattle.shape_rules.specs.Broken.{AreIris, IsLong, Passes};
 
-use crate::terms::{
+use rdf_model::{Term, Triple};
+use shape_properties::terms::{
     is_boolean, is_flags, is_integer, is_message, is_node_kind, is_text, is_true_or_false, text_len,
 };
-use crate::{ShapeProperty, Test};
-use rdf_model::{Term, Triple};
+use shape_properties::values::{has_path, property_values};
+use shape_properties::{ShapeProperty, Test};
 use shape_syntax::list::list_members;
-use shape_syntax::lookup::values;
 use shape_syntax::paths::is_path;
 use shape_syntax::terms::{is_blank, is_iri, is_literal, is_same};
 use std::alloc::{AllocError, Global};
 use std::collections::BTreeSet;
-
-/// The triples with a value of the property at the node.
-pub fn property_values<'a>(
-    graph: &'a [Triple],
-    node: &Term,
-    property: ShapeProperty,
-) -> &'a [Triple]
-    requires { IsAscending triple_cmp graph.now }
-    ensures each { (t : TripleData) → Contains result.now t → HasProperty graph.now node.now property t.object }
-    ensures all { (v : TermData) → HasProperty graph.now node.now property v
-        → Contains result.now (record { subject = node.now; predicate = property_iri property; object = v }) }
-{
-    values(graph, node, property.iri())
-}
-
-/// Whether the node has a sh:path.
-pub(crate) fn has_path(graph: &[Triple], node: &Term) -> bool
-    requires { IsAscending triple_cmp graph.now }
-    ensures { IsTrue result ↔ HasPath graph.now node.now }
-{
-    let paths = property_values(graph, node, ShapeProperty::Path);
-    !paths.is_empty()
-}
 
 /// Whether the node has a value of the property other than this one.
 pub(crate) fn has_another(

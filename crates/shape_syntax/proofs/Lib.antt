@@ -14,3 +14,4 @@ pub mod Asked
 pub mod PathWays
 pub mod PathParts
 pub mod OnePath
+pub mod Own

@@ -8,6 +8,7 @@ ghost use Rattle.rdf_model.specs.Terms.{triple_cmp};
 ghost use Rattle.shape_syntax.specs.Subjects.{IsSubject};
 
 use crate::list::cell;
+use crate::lookup::triples_of;
 use crate::steps::only_triple;
 use crate::subjects::{push_unless_last, subjects};
 use collections::Sequence;
@@ -36,18 +37,19 @@ fn push_value(graph: &[Triple], node: &Term, stack: &mut Vec<Visit>) -> Result<(
     }
 }
 
-// What it needs to stand for a path or a list of paths is next, and then the node itself.
+// What it needs to stand for a path or a list of paths is next, and then the node itself. Its triples alone are asked.
 fn push_visits(graph: &[Triple], node: &Term, stack: &mut Vec<Visit>) -> Result<(), AllocError>
     requires { IsAscending triple_cmp graph.now }
 {
     stack.push(Visit::Leave(node.clone()?))?;
-    match cell(graph, node) {
+    let own = triples_of(graph, node);
+    match cell(own, node) {
         Some((first, rest)) => {
             stack.push(Visit::Enter(first.clone()?))?;
             stack.push(Visit::Enter(rest.clone()?))?;
             Ok(())
         }
-        None => push_value(graph, node, stack),
+        None => push_value(own, node, stack),
     }
 }
 

@@ -19,3 +19,4 @@ pub mod terms;
 mod way;
 
 pub use reading::{PathFault, read_path};
+pub use steps::turns_path;

@@ -10,7 +10,7 @@ ghost use Rattle.shape_model.specs.Vocabulary.{rdf_first, rdf_nil, rdf_rest};
 ghost use Rattle.shape_model.specs.Triples.{HasNone, HasOnly};
 ghost use Rattle.shape_model.specs.ShapeSyntax.{IsCell, IsListEnd, ListOf};
 
-use crate::lookup::values;
+use crate::lookup::{triples_of, values};
 use crate::terms::{is_named, is_same};
 use collections::Sequence;
 use rdf_model::{Term, Triple};
@@ -82,8 +82,9 @@ pub(crate) fn cell<'a>(graph: &'a [Triple], node: &Term) -> Option<(&'a Term, &'
     ensures { MatchOption result ((member : Term) (rest : Term) → IsCell graph.now node.now member rest → ⊥)
         (λ parts. IsCell graph.now node.now parts.0.now parts.1.now) }
 {
-    match only_first(graph, node) {
-        Some(member) => match only_rest(graph, node) {
+    let own = triples_of(graph, node);
+    match only_first(own, node) {
+        Some(member) => match only_rest(own, node) {
             Some(rest) => Some((member, rest)),
             None => None,
         },

@@ -55,8 +55,9 @@ pub(crate) fn only_triple<'a>(graph: &'a [Triple], node: &Term) -> Option<&'a Tr
     }
 }
 
+/// Whether the property turns its value, a path, into another path (SHACL sections 2.3.1.4 to 2.3.1.7).
 #[tactic(auto, unfolding(shape_model::specs::Vocabulary::sh))]
-fn turns_path(predicate: &Term) -> bool
+pub fn turns_path(predicate: &Term) -> bool
     ensures { IsTrue result ↔ TurnsPath predicate.now }
 {
     is_named(predicate, "http://www.w3.org/ns/shacl#inversePath")

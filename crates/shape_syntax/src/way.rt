@@ -1,5 +1,4 @@
 ghost use Rattle.std.specs.Prelude.{◌≡◌, IfOk, MatchOption, map};
-ghost use Rattle.rdf_model.specs.declared.term.Term.{Term as TermData};
 ghost use Rattle.shape_model.specs.Vocabulary.{sh};
 ghost use Rattle.compiled_paths.specs.PathReadings.{defined_path, members};
 ghost use Rattle.shape_syntax.specs.declared.way.Turn.{Turn as TurnData};

@@ -7,8 +7,8 @@ use Rattle.shape_model.specs.Triples.{Has}
 use Rattle.shape_references.specs.Chains.{Chain}
 use Rattle.shape_rules.specs.declared.rule_row.RuleRow.{RuleRow}
 use Rattle.shape_rules.specs.Broken.{IsBroken, IsWellFormed}
-use Rattle.shape_rules.specs.References.{HasLongChain, Refers, chain_limit}
-use Rattle.shape_rules.specs.Syntax.{IsShape as IsRuledShape}
+use Rattle.shape_sizes.specs.References.{HasLongChain, Refers, chain_limit}
+use Rattle.shape_properties.specs.Syntax.{IsShape as IsRuledShape}
 use Rattle.shape_ast.specs.Standing.{AreCompiled, StandFor}
 
 nowhere : (x p y : Term) → Has [] x p y → ⊥

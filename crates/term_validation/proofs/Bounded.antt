@@ -3,7 +3,7 @@ use Rattle.std.proofs.Common.{◌≡◌, ℕ, List, refl, subst}
 use Rattle.rdf_model.specs.declared.triple.Triple.{Triple}
 use Rattle.shape_model.specs.Readings.{IsAcyclic, IsShallow}
 use Rattle.shape_rules.specs.Broken.{IsWellFormed}
-use Rattle.shape_rules.specs.References.{chain_limit}
+use Rattle.shape_sizes.specs.References.{chain_limit}
 use Rattle.shape_rules.proofs.Acyclic.{acyclic}
 use Rattle.shape_rules.proofs.Shallow.{shallow}
 use Rattle.shape_eval.specs.Results.{depth_limit}

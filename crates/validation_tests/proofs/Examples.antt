@@ -18,7 +18,7 @@ use Rattle.shape_model.specs.TermTests.{IsOfKind, count_of}
 use Rattle.shape_model.specs.Triples.{IsBlank}
 use Rattle.shape_model.specs.Vocabulary.{ShDeactivated, ShMinCount, ShPath, ShTargetNode, property_iri, sh, true_literal, xsd_integer}
 use Rattle.shape_model.specs.Walks.{Walk}
-use Rattle.shape_rules.specs.declared.property.ShapeProperty.TheVariants as properties
+use Rattle.shape_properties.specs.declared.property.ShapeProperty.TheVariants as properties
 use Rattle.collections.proofs.Members.{has_cases}
 
 not_kind : sh (codes "IRI") ≡ true_literal → ⊥

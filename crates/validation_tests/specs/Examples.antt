@@ -9,9 +9,9 @@ use Rattle.shape_model.specs.Validation.{IsResult}
 use Rattle.shape_model.specs.Vocabulary as vocabulary
 use Rattle.shape_model.specs.Vocabulary.{ShMinCount, ShNodeKind, ShPath, ShTargetNode, ShTargetSubjectsOf, sh, xsd_integer}
 use Rattle.shape_rules.specs.Broken.{IsBroken}
-use Rattle.shape_rules.specs.Properties.{property_iri}
+use Rattle.shape_properties.specs.Properties.{property_iri}
 use Rattle.shape_rules.specs.Rows.{row}
-use Rattle.shape_rules.specs.declared.property.ShapeProperty.TheVariants as properties
+use Rattle.shape_properties.specs.declared.property.ShapeProperty.TheVariants as properties
 use Rattle.shape_model.specs.declared.result_row.ResultRow.{ResultRow}
 
 abbrev pub example : List ℕ → Term

@@ -2,10 +2,10 @@ use Rattle.std.proofs.Common.{[], arith, map, subst}
 use Rattle.rdf_model.specs.declared.term.Term.{Term}
 use Rattle.rdf_model.specs.declared.triple.Triple.{Triple}
 use Rattle.rdf_model.specs.Terms.{triple_cmp}
-use Rattle.shape_rules.specs.Steps.{OfTriple}
+use Rattle.shape_properties.specs.OfProperties.{OfTriple}
 use Rattle.shape_syntax.proofs.Loops.{from_none, gathered_none, gathered_next, gathered_all}
 use Rattle.shape_syntax.proofs.Scans.{read_in}
-use Rattle.shape_rules.proofs.NodeRows.{some_value}
+use Rattle.shape_properties.proofs.SomeValues.{some_value}
 use Rattle.shape_reader.specs.Once.{MayAdd}
 use Rattle.shape_reader.proofs.Turns.{some_all, some_ascending, some_next, some_none}
 use Rattle.shape_reader.proofs.part.parts_of.Goals as goal

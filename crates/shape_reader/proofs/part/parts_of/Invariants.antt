@@ -1,7 +1,7 @@
 use Rattle.std.proofs.Common.{[], map, take}
 use Rattle.rdf_model.specs.declared.triple.Triple.{Triple}
 use Rattle.shape_syntax.specs.Gathering.{HasGathered}
-use Rattle.shape_rules.specs.Steps.{OfTriple}
+use Rattle.shape_properties.specs.OfProperties.{OfTriple}
 use Rattle.shape_reader.proofs.Turns.{SomeOf}
 use Rattle.shape_reader.proofs.part.parts_of.Given as goal
 

@@ -1,9 +1,9 @@
 use Rattle.std.proofs.Common.{◌≡◌, ◌∙◌, map, sym, subst}
 use Rattle.rdf_model.specs.declared.triple.Triple.{Triple}
-use Rattle.shape_rules.specs.declared.property.ShapeProperty.{ShapeProperty}
-use Rattle.shape_rules.specs.Steps.{OfTriple}
+use Rattle.shape_properties.specs.declared.property.ShapeProperty.{ShapeProperty}
+use Rattle.shape_properties.specs.OfProperties.{OfTriple}
 use Rattle.shape_syntax.proofs.Loops.{gave_as}
-use Rattle.shape_rules.proofs.Names.{one_property}
+use Rattle.shape_properties.proofs.Names.{one_property}
 use Rattle.shape_reader.specs.Once.{MayAdd, value_triple}
 use Rattle.shape_reader.proofs.part.push_part.Goals as goal
 

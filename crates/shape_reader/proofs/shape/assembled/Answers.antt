@@ -1,5 +1,5 @@
 use Rattle.std.proofs.Common.{refl}
-use Rattle.shape_rules.specs.declared.property.ShapeProperty.TheVariants as vocabulary
+use Rattle.shape_properties.specs.declared.property.ShapeProperty.TheVariants as vocabulary
 use Rattle.shape_reader.proofs.Assembled.{assembles}
 use Rattle.shape_reader.proofs.WellFormed.{one_value}
 use Rattle.shape_reader.proofs.shape.assembled.Goals as goal

@@ -1,5 +1,5 @@
 use Rattle.std.proofs.Common.{refl}
-use Rattle.shape_rules.specs.declared.property.ShapeProperty.TheVariants as vocabulary
+use Rattle.shape_properties.specs.declared.property.ShapeProperty.TheVariants as vocabulary
 use Rattle.shape_reader.proofs.WellFormed.{flags_texts, one_value, pattern_texts}
 use Rattle.shape_reader.proofs.shape.compile_shape.Goals as goal
 

@@ -1,8 +1,8 @@
 use Rattle.std.proofs.Common.{◌∙◌, refl, sym, subst}
 use Rattle.rdf_model.specs.declared.term.Term.{Term}
 use Rattle.shape_syntax.proofs.Values.{value_of}
-use Rattle.shape_rules.specs.Properties.{property_iri}
-use Rattle.shape_rules.specs.Syntax.{HasProperty}
+use Rattle.shape_properties.specs.Properties.{property_iri}
+use Rattle.shape_properties.specs.Syntax.{HasProperty}
 use Rattle.shape_reader.proofs.values.all_values.Goals as goal
 
 pub returns : goal.returns

@@ -1,4 +1,4 @@
-use Rattle.shape_rules.specs.declared.property.ShapeProperty.TheVariants as vocabulary
+use Rattle.shape_properties.specs.declared.property.ShapeProperty.TheVariants as vocabulary
 use Rattle.shape_reader.proofs.Gathered.{values_placed}
 use Rattle.shape_reader.proofs.values.properties_of.Goals as goal
 

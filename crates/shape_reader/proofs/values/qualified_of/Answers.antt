@@ -1,5 +1,5 @@
 use Rattle.std.proofs.Common.{ℕ}
-use Rattle.shape_rules.specs.declared.property.ShapeProperty.TheVariants as vocabulary
+use Rattle.shape_properties.specs.declared.property.ShapeProperty.TheVariants as vocabulary
 use Rattle.shape_reader.specs.Parts.{HasPlace}
 use Rattle.shape_reader.proofs.Gathered.{place_some}
 use Rattle.shape_reader.proofs.Options.{never_some}

@@ -1,7 +1,7 @@
 use Rattle.std.proofs.Common.{◌∙◌, refl, sym}
 use Rattle.shape_syntax.proofs.Items.{get_in}
 use Rattle.shape_syntax.proofs.Values.{value_of}
-use Rattle.shape_rules.specs.Properties.{property_iri}
+use Rattle.shape_properties.specs.Properties.{property_iri}
 use Rattle.shape_syntax.proofs.Loops.{none_first}
 use Rattle.shape_reader.proofs.values.value_of.Goals as goal
 

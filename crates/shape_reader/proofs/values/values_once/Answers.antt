@@ -2,7 +2,7 @@ use Rattle.std.specs.List.{Contains}
 use Rattle.rdf_model.specs.declared.term.Term.{Term}
 use Rattle.rdf_model.specs.Terms.{term_cmp}
 use Rattle.shape_model.proofs.Listings.{listing_same}
-use Rattle.shape_rules.specs.Syntax.{HasProperty}
+use Rattle.shape_properties.specs.Syntax.{HasProperty}
 use Rattle.shape_reader.proofs.values.values_once.Goals as goal
 
 pub returns : goal.returns

@@ -2,13 +2,12 @@ use Rattle.std.proofs.Common.{refl, arith}
 use Rattle.rdf_model.specs.declared.triple.Triple.{Triple}
 use Rattle.shape_syntax.specs.PathDepth.{IsDeep}
 use Rattle.shape_syntax.proofs.Scans.{read_in, none_more, in_all}
-use Rattle.shape_rules.specs.declared.property.ShapeProperty.TheVariants as properties
-use Rattle.shape_rules.proofs.LookWeights.{value_object}
+use Rattle.shape_sizes.proofs.LookWeights.{value_may_be}
 use Rattle.shape_rules.proofs.deep.has_deep_path.Goals as goal
 
 pub is_deep-requires-clause-node : goal.is_deep-requires-clause-node
 is_deep-requires-clause-node c =
-    value_object c.args.graph.now c.args.node.now properties.Path c.triple-item.result.object
+    value_may_be c.args.graph.now c.args.node.now c.triple-item.result.object
     (c.property_values-triple-items.ensures.each c.triple-item.result (read_in c.property_values-triple-items.result.now c.loop-triple.triple-index c.triple-item.result (omega arith) c.triple-item.is))
 
 pub returns-then-is_deep : goal.returns-then-is_deep

@@ -1,7 +1,7 @@
 use Rattle.std.proofs.Common.{◌≡◌, None}
 use Rattle.std.specs.Prelude.{◌⊎◌}
 use Rattle.shape_rules.specs.declared.rule_row.RuleRow.{RuleRow}
-use Rattle.shape_rules.specs.References.{HasLongChain}
+use Rattle.shape_sizes.specs.References.{HasLongChain}
 use Rattle.shape_rules.specs.Rows.{row}
 use Rattle.shape_rules.specs.Steps.{DeepPathRow, IsDeepRow}
 use Rattle.shape_rules.proofs.DeepPaths.{deep_rows}

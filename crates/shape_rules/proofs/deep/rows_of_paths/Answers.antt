@@ -6,6 +6,7 @@ use Rattle.shape_rules.proofs.deep.rows_of_paths.Goals as goal
 pub returns : goal.returns
 returns c = λ r.
     let s = c.args.graph.now in
-    let all = all_deep s c.in_ok-nodes.nodes c.in_ok-nodes.ensures r in
-    let rows = from_none (DeepPathRow s) c.in_ok-nodes.nodes c.push_deep_paths.new.rows (rw c.new-rows.ensures at (rw c.as_slice.ensures at c.in_ok-push_deep_paths.ensures)) r in
+    let nodes = c.args.survey.now.shapes.items in
+    let all = all_deep s nodes c.requires.survey.shapes.members r in
+    let rows = from_none (DeepPathRow s) nodes c.push_deep_paths.new.rows (rw c.new-rows.ensures at (rw c.as_slice-2.ensures.value at c.in_ok-push_deep_paths.ensures)) r in
     (λ h. all.0 (rows.0 h), λ h. rows.1 (all.1 h))

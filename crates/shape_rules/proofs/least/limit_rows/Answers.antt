@@ -2,8 +2,10 @@ use Rattle.std.proofs.Common.{List, inl, inr, sym, subst}
 use Rattle.std.specs.Prelude.{◌⊎◌, ◌↔◌}
 use Rattle.shape_rules.specs.declared.rule_row.RuleRow.{RuleRow}
 use Rattle.shape_rules.specs.Broken.{LooksRow, SizeRow}
-use Rattle.reference_totals.specs.declared.place.Place.{Place}
-use Rattle.shape_rules.specs.PathLooks.{ArePathPlaces}
+use Rattle.collections.specs.Listings.{IsListing}
+use Rattle.rdf_model.specs.declared.term.Term.{Term}
+use Rattle.rdf_model.specs.Terms.{term_cmp}
+use Rattle.shape_properties.specs.Syntax.{IsShape}
 use Rattle.shape_rules.specs.Steps.{IsDeepRow, IsLimitRow}
 use Rattle.shape_rules.proofs.LeastRows.{have_as, have_more}
 use Rattle.shape_rules.proofs.least.limit_rows.Goals as goal
@@ -14,11 +16,8 @@ three A B C = (
   λ h. elim h [ inl a ↦ inl (inl a) | inr k ↦ elim k [ inl b ↦ inl (inr b) | inr c ↦ inr c ] ],
 )
 
-pub deep_rows-requires-clause-objects : goal.deep_rows-requires-clause-objects
-deep_rows-requires-clause-objects c = subst (λ (places : List Place). ArePathPlaces c.args.graph.now places) (sym c.as_slice.ensures) c.in_ok-objects.ensures
-
-pub push_looks_rows-requires-clause-objects : goal.push_looks_rows-requires-clause-objects
-push_looks_rows-requires-clause-objects c = subst (λ (places : List Place). ArePathPlaces c.args.graph.now places) (sym c.as_slice-2.ensures) c.in_ok-objects.ensures
+pub push_size_rows-requires-clause-shapes : goal.push_size_rows-requires-clause-shapes
+push_size_rows-requires-clause-shapes c = subst (λ (ns : List Term). IsListing term_cmp (IsShape c.args.graph.now) ns) (sym c.as_slice.ensures.value) c.requires.survey.shapes
 
 pub returns : goal.returns
 returns c =

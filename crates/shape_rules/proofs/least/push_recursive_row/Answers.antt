@@ -1,5 +1,5 @@
 use Rattle.shape_rules.specs.Broken.{BreaksAt}
-use Rattle.shape_rules.specs.References.{IsRecursive}
+use Rattle.shape_sizes.specs.References.{IsRecursive}
 use Rattle.shape_rules.specs.declared.rule_row.RuleRow.{RuleRow}
 use Rattle.shape_rules.proofs.LeastRows.{with_whole, without_whole}
 use Rattle.shape_rules.proofs.least.push_recursive_row.Goals as goal

@@ -1,0 +1,5 @@
+pub mod Properties
+pub mod Table
+pub mod Tests
+pub mod Syntax
+pub mod OfProperties

@@ -1,7 +1,0 @@
-use Rattle.std.proofs.Common.{take}
-use Rattle.shape_rules.specs.PathLooks.{IsCappedLook}
-use Rattle.shape_rules.proofs.Gathered.{HavePlaces}
-use Rattle.shape_rules.proofs.looks.look_places.Given as goal
-
-abbrev pub invariant-loop-node : goal.invariant-loop-node
-invariant-loop-node l = HavePlaces l.graph (IsCappedLook l.graph) (take l.node-index l.nodes) l.places

@@ -1,0 +1,10 @@
+pub mod ReferenceChains
+pub mod Referred
+pub mod Weights
+pub mod Gathered
+pub mod OwnTriples
+pub mod PathParts
+pub mod PathSums
+pub mod PathChains
+pub mod PathPlaces
+pub mod LookWeights

@@ -1,0 +1,7 @@
+use Rattle.std.proofs.Common.{take}
+use Rattle.shape_sizes.specs.PathLooks.{IsCappedLook}
+use Rattle.shape_sizes.proofs.Gathered.{HavePlaces}
+use Rattle.shape_sizes.proofs.looks.look_places.Given as goal
+
+abbrev pub invariant-loop-node : goal.invariant-loop-node
+invariant-loop-node l = HavePlaces l.graph (IsCappedLook l.graph) (take l.node-index l.nodes) l.places

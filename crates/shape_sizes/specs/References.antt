@@ -1,0 +1,42 @@
+-- References between shapes, which lead from no shape to itself (SHACL 3.4.3; rule 38), and how many may follow one another
+-- (rule 41).
+use Rattle.std.specs.Prelude.{◌≢◌, ◌⊎◌, ◌↔◌, ℕ, List}
+use Rattle.std.specs.declared.cmp.Ordering.TheVariants.{Greater}
+use Rattle.collections.specs.Ordered.{IsAscending}
+use Rattle.rdf_model.specs.declared.term.Term.{Term}
+use Rattle.rdf_model.specs.declared.triple.Triple.{Triple}
+use Rattle.rdf_model.specs.Terms.{term_cmp, triple_cmp}
+use Rattle.shape_model.specs.Readings.{Sibling}
+use Rattle.shape_references.specs.Chains.{HasChain, IsJoined, IsOnLoop}
+use Rattle.shape_properties.specs.Table.{role}
+use Rattle.shape_properties.specs.Syntax.{SomeValue, Takes}
+
+-- b is a value of a shape-expecting parameter of a, a member of a list that is a value of a list-taking one, or a
+-- sibling of a (SHACL 4.7.3); whether a is deactivated doesn't matter
+abbrev pub Refers : List Triple → Term → Term → Type 0
+Refers s a b = SomeValue s a (λ p v. Takes s (role p) v b) ⊎ Sibling s a b
+
+-- a chain of references leads from the shape to itself
+abbrev pub IsRecursive : List Triple → Term → Type 0
+IsRecursive s n = IsOnLoop (Refers s) n
+
+-- no recursive shape comes before it
+abbrev pub IsLeastRecursive : List Triple → Term → Type 0
+IsLeastRecursive s n = IsRecursive s n × ((m : Term) → IsRecursive s m → term_cmp n m ≢ Greater)
+
+-- From no shape may a chain of so many references lead: one more than 256. It is unfoldable, so that no proof counts so far.
+unfoldable pub chain_limit : ℕ
+chain_limit = 257
+
+-- a chain of so many leads from the shape
+abbrev pub HasLongChain : List Triple → Term → Type 0
+HasLongChain s n = HasChain (Refers s) chain_limit n
+
+-- no such shape comes before it
+abbrev pub IsLeastWithLongChain : List Triple → Term → Type 0
+IsLeastWithLongChain s n = HasLongChain s n × ((m : Term) → HasLongChain s m → term_cmp n m ≢ Greater)
+
+-- a graph of which each triple is a reference, from its subject to its object
+pub record AreReferences (s references : List Triple) : Type 0 where
+  pub ascending : IsAscending triple_cmp references
+  pub exact : (a b : Term) → IsJoined references a b ↔ Refers s a b

@@ -1,0 +1,90 @@
+//! The sizes of shapes, and which shapes are too large (rule 42).
+ghost use Rattle.std.specs.Prelude.{◌≡◌, ◌↔◌, ◌<◌, ◌+◌, ◌^◌, IsTrue, IfOk};
+ghost use Rattle.collections.specs.Listings.{IsListing};
+ghost use Rattle.collections.specs.Ordered.{IsAscending};
+ghost use Rattle.rdf_model.specs.Terms.{term_cmp, triple_cmp};
+ghost use Rattle.shape_references.specs.Siblings.{IsTurned};
+ghost use Rattle.shape_sizes.specs.Counted.{ArePlaces, AreWeights, IsPlaceOf};
+ghost use Rattle.shape_sizes.specs.Sizes.{IsTooLarge, size_limit};
+ghost use Rattle.shape_properties.specs.Syntax.{IsShape};
+
+use crate::counted::referred_shapes;
+use collections::Sequence;
+use rdf_model::{Term, Triple};
+use reference_totals::{Place, total_of, totals};
+use shape_references::turned_properties;
+use std::alloc::{AllocError, Global};
+use std::collections::BTreeMap;
+
+fn place_of(
+    alloc: Global,
+    graph: &[Triple],
+    turned: &[Triple],
+    node: &Term,
+) -> Result<Place, AllocError>
+    requires graph { IsAscending triple_cmp graph.now }
+    requires turned { IsListing triple_cmp (IsTurned graph.now) turned.now }
+    ensures { IfOk result (λ place. IsPlaceOf graph.now (λ m w. w ≡ 1) place × (place.node ≡ node.now)) }
+{
+    let to = referred_shapes(alloc, graph, turned, node)?;
+    Ok(Place {
+        node: node.clone()?,
+        own: 1,
+        to,
+    })
+}
+
+// The places of the nodes.
+fn places_of(
+    alloc: Global,
+    graph: &[Triple],
+    turned: &[Triple],
+    nodes: &[Term],
+) -> Result<Sequence<Place>, AllocError>
+    requires graph { IsAscending triple_cmp graph.now }
+    requires turned { IsListing triple_cmp (IsTurned graph.now) turned.now }
+    requires nodes { IsListing term_cmp (IsShape graph.now) nodes.now }
+    ensures { IfOk result (λ places. ArePlaces graph.now (λ m w. w ≡ 1) places) }
+{
+    let mut places = Sequence::new(alloc);
+    for node in nodes {
+        places.push(place_of(alloc, graph, turned, node)?)?;
+    }
+    Ok(places)
+}
+
+#[tactic(auto, unfolding(crate::specs::Sizes::size_limit))]
+fn most() -> u64
+    ensures limit { result ≡ size_limit }
+    ensures small { result + 1 < 2 ^ 64 }
+{
+    65_536
+}
+
+/// The sizes of the shapes, which are given, as far as they are counted: one more than the limit stands for all over it.
+pub fn sizes_of(
+    alloc: Global,
+    graph: &[Triple],
+    nodes: &[Term],
+) -> Result<BTreeMap<Term, u64>, AllocError>
+    requires graph { IsAscending triple_cmp graph.now }
+    requires nodes { IsListing term_cmp (IsShape graph.now) nodes.now }
+    ensures { IfOk result (λ table. AreWeights graph.now (λ m w. w ≡ 1) size_limit table) }
+{
+    let turned = turned_properties(alloc, graph)?;
+    let places = places_of(alloc, graph, turned.as_slice(), nodes)?;
+    let table = totals(alloc, places.as_slice(), most())?;
+    Ok(table)
+}
+
+/// Whether the shape is too large, by the table of sizes.
+pub fn is_too_large(graph: &[Triple], table: &BTreeMap<Term, u64>, node: &Term) -> bool
+    requires table { AreWeights graph.now (λ m w. w ≡ 1) size_limit table.now }
+    requires node { IsShape graph.now node.now }
+    ensures { IsTrue result ↔ IsTooLarge graph.now node.now }
+{
+    match total_of(table, node) {
+        Some(total) => total > most(),
+        None => false,
+    }
+}
