@@ -1,10 +1,10 @@
 //! A graph built at once of changes that add its first triples in order.
-ghost use Rattle.std.specs.Prelude.{◌≡◌, ◌↔◌, [], IsTrue, IfOk, MatchOption};
+ghost use Rattle.std.specs.Prelude.{◌≡◌, ◌↔◌, List, [], IsTrue, IfOk, MatchOption};
 ghost use Rattle.rdf_model.specs.declared.change.Change.TheVariants.{Add};
 ghost use Rattle.rdf_model.specs.Graphs.{after};
 ghost use Rattle.rdf_model.specs.Terms.{triple_cmp};
 ghost use Rattle.collections.specs.Ordered.{IsAscending};
-ghost use Rattle.data_graph.specs.Nets.{ComesLast};
+ghost use Rattle.data_graph.specs.Nets.{AddsInOrder, ComesLast};
 
 use page_index::Pages;
 use rdf_model::{Change, Triple};
@@ -37,9 +37,9 @@ fn added_last<'a>(triples: &[Triple], change: &'a Change) -> Option<&'a Triple>
     }
 }
 
-// The triples that the changes add, where each adds one that comes after those before.
+// The triples that the changes add, where each adds one that comes after those before; None exactly where one doesn't.
 fn added_in_order(alloc: Global, net: &[Change]) -> Result<Option<Vec<Triple>>, AllocError>
-    ensures { IfOk result (λ added. MatchOption added (Unit {0}) (λ v. IsAscending triple_cmp v.items × (v.items ≡ after [] net.now))) }
+    ensures { IfOk result (λ added. MatchOption added ((ts : List Triple) → AddsInOrder net.now ts → ⊥) (λ v. AddsInOrder net.now v.items)) }
 {
     let mut triples = Vec::new(alloc);
     for change in net {
@@ -56,7 +56,7 @@ pub(crate) fn first_graph(
     alloc: Global,
     net: &[Change],
 ) -> Result<Option<Pages<Triple>>, AllocError>
-    ensures { IfOk result (λ graph. MatchOption graph (Unit {0}) (λ g. g ≡ after [] net.now)) }
+    ensures { IfOk result (λ graph. MatchOption graph ((ts : List Triple) → AddsInOrder net.now ts → ⊥) (λ g. g ≡ after [] net.now)) }
 {
     match added_in_order(alloc, net)? {
         Some(triples) => Ok(Some(Pages::from_sorted(alloc, &triples)?)),
