@@ -2,12 +2,9 @@
 # How long a shapes graph of many shapes takes to read: to be tested by all rules and compiled. In each ten shapes are four property
 # shapes with paths of all kinds and one with a qualified count, and node shapes with classes, lists and references; the data are one
 # triple, and what a run takes without shapes is told beside it. Usage: bench/shapes.sh [SHAPES..]; 1000 and 10000 where none is given.
+# bench/shapes.sh --print SHAPES prints such a graph.
 set -eu
 root=$(cd "$(dirname "$0")/.." && pwd)
-sizes=("$@")
-[ ${#sizes[@]} -gt 0 ] || sizes=(1000 10000)
-work=$(mktemp -d)
-trap 'rm -rf "$work"' EXIT
 
 prefixes='@prefix e: <http://example.org/> .
 @prefix sh: <http://www.w3.org/ns/shacl#> .
@@ -33,6 +30,15 @@ shapes() {
     }
   }'
 }
+
+if [ "${1:-}" = --print ]; then
+  shapes "$2"
+  exit
+fi
+sizes=("$@")
+[ ${#sizes[@]} -gt 0 ] || sizes=(1000 10000)
+work=$(mktemp -d)
+trap 'rm -rf "$work"' EXIT
 
 # best SHAPES: the milliseconds of the quickest of three validations.
 best() {
