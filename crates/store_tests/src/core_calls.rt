@@ -1,10 +1,10 @@
 // The core's own calls, each with what it answers.
-ghost use Rattle.std.specs.Prelude.{IfOk};
+ghost use Rattle.std.specs.Prelude.{◌≡◌, ◌<◌, IfOk};
 ghost use Rattle.store_model.specs.Store.{IsOpened};
 
 use collections::Sequence;
-use commit_core::{Again, CheckedTransaction, Commit, Core, Limits, NameFault, SessionFault, Transaction};
-use rdf_model::{Net, Pattern, Term, Text};
+use commit_core::{Again, CheckedTransaction, Commit, Core, Limits, NameFault, Transaction};
+use rdf_model::{Pattern, Term, Text};
 use shape_eval::Steps;
 use shapes_graph::ShapesGraph;
 use std::alloc::{AllocError, Global};
@@ -77,18 +77,52 @@ fn a_third_term_is_one_too_many(rt: HostRuntime) -> Result<(), Fail> {
     Ok(())
 }
 
-// Replaces the shapes graph by one without triples.
-fn replacing(alloc: Global) -> Result<CheckedTransaction, AllocError>
-    ensures { IfOk result IsReplacing }
+fn committed<L: Ledger>(
+    alloc: Global,
+    core: &mut Core,
+    session: u32,
+    blank: Blank,
+) -> Result<Commit, AllocError>
+    requires session { IsOpened core.old.state session }
+    requires name { blank.name ≡ L.name }
+    requires parts { blank.parts ≡ L.parts }
+    requires some { 0 < L.parts }
 {
-    Ok(CheckedTransaction::unchecked(
-        alloc,
-        Transaction {
-            base: 0,
-            net: Net::new(alloc)?,
-            staged: Some(ShapesGraph::empty(alloc)?),
-            finds: Sequence::new(alloc),
-            verdict: None,
-        },
-    ))
+    let transaction = Transaction {
+        base: 0,
+        net: Sequence::new(alloc),
+        staged: Some(ShapesGraph::empty(alloc)?),
+        finds: Sequence::new(alloc),
+        verdict: None,
+    };
+    let mut steps = Steps::<L>::begin(blank);
+    let checked = CheckedTransaction::unchecked(alloc, transaction);
+    Ok(core.commit(session, checked, &mut steps))
+}
+
+fn committed_one(alloc: Global, core: &mut Core, session: u32) -> Result<Commit, AllocError>
+    requires { IsOpened core.old.state session }
+{
+    committed::<Brand>(alloc, core, session, Blank::new(1))
+}
+
+// A shapes graph without triples is staged, so the graph is evaluated in the step.
+#[test]
+fn shapes_are_committed(rt: HostRuntime) -> Result<(), Fail> {
+    let alloc = rt.alloc();
+    let (mut core, session) = opened(alloc)?;
+    let commit = committed_one(alloc, &mut core, session)?;
+    match &commit {
+        Commit::Done {
+            number,
+            again: Again::OwnShapes,
+        } => assert_eq!(rt; *number, 1),
+        _ => return Err(Fail::new("the shapes are committed")),
+    }
+    assert_eq!(rt; core.order()?.as_slice(), [1, 1].as_slice());
+    match core.into_events() {
+        Ok(events) => assert_eq!(rt; events.len(), 2),
+        Err(_) => return Err(Fail::new("the events are given")),
+    }
+    Ok(())
 }

@@ -13,3 +13,4 @@ pub mod IriTexts
 pub mod Vocabulary
 pub mod Nodes
 pub mod NodesWithin
+pub mod ReadBack

@@ -1,10 +1,12 @@
 -- What the productions say of their repetitions, and what a text gives.
-use Rattle.std.specs.Prelude.{◌≡◌, ℕ, ◌≤◌, List, Ok, if◌then◌else◌}
+use Rattle.std.specs.Prelude.{◌≡◌, ℕ, ◌^◌, ◌≤◌, List, Ok, if◌then◌else◌}
 use Rattle.std.specs.List.{AllByRecursion}
 use Rattle.collections.specs.Ordered.{IsAscending}
 use Rattle.rdf_model.specs.declared.term.Term.{Term}
 use Rattle.rdf_model.specs.declared.triple.Triple.{Triple}
 use Rattle.rdf_model.specs.Terms.{triple_cmp}
+use Rattle.ntriples_text.specs.Document.{reads_named}
+use Rattle.ntriples_text.specs.Writing.{written}
 use Rattle.ntriples_text.specs.Laws.{IsReadable, IsWithin}
 use Rattle.turtle_reader.specs.declared.state.State.{State}
 use Rattle.turtle_reader.specs.Readings.{and_then, ◌>>=◌, give, many}
@@ -42,3 +44,9 @@ RepeatsMembers = (text : List ℕ) (levels : ℕ) (node : Term) (s : State)
 abbrev pub GivesReadable : Type 0
 GivesReadable = (bytes : List ℕ) (session first next : ℕ) (triples : List Triple) → reads bytes session first ≡ Ok (triples, next)
     → (first ≤ next) × AllByRecursion (IsReadable (IsWithin session first next)) triples × IsAscending triple_cmp triples
+
+-- What a text gives, written as N-Triples, is read again as the same triples, blank nodes included, by the labels of the
+-- store: those of sessions 1 to 64, with numbers of 32 bits from 1.
+abbrev pub ReadsBack : Type 0
+ReadsBack = (bytes : List ℕ) (session first next : ℕ) (triples : List Triple) → reads bytes session first ≡ Ok (triples, next)
+    → 1 ≤ session → session ≤ 64 → 1 ≤ first → next ≤ 2 ^ 32 → reads_named (written triples) ≡ Ok triples

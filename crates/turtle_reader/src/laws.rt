@@ -1,4 +1,4 @@
-ghost use Rattle.turtle_reader.specs.Laws.{RepeatsStatements, RepeatsObjects, RepeatsVerbs, RepeatsMembers, GivesReadable};
+ghost use Rattle.turtle_reader.specs.Laws.{RepeatsStatements, RepeatsObjects, RepeatsVerbs, RepeatsMembers, GivesReadable, ReadsBack};
 
 /// turtleDoc has statements as long as anything is left of the text.
 pub fn statements_repeat()
@@ -26,4 +26,10 @@ pub fn members_repeat()
 /// the next.
 pub fn read_gives_readable()
     ensures { GivesReadable }
+{}
+
+/// What a text gives, written as N-Triples, is read by the labels of the store as the same triples,
+/// blank nodes included.
+pub fn read_back_after_write()
+    ensures { ReadsBack }
 {}
