@@ -1,13 +1,12 @@
-ghost use Rattle.std.specs.Prelude.{◌≡◌, ◌<◌, IsTrue, length};
-ghost use Rattle.std.specs.List.{Contains};
-ghost use Rattle.rdf_model.specs.Numbers.{IsNumbering, term_at};
+ghost use Rattle.std.specs.Prelude.{◌<◌, length};
+ghost use Rattle.rdf_model.specs.Numbers.{IsNumbering};
 ghost use Rattle.component_rows.specs.Nodes.{AreNodes};
-ghost use Rattle.shape_model.specs.Vocabulary.{true_literal};
 
-use crate::case::{Case, assert_found, read_case};
-use crate::checks::{have_names, is_true};
+use crate::case::{Case, assert_found, read_case, site_of};
+use crate::checks::have_names;
+use component_rows::Site;
 use outside::{MakeFault, Maker, RegexMaker};
-use rdf_model::Names;
+use rdf_model::{ListNames, Names};
 use regex::Regex;
 use shape_model::ResultRow;
 use std::alloc::{AllocError, Global};
@@ -43,7 +42,8 @@ LanguageIn; e:L; five^integer x@EN; en^string; five^integer
 LanguageIn; e:L;; en^string;
 LanguageIn; e:L; x@en; ^string _1 e:a; x@en";
 
-// One result for each tag that two value nodes have, whichever their case; texts without a tag share none.
+// One result for each tag that two value nodes have, whichever their case; texts without a tag share none. Another
+// literal than true has no effect.
 const TAGS: &str = "\
 UniqueLang; true^boolean; x@en y@EN z@de w@de;; -|-|de^string -|-|en^string
 UniqueLang; true^boolean; x@en x@EN;;
@@ -52,6 +52,9 @@ UniqueLang; true^boolean; x@en x@en-us y@de x^string y^string e:a _1;;
 UniqueLang; true^boolean; a@EN-us b@en-US;; -|-|en-us^string
 UniqueLang; true^boolean; a@en b@EN c@de d@DE e@fr;; -|-|de^string -|-|en^string
 UniqueLang; true^boolean; five^integer six^integer e:a _1 x@en;;
+UniqueLang; 1^boolean; x@en y@EN;;
+UniqueLang; false^boolean; x@en y@EN;;
+UniqueLang; true^string; x@en y@EN;;
 UniqueLang; true^boolean;;;";
 
 // Patterns that match a part, the whole or nothing; flags, where other terms tell them.
@@ -65,65 +68,33 @@ Pattern; ^e:^string; e:a f:a^string _1 e:^string;; f:a^string _1
 Pattern; ^.$^string; a^string 日^string ab^string;; ab^string
 Pattern; x^string;;;";
 
-fn length_rows(alloc: Global, case: &Case<'_>) -> Result<Vec<ResultRow>, AllocError>
-    requires nodes { AreNodes case.now.names case.now.values.items }
-    requires parameter { case.now.parameter < length case.now.names }
-    requires focus { case.now.focus < length case.now.names }
-{
-    let (names, source) = (&case.names, &case.source);
-    let (parameter, focus, values) = (case.parameter, case.focus, case.values.as_slice());
-    match case.component {
-        "MinLength" => min_length(alloc, names, source, parameter, focus, values),
-        _ => max_length(alloc, names, source, parameter, focus, values),
+fn length_rows(
+    component: &str,
+    site: &Site<'_, ListNames>,
+) -> Result<Vec<ResultRow>, AllocError> {
+    match component {
+        "MinLength" => min_length(site),
+        _ => max_length(site),
     }
 }
 
 fn assert_length(rt: &impl Abort, alloc: Global, line: &str) -> Result<(), Fail> {
     let case = read_case(rt, alloc, "", line)?;
-    let rows = length_rows(alloc, &case)?;
+    let rows = length_rows(case.component, &site_of(alloc, &case))?;
     assert_found(rt, alloc, &case, &rows, line)
-}
-
-fn language_rows(
-    alloc: Global,
-    case: &Case<'_>,
-    ranges: &[u32],
-) -> Result<Vec<ResultRow>, AllocError>
-    requires nodes { AreNodes case.now.names case.now.values.items }
-    requires ranges { (n : _) → Contains ranges.now n → n < length case.now.names }
-    requires parameter { case.now.parameter < length case.now.names }
-    requires focus { case.now.focus < length case.now.names }
-{
-    language_in(
-        alloc,
-        &case.names,
-        &case.source,
-        case.parameter,
-        ranges,
-        case.focus,
-        &case.values,
-    )
 }
 
 fn assert_languages(rt: &impl Abort, alloc: Global, line: &str) -> Result<(), Fail> {
     let case = read_case(rt, alloc, "", line)?;
     let ranges = case.others.as_slice();
     assert!(rt; have_names(ranges, &case.names));
-    let rows = language_rows(alloc, &case, ranges)?;
+    let rows = language_in(&site_of(alloc, &case), ranges)?;
     assert_found(rt, alloc, &case, &rows, line)
 }
 
 fn assert_tags(rt: &impl Abort, alloc: Global, line: &str) -> Result<(), Fail> {
     let case = read_case(rt, alloc, "", line)?;
-    assert!(rt; is_true(&case.names, case.parameter));
-    let rows = unique_lang(
-        alloc,
-        &case.names,
-        &case.source,
-        case.parameter,
-        case.focus,
-        &case.values,
-    )?;
+    let rows = unique_lang(&site_of(alloc, &case))?;
     assert_found(rt, alloc, &case, &rows, line)
 }
 
@@ -164,17 +135,8 @@ fn pattern_rows(
     requires parameter { case.now.parameter < length case.now.names }
     requires focus { case.now.focus < length case.now.names }
 {
-    let (names, source) = (&case.names, &case.source);
     match regex_of(alloc, case, flags)? {
-        Some(regex) => Ok(Some(pattern(
-            alloc,
-            names,
-            source,
-            case.parameter,
-            &regex,
-            case.focus,
-            &case.values,
-        )?)),
+        Some(regex) => Ok(Some(pattern(&site_of(alloc, case), &regex)?)),
         None => Ok(None),
     }
 }

@@ -1,8 +1,8 @@
-ghost use Rattle.std.specs.Prelude.{◌<◌, length};
-ghost use Rattle.rdf_model.specs.Numbers.{IsNumbering};
 ghost use Rattle.component_rows.specs.Nodes.{AreNodes};
 
-use crate::case::{Case, assert_found, read_case};
+use crate::case::{assert_found, read_case, site_of};
+use component_rows::Site;
+use rdf_model::ListNames;
 use shape_model::ResultRow;
 use std::alloc::{AllocError, Global};
 use std::process::Abort;
@@ -89,75 +89,58 @@ MaxCount; 2^integer; e:a _1;;
 MaxCount; -1^integer;;; -
 MaxCount; 1^int; e:a _1;;";
 
-fn range_rows(alloc: Global, case: &Case<'_>) -> Result<Vec<ResultRow>, AllocError>
-    requires nodes { AreNodes case.now.names case.now.values.items }
-    requires parameter { case.now.parameter < length case.now.names }
-    requires focus { case.now.focus < length case.now.names }
-{
-    let (names, source) = (&case.names, &case.source);
-    let (parameter, focus, values) = (case.parameter, case.focus, case.values.as_slice());
-    match case.component {
-        "MinInclusive" => min_inclusive(alloc, names, source, parameter, focus, values),
-        "MinExclusive" => min_exclusive(alloc, names, source, parameter, focus, values),
-        "MaxInclusive" => max_inclusive(alloc, names, source, parameter, focus, values),
-        _ => max_exclusive(alloc, names, source, parameter, focus, values),
+fn range_rows(
+    component: &str,
+    site: &Site<'_, ListNames>,
+) -> Result<Vec<ResultRow>, AllocError> {
+    match component {
+        "MinInclusive" => min_inclusive(site),
+        "MinExclusive" => min_exclusive(site),
+        "MaxInclusive" => max_inclusive(site),
+        _ => max_exclusive(site),
     }
 }
 
-fn set_rows(alloc: Global, case: &Case<'_>) -> Result<Vec<ResultRow>, AllocError>
-    requires numbering { IsNumbering case.now.names }
-    requires nodes { AreNodes case.now.names case.now.values.items }
-    requires members { AreNodes case.now.names case.now.members.items }
-    requires parameter { case.now.parameter < length case.now.names }
-    requires focus { case.now.focus < length case.now.names }
+fn set_rows(
+    component: &str,
+    site: &Site<'_, ListNames>,
+    members: &[u32],
+) -> Result<Vec<ResultRow>, AllocError>
+    requires { AreNodes site.now.terms members.now }
 {
-    let (names, source) = (&case.names, &case.source);
-    let (parameter, focus, values) = (case.parameter, case.focus, case.values.as_slice());
-    match case.component {
-        "In" => in_list(
-            alloc,
-            names,
-            source,
-            parameter,
-            &case.members,
-            focus,
-            values,
-        ),
-        "HasValue" => has_value(alloc, names, source, parameter, focus, values),
-        _ => datatype(alloc, names, source, parameter, focus, values),
+    match component {
+        "In" => in_list(site, members),
+        "HasValue" => has_value(site),
+        _ => datatype(site),
     }
 }
 
-fn kind_rows(alloc: Global, case: &Case<'_>) -> Result<Vec<ResultRow>, AllocError>
-    requires numbering { IsNumbering case.now.names }
-    requires nodes { AreNodes case.now.names case.now.values.items }
-    requires parameter { case.now.parameter < length case.now.names }
-    requires focus { case.now.focus < length case.now.names }
-{
-    let (names, source) = (&case.names, &case.source);
-    let (parameter, focus, values) = (case.parameter, case.focus, case.values.as_slice());
-    match case.component {
-        "MinCount" => min_count(alloc, names, source, parameter, focus, values),
-        "MaxCount" => max_count(alloc, names, source, parameter, focus, values),
-        _ => node_kind(alloc, names, source, parameter, focus, values),
+fn kind_rows(
+    component: &str,
+    site: &Site<'_, ListNames>,
+) -> Result<Vec<ResultRow>, AllocError> {
+    match component {
+        "MinCount" => min_count(site),
+        "MaxCount" => max_count(site),
+        _ => node_kind(site),
     }
 }
 
 fn assert_range(rt: &impl Abort, alloc: Global, line: &str) -> Result<(), Fail> {
     let case = read_case(rt, alloc, "", line)?;
-    let rows = range_rows(alloc, &case)?;
+    let rows = range_rows(case.component, &site_of(alloc, &case))?;
     assert_found(rt, alloc, &case, &rows, line)
 }
 
 fn assert_set(rt: &impl Abort, alloc: Global, line: &str) -> Result<(), Fail> {
     let case = read_case(rt, alloc, "", line)?;
-    let rows = set_rows(alloc, &case)?;
+    let rows = set_rows(case.component, &site_of(alloc, &case), &case.members)?;
     assert_found(rt, alloc, &case, &rows, line)
 }
 
 fn assert_kind(rt: &impl Abort, alloc: Global, line: &str) -> Result<(), Fail> {
     let case = read_case(rt, alloc, "", line)?;
-    let rows = kind_rows(alloc, &case)?;
+    let rows = kind_rows(case.component, &site_of(alloc, &case))?;
     assert_found(rt, alloc, &case, &rows, line)
 }
 

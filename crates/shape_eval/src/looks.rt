@@ -11,8 +11,7 @@ ghost use Rattle.path_eval.specs.Naming.{AddsLooks};
 ghost use Rattle.shape_ast.specs.Components.{term_component};
 ghost use Rattle.shape_eval.specs.Looks.{AreInstanceAnswers, ComponentReads, ReadsAtEach};
 
-use crate::closing::is_true;
-use component_rows::named;
+use component_rows::{is_true, named};
 use path_eval::{ClassWords, is_instance};
 use rdf_model::{Footprint, Look, Names, Triples};
 use shape_ast::TermComponent;

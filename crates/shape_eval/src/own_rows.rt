@@ -17,7 +17,7 @@ use crate::by_shape::{shape_rows, shapes_rows};
 use crate::by_term::term_rows;
 use crate::looks::component_looks;
 use crate::told::Told;
-use component_rows::named;
+use component_rows::{Site, named};
 use path_eval::ClassWords;
 use rdf_model::{Footprint, Names, Triples};
 use shape_ast::{Constraint, Shape};
@@ -64,48 +64,33 @@ fn constraint_rows<R: Triples, N: Names>(
             let instances = component_looks(
                 alloc, graph, names, words, *component, *parameter, focus, values, footprint,
             )?;
-            term_rows(
-                alloc, graph, names, shapes, shape, told, &instances, source, *component,
-                *parameter, focus, values,
-            )
+            let site = Site::new(alloc, names, source, *parameter, focus, values);
+            term_rows(graph, &site, shapes, shape, told, &instances, *component)
         }
         Constraint::ByList {
             component,
             parameter,
             members,
-        } => list_rows(
-            alloc,
-            names,
-            source,
-            *component,
-            *parameter,
-            members.as_slice(),
-            focus,
-            values,
-        ),
+        } => {
+            let site = Site::new(alloc, names, source, *parameter, focus, values);
+            list_rows(&site, *component, members.as_slice())
+        }
         Constraint::ByShape {
             component,
             parameter,
             shape: place,
-        } => shape_rows(
-            alloc, names, shapes, told, source, *component, *parameter, *place, focus, values,
-        ),
+        } => {
+            let site = Site::new(alloc, names, source, *parameter, focus, values);
+            shape_rows(&site, shapes, told, *component, *place)
+        }
         Constraint::ByShapes {
             component,
             parameter,
             shapes: places,
-        } => shapes_rows(
-            alloc,
-            names,
-            shapes,
-            told,
-            source,
-            *component,
-            *parameter,
-            places.as_slice(),
-            focus,
-            values,
-        ),
+        } => {
+            let site = Site::new(alloc, names, source, *parameter, focus, values);
+            shapes_rows(&site, shapes, told, *component, places.as_slice())
+        }
     }
 }
 
@@ -169,15 +154,10 @@ fn pattern_rows<N: Names>(
     let source = named(names, shape.node);
     match &shape.pattern {
         None => Ok(Vec::new(alloc)),
-        Some(built) => pattern(
-            alloc,
-            names,
-            source,
-            built.parameter,
-            &built.regex,
-            focus,
-            values,
-        ),
+        Some(built) => {
+            let site = Site::new(alloc, names, source, built.parameter, focus, values);
+            pattern(&site, &built.regex)
+        }
     }
 }
 
