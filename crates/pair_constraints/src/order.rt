@@ -117,5 +117,10 @@ pub fn less_than_or_equals<R: Triples, N: Names>(
 {
     site.recall();
     let others = found(graph, site)?;
-    Ok(unordered(site, Component::LessThanOrEquals, Comparison::AtMost, &others)?)
+    Ok(unordered(
+        site,
+        Component::LessThanOrEquals,
+        Comparison::AtMost,
+        &others,
+    )?)
 }

@@ -15,10 +15,7 @@ use std::alloc::{AllocError, Global};
 
 /// The results of sh:class (SHACL section 4.1.1): one about each value node that is no instance of the
 /// class, by an answer to each value node.
-pub fn class<N: Names>(
-    site: &Site<'_, N>,
-    answers: &[bool],
-) -> Result<Vec<ResultRow>, AllocError>
+pub fn class<N: Names>(site: &Site<'_, N>, answers: &[bool]) -> Result<Vec<ResultRow>, AllocError>
     requires { length answers.now ≡ length site.now.values }
     ensures { IfOk result (λ rows. ListsAt components.Class (answered_nodes site.now.terms site.now.values answers.now) untold site.now rows.items) }
 {
@@ -52,10 +49,7 @@ fn are_among(alloc: Global, numbers: &[u32], members: &[u32]) -> Result<Vec<bool
 
 /// The results of sh:in (SHACL section 4.8.3): one about each value node that is none of the members of the
 /// list, which are handed in ascending, each once. The parameter is the head of the list.
-pub fn in_list<N: Names>(
-    site: &Site<'_, N>,
-    members: &[u32],
-) -> Result<Vec<ResultRow>, AllocError>
+pub fn in_list<N: Names>(site: &Site<'_, N>, members: &[u32]) -> Result<Vec<ResultRow>, AllocError>
     requires { AreNodes site.now.terms members.now }
     ensures { IfOk result (λ rows. ListsAt components.In (at_values site.now) (with_list (map (term_at site.now.terms) members.now)) site.now rows.items) }
 {
