@@ -64,10 +64,7 @@ impl ValueTest for InLanguages<'_> {
 }
 
 // The terms of some numbers.
-fn terms_of<'a, N: Names>(
-    site: &Site<'a, N>,
-    numbers: &[u32],
-) -> Result<Vec<&'a Term>, AllocError>
+fn terms_of<'a, N: Names>(site: &Site<'a, N>, numbers: &[u32]) -> Result<Vec<&'a Term>, AllocError>
     requires { (n : _) → Contains numbers.now n → n < length site.now.terms }
     ensures { IfOk result (λ terms. map (λ t. t.now) terms.items ≡ map (term_at site.now.terms) numbers.now) }
 {

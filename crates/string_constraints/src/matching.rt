@@ -50,10 +50,7 @@ fn are_found<N: Names>(site: &Site<'_, N>, regex: &Regex) -> Result<Vec<bool>, A
 
 /// The results of sh:pattern (SHACL section 4.4.3): one about each value node that is blank, or whose text the
 /// pattern doesn't match. The regex is what was built of the parameter's text under the shape's flags.
-pub fn pattern<N: Names>(
-    site: &Site<'_, N>,
-    regex: &Regex,
-) -> Result<Vec<ResultRow>, AllocError>
+pub fn pattern<N: Names>(site: &Site<'_, N>, regex: &Regex) -> Result<Vec<ResultRow>, AllocError>
     ensures { (flags : _) → IsPatternOf (term_at site.now.terms site.now.parameter) flags regex.now
         → IfOk result (λ rows. ListsAt components.Pattern (at_values site.now) (with_flags flags) site.now rows.items) }
 {
