@@ -17,7 +17,7 @@ use Rattle.qualified_shapes.proofs.qualified.qualified_min_count.Goals as goal
 
 pub are_qualified-requires-clause-places : goal.are_qualified-requires-clause-places
 are_qualified-requires-clause-places g c = λ a h.
-    each_of (λ a. a.items) (length c.args.site.now.values) c.args.answers.now c.requires.answers.each a h ∙ ap (λ (ns : List ℕ). length ns) (sym c.values.ensures)
+    each_of (λ a. a.items) (length c.args.site.now.values) c.args.answers.now c.requires.answers.each a h ∙ ap (λ (ns : List ℕ). length ns) (sym c.values-places.ensures)
 
 pub returns : goal.returns
 returns g c =
@@ -26,7 +26,7 @@ returns g c =
     let row = site_row components.QualifiedMinCount s in
     let lists : List (List Bool) = map (λ a. a.items) c.args.answers.now in
     let met = c.in_ok-are_qualified.field-0.items in
-    let tells = subst (λ (ns : List ℕ). Tells (Qualifies lists) (length ns) met) c.values.ensures c.in_ok-are_qualified.ensures in
+    let tells = subst (λ (ns : List ℕ). Tells (Qualifies lists) (length ns) met) c.values-places.ensures c.in_ok-are_qualified.ensures in
     let number : c.count_all-number.result ≡ how_many met = c.count_all-number.ensures ∙ ap how_many c.deref.ensures.value in
     let y = with_qualified (term_at s.terms c.args.shape) (map (term_at s.terms) c.args.siblings.now) in
     IfOk-weaker c.counted.result
