@@ -25,7 +25,7 @@ Class; e:C; ; ; ;";
 // The last part has for the shape, the parameter, the answers to the value nodes, whether each conforms.
 const SINGLE: &str = "\
 Node; e:T; e:v e:w _1 1^integer; ; e:w 1^integer; ynyn
-Not; e:T; e:v e:w _1 1^integer; ; e:v _1; ynyn
+Not; e:T; e:v e:w _1 1^integer; ; _1 e:v; ynyn
 Node; e:T; ; ; ; .
 Not; e:T; five^integer x@EN; ; five^integer x@en; yy
 Node; e:T; five^integer x@EN; ; ; yy
@@ -33,11 +33,11 @@ Not; e:T; ; ; ; .";
 
 // Lists of shapes, also of none and with repeats, and such answers for each member.
 const LISTS: &str = "\
-And; e:L; e:v e:w _1 1^integer; e:T e:U; e:w _1 1^integer; yynn ynyn
+And; e:L; e:v e:w _1 1^integer; e:T e:U; _1 e:w 1^integer; yynn ynyn
 Or; e:L; e:v e:w _1 1^integer; e:T e:U; 1^integer; yynn ynyn
 Xone; e:L; e:v e:w _1 1^integer; e:T e:U; e:v 1^integer; yynn ynyn
 Xone; e:L; e:v; e:T e:T; e:v; y y
-Xone; e:L; e:v e:w _1; e:T e:U e:T; e:v _1; ynn nyn ynn
+Xone; e:L; e:v e:w _1; e:T e:U e:T; _1 e:v; ynn nyn ynn
 Xone; e:L; e:v e:w; e:T; e:w; yn
 And; e:L; e:v; ; ;
 Or; e:L; e:v; ; e:v;

@@ -19,8 +19,8 @@ use string_constraints::{language_in, max_length, min_length, pattern, unique_la
 const LENGTHS: &str = "\
 MinLength; 2^integer; ^string a^string ab^string abc^string;; ^string a^string
 MaxLength; 2^integer; ^string a^string ab^string abc^string;; abc^string
-MinLength; 3^integer; äöü^string 日本^string e:a e: _1 five^integer 12^integer a@en;; 日本^string e: _1 12^integer a@en
-MaxLength; 3^integer; äöü^string 日本^string e:a e:ab _1 five^integer 12^integer a@en;; e:ab _1 five^integer
+MinLength; 3^integer; äöü^string 日本^string e:a e: _1 five^integer 12^integer a@en;; _1 e: 12^integer a@en 日本^string
+MaxLength; 3^integer; äöü^string 日本^string e:a e:ab _1 five^integer 12^integer a@en;; _1 e:ab five^integer
 MinLength; 0^integer; ^string _1 e:a;; _1
 MaxLength; 0^integer; ^string _1 a^string;; _1 a^string
 MinLength; 5^decimal; ^string a^string _2;; _2
@@ -32,10 +32,10 @@ MaxLength; 9^integer;;;";
 
 // Ranges and tags of both cases, whole subtags, any tag, empty lists, repeated members.
 const LANGUAGES: &str = "\
-LanguageIn; e:L; x@en x@EN-us x@english x@de x^string e:a _1; en^string; x@english x@de x^string e:a _1
+LanguageIn; e:L; x@en x@EN-us x@english x@de x^string e:a _1; en^string; _1 e:a x@de x@english x^string
 LanguageIn; e:L; x@en y@DE-at z@fr; EN^string De^string; z@fr
 LanguageIn; e:L; x@en-us x@en; en-US^string; x@en
-LanguageIn; e:L; x@en x^string e:a; *^string; x^string e:a
+LanguageIn; e:L; x@en x^string e:a; *^string; e:a x^string
 LanguageIn; e:L; x@en x^string;; x@en x^string
 LanguageIn; e:L; x@fr y@fr z@de; fr^string fr^string; z@de
 LanguageIn; e:L; five^integer x@EN; en^string; five^integer
@@ -60,11 +60,11 @@ UniqueLang; true^boolean;;;";
 // Patterns that match a part, the whole or nothing; flags, where other terms tell them.
 const PATTERNS: &str = "\
 Pattern; ^a+$^string; aa^string b^string;; b^string
-Pattern; b^string; abc^string e:b xb@en _1 B^string 5^integer;; _1 B^string 5^integer
+Pattern; b^string; abc^string e:b xb@en _1 B^string 5^integer;; _1 5^integer B^string
 Pattern; b^string; abc^string B^string _1; i; _1
 Pattern; ^string; ^string _1 e:a;; _1
 Pattern; [0-9]{2}^string; 12^integer 1^integer five^integer;; 1^integer five^integer
-Pattern; ^e:^string; e:a f:a^string _1 e:^string;; f:a^string _1
+Pattern; ^e:^string; e:a f:a^string _1 e:^string;; _1 f:a^string
 Pattern; ^.$^string; a^string 日^string ab^string;; ab^string
 Pattern; x^string;;;";
 

@@ -10,7 +10,7 @@ use Rattle.rdf_model.specs.Numbers.{graph_of, term_at}
 use Rattle.shape_model.specs.declared.result_row.ResultRow.{ResultRow}
 use Rattle.shape_model.specs.Components.{PropertyRow}
 use Rattle.component_rows.specs.Answers.{AreAnswersTo}
-use Rattle.component_rows.specs.Listed.{Collects}
+use Rattle.component_rows.specs.Listed.{Collects, Lists}
 use Rattle.component_rows.specs.Nodes.{AreNodes, HasNode}
 use Rattle.component_rows.proofs.Collecting.{loop_all, loop_more}
 use Rattle.logic_constraints.specs.Properties.{told_rows, with_property}
@@ -150,9 +150,9 @@ rows_at_each-returns-clause-rows g t c =
     let lists : List (List ResultRow) = map (λ list. list.items) c.deref.result.now in
     let before = subst (λ ls. ListedUpTo terms ids c.args.shapes.now c.args.levels c.args.place values c.loop-value.value-index (map (λ list. list.items) ls)) (sym c.deref.ensures.value) c.loop-value.invariant.rows in
     IfOk-weaker c.property.result
-    (λ all. (within : List Term) (shape : Term) → Collects (PropertyRow (told_rows within values lists) (with_property shape)) all.items)
+    (λ all. (within : List Term) (shape : Term) → Lists (PropertyRow (told_rows within values lists) (with_property shape)) all.items)
     (λ all. CollectsAtEach terms ids c.args.shapes.now c.args.levels c.args.place values all.items)
-    (λ all given. listed_all terms ids c.args.shapes.now c.args.levels c.args.place values c.loop-value.value-index lists all.items c.loop-value-test.false c.loop-value.auto.value-index-end before given)
+    (λ all given. listed_all terms ids c.args.shapes.now c.args.levels c.args.place values c.loop-value.value-index lists all.items c.loop-value-test.false c.loop-value.auto.value-index-end before (λ within shape. (given within shape).members))
     c.property.ensures
 
 pub rows_at_each-returns-clause-looks : goal.rows_at_each-returns-clause-looks
@@ -161,7 +161,7 @@ rows_at_each-returns-clause-looks g t c =
     let ids = g.R.Triples.triples c.args.graph.now in
     let looks = looked_all terms ids c.args.shapes.now c.args.levels c.args.place c.args.values.now c.loop-value.value-index c.loop-value-test.false c.args.footprint.now c.loop-value.footprint c.loop-value.invariant.looks in
     IfOk-weaker c.property.result
-    (λ all. (within : List Term) (shape : Term) → Collects (PropertyRow (told_rows within c.args.values.now (map (λ list. list.items) c.deref.result.now)) (with_property shape)) all.items)
+    (λ all. (within : List Term) (shape : Term) → Lists (PropertyRow (told_rows within c.args.values.now (map (λ list. list.items) c.deref.result.now)) (with_property shape)) all.items)
     (λ _. AddsAtEach terms ids c.args.shapes.now c.args.levels c.args.place c.args.values.now c.args.footprint.now c.loop-value.footprint)
     (λ _ _. looks)
     c.property.ensures
