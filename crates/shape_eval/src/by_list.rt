@@ -16,10 +16,7 @@ use string_constraints::language_in;
 use value_constraints::in_list;
 
 // The results of sh:in (SHACL section 4.8.3).
-fn in_rows<N: Names>(
-    site: &Site<'_, N>,
-    members: &[u32],
-) -> Result<Vec<ResultRow>, AllocError>
+fn in_rows<N: Names>(site: &Site<'_, N>, members: &[u32]) -> Result<Vec<ResultRow>, AllocError>
     requires { All (λ n. n < length site.now.terms) members.now }
     ensures { IfOk result (λ rows. ListsAt components.In (at_values site.now) (with_list (map (term_at site.now.terms) members.now)) site.now rows.items) }
 {

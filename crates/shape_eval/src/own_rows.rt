@@ -5,6 +5,7 @@ ghost use Rattle.component_rows.specs.Listed.{Collects};
 ghost use Rattle.component_rows.specs.Nodes.{AreNodes, HasNode};
 ghost use Rattle.path_eval.specs.Instances.{AreClassWords};
 ghost use Rattle.path_eval.specs.Naming.{AddsLooks};
+ghost use Rattle.path_eval.specs.Relations.{Keeps};
 ghost use Rattle.shape_ast.specs.Readings.{AreBound, HoldsOfConstraint, HoldsOfShape, named_shapes, read_constraint, read_shape};
 ghost use Rattle.shape_ast.specs.Standing.{IsBuilt, IsLinked};
 ghost use Rattle.shape_eval.specs.Around.{around};
@@ -54,6 +55,7 @@ fn constraint_rows<R: Triples, N: Names>(
         (read_shape (term_at (N.terms names.now)) shape.now) (term_at (N.terms names.now) focus) (read_constraint (term_at (N.terms names.now)) constraint.now)) rows.items)) }
     ensures looks { OnOk result (AddsLooks (N.terms names.now) (ConstraintReads (graph_of (N.terms names.now) (R.triples graph.now)) (HasNode (N.terms names.now) values.now)
         (term_at (N.terms names.now) focus) (read_constraint (term_at (N.terms names.now)) constraint.now)) footprint.old footprint.new) }
+    ensures kept { Keeps footprint.old footprint.new }
 {
     let source = named(names, shape.node);
     match constraint {
@@ -124,6 +126,7 @@ fn constraints_rows<R: Triples, N: Names>(
         (read_shape (term_at (N.terms names.now)) shape.now) (term_at (N.terms names.now) focus))) rows.items)) }
     ensures looks { OnOk result (AddsLooks (N.terms names.now) (ReadsOfSome (map (read_constraint (term_at (N.terms names.now))) constraints.now)
         (ConstraintReads (graph_of (N.terms names.now) (R.triples graph.now)) (HasNode (N.terms names.now) values.now) (term_at (N.terms names.now) focus))) footprint.old footprint.new) }
+    ensures kept { Keeps footprint.old footprint.new }
 {
     let mut rows = Vec::new(alloc);
     for constraint in constraints {
@@ -189,6 +192,7 @@ pub(crate) fn own_rows<R: Triples, N: Names>(
         (read_shape (term_at (N.terms names.now)) shape.now) (term_at (N.terms names.now) focus)) rows.items)) }
     ensures looks { OnOk result (AddsLooks (N.terms names.now) (ReadsOfSome (map (read_constraint (term_at (N.terms names.now))) shape.now.constraints)
         (ConstraintReads (graph_of (N.terms names.now) (R.triples graph.now)) (HasNode (N.terms names.now) values.now) (term_at (N.terms names.now) focus))) footprint.old footprint.new) }
+    ensures kept { Keeps footprint.old footprint.new }
 {
     let constraints = shape.constraints.as_slice();
     let mut rows = constraints_rows(

@@ -204,3 +204,18 @@ returns-in_ok-instances-in-ByTerm-clause-looks g c =
     subst (λ (k : Constraint ℕ). OnOk c.term_rows.result (AddsLooks terms (ConstraintReads graph (HasNode terms c.args.values.now) f (read_constraint (term_at terms) k)) old new)) (sym c.in-ByTerm.is)
     (always c.term_rows.result (λ rows. AddsLooks terms (ConstraintReads graph (HasNode terms c.args.values.now) f (read_constraint (term_at terms) (ByTerm c.in-ByTerm.component c.in-ByTerm.parameter))) old new)
     (λ rows. c.in_ok-instances-in-ByTerm.ensures.looks))
+
+pub returns-in-ByList-clause-kept : goal.returns-in-ByList-clause-kept
+returns-in-ByList-clause-kept g c = λ look h. h
+
+pub returns-in-ByShape-clause-kept : goal.returns-in-ByShape-clause-kept
+returns-in-ByShape-clause-kept g c = λ look h. h
+
+pub returns-in-ByShapes-clause-kept : goal.returns-in-ByShapes-clause-kept
+returns-in-ByShapes-clause-kept g c = λ look h. h
+
+pub returns-in_ok-instances-in-ByTerm-clause-kept : goal.returns-in_ok-instances-in-ByTerm-clause-kept
+returns-in_ok-instances-in-ByTerm-clause-kept g c = c.component_looks.ensures.kept
+
+pub returns-in_err-instances-in-ByTerm-clause-kept : goal.returns-in_err-instances-in-ByTerm-clause-kept
+returns-in_err-instances-in-ByTerm-clause-kept g c = c.component_looks.ensures.kept
