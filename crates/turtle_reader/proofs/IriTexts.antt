@@ -1,5 +1,5 @@
 -- IRIs, literals and tags of tokens can be written and read again.
-use Rattle.std.proofs.Common.{◌≡◌, ◌∙◌, ℕ, zero, suc, ◌<◌, Bool, true, false, cond, not, ◌&&◌, ◌||◌, List, [], ◌∷◌, ◌++◌, length, take, drop, Option, Some, None, IfSome, Ok, refl, sym, ap, subst, eqb, ltb, arith, inl, inr, codes, ◌⊎◌, ⊎_elim, ◌≤◌}
+use Rattle.std.proofs.Common.{◌≡◌, ◌∙◌, ℕ, zero, suc, ◌<◌, Bool, true, false, cond, not, ◌&&◌, ◌||◌, List, [], ◌∷◌, ◌++◌, drop, Option, Some, None, IfSome, refl, sym, ap, eqb, ltb, arith, inl, inr, ◌⊎◌, ⊎_elim, ◌≤◌}
 use Rattle.std.specs.List.{AllByRecursion, list_all}
 use Rattle.std.specs.Str.{IsUtf8, chars}
 use Rattle.std.proofs.lemmas.Bool.{and_parts, and_from, or_from, or_right, or_cases, cases_lt, cases_eq, lt-ltb, eqb-true}
@@ -10,19 +10,18 @@ use Rattle.iri_ref.specs.Scheme.{has_scheme, reaches_colon, is_letter, is_scheme
 use Rattle.iri_ref.specs.Resolution.{resolved}
 use Rattle.iri_ref.proofs.Joins.{gives_scheme}
 use Rattle.iri_ref.proofs.Characters.{keeps_characters}
-use Rattle.rdf_lexical.specs.Characters.{is_iri_char, is_pn_chars}
-use Rattle.rdf_lexical.specs.declared.classes.Class.{Class}
+use Rattle.rdf_lexical.specs.Characters.{is_iri_char}
 use Rattle.rdf_lexical.specs.declared.classes.Class.TheVariants.{Hexadecimal, NameStart, Name, NameOrColon, LocalEscape}
 use Rattle.rdf_lexical.specs.Classes.{holds}
 use Rattle.rdf_lexical.specs.declared.quoting.Quotes.{Quotes}
 use Rattle.rdf_lexical.specs.declared.enclosing.Enclosed.TheVariants as enclosed
 use Rattle.rdf_lexical.specs.Meanings.{inner, iri_text, string_value}
 use Rattle.rdf_lexical.specs.Quoting.{quotes_length}
-use Rattle.rdf_lexical.specs.Productions.{OneOf, joined_texts, IsNameTail, IsIriRef}
+use Rattle.rdf_lexical.specs.Productions.{joined_texts, IsNameTail, IsIriRef}
 use Rattle.rdf_lexical.proofs.Runs.{apart}
 use Rattle.rdf_lexical.proofs.Contents.{unescaped_text}
 use Rattle.turtle_lex.specs.Meanings.{local_text, local_part, before_colon, after_one}
-use Rattle.turtle_lex.specs.Productions.{IsPrefix, IsPrefixName, IsPlx, IsLocalPiece, IsLocalPieceOrDot, IsLocal, IsPrefixedName}
+use Rattle.turtle_lex.specs.Productions.{IsPrefix, IsPrefixName, IsLocalPiece, IsLocalPieceOrDot, IsLocal, IsPrefixedName}
 use Rattle.ntriples_text.specs.Laws.{IsIriText}
 use Rattle.ntriples_text.proofs.Gives.{body_of, scalars_take, scalars_drop}
 use Rattle.turtle_reader.specs.Terms.{in_base}
@@ -190,11 +189,11 @@ local_is (c ∷ cs) s h =
     elim (eqb c 92) as (λ b. (b || is_iri_char c) ≡ true → (vs : List ℕ) × (cond b (local_text cs) (encode c ++ local_text cs) ≡ encodes vs) × (list_all is_iri_char vs ≡ true) × (scalars vs ≡ true)) [
       | true ↦ λ k. more
       | false ↦ λ k. (
-          c ∷ more.0,
-          ap (λ x. encode c ++ x) more.1,
-          and_from (is_iri_char c) (list_all is_iri_char more.0) k more.2,
-          and_from (scalar c) (scalars more.0) q.0 more.3,
-        )
+        c ∷ more.0,
+        ap (λ x. encode c ++ x) more.1,
+        and_from (is_iri_char c) (list_all is_iri_char more.0) k more.2,
+        and_from (scalar c) (scalars more.0) q.0 more.3,
+      )
     ] p.0
 
 reaches_on : (a b : List ℕ) → reaches_colon a ≡ true → reaches_colon (a ++ b) ≡ true
