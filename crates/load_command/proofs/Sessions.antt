@@ -12,7 +12,7 @@ use Rattle.load_command.specs.Load.{AreSessions, IsLoad, load_limits, load_text}
 
 event_count : (l : Limits) (m n : World) (i : ℕ) (w : Option OpenTransaction) (cs : List Command) (replies : List SessionReply) → RunsEvent l m i w cs replies n → length n.sessions ≡ length m.sessions
 event_count l m n i w [] replies h = absurd h
-event_count l m n i w (c ∷ cs) replies h = ap (λ (x : World). length x.sessions) h.3 ∙ length-set m.sessions (i - 1) _
+event_count l m n i w (c ∷ cs) replies h = ap (λ (x : World). length x.sessions) h.6 ∙ length-set m.sessions (i - 1) _
 
 place_count : (l : Limits) (m n : World) (i : ℕ) (b : Bool) (w : Option OpenTransaction) (cs : List Command) (replies : List SessionReply) → MatchBool b (RunsOpening l m i n) (RunsEvent l m i w cs replies n) → length n.sessions ≡ length m.sessions
 place_count l m n i true w cs replies h = ap (λ (x : World). length x.sessions) h.1.3

@@ -18,7 +18,7 @@ use Rattle.store_model.specs.declared.event.Reply.TheVariants.{Named, Full, Conf
 use Rattle.session_model.specs.declared.command.Command.{Command}
 use Rattle.session_model.specs.declared.reply.SessionReply.{SessionReply}
 use Rattle.store_model.specs.Store.{State, StepOf, IsOpened, Replies, CommitsByRows, CommitsByListing, CommitsWithinLimit, overtaker, named_with}
-use Rattle.session_model.specs.Sessions.{OpenTransaction, SessionState, World, LocalAnswer, answers, local_answer, up_to_event, up_to_event_by, action_of, commit_action, after_reply, no_session, session_at, world, RunsOpening, RunsEvent, RunsPlace, RunsInOrder, start, HasReplies}
+use Rattle.session_model.specs.Sessions.{OpenTransaction, SessionState, World, LocalAnswer, answers, local_answer, up_to_event, up_to_event_by, action_of, commit_action, after_reply, GoesOn, no_session, session_at, world, RunsOpening, RunsEvent, RunsPlace, RunsInOrder, start, HasReplies}
 
 pub RunsInOrder-append : (l : Limits) (m k n : World) (a b : List ℕ) → RunsInOrder l m a k → RunsInOrder l k b n → RunsInOrder l m (a ++ b) n
 RunsInOrder-append l m k n [] b p q = subst (λ (x : World). RunsInOrder l x b n) p q
@@ -40,11 +40,10 @@ pub up_to_event-event : (w : Option OpenTransaction) (c : Command) (cs : List Co
 up_to_event-event w c cs replies e = ap (λ (s : Option LocalAnswer). up_to_event_by s (record { current = w; commands = c ∷ cs; replies = replies }) (λ u ts. up_to_event u cs ts)) e
 
 -- one event
-pub turn : (l : Limits) (s t : State) (i : ℕ) (w : Option OpenTransaction) (c : Command) (cs : List Command) (replies : List SessionReply) (r : Reply) (before rest : List SessionState) → IsOpened s i → i ≡ length before + 1 → StepOf l s i (action_of w c) r t
-    → RunsPlace l (world s (before ++ record { current = w; commands = c ∷ cs; replies = replies } ∷ rest)) i (world t (before ++ after_reply s w c cs replies r ∷ rest))
-turn l s t i w c cs replies r before rest g e h =
+pub turn : (l : Limits) (s t : State) (i : ℕ) (w : Option OpenTransaction) (c : Command) (cs : List Command) (replies : List SessionReply) (a : Action) (r : Reply) (q : SessionState) (before rest : List SessionState) → IsOpened s i → i ≡ length before + 1 → GoesOn s w c cs replies a r q → StepOf l s i a r t
+    → RunsPlace l (world s (before ++ record { current = w; commands = c ∷ cs; replies = replies } ∷ rest)) i (world t (before ++ q ∷ rest))
+turn l s t i w c cs replies a r q before rest g e on h =
     let p : SessionState = record { current = w; commands = c ∷ cs; replies = replies } in
-    let q : SessionState = after_reply s w c cs replies r in
     let m : World = world s (before ++ p ∷ rest) in
     let n : World = world t (before ++ q ∷ rest) in
     let le : i ≤ s.opened = g.1 in
@@ -52,7 +51,7 @@ turn l s t i w c cs replies r before rest g e h =
     let at : i - 1 ≡ length before = omega (arith, e) in
     let mine : session_at m i ≡ p = ap (λ (k : ℕ). get_or (before ++ p ∷ rest) k no_session) at ∙ get-middle before rest p no_session in
     let put : set (before ++ p ∷ rest) (i - 1) q ≡ before ++ q ∷ rest = ap (λ (k : ℕ). set (before ++ p ∷ rest) k q) at ∙ set-middle before rest p q in
-    let by : RunsEvent l m i p.current p.commands p.replies n = (r, t, h, ap (world t) (sym put)) in
+    let by : RunsEvent l m i p.current p.commands p.replies n = (a, r, t, q, on, h, ap (world t) (sym put)) in
     subst (λ (b : Bool). MatchBool b (RunsOpening l m i n) (RunsEvent l m i (session_at m i).current (session_at m i).commands (session_at m i).replies n)) (sym none)
     (subst (λ (x : SessionState). RunsEvent l m i x.current x.commands x.replies n) (sym mine) by)
 
@@ -93,39 +92,98 @@ not_open : (b : Bool) (x : Transaction) → is_open (commit_action b x) ≡ fals
 not_open true x = refl
 not_open false x = refl
 
-pub never_open : (w : Option OpenTransaction) (c : Command) → is_open (action_of w c) ≡ false
-never_open None commands.Begin = refl
-never_open (Some w) commands.Begin = refl
-never_open None (BadAdd n kind) = refl
-never_open (Some w) (BadAdd n kind) = refl
-never_open None (Add ts) = refl
-never_open (Some w) (Add ts) = refl
-never_open None (Remove ts) = refl
-never_open (Some w) (Remove ts) = refl
-never_open None (BadRemove n kind) = refl
-never_open (Some w) (BadRemove n kind) = refl
-never_open None (Shapes ts) = refl
-never_open (Some w) (Shapes ts) = refl
-never_open None (BadShapes n kind) = refl
-never_open (Some w) (BadShapes n kind) = refl
-never_open None (BrokenShapes rule node) = refl
-never_open (Some w) (BrokenShapes rule node) = refl
-never_open None (RefusedPattern node) = refl
-never_open (Some w) (RefusedPattern node) = refl
-never_open None commands.Commit = refl
-never_open (Some w) commands.Commit = not_open w.head_taken w.transaction
-never_open None (Find p) = refl
-never_open (Some w) (Find p) = refl
-never_open None Abort = refl
-never_open (Some w) Abort = refl
+abbrev opens : Option Action → Bool
+opens None = false
+opens (Some a) = is_open a
+
+opens_not : (w : Option OpenTransaction) (c : Command) → opens (action_of w c) ≡ false
+opens_not None commands.Begin = refl
+opens_not (Some w) commands.Begin = refl
+opens_not None (BadAdd n kind) = refl
+opens_not (Some w) (BadAdd n kind) = refl
+opens_not None (Add ts) = refl
+opens_not (Some w) (Add ts) = refl
+opens_not None (Remove ts) = refl
+opens_not (Some w) (Remove ts) = refl
+opens_not None (BadRemove n kind) = refl
+opens_not (Some w) (BadRemove n kind) = refl
+opens_not None (Shapes ts) = refl
+opens_not (Some w) (Shapes ts) = refl
+opens_not None (BadShapes n kind) = refl
+opens_not (Some w) (BadShapes n kind) = refl
+opens_not None (BrokenShapes rule node) = refl
+opens_not (Some w) (BrokenShapes rule node) = refl
+opens_not None (RefusedPattern node) = refl
+opens_not (Some w) (RefusedPattern node) = refl
+opens_not None commands.Commit = refl
+opens_not (Some w) commands.Commit = not_open w.head_taken w.transaction
+opens_not None (Find p) = refl
+opens_not (Some w) (Find p) = refl
+opens_not None Abort = refl
+opens_not (Some w) Abort = refl
+
+-- no command of a session is an opening
+pub never_open : (w : Option OpenTransaction) (c : Command) (a : Action) → action_of w c ≡ Some a → is_open a ≡ false
+never_open w c a e = ap opens (sym e) ∙ opens_not w c
+
+abbrev is_void : Option Action → Bool
+is_void None = false
+is_void (Some Void) = true
+is_void (Some a) = false
+
+commit_not_void : (b : Bool) (x : Transaction) → is_void (Some (commit_action b x)) ≡ false
+commit_not_void true x = refl
+commit_not_void false x = refl
+
+voids_not : (w : Option OpenTransaction) (c : Command) → is_void (action_of w c) ≡ false
+voids_not None commands.Begin = refl
+voids_not (Some w) commands.Begin = refl
+voids_not None (BadAdd n kind) = refl
+voids_not (Some w) (BadAdd n kind) = refl
+voids_not None (Add ts) = refl
+voids_not (Some w) (Add ts) = refl
+voids_not None (Remove ts) = refl
+voids_not (Some w) (Remove ts) = refl
+voids_not None (BadRemove n kind) = refl
+voids_not (Some w) (BadRemove n kind) = refl
+voids_not None (Shapes ts) = refl
+voids_not (Some w) (Shapes ts) = refl
+voids_not None (BadShapes n kind) = refl
+voids_not (Some w) (BadShapes n kind) = refl
+voids_not None (BrokenShapes rule node) = refl
+voids_not (Some w) (BrokenShapes rule node) = refl
+voids_not None (RefusedPattern node) = refl
+voids_not (Some w) (RefusedPattern node) = refl
+voids_not None commands.Commit = refl
+voids_not (Some w) commands.Commit = commit_not_void w.head_taken w.transaction
+voids_not None (Find p) = refl
+voids_not (Some w) (Find p) = refl
+voids_not None Abort = refl
+voids_not (Some w) Abort = refl
+
+never_void : (w : Option OpenTransaction) (c : Command) → action_of w c ≡ Some Void → ⊥
+never_void w c e = let yes : is_void (Some Void) ≡ false = ap is_void (sym e) ∙ voids_not w c in cc
+
+-- nor is its place one of no session
+pub under_opened : (l : Limits) (s t : State) (i : ℕ) (w : Option OpenTransaction) (c : Command) (a : Action) (r : Reply) → action_of w c ≡ Some a → StepOf l s i a r t → IsOpened s i
+under_opened l s t i w c Open r e h = let no : is_open Open ≡ false = never_open w c Open e in cc
+under_opened l s t i w c Begin r e h = h.0
+under_opened l s t i w c (Name ts) r e h = h.0
+under_opened l s t i w c Head r e h = h.0
+under_opened l s t i w c (Commit x) r e h = h.0
+under_opened l s t i w c Void r e h = absurd (never_void w c e)
 
 -- an order tells one thing only
+some_same : {X : Type 0} (x y : X) → Some x ≡ Some y → x ≡ y
+some_same x y e = cc
+
 turn_one : (l : Limits) (m n o : World) (i : ℕ) (w : Option OpenTransaction) (cs : List Command) (replies : List SessionReply) → RunsEvent l m i w cs replies n → RunsEvent l m i w cs replies o → o ≡ n
 turn_one l m n o i w [] replies h k = absurd h
 turn_one l m n o i w (c ∷ cs) replies h k =
-    let e = StepIsDeterministic-holds l m.state h.1 k.1 i (action_of w c) h.0 k.0 h.2 k.2 in
-    k.3 ∙ (ap (λ (r : Reply). record { state = k.1; sessions = set m.sessions (i - 1) (after_reply m.state w c cs replies r) }) e.0
-    ∙ (ap (λ (s : State). record { state = s; sessions = set m.sessions (i - 1) (after_reply m.state w c cs replies h.0) }) e.1 ∙ sym h.3))
+    let action : k.0 ≡ h.0 = some_same k.0 h.0 (sym k.4.event ∙ h.4.event) in
+    let e = StepIsDeterministic-holds l m.state h.2 k.2 i h.0 h.1 k.1 h.5 (subst (λ (a : Action). StepOf l m.state i a k.1 k.2) action k.5) in
+    let next : k.3 ≡ h.3 = some_same k.3 h.3 (sym k.4.next ∙ (ap (after_reply m.state w c cs replies) e.0 ∙ h.4.next)) in
+    k.6 ∙ (ap (λ (q : SessionState). record { state = k.2; sessions = set m.sessions (i - 1) q }) next ∙ (ap (λ (s : State). record { state = s; sessions = set m.sessions (i - 1) h.3 }) e.1 ∙ sym h.6))
 
 place_one : (l : Limits) (m n o : World) (i : ℕ) (b : Bool) → MatchBool b (RunsOpening l m i n) (RunsEvent l m i (session_at m i).current (session_at m i).commands (session_at m i).replies n) → MatchBool b (RunsOpening l m i o) (RunsEvent l m i (session_at m i).current (session_at m i).commands (session_at m i).replies o) → o ≡ n
 place_one l m n o i true h k =

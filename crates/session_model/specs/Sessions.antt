@@ -114,57 +114,44 @@ abbrev pub up_to_event : Option OpenTransaction → List Command → List Sessio
 up_to_event w [] replies = record { current = w; commands = []; replies = replies }
 up_to_event w (c ∷ cs) replies = up_to_event_by (local_answer w c) (record { current = w; commands = c ∷ cs; replies = replies }) (λ v more. up_to_event v cs more)
 
--- The event of a command that is one; a commit takes the newest version first. The other pairs don't come.
+-- The event of a command that is one; a commit takes the newest version first. None for a command that isn't.
 abbrev pub commit_action : Bool → Transaction → Action
 commit_action false x = actions.Head
 commit_action true x = actions.Commit x
 
-abbrev pub action_of : Option OpenTransaction → Command → Action
-action_of None Begin = actions.Begin
-action_of (Some w) Begin = actions.Begin
-action_of (Some w) (Add ts) = actions.Name (parts_of ts)
-action_of (Some w) (Remove ts) = actions.Name (parts_of ts)
-action_of (Some w) (Shapes ts) = actions.Name (parts_of ts)
-action_of (Some w) Commit = commit_action w.head_taken w.transaction
-action_of None (Add ts) = actions.Void
-action_of None (BadAdd n kind) = actions.Void
-action_of (Some w) (BadAdd n kind) = actions.Void
-action_of None (Remove ts) = actions.Void
-action_of None (BadRemove n kind) = actions.Void
-action_of (Some w) (BadRemove n kind) = actions.Void
-action_of None (Shapes ts) = actions.Void
-action_of None (BadShapes n kind) = actions.Void
-action_of (Some w) (BadShapes n kind) = actions.Void
-action_of None (BrokenShapes rule node) = actions.Void
-action_of (Some w) (BrokenShapes rule node) = actions.Void
-action_of None (RefusedPattern node) = actions.Void
-action_of (Some w) (RefusedPattern node) = actions.Void
-action_of None Commit = actions.Void
-action_of None (Find p) = actions.Void
-action_of (Some w) (Find p) = actions.Void
-action_of None Abort = actions.Void
-action_of (Some w) Abort = actions.Void
+abbrev pub action_of : Option OpenTransaction → Command → Option Action
+action_of None Begin = Some actions.Begin
+action_of (Some w) (Add ts) = Some (actions.Name (parts_of ts))
+action_of (Some w) (Remove ts) = Some (actions.Name (parts_of ts))
+action_of (Some w) (Shapes ts) = Some (actions.Name (parts_of ts))
+action_of (Some w) Commit = Some (commit_action w.head_taken w.transaction)
+action_of w c = None
 
 abbrev pub begun : ℕ → List Triple → OpenTransaction
 begun version graph = record { transaction = record { base = version; net = []; staged = None; finds = []; verdict = None }; graph = graph; head_taken = false }
 
--- The session after the store's reply r to its command c, with cs left, where s was the store before it. A commit that
--- is refused prints the report of its results, under the shapes graph that they break. The pairs of the last equation
--- don't come.
-abbrev pub after_reply : State → Option OpenTransaction → Command → List Command → List SessionReply → Reply → SessionState
-after_reply s w Begin cs replies r = up_to_event (Some (begun (length s.commits) s.graph)) cs (replies ++ Begun (length s.commits) ∷ [])
-after_reply s (Some w) (Add ts) cs replies Named = up_to_event (Some (with_changes w (additions ts))) cs (replies ++ Added (length ts) ∷ [])
-after_reply s (Some w) (Add ts) cs replies (Full n) = up_to_event (Some w) cs (replies ++ FullTerms ∷ [])
-after_reply s (Some w) (Remove ts) cs replies Named = up_to_event (Some (with_changes w (removals ts))) cs (replies ++ Removed (length ts) ∷ [])
-after_reply s (Some w) (Remove ts) cs replies (Full n) = up_to_event (Some w) cs (replies ++ FullTerms ∷ [])
-after_reply s (Some w) (Shapes ts) cs replies Named = up_to_event (Some (with_shapes w ts)) cs (replies ++ ShapesStaged (length ts) ∷ [])
-after_reply s (Some w) (Shapes ts) cs replies (Full n) = up_to_event (Some w) cs (replies ++ FullTerms ∷ [])
-after_reply s (Some w) Commit cs replies (Version n) = record { current = Some (record w { head_taken = true }); commands = Commit ∷ cs; replies = replies }
-after_reply s (Some w) Commit cs replies (Done n why) = up_to_event None cs (replies ++ Committed n ∷ [])
-after_reply s (Some w) Commit cs replies (Conflict n t) = up_to_event None cs (replies ++ Overtaken n t ∷ [])
-after_reply s (Some w) Commit cs replies (FullTriples n) = up_to_event None cs (replies ++ FullGraph ∷ [])
-after_reply s (Some w) Commit cs replies (Refused rows why) = up_to_event None cs (replies ++ RefusedBy (length rows) (report_text (shapes_under s.shapes w.transaction.staged) rows) ∷ [])
-after_reply s w c cs replies r = up_to_event w cs replies
+-- The session after the store's reply r to its command c, with cs left, where s was the store before it; None where the
+-- store never replies so to that command. A commit that is refused prints the report of its results, under the shapes graph
+-- that they break.
+abbrev pub after_reply : State → Option OpenTransaction → Command → List Command → List SessionReply → Reply → Option SessionState
+after_reply s None Begin cs replies (Version n) = Some (up_to_event (Some (begun n s.graph)) cs (replies ++ Begun n ∷ []))
+after_reply s (Some w) (Add ts) cs replies Named = Some (up_to_event (Some (with_changes w (additions ts))) cs (replies ++ Added (length ts) ∷ []))
+after_reply s (Some w) (Add ts) cs replies (Full n) = Some (up_to_event (Some w) cs (replies ++ FullTerms ∷ []))
+after_reply s (Some w) (Remove ts) cs replies Named = Some (up_to_event (Some (with_changes w (removals ts))) cs (replies ++ Removed (length ts) ∷ []))
+after_reply s (Some w) (Remove ts) cs replies (Full n) = Some (up_to_event (Some w) cs (replies ++ FullTerms ∷ []))
+after_reply s (Some w) (Shapes ts) cs replies Named = Some (up_to_event (Some (with_shapes w ts)) cs (replies ++ ShapesStaged (length ts) ∷ []))
+after_reply s (Some w) (Shapes ts) cs replies (Full n) = Some (up_to_event (Some w) cs (replies ++ FullTerms ∷ []))
+after_reply s (Some w) Commit cs replies (Version n) = Some (record { current = Some (record w { head_taken = true }); commands = Commit ∷ cs; replies = replies })
+after_reply s (Some w) Commit cs replies (Done n why) = Some (up_to_event None cs (replies ++ Committed n ∷ []))
+after_reply s (Some w) Commit cs replies (Conflict n t) = Some (up_to_event None cs (replies ++ Overtaken n t ∷ []))
+after_reply s (Some w) Commit cs replies (FullTriples n) = Some (up_to_event None cs (replies ++ FullGraph ∷ []))
+after_reply s (Some w) Commit cs replies (Refused rows why) = Some (up_to_event None cs (replies ++ RefusedBy (length rows) (report_text (shapes_under s.shapes w.transaction.staged) rows) ∷ []))
+after_reply s w c cs replies r = None
+
+-- The command is the event a, and the store's reply r to it takes the session to q.
+pub record GoesOn (s : State) (w : Option OpenTransaction) (c : Command) (cs : List Command) (replies : List SessionReply) (a : Action) (r : Reply) (q : SessionState) : Type 0 where
+  pub event : action_of w c ≡ Some a
+  pub next : after_reply s w c cs replies r ≡ Some q
 
 -- All sessions of a run over one store.
 pub record World : Type 0 where
@@ -177,7 +164,8 @@ world s sessions = record { state = s; sessions = sessions }
 -- the next event of session i, which has one left
 abbrev pub RunsEvent : Limits → World → ℕ → Option OpenTransaction → List Command → List SessionReply → World → Type 0
 RunsEvent l m i w [] replies n = ⊥
-RunsEvent l m i w (c ∷ cs) replies n = (r : Reply) × (t : State) × StepOf l m.state i (action_of w c) r t × (n ≡ record { state = t; sessions = set m.sessions (i - 1) (after_reply m.state w c cs replies r) })
+RunsEvent l m i w (c ∷ cs) replies n =
+    (a : Action) × (r : Reply) × (t : State) × (q : SessionState) × GoesOn m.state w c cs replies a r q × StepOf l m.state i a r t × (n ≡ record { state = t; sessions = set m.sessions (i - 1) q })
 
 abbrev pub no_session : SessionState
 no_session = record { current = None; commands = []; replies = [] }

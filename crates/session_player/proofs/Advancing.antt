@@ -6,13 +6,14 @@ use Rattle.std.specs.List.{AllByRecursion}
 use Rattle.std.proofs.lemmas.Bool.Decides.{nat_tests}
 use Rattle.store_model.specs.declared.event.Limits.{Limits}
 use Rattle.store_model.specs.declared.event.Event.{Event}
+use Rattle.store_model.specs.declared.event.Action.{Action}
 use Rattle.store_model.specs.declared.event.Action.TheVariants.{Open}
 use Rattle.store_model.specs.declared.event.Reply.{Reply}
 use Rattle.store_model.specs.declared.event.Reply.TheVariants.{Session}
 use Rattle.session_model.specs.declared.command.Command.{Command}
 use Rattle.session_model.specs.declared.reply.SessionReply.{SessionReply}
 use Rattle.store_model.specs.Store.{State, RecordedStore, empty_store, OpensNext, OpensNothing, TakesStep, IsOpened}
-use Rattle.session_model.specs.Sessions.{OpenTransaction, SessionState, World, answers, local_answer, up_to_event, action_of, after_reply, session_at, world, RunsOpening, RunsEvent, RunsInOrder, start, HasReplies}
+use Rattle.session_model.specs.Sessions.{OpenTransaction, SessionState, World, answers, local_answer, up_to_event, GoesOn, session_at, world, RunsOpening, RunsEvent, RunsInOrder, start, HasReplies}
 use Rattle.session_player.specs.Progress.{Advances, OpensSessions, HasRun}
 use Rattle.session_model.proofs.Walking.{RunsInOrder-append, up_to_event-local, turn, opened_same, never_open}
 
@@ -35,14 +36,14 @@ Advances-then i a b c p q r g h = record {
 pub Advances-local : (i : ℕ) (s : RecordedStore) (w v : Option OpenTransaction) (c : Command) (cs : List Command) (replies : List SessionReply) (t : SessionReply) → local_answer w c ≡ answers t v → Advances i s s (up_to_event w (c ∷ cs) replies) (up_to_event v cs (replies ++ t ∷ []))
 Advances-local i s w v c cs replies t e = subst (λ (q : SessionState). Advances i s s (up_to_event w (c ∷ cs) replies) q) (up_to_event-local w v c cs replies t e) (Advances-none i s (up_to_event w (c ∷ cs) replies))
 
-pub Advances-event : (i : ℕ) (s n : RecordedStore) (w : Option OpenTransaction) (c : Command) (cs : List Command) (replies : List SessionReply) (r : Reply) → IsOpened s.state i → TakesStep s n (record { session = i; action = action_of w c; reply = r })
-    → Advances i s n (record { current = w; commands = c ∷ cs; replies = replies }) (after_reply s.state w c cs replies r)
-Advances-event i s n w c cs replies r g a = record {
-  events = record { session = i; action = action_of w c; reply = r } ∷ [];
-  history = a.history;
-  limits = a.limits;
-  opened = opened_same s.limits s.state n.state i (action_of w c) r (never_open w c) a.step;
-  runs = λ before rest e. (world n.state (before ++ after_reply s.state w c cs replies r ∷ rest), turn s.limits s.state n.state i w c cs replies r before rest g e a.step, refl);
+pub Advances-event : (i : ℕ) (s n : RecordedStore) (w : Option OpenTransaction) (c : Command) (cs : List Command) (replies : List SessionReply) (a : Action) (r : Reply) (q : SessionState) → IsOpened s.state i → GoesOn s.state w c cs replies a r q → TakesStep s n (record { session = i; action = a; reply = r })
+    → Advances i s n (record { current = w; commands = c ∷ cs; replies = replies }) q
+Advances-event i s n w c cs replies a r q g on t = record {
+  events = record { session = i; action = a; reply = r } ∷ [];
+  history = t.history;
+  limits = t.limits;
+  opened = opened_same s.limits s.state n.state i a r (never_open w c a on.event) t.step;
+  runs = λ before rest e. (world n.state (before ++ q ∷ rest), turn s.limits s.state n.state i w c cs replies a r q before rest g e on t.step, refl);
 }
 
 opened : (s t : State) (i : ℕ) (b : Bool) → MatchBool b (OpensNext s i (Session i) t) (OpensNothing s i (Session i) t) → (i ≡ s.opened + 1) × (t.opened ≡ s.opened + 1)

@@ -24,7 +24,7 @@ use Rattle.session_model.specs.declared.command.Command.TheVariants.{Begin, Shap
 use Rattle.session_model.specs.declared.reply.SessionReply.{SessionReply}
 use Rattle.session_model.specs.declared.reply.SessionReply.TheVariants.{Begun, ShapesStaged, ShapesRefused, ShapesBroken, PatternRefused, FullTerms, ReadOnly, Refused as RefusedBy}
 use Rattle.store_model.specs.Store.{State, RecordedStore, OpensNext, OpensNothing, Replies, CommitsByListing, CommitsWithinLimit, CommitsByRows, overtaker, TakesStep, IsOpened, HasChange, NetNamed, StagedNamed, named_with, shapes_under, version}
-use Rattle.session_model.specs.Sessions.{OpenTransaction, LocalAnswer, answers, local_answer, local_commit, up_to_event, begun, with_changes, with_shapes, parts_of, action_of, commit_action, after_reply, SessionState}
+use Rattle.session_model.specs.Sessions.{OpenTransaction, LocalAnswer, answers, local_answer, local_commit, up_to_event, begun, with_changes, with_shapes, parts_of, action_of, commit_action, after_reply, GoesOn, SessionState}
 use Rattle.session_player.specs.declared.transaction.ChangeKind.{ChangeKind}
 use Rattle.session_player.specs.declared.transaction.ChangeKind.TheVariants.{Addition, Removal}
 use Rattle.session_player.specs.Changes.{changes_of, command_of, reply_of, bad_command_of, refusal_of}
@@ -59,11 +59,9 @@ performs_begin i s n replies more v graph g a eg em =
       };
       order = one_place s n (record { session = i; action = actions.Begin; reply = Version v }) a;
       advances = λ cs.
-          let told_on : replies ++ Begun (version s.state) ∷ [] ≡ more = sym (em ∙ ap (λ (k : ℕ). replies ++ Begun k ∷ []) count) in
-          let on : begun (version s.state) s.state.graph ≡ begun v graph = sym (ap (λ (k : ℕ). begun k graph) count ∙ ap (begun (version s.state)) eg) in
-          subst (λ (ts : List SessionReply). Advances i s n (up_to_event None (Begin ∷ cs) replies) (up_to_event (Some (begun v graph)) cs ts)) told_on
-          (subst (λ (w : OpenTransaction). Advances i s n (up_to_event None (Begin ∷ cs) replies) (up_to_event (Some w) cs (replies ++ Begun (version s.state) ∷ []))) on
-          (Advances-event i s n None Begin cs replies (Version v) g a));
+          subst (λ (ts : List SessionReply). Advances i s n (up_to_event None (Begin ∷ cs) replies) (up_to_event (Some (begun v graph)) cs ts)) (sym em)
+          (subst (λ (g : List Triple). Advances i s n (up_to_event None (Begin ∷ cs) replies) (up_to_event (Some (begun v g)) cs (replies ++ Begun v ∷ []))) (sym eg)
+          (Advances-event i s n None Begin cs replies actions.Begin (Version v) _ g (record { event = refl; next = refl }) a));
     }
 
 names_named : (s t : State) (p q : Reply) (m : State) (b : Bool) → p ≢ q → MatchBool b ((q ≡ p) × (t ≡ s)) ((q ≡ q) × (t ≡ m)) → t ≡ m
@@ -78,7 +76,7 @@ change_order : (k : ChangeKind) (i : ℕ) (s n : RecordedStore) (w : OpenTransac
 change_order k i s n w ts r a = one_place s n (record { session = i; action = actions.Name (parts_of ts); reply = r }) a ∙ sym (ap (λ (is : List ℕ). order_of s.history ++ is) (change_places k i w ts))
 
 -- the event of a block of changes, and the session afterwards
-event_of_change : (k : ChangeKind) (w : OpenTransaction) (ts : List Triple) → action_of (Some w) (command_of k ts) ≡ actions.Name (parts_of ts)
+event_of_change : (k : ChangeKind) (w : OpenTransaction) (ts : List Triple) → action_of (Some w) (command_of k ts) ≡ Some (actions.Name (parts_of ts))
 event_of_change Addition w ts = refl
 event_of_change Removal w ts = refl
 
@@ -87,23 +85,22 @@ local-change_event Addition w ts = refl
 local-change_event Removal w ts = refl
 
 after_change : (k : ChangeKind) (s : State) (w : OpenTransaction) (ts : List Triple) (cs : List Command) (replies : List SessionReply)
-    → after_reply s (Some w) (command_of k ts) cs replies Named ≡ up_to_event (Some (with_changes w (changes_of k ts))) cs (replies ++ reply_of k (length ts) ∷ [])
+    → after_reply s (Some w) (command_of k ts) cs replies Named ≡ Some (up_to_event (Some (with_changes w (changes_of k ts))) cs (replies ++ reply_of k (length ts) ∷ []))
 after_change Addition s w ts cs replies = refl
 after_change Removal s w ts cs replies = refl
 
 after_full : (k : ChangeKind) (s : State) (w : OpenTransaction) (ts : List Triple) (n : ℕ) (cs : List Command) (replies : List SessionReply)
-    → after_reply s (Some w) (command_of k ts) cs replies (Full n) ≡ up_to_event (Some w) cs (replies ++ FullTerms ∷ [])
+    → after_reply s (Some w) (command_of k ts) cs replies (Full n) ≡ Some (up_to_event (Some w) cs (replies ++ FullTerms ∷ []))
 after_full Addition s w ts n cs replies = refl
 after_full Removal s w ts n cs replies = refl
 
 change_advances : (i : ℕ) (s n : RecordedStore) (k : ChangeKind) (w : OpenTransaction) (ts : List Triple) (r : Reply) (cs : List Command) (replies : List SessionReply) (q : SessionState) → IsOpened s.state i
-    → TakesStep s n (record { session = i; action = actions.Name (parts_of ts); reply = r }) → after_reply s.state (Some w) (command_of k ts) cs replies r ≡ q → Advances i s n (up_to_event (Some w) (command_of k ts ∷ cs) replies) q
+    → TakesStep s n (record { session = i; action = actions.Name (parts_of ts); reply = r }) → after_reply s.state (Some w) (command_of k ts) cs replies r ≡ Some q → Advances i s n (up_to_event (Some w) (command_of k ts ∷ cs) replies) q
 change_advances i s n k w ts r cs replies q g a after =
     let c = command_of k ts in
-    let here : SessionState = record { current = Some w; commands = c ∷ cs; replies = replies } in
-    let step : TakesStep s n (record { session = i; action = action_of (Some w) c; reply = r }) = subst (λ (x : Action). TakesStep s n (record { session = i; action = x; reply = r })) (sym (event_of_change k w ts)) a in
+    let on : GoesOn s.state (Some w) c cs replies (actions.Name (parts_of ts)) r q = record { event = event_of_change k w ts; next = after } in
     subst (λ (p : SessionState). Advances i s n p q) (sym (up_to_event-event (Some w) c cs replies (local-change_event k w ts)))
-    (subst (λ (p : SessionState). Advances i s n here p) after (Advances-event i s n (Some w) c cs replies r g step))
+    (Advances-event i s n (Some w) c cs replies (actions.Name (parts_of ts)) r q g on a)
 
 pub performs_change : (i : ℕ) (s n : RecordedStore) (k : ChangeKind) (w : OpenTransaction) (ts : List Triple) (replies more : List SessionReply) → IsReady s i (Some w) → TakesStep s n (record { session = i; action = actions.Name (parts_of ts); reply = Named }) → more ≡ replies ++ reply_of k (length ts) ∷ []
     → Performs i s n (Some w) (Some (with_changes w (changes_of k ts))) (command_of k ts) replies more
@@ -140,7 +137,7 @@ performs_stage i s n w ts replies more r a em =
         };
       };
       order = one_place s n (record { session = i; action = actions.Name (parts_of ts); reply = Named }) a;
-      advances = λ cs. subst (λ (x : List SessionReply). Advances i s n (up_to_event (Some w) (Shapes ts ∷ cs) replies) (up_to_event (Some (with_shapes w ts)) cs x)) (sym em) (Advances-event i s n (Some w) (Shapes ts) cs replies Named r.opened a);
+      advances = λ cs. subst (λ (x : List SessionReply). Advances i s n (up_to_event (Some w) (Shapes ts ∷ cs) replies) (up_to_event (Some (with_shapes w ts)) cs x)) (sym em) (Advances-event i s n (Some w) (Shapes ts) cs replies (actions.Name (parts_of ts)) Named _ r.opened (record { event = refl; next = refl }) a);
     }
 
 names_full : (s t : State) (p q : Reply) (m : State) (b : Bool) → q ≢ Named → MatchBool b ((q ≡ p) × (t ≡ s)) ((q ≡ Named) × (t ≡ m)) → t ≡ s
@@ -175,7 +172,7 @@ pub performs_full_shapes : (i : ℕ) (s n : RecordedStore) (w : OpenTransaction)
 performs_full_shapes i s n w ts k replies more r a em = record {
   ready = still_ready i s n w ts k r a;
   order = one_place s n (record { session = i; action = actions.Name (parts_of ts); reply = Full k }) a;
-  advances = λ cs. subst (λ (x : List SessionReply). Advances i s n (up_to_event (Some w) (Shapes ts ∷ cs) replies) (up_to_event (Some w) cs x)) (sym em) (Advances-event i s n (Some w) (Shapes ts) cs replies (Full k) r.opened a);
+  advances = λ cs. subst (λ (x : List SessionReply). Advances i s n (up_to_event (Some w) (Shapes ts ∷ cs) replies) (up_to_event (Some w) cs x)) (sym em) (Advances-event i s n (Some w) (Shapes ts) cs replies (actions.Name (parts_of ts)) (Full k) _ r.opened (record { event = refl; next = refl }) a);
 }
 
 -- a command that changes nothing
@@ -251,24 +248,24 @@ commit_order i s m n w v r some h a =
 -- the store answered the commit, after its head
 pub performs_commit : (i : ℕ) (s m n : RecordedStore) (w : OpenTransaction) (replies more : List SessionReply) (v : ℕ) (r : Reply) (t : SessionReply) → IsReady s i (Some w) → HasChange w.transaction.net w.transaction.staged
     → TakesStep s m (record { session = i; action = actions.Head; reply = Version v }) → TakesStep m n (record { session = i; action = actions.Commit w.transaction; reply = r })
-    → ((cs : List Command) → after_reply m.state (Some (record w { head_taken = true })) Commit cs replies r ≡ up_to_event None cs (replies ++ t ∷ [])) → more ≡ replies ++ t ∷ []
+    → ((cs : List Command) → after_reply m.state (Some (record w { head_taken = true })) Commit cs replies r ≡ Some (up_to_event None cs (replies ++ t ∷ []))) → more ≡ replies ++ t ∷ []
     → Performs i s n (Some w) None Commit replies more
 performs_commit i s m n w replies more v r t ready some h a by em = record {
   ready = record { opened = given_n i s m n w v r ready.opened h a; current = tt };
   order = commit_order i s m n w v r some h a;
   advances = λ cs.
       let u : OpenTransaction = record w { head_taken = true } in
-      let head : action_of (Some w) Commit ≡ actions.Head = ap (λ b. commit_action b w.transaction) ready.current.head_taken in
+      let head : action_of (Some w) Commit ≡ Some actions.Head = ap (λ b. Some (commit_action b w.transaction)) ready.current.head_taken in
       let start : up_to_event (Some w) (Commit ∷ cs) replies ≡ record { current = Some w; commands = Commit ∷ cs; replies = replies } = up_to_event-event (Some w) Commit cs replies (local-change w w.transaction.net w.transaction.staged some) in
       let mid : SessionState = record { current = Some u; commands = Commit ∷ cs; replies = replies } in
+      let last : SessionState = up_to_event None cs (replies ++ t ∷ []) in
       let one : Advances i s m (record { current = Some w; commands = Commit ∷ cs; replies = replies }) mid =
-      Advances-event i s m (Some w) Commit cs replies (Version v) ready.opened (subst (λ (x : Action). TakesStep s m (record { session = i; action = x; reply = Version v })) (sym head) h) in
+      Advances-event i s m (Some w) Commit cs replies actions.Head (Version v) mid ready.opened (record { event = head; next = refl }) h in
       let given_m : IsOpened m.state i = subst (λ (x : State). IsOpened x i) (sym h.step.1.1) ready.opened in
-      let two : Advances i m n mid (after_reply m.state (Some u) Commit cs replies r) = Advances-event i m n (Some u) Commit cs replies r given_m a in
-      let both : Advances i s n (record { current = Some w; commands = Commit ∷ cs; replies = replies }) (after_reply m.state (Some u) Commit cs replies r) = Advances-then i s m n _ mid _ one two in
+      let two : Advances i m n mid last = Advances-event i m n (Some u) Commit cs replies (actions.Commit w.transaction) r last given_m (record { event = refl; next = by cs }) a in
+      let both : Advances i s n (record { current = Some w; commands = Commit ∷ cs; replies = replies }) last = Advances-then i s m n _ mid last one two in
       subst (λ (ts : List SessionReply). Advances i s n (up_to_event (Some w) (Commit ∷ cs) replies) (up_to_event None cs ts)) (sym em)
-      (subst (λ (q : SessionState). Advances i s n (up_to_event (Some w) (Commit ∷ cs) replies) q) (by cs)
-      (subst (λ (p : SessionState). Advances i s n p (after_reply m.state (Some u) Commit cs replies r)) (sym start) both));
+      (subst (λ (p : SessionState). Advances i s n p last) (sym start) both);
 }
 
 -- the store refused the commit, and the session tells its report
@@ -278,7 +275,7 @@ pub refused_with : (i : ℕ) (s n : RecordedStore) (x : Transaction) (rows : Lis
 refused_with i s n x rows why shapes (Ok reply) step e h = record {
   answer = Refused rows why;
   step = step;
-  told = λ graph cs replies. ap (λ (t : SessionReply). up_to_event None cs (replies ++ t ∷ [])) (sym (h ∙ ap (λ (ts : List Triple). RefusedBy (length rows) (report_text ts rows)) e));
+  told = λ graph cs replies. ap (λ (t : SessionReply). Some (up_to_event None cs (replies ++ t ∷ []))) (sym (h ∙ ap (λ (ts : List Triple). RefusedBy (length rows) (report_text ts rows)) e));
 }
 refused_with i s n x rows why shapes (Err error) step e h = tt
 

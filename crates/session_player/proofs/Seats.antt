@@ -27,7 +27,7 @@ use Rattle.store_model.specs.Store.{State, RecordedStore, empty_store, StepOf, T
 use Rattle.session_model.specs.declared.command.Command.{Command}
 use Rattle.session_model.specs.declared.command.Command.TheVariants.{Commit}
 use Rattle.session_model.specs.declared.reply.SessionReply.{SessionReply}
-use Rattle.session_model.specs.Sessions.{OpenTransaction, SessionState, World, LocalAnswer, local_answer, up_to_event, action_of, commit_action, after_reply, no_session, session_at, world, RunsOpening, RunsEvent, RunsInOrder, IsComplete, start}
+use Rattle.session_model.specs.Sessions.{OpenTransaction, SessionState, World, LocalAnswer, local_answer, up_to_event, action_of, commit_action, no_session, session_at, world, RunsOpening, RunsEvent, RunsInOrder, IsComplete, start}
 use Rattle.session_model.proofs.Walking.{RunsInOrder-append, get-middle, set-middle, up_to_event-event}
 use Rattle.session_player.specs.Progress.{Advances, order_of}
 use Rattle.session_player.specs.Ready.{IsCurrent, IsCurrentIn, Performs, TakesHead, CommitsWith, is_commit, places_with, places_of}
@@ -98,7 +98,7 @@ grows_step l s t i actions.Void r h = grows_none s t h.1.1
 
 grows_event : (l : Limits) (m n : World) (i : ℕ) (w : Option OpenTransaction) (cs : List Command) (replies : List SessionReply) → RunsEvent l m i w cs replies n → Grows m.state n.state
 grows_event l m n i w [] replies h = absurd h
-grows_event l m n i w (c ∷ cs) replies h = subst (λ (t : State). Grows m.state t) (sym (ap (λ (x : World). x.state) h.3)) (grows_step l m.state h.1 i (action_of w c) h.0 h.2)
+grows_event l m n i w (c ∷ cs) replies h = subst (λ (t : State). Grows m.state t) (sym (ap (λ (x : World). x.state) h.6)) (grows_step l m.state h.2 i h.0 h.1 h.5)
 
 grows_place : (l : Limits) (m n : World) (i : ℕ) (b : Bool) → MatchBool b (RunsOpening l m i n) (RunsEvent l m i (session_at m i).current (session_at m i).commands (session_at m i).replies n) → Grows m.state n.state
 grows_place l m n i true h = subst (λ (t : State). Grows m.state t) (sym (ap (λ (x : World). x.state) h.1.3)) (grows_step l m.state h.1.1 i actions.Open h.1.0 h.1.2)
@@ -203,9 +203,9 @@ takes_head i s n w cs replies o now some h =
     let none_u = local-change (headed w) w.transaction.net w.transaction.staged some in
     let from = up_to_event-event (Some w) Commit cs replies none in
     let to = up_to_event-event (Some (headed w)) Commit cs replies none_u in
-    let head : action_of (Some w) Commit ≡ actions.Head = ap (λ b. commit_action b w.transaction) now.head_taken in
+    let head : action_of (Some w) Commit ≡ Some actions.Head = ap (λ b. Some (commit_action b w.transaction)) now.head_taken in
     let one : Advances i s n (record { current = Some w; commands = Commit ∷ cs; replies = replies }) (record { current = Some (headed w); commands = Commit ∷ cs; replies = replies }) =
-    Advances-event i s n (Some w) Commit cs replies (Version h.number) o (subst (λ (x : Action). TakesStep s n (record { session = i; action = x; reply = Version h.number })) (sym head) h.step) in
+    Advances-event i s n (Some w) Commit cs replies actions.Head (Version h.number) _ o (record { event = head; next = refl }) h.step in
     record {
       ready = record { current = current_later s n (Some w) (grows_step s.limits s.state n.state i actions.Head (Version h.number) h.step.step) now; held = (refl, some) };
       advances = subst (λ (x : SessionState). Advances i s n x (up_to_event (Some (headed w)) (Commit ∷ cs) replies)) (sym from)
@@ -227,11 +227,11 @@ takes_answer : (i : ℕ) (s n : RecordedStore) (w : OpenTransaction) (cs : List 
 takes_answer i s n w cs replies reply o some h =
     let none = local-change (headed w) w.transaction.net w.transaction.staged some in
     let from = up_to_event-event (Some (headed w)) Commit cs replies none in
-    let one : Advances i s n (record { current = Some (headed w); commands = Commit ∷ cs; replies = replies }) (after_reply s.state (Some (headed w)) Commit cs replies h.answer) = Advances-event i s n (Some (headed w)) Commit cs replies h.answer o h.step in
+    let one : Advances i s n (record { current = Some (headed w); commands = Commit ∷ cs; replies = replies }) (up_to_event None cs (replies ++ reply ∷ [])) =
+    Advances-event i s n (Some (headed w)) Commit cs replies (actions.Commit w.transaction) h.answer _ o (record { event = refl; next = h.told w.graph cs replies }) h.step in
     record {
       ready = record { current = tt; held = tt };
-      advances = subst (λ (x : SessionState). Advances i s n x (up_to_event None cs (replies ++ reply ∷ []))) (sym from)
-          (subst (λ (x : SessionState). Advances i s n (record { current = Some (headed w); commands = Commit ∷ cs; replies = replies }) x) (h.told w.graph cs replies) one);
+      advances = subst (λ (x : SessionState). Advances i s n x (up_to_event None cs (replies ++ reply ∷ []))) (sym from) one;
       order = one_place s n (record { session = i; action = actions.Commit w.transaction; reply = h.answer }) h.step;
     }
 

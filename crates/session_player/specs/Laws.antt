@@ -1,15 +1,14 @@
 -- Laws of histories that are handed in.
-use Rattle.std.specs.Prelude.{◌≡◌, ℕ, ◌≤◌, List, map, Option, Some}
-use Rattle.std.specs.List.{AllByRecursion}
+use Rattle.std.specs.Prelude.{◌≡◌, ℕ, List, map, Option, Some}
 use Rattle.store_model.specs.declared.event.Limits.{Limits}
 use Rattle.session_model.specs.declared.command.Command.{Command}
 use Rattle.session_model.specs.declared.reply.SessionReply.{SessionReply}
 use Rattle.session_model.specs.Sessions.{HasReplies}
 use Rattle.session_player.specs.Histories.{IsFirstBad, IsReplayed}
 
--- a history of sessions' numbers that gives a run has no place that isn't valid
+-- a history that gives a run has no place that isn't valid
 abbrev pub NeverBoth : Type 0
-NeverBoth = (files : List (List Command)) (l : Limits) (places : List (Option ℕ)) (order : List ℕ) (all : List (List SessionReply)) (k : ℕ) → AllByRecursion (λ i. 1 ≤ i) order → IsReplayed files l places order all → IsFirstBad files l places k → ⊥
+NeverBoth = (files : List (List Command)) (l : Limits) (places : List (Option ℕ)) (order : List ℕ) (all : List (List SessionReply)) (k : ℕ) → IsReplayed files l places order all → IsFirstBad files l places k → ⊥
 
 -- the order of a run, handed in again, gives the same replies in the same order
 abbrev pub ReplaysAgain : Type 0

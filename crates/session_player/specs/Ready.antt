@@ -43,7 +43,7 @@ pub record TakesHead (i : ℕ) (old new : RecordedStore) : Type 0 where
 pub record CommitsWith (i : ℕ) (old new : RecordedStore) (x : Transaction) (reply : SessionReply) : Type 0 where
   pub answer : Reply
   pub step : TakesStep old new (record { session = i; action = actions.Commit x; reply = answer })
-  pub told : (graph : List Triple) (cs : List Command) (replies : List SessionReply) → after_reply old.state (Some (record { transaction = x; graph = graph; head_taken = true })) Commit cs replies answer ≡ up_to_event None cs (replies ++ reply ∷ [])
+  pub told : (graph : List Triple) (cs : List Command) (replies : List SessionReply) → after_reply old.state (Some (record { transaction = x; graph = graph; head_taken = true })) Commit cs replies answer ≡ Some (up_to_event None cs (replies ++ reply ∷ []))
 
 -- what a command that changes nothing is answered
 abbrev pub answer_in : Option OpenTransaction → SessionReply → SessionReply

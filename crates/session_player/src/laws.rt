@@ -1,6 +1,6 @@
 ghost use Rattle.session_player.specs.Laws.{NeverBoth, ReplaysAgain};
 
-/// A history of sessions' numbers that gives a run has no place that isn't valid.
+/// A history that gives a run has no place that isn't valid.
 pub fn a_run_has_no_bad_place()
     ensures { NeverBoth }
 {}

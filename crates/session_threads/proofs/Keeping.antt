@@ -12,14 +12,14 @@ use Rattle.store_model.specs.declared.event.Reply.{Reply}
 use Rattle.store_model.specs.Store.{State, Replays, empty_store}
 use Rattle.session_model.specs.declared.command.Command.{Command}
 use Rattle.session_model.specs.declared.reply.SessionReply.{SessionReply}
-use Rattle.session_model.specs.Sessions.{OpenTransaction, SessionState, action_of, after_reply}
+use Rattle.session_model.specs.Sessions.{OpenTransaction, SessionState, GoesOn}
 use Rattle.thread_model.specs.Following.{is_opening, OwnCommand, Follows}
 use Rattle.guard_store.specs.Fronts.{session_of}
 use Rattle.guard_store.proofs.Growing.{replays_one}
 
 own_map : (a : Action) (s : State) (r : Reply) (w : Option OpenTransaction) (cs : List Command) (rs : List SessionReply) (F G : SessionState → Type 0) → ((k : SessionState) → F k → G k) → OwnCommand a s r w cs rs F → OwnCommand a s r w cs rs G
 own_map a s r w [] rs F G f o = o
-own_map a s r w (c ∷ cs) rs F G f o = (o.0, f (after_reply s w c cs rs r) o.1)
+own_map a s r w (c ∷ cs) rs F G f o = (o.0, o.1, f o.0 o.2)
 
 turn_map : (a : Action) (s : State) (r : Reply) (p : SessionState) (F G : SessionState → Type 0) (b c : Bool) → ((k : SessionState) → F k → G k)
     → MatchBool b (MatchBool c (F p) (OwnCommand a s r p.current p.commands p.replies F)) (F p) → MatchBool b (MatchBool c (G p) (OwnCommand a s r p.current p.commands p.replies G)) (G p)
@@ -53,9 +53,9 @@ follows_others l i s (e ∷ es) p h = λ t step. let n = none_of e (e.session ==
     others_by _ (Follows l i t es p p) (nat_eq e.session i) n.0 (follows_others l i t es p n.1)
 
 -- one own event, which is that of the next command
-pub follows_own : (l : Limits) (i : ℕ) (s : State) (w : Option OpenTransaction) (c : Command) (cs : List Command) (rs : List SessionReply) (r : Reply) → is_opening (action_of w c) ≡ false
-    → Follows l i s (record { session = i; action = action_of w c; reply = r } ∷ []) (record { current = w; commands = c ∷ cs; replies = rs }) (after_reply s w c cs rs r)
-follows_own l i s w c cs rs r e = λ t step. own_by _ _ _ (nat_eq i i) (is_opening (action_of w c)) (eq-eqb i i refl) e (refl, refl)
+pub follows_own : (l : Limits) (i : ℕ) (s : State) (w : Option OpenTransaction) (c : Command) (cs : List Command) (rs : List SessionReply) (a : Action) (r : Reply) (q : SessionState) → is_opening a ≡ false → GoesOn s w c cs rs a r q
+    → Follows l i s (record { session = i; action = a; reply = r } ∷ []) (record { current = w; commands = c ∷ cs; replies = rs }) q
+follows_own l i s w c cs rs a r q e on = λ t step. own_by _ _ _ (nat_eq i i) (is_opening a) (eq-eqb i i refl) e (q, on, refl)
 
 -- the opening
 either_way : (p : SessionState) (Y : Type 0) (b c : Bool) → c ≡ true → MatchBool b (MatchBool c (p ≡ p) Y) (p ≡ p)
@@ -78,12 +78,10 @@ played_still l i k h p q own o f =
     subst (λ (x : List Event). Follows l i empty_store x p q) o.begins.1 (follows_append l i empty_store k.front o.begins.0 p q q f (λ m r. follows_others l i m o.begins.0 q none))
 
 -- it plays one event more, where all that was seen leads to s
-pub played_on : (l : Limits) (i : ℕ) (h : List Event) (p : SessionState) (w : Option OpenTransaction) (c : Command) (cs : List Command) (rs : List SessionReply) (r : Reply) (s : State)
-    → is_opening (action_of w c) ≡ false → Replays l empty_store h s → Follows l i empty_store h p (record { current = w; commands = c ∷ cs; replies = rs })
-    → Follows l i empty_store (h ++ record { session = i; action = action_of w c; reply = r } ∷ []) p (after_reply s w c cs rs r)
-played_on l i h p w c cs rs r s e replays f =
-    let event : Event = record { session = i; action = action_of w c; reply = r } in
+pub played_on : (l : Limits) (i : ℕ) (h : List Event) (p : SessionState) (w : Option OpenTransaction) (c : Command) (cs : List Command) (rs : List SessionReply) (a : Action) (r : Reply) (q : SessionState) (s : State)
+    → is_opening a ≡ false → GoesOn s w c cs rs a r q → Replays l empty_store h s → Follows l i empty_store h p (record { current = w; commands = c ∷ cs; replies = rs }) → Follows l i empty_store (h ++ record { session = i; action = a; reply = r } ∷ []) p q
+played_on l i h p w c cs rs a r q s e on replays f =
+    let event : Event = record { session = i; action = a; reply = r } in
     let before : SessionState = record { current = w; commands = c ∷ cs; replies = rs } in
-    let q : SessionState = after_reply s w c cs rs r in
     follows_append l i empty_store h (event ∷ []) p before q f
-    (λ m g. subst (λ (x : State). Follows l i x (event ∷ []) before q) (sym (replays_one l empty_store s m h replays g)) (follows_own l i s w c cs rs r e))
+    (λ m g. subst (λ (x : State). Follows l i x (event ∷ []) before q) (sym (replays_one l empty_store s m h replays g)) (follows_own l i s w c cs rs a r q e on))

@@ -18,7 +18,7 @@ use Rattle.session_model.specs.declared.command.Command.TheVariants.{Begin, Add,
 use Rattle.session_model.specs.declared.reply.SessionReply.{SessionReply}
 use Rattle.session_model.specs.declared.reply.SessionReply.TheVariants as said
 use Rattle.session_model.specs.Sessions as Sessions
-use Rattle.session_model.specs.Sessions.{SessionState, local_answer, local_commit, answers, action_of, after_reply, up_to_event, begun, additions, removals, parts_of, found_by}
+use Rattle.session_model.specs.Sessions.{SessionState, local_answer, local_commit, answers, action_of, after_reply, GoesOn, up_to_event, begun, additions, removals, parts_of, found_by}
 use Rattle.session_model.proofs.Walking.{up_to_event-local, up_to_event-event}
 use Rattle.report_writer.specs.Report.{report_text}
 use Rattle.session_player.specs.Ready.{answer_in}
@@ -63,20 +63,20 @@ plays_local store old new w v c rs more t is n p ow nv e em = record {
 }
 
 -- a turn of the session's own, with the event of the next command
-played_turn : (store : SharedStore) (i : ℕ) (old new : Caller Event Limits) (file : List Command) (w : Option Sessions.OpenTransaction) (c : Command) (cs : List Command) (rs : List SessionReply) (r : Reply)
-    → is_opening (action_of w c) ≡ false → IsCaller store i old → (t : Turn store.limits old new (event_of i (action_of w c) r))
-    → HasPlayed store.limits i old.known.front file (record { current = w; commands = c ∷ cs; replies = rs }) → HasPlayed store.limits i new.known.front file (after_reply t.before w c cs rs r)
-played_turn store i old new file w c cs rs r e is t p =
+played_turn : (store : SharedStore) (i : ℕ) (old new : Caller Event Limits) (file : List Command) (w : Option Sessions.OpenTransaction) (c : Command) (cs : List Command) (rs : List SessionReply) (a : Action) (r : Reply) (q : SessionState)
+    → is_opening a ≡ false → IsCaller store i old → (t : Turn store.limits old new (event_of i a r)) → GoesOn t.before w c cs rs a r q
+    → HasPlayed store.limits i old.known.front file (record { current = w; commands = c ∷ cs; replies = rs }) → HasPlayed store.limits i new.known.front file q
+played_turn store i old new file w c cs rs a r q e is t on p =
     let l = store.limits in
-    let event : Event = event_of i (action_of w c) r in
-    subst (λ (x : List Event). HasPlayed l i x file (after_reply t.before w c cs rs r)) (sym (front_is l old new event t))
-    (played_on l i t.seen (first_state file) w c cs rs r t.before e t.replays (played_still l i old.known t.seen (first_state file) (record { current = w; commands = c ∷ cs; replies = rs }) is.own t.others p))
+    let event : Event = event_of i a r in
+    subst (λ (x : List Event). HasPlayed l i x file q) (sym (front_is l old new event t))
+    (played_on l i t.seen (first_state file) w c cs rs a r q t.before e on t.replays (played_still l i old.known t.seen (first_state file) (record { current = w; commands = c ∷ cs; replies = rs }) is.own t.others p))
 
 -- a command that is an event; w is the transaction before it, v the one after it
-plays_event : (store : SharedStore) (old new : Session) (w v : Option Sessions.OpenTransaction) (c : Command) (r : Reply) (rs more : List SessionReply) (x : SessionReply) → IsSession store old → IsSession store new → new.number ≡ old.number
-    → plain_in old.current ≡ w → plain_in new.current ≡ v → local_answer w c ≡ None → is_opening (action_of w c) ≡ false → (t : Turn store.limits old.pass new.pass (event_of old.number (action_of w c) r))
-    → ((cs : List Command) → after_reply t.before w c cs rs r ≡ up_to_event v cs (rs ++ x ∷ [])) → more ≡ rs ++ x ∷ [] → Plays store old new c rs more
-plays_event store old new w v c r rs more x was is n ow nv e o t by em = record {
+plays_event : (store : SharedStore) (old new : Session) (w v : Option Sessions.OpenTransaction) (c : Command) (a : Action) (r : Reply) (rs more : List SessionReply) (x : SessionReply) → IsSession store old → IsSession store new → new.number ≡ old.number
+    → plain_in old.current ≡ w → plain_in new.current ≡ v → local_answer w c ≡ None → action_of w c ≡ Some a → is_opening a ≡ false → (t : Turn store.limits old.pass new.pass (event_of old.number a r))
+    → ((cs : List Command) → after_reply t.before w c cs rs r ≡ Some (up_to_event v cs (rs ++ x ∷ []))) → more ≡ rs ++ x ∷ [] → Plays store old new c rs more
+plays_event store old new w v c a r rs more x was is n ow nv e action o t by em = record {
   session = is;
   number = n;
   goes = λ file cs h.
@@ -84,11 +84,11 @@ plays_event store old new w v c r rs more x was is n ow nv e o t by em = record 
       let i = old.number in
       let one : HasPlayed l i old.pass.known.front file (up_to_event w (c ∷ cs) rs) = subst (λ (y : Option Sessions.OpenTransaction). HasPlayed l i old.pass.known.front file (up_to_event y (c ∷ cs) rs)) ow h in
       let two : HasPlayed l i old.pass.known.front file (record { current = w; commands = c ∷ cs; replies = rs }) = subst (HasPlayed l i old.pass.known.front file) (up_to_event-event w c cs rs e) one in
-      let three : HasPlayed l i new.pass.known.front file (after_reply t.before w c cs rs r) = played_turn store i old.pass new.pass file w c cs rs r o was.caller t two in
-      let four : HasPlayed l i new.pass.known.front file (up_to_event v cs (rs ++ x ∷ [])) = subst (HasPlayed l i new.pass.known.front file) (by cs) three in
-      let five : HasPlayed l i new.pass.known.front file (up_to_event (plain_in new.current) cs more) =
-      subst (λ (y : Option Sessions.OpenTransaction). HasPlayed l i new.pass.known.front file (up_to_event y cs more)) (sym nv) (subst (λ (ts : List SessionReply). HasPlayed l i new.pass.known.front file (up_to_event v cs ts)) (sym em) four) in
-      subst (λ (k : ℕ). HasPlayed l k new.pass.known.front file (up_to_event (plain_in new.current) cs more)) (sym n) five;
+      let three : HasPlayed l i new.pass.known.front file (up_to_event v cs (rs ++ x ∷ [])) =
+      played_turn store i old.pass new.pass file w c cs rs a r (up_to_event v cs (rs ++ x ∷ [])) o was.caller t (record { event = action; next = by cs }) two in
+      let four : HasPlayed l i new.pass.known.front file (up_to_event (plain_in new.current) cs more) =
+      subst (λ (y : Option Sessions.OpenTransaction). HasPlayed l i new.pass.known.front file (up_to_event y cs more)) (sym nv) (subst (λ (ts : List SessionReply). HasPlayed l i new.pass.known.front file (up_to_event v cs ts)) (sym em) three) in
+      subst (λ (k : ℕ). HasPlayed l k new.pass.known.front file (up_to_event (plain_in new.current) cs more)) (sym n) four;
 }
 
 plain_none : (s : Session) → s.current ≡ None → plain_in s.current ≡ None
@@ -103,9 +103,8 @@ plays_begin store old new (Ok v) r rs more was is b told em =
     let t = b.1.0 in
     let h = b.1.1 in
     let count : v ≡ version t.before = cc (t.step.1.0) in
-    let on : more ≡ rs ++ said.Begun (version t.before) ∷ [] = em ∙ (ap (λ x. rs ++ x ∷ []) told ∙ ap (λ (k : ℕ). rs ++ said.Begun k ∷ []) count) in
-    plays_event store old new None (Some (begun (version t.before) t.before.graph)) Begin (replies.Version v) rs more (said.Begun (version t.before)) was is (ap (λ s. s.number) h) (plain_none old b.0)
-    (plain_open new (begun_at (snapshot_of t.before)) (ap (λ s. s.current) h)) refl refl t (λ cs. refl) on
+    let now : plain_in new.current ≡ Some (begun v t.before.graph) = plain_open new (begun_at (snapshot_of t.before)) (ap (λ s. s.current) h) ∙ ap (λ (k : ℕ). Some (begun k t.before.graph)) (sym count) in
+    plays_event store old new None (Some (begun v t.before.graph)) Begin actions.Begin (replies.Version v) rs more (said.Begun v) was is (ap (λ s. s.number) h) (plain_none old b.0) now refl refl refl t (λ cs. refl) (em ∙ ap (λ x. rs ++ x ∷ []) told)
 plays_begin store old new (Err begins.AlreadyOpen) r rs more was is b told em =
     plays_local store old new (Some (plain b.0.0)) (Some (plain b.0.0)) Begin rs more said.AlreadyOpen is (ap (λ s. s.number) b.1) (ap (λ s. s.pass) b.1) (plain_open old b.0.0 b.0.1) (plain_open new b.0.0 (ap (λ s. s.current) b.1 ∙ b.0.1)) refl
     (em ∙ ap (λ x. rs ++ x ∷ []) told)
@@ -115,9 +114,9 @@ plays_begin store old new (Err begins.Memory) r rs more was is b told em = absur
 pub record IsBlock (c : Command) (ts : List Triple) (staged : OpenTransaction → OpenTransaction) (done : SessionReply) : Type 0 where
   pub free : local_answer None c ≡ answers said.NoTransaction None
   pub event : (w : Sessions.OpenTransaction) → local_answer (Some w) c ≡ None
-  pub action : (w : Sessions.OpenTransaction) → action_of (Some w) c ≡ actions.Name (parts_of ts)
-  pub named : (s : _) (w : OpenTransaction) (cs : List Command) (rs : List SessionReply) → after_reply s (Some (plain w)) c cs rs replies.Named ≡ up_to_event (Some (plain (staged w))) cs (rs ++ done ∷ [])
-  pub full : (s : _) (w : OpenTransaction) (n : ℕ) (cs : List Command) (rs : List SessionReply) → after_reply s (Some (plain w)) c cs rs (replies.Full n) ≡ up_to_event (Some (plain w)) cs (rs ++ said.FullTerms ∷ [])
+  pub action : (w : Sessions.OpenTransaction) → action_of (Some w) c ≡ Some (actions.Name (parts_of ts))
+  pub named : (s : _) (w : OpenTransaction) (cs : List Command) (rs : List SessionReply) → after_reply s (Some (plain w)) c cs rs replies.Named ≡ Some (up_to_event (Some (plain (staged w))) cs (rs ++ done ∷ []))
+  pub full : (s : _) (w : OpenTransaction) (n : ℕ) (cs : List Command) (rs : List SessionReply) → after_reply s (Some (plain w)) c cs rs (replies.Full n) ≡ Some (up_to_event (Some (plain w)) cs (rs ++ said.FullTerms ∷ []))
 
 pub block_add : (ts : List Triple) → IsBlock (Add ts) ts (λ w. with_changes w (additions ts)) (said.Added (length ts))
 block_add ts = record { free = refl; event = λ w. refl; action = λ w. refl; named = λ s w cs rs. refl; full = λ s w n cs rs. refl }
@@ -133,18 +132,14 @@ pub plays_stage : {U : Type 0} (store : SharedStore) (old new : Session) (c : Co
     → MatchResult a (λ _. Stages store.limits old new ts staged) (λ f. StagesNot f store.limits old new ts) → IsStageReply a done r → more ≡ rs ++ r ∷ [] → Plays store old new c rs more
 plays_stage {U} store old new c ts staged done k (Ok u) r rs more was is b told em =
     let w = b.0 in
-    let a = k.action (plain w) in
-    let t : Turn store.limits old.pass new.pass (event_of old.number (action_of (Some (plain w)) c) replies.Named) = subst (λ (x : Action). Turn store.limits old.pass new.pass (event_of old.number x replies.Named)) (sym a) b.2 in
-    plays_event store old new (Some (plain w)) (Some (plain (staged w))) c replies.Named rs more done was is (ap (λ s. s.number) b.3) (plain_open old w b.1) (plain_open new (staged w) (ap (λ s. s.current) b.3)) (k.event (plain w)) (ap is_opening a)
-    t (λ cs. k.named t.before w cs rs) (em ∙ ap (λ x. rs ++ x ∷ []) told)
+    plays_event store old new (Some (plain w)) (Some (plain (staged w))) c (actions.Name (parts_of ts)) replies.Named rs more done was is (ap (λ s. s.number) b.3) (plain_open old w b.1) (plain_open new (staged w) (ap (λ s. s.current) b.3)) (k.event (plain w)) (k.action (plain w)) refl
+    b.2 (λ cs. k.named b.2.before w cs rs) (em ∙ ap (λ x. rs ++ x ∷ []) told)
 plays_stage {U} store old new c ts staged done k (Err stages.NoTransaction) r rs more was is b told em =
     plays_local store old new None None c rs more said.NoTransaction is (ap (λ s. s.number) b.1) (ap (λ s. s.pass) b.1) (plain_none old b.0) (plain_none new (ap (λ s. s.current) b.1 ∙ b.0)) k.free (em ∙ ap (λ x. rs ++ x ∷ []) told)
 plays_stage {U} store old new c ts staged done k (Err (stages.Full n)) r rs more was is b told em =
     let w = b.0.0 in
-    let a = k.action (plain w) in
-    let t : Turn store.limits old.pass new.pass (event_of old.number (action_of (Some (plain w)) c) (replies.Full n)) = subst (λ (x : Action). Turn store.limits old.pass new.pass (event_of old.number x (replies.Full n))) (sym a) b.1 in
-    plays_event store old new (Some (plain w)) (Some (plain w)) c (replies.Full n) rs more said.FullTerms was is (ap (λ s. s.number) b.2) (plain_open old w b.0.1) (plain_open new w (ap (λ s. s.current) b.2 ∙ b.0.1)) (k.event (plain w)) (ap is_opening a)
-    t (λ cs. k.full t.before w n cs rs) (em ∙ ap (λ x. rs ++ x ∷ []) told)
+    plays_event store old new (Some (plain w)) (Some (plain w)) c (actions.Name (parts_of ts)) (replies.Full n) rs more said.FullTerms was is (ap (λ s. s.number) b.2) (plain_open old w b.0.1) (plain_open new w (ap (λ s. s.current) b.2 ∙ b.0.1)) (k.event (plain w)) (k.action (plain w)) refl
+    b.1 (λ cs. k.full b.1.before w n cs rs) (em ∙ ap (λ x. rs ++ x ∷ []) told)
 plays_stage {U} store old new c ts staged done k (Err stages.Memory) r rs more was is b told em = absurd told
 
 -- a command that changes nothing
@@ -232,7 +227,7 @@ plays_reading store old new (Err commits.Memory) r rs more was is reads b told e
 -- the turn of a commit
 committed_turn : (store : SharedStore) (i : ℕ) (mid new : Session) (file : List Command) (w : OpenTransaction) (cs : List Command) (rs : List SessionReply) (r : Reply) (x : SessionReply) → IsCaller store i mid.pass
     → (t : Turn store.limits mid.pass new.pass (event_of mid.number (actions.Commit w.transaction) r)) → mid.number ≡ i
-    → ((cs : List Command) → after_reply t.before (Some (record { transaction = w.transaction; graph = w.snap.graph; head_taken = true })) Commit cs rs r ≡ up_to_event None cs (rs ++ x ∷ []))
+    → ((cs : List Command) → after_reply t.before (Some (record { transaction = w.transaction; graph = w.snap.graph; head_taken = true })) Commit cs rs r ≡ Some (up_to_event None cs (rs ++ x ∷ [])))
     → HasPlayed store.limits i mid.pass.known.front file (record { current = Some (record { transaction = w.transaction; graph = w.snap.graph; head_taken = true }); commands = Commit ∷ cs; replies = rs })
     → HasPlayed store.limits i new.pass.known.front file (up_to_event None cs (rs ++ x ∷ []))
 committed_turn store i mid new file w cs rs r x caller t same by p =
@@ -241,14 +236,15 @@ committed_turn store i mid new file w cs rs r x caller t same by p =
     let event : Event = event_of i (actions.Commit w.transaction) r in
     let seen : new.pass.known.front ≡ t.seen ++ event ∷ [] = front_is l mid.pass new.pass (event_of mid.number (actions.Commit w.transaction) r) t ∙ ap (λ (k : ℕ). t.seen ++ event_of k (actions.Commit w.transaction) r ∷ []) same in
     let start : SessionState = record { current = Some u; commands = Commit ∷ cs; replies = rs } in
-    subst (HasPlayed l i new.pass.known.front file) (by cs)
-    (subst (λ (y : List Event). HasPlayed l i y file (after_reply t.before (Some u) Commit cs rs r)) (sym seen)
-    (played_on l i t.seen (first_state file) (Some u) Commit cs rs r t.before refl t.replays (played_still l i mid.pass.known t.seen (first_state file) start caller.own t.others p)))
+    let last : SessionState = up_to_event None cs (rs ++ x ∷ []) in
+    subst (λ (y : List Event). HasPlayed l i y file last) (sym seen)
+    (played_on l i t.seen (first_state file) (Some u) Commit cs rs (actions.Commit w.transaction) r last t.before refl (record { event = refl; next = by cs }) t.replays
+    (played_still l i mid.pass.known t.seen (first_state file) start caller.own t.others p))
 
 -- a commit that is one, after its head
 plays_committed : (store : SharedStore) (old mid new : Session) (w : OpenTransaction) (v : ℕ) (r : Reply) (x : SessionReply) (rs more : List SessionReply) → IsSession store old → IsSession store mid → IsSession store new → IsOpen old w
     → HasChange w.transaction.net w.transaction.staged → Heads store.limits old mid v → (t : Turn store.limits mid.pass new.pass (event_of mid.number (actions.Commit w.transaction) r))
-    → ((cs : List Command) → after_reply t.before (Some (record { transaction = w.transaction; graph = w.snap.graph; head_taken = true })) Commit cs rs r ≡ up_to_event None cs (rs ++ x ∷ [])) → new.number ≡ mid.number → new.current ≡ None → more ≡ rs ++ x ∷ []
+    → ((cs : List Command) → after_reply t.before (Some (record { transaction = w.transaction; graph = w.snap.graph; head_taken = true })) Commit cs rs r ≡ Some (up_to_event None cs (rs ++ x ∷ []))) → new.number ≡ mid.number → new.current ≡ None → more ≡ rs ++ x ∷ []
     → Plays store old new Commit rs more
 plays_committed store old mid new w v r x rs more was mid_is is o change h t by n none em =
     let l = store.limits in
@@ -262,7 +258,8 @@ plays_committed store old mid new w v r x rs more was mid_is is o change h t by 
           let one : HasPlayed l i old.pass.known.front file (up_to_event (Some (plain w)) (Commit ∷ cs) rs) = subst (λ (y : Option Sessions.OpenTransaction). HasPlayed l i old.pass.known.front file (up_to_event y (Commit ∷ cs) rs)) (plain_open old w o) p in
           let two : HasPlayed l i old.pass.known.front file (record { current = Some (plain w); commands = Commit ∷ cs; replies = rs }) =
           subst (HasPlayed l i old.pass.known.front file) (up_to_event-event (Some (plain w)) Commit cs rs (local-change (plain w) w.transaction.net w.transaction.staged change)) one in
-          let three : HasPlayed l i mid.pass.known.front file (record { current = Some u; commands = Commit ∷ cs; replies = rs }) = played_turn store i old.pass mid.pass file (Some (plain w)) Commit cs rs (replies.Version v) refl was.caller h.1.0 two in
+          let three : HasPlayed l i mid.pass.known.front file (record { current = Some u; commands = Commit ∷ cs; replies = rs }) =
+          played_turn store i old.pass mid.pass file (Some (plain w)) Commit cs rs actions.Head (replies.Version v) (record { current = Some u; commands = Commit ∷ cs; replies = rs }) refl was.caller h.1.0 (record { event = refl; next = refl }) two in
           let four : HasPlayed l i new.pass.known.front file (up_to_event None cs (rs ++ x ∷ [])) = committed_turn store i mid new file w cs rs r x caller t same by three in
           let five : HasPlayed l i new.pass.known.front file (up_to_event (plain_in new.current) cs more) =
           subst (λ (y : Option Sessions.OpenTransaction). HasPlayed l i new.pass.known.front file (up_to_event y cs more)) (sym (plain_none new none)) (subst (λ (ts : List SessionReply). HasPlayed l i new.pass.known.front file (up_to_event None cs ts)) (sym em) four) in
@@ -291,7 +288,7 @@ plays_work store old mid new v (Ok (FullTriples n)) r rs more was mid_is is work
     plays_committed store old mid new b.0 v (replies.FullTriples n) said.FullGraph rs more was mid_is is (still_open store.limits old mid v b.0 h b.1) b.2.0 h b.2.1 (λ cs. refl) (ap (λ s. s.number) b.3) (ap (λ s. s.current) b.3) (em ∙ ap (λ x. rs ++ x ∷ []) told)
 plays_work store old mid new v (Ok (Refused rows why shapes)) r rs more was mid_is is work h b told em =
     plays_committed store old mid new b.0 v (replies.Refused rows why) (said.Refused (length rows) (report_text shapes rows)) rs more was mid_is is (still_open store.limits old mid v b.0 h b.1) b.2.0 h b.2.1.0
-    (λ cs. ap (λ (x : SessionReply). up_to_event None cs (rs ++ x ∷ [])) (told_refused rows shapes _ b.2.1.1)) (ap (λ s. s.number) b.3) (ap (λ s. s.current) b.3) (em ∙ ap (λ x. rs ++ x ∷ []) told)
+    (λ cs. ap (λ (x : SessionReply). Some (up_to_event None cs (rs ++ x ∷ []))) (told_refused rows shapes _ b.2.1.1)) (ap (λ s. s.number) b.3) (ap (λ s. s.current) b.3) (em ∙ ap (λ x. rs ++ x ∷ []) told)
 plays_work store old mid new v (Err commits.NoTransaction) r rs more was mid_is is work h b told em =
     let none : old.current ≡ None = sym (ap (λ s. s.current) h.1.1) ∙ b.0 in
     absurd (subst HasWork none work)

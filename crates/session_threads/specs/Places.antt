@@ -1,5 +1,5 @@
 -- What a gate is told of a session's events.
-use Rattle.std.specs.Prelude.{List, Bool, true, false, Option, Some, None, Result, Ok, Err}
+use Rattle.std.specs.Prelude.{List, Bool, true, false, Option, Some, None, Result, Ok, Err, option_map}
 use Rattle.outside.specs.declared.gate.EventKind.{EventKind}
 use Rattle.outside.specs.declared.gate.EventKind.TheVariants as kinds
 use Rattle.store_model.specs.declared.commit.Again.{Again}
@@ -20,8 +20,8 @@ kind_of actions.Head = kinds.Head
 kind_of (actions.Commit x) = kinds.Commit
 kind_of actions.Void = kinds.Void
 
-abbrev pub event_unless : Option LocalAnswer → Action → Option EventKind
-event_unless None a = Some (kind_of a)
+abbrev pub event_unless : Option LocalAnswer → Option Action → Option EventKind
+event_unless None a = option_map kind_of a
 event_unless (Some answer) a = None
 
 -- the next event of a session at this command, which is none where the session answers by itself

@@ -15,7 +15,7 @@ use Rattle.store_model.specs.declared.event.Reply.{Reply}
 use Rattle.store_model.specs.Store.{State, StepOf, Replays, empty_store}
 use Rattle.session_model.specs.declared.command.Command.{Command}
 use Rattle.session_model.specs.declared.reply.SessionReply.{SessionReply}
-use Rattle.session_model.specs.Sessions.{OpenTransaction, SessionState, World, world, up_to_event, after_reply, no_session, session_at, RunsOpening, RunsEvent, RunsPlace, RunsInOrder}
+use Rattle.session_model.specs.Sessions.{OpenTransaction, SessionState, World, world, up_to_event, no_session, session_at, RunsOpening, RunsEvent, RunsPlace, RunsInOrder}
 use Rattle.thread_model.specs.Following.{is_opening, OwnCommand, OwnEvent, Follows, first_state, Follow, FollowingRuns}
 use Rattle.thread_model.proofs.Placing.{Within, within, opening, grows, grows_all}
 
@@ -47,7 +47,7 @@ is_others X Z false e h = h
 own_command : (l : Limits) (s t : State) (i : ℕ) (a : Action) (r : Reply) (ps : List SessionState) (w : Option OpenTransaction) (cs : List Command) (replies : List SessionReply) (F : SessionState → Type 0)
     → StepOf l s i a r t → OwnCommand a s r w cs replies F → (z : SessionState) × RunsEvent l (world s ps) i w cs replies (world t (set ps (i - 1) z)) × F z
 own_command l s t i a r ps w [] replies F h o = absurd o
-own_command l s t i a r ps w (c ∷ cs) replies F h o = (after_reply s w c cs replies r, (r, t, subst (λ (x : Action). StepOf l s i x r t) o.0 h, refl), o.1)
+own_command l s t i a r ps w (c ∷ cs) replies F h o = (o.0, (a, r, t, o.0, o.1, h, refl), o.2)
 
 placed_opening : (l : Limits) (s t : State) (i : ℕ) (a : Action) (r : Reply) (es : List Event) (ps qs : List SessionState) → is_opening a ≡ true → a ≡ Open → i ≡ s.opened + 1 → i ≤ length ps → StepOf l s i a r t
     → ((k : ℕ) → k < length ps → Turn l s t i a r es (get_or ps k no_session) (get_or qs k no_session) k) → Placed l s t i es ps qs

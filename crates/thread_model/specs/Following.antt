@@ -9,7 +9,7 @@ use Rattle.store_model.specs.declared.event.Reply.{Reply}
 use Rattle.store_model.specs.Store.{State, Step, Replays, empty_store}
 use Rattle.session_model.specs.declared.command.Command.{Command}
 use Rattle.session_model.specs.declared.reply.SessionReply.{SessionReply}
-use Rattle.session_model.specs.Sessions.{OpenTransaction, SessionState, up_to_event, action_of, after_reply, no_session, HasReplies}
+use Rattle.session_model.specs.Sessions.{OpenTransaction, SessionState, up_to_event, GoesOn, no_session, HasReplies}
 
 abbrev pub is_opening : Action → Bool
 is_opening Open = true
@@ -22,7 +22,7 @@ is_opening Void = false
 -- the event is that of the session's next command, and `more` holds of the session after its reply
 abbrev pub OwnCommand : Action → State → Reply → Option OpenTransaction → List Command → List SessionReply → (SessionState → Type 0) → Type 0
 OwnCommand a s r w [] replies more = ⊥
-OwnCommand a s r w (c ∷ cs) replies more = (a ≡ action_of w c) × more (after_reply s w c cs replies r)
+OwnCommand a s r w (c ∷ cs) replies more = (q : SessionState) × GoesOn s w c cs replies a r q × more q
 
 -- an own event: the opening, which moves nothing, or that of the next command
 abbrev pub OwnEvent : Action → State → Reply → SessionState → (SessionState → Type 0) → Type 0
