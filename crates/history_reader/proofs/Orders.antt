@@ -1,6 +1,6 @@
 -- The line of an order, read back.
-use Rattle.std.proofs.Common.{◌≡◌, ℕ, ◌+◌, ◌-◌, ◌*◌, ◌/◌, ◌%◌, ◌<◌, ◌≤◌, ◌&&◌, ◌==◌, true, false, List, [], ◌∷◌, ◌++◌, length, map, take, get_or, Some, refl, sym, ap, ◌∙◌, subst, arith, nat_le, nat_lt, slice_index, codes, if◌then◌else◌, length-append, option_map}
-use Rattle.std.specs.List.{slice_split, flat_map, onto_first, AllByRecursion}
+use Rattle.std.proofs.Common.{◌≡◌, ℕ, ◌+◌, ◌-◌, ◌*◌, ◌/◌, ◌%◌, ◌<◌, ◌≤◌, ◌&&◌, ◌||◌, ◌==◌, true, false, List, [], ◌∷◌, ◌++◌, length, map, take, get_or, Some, refl, sym, ap, ◌∙◌, subst, arith, nat_le, nat_lt, slice_index, codes, if◌then◌else◌, length-append, option_map}
+use Rattle.std.specs.List.{slice_split, flat_map, list_any, onto_first, AllByRecursion}
 use Rattle.std.specs.Fmt.{decimal}
 use Rattle.std.specs.Io.BufRead.{strip_last, ends_with_byte}
 use Rattle.std.proofs.lemmas.Bool.Decides.{nat_tests}
@@ -81,3 +81,30 @@ reads_back order a =
     let word : NoSpace (codes "history") = (refl, (refl, (refl, (refl, (refl, (refl, (refl, tt))))))) in
     let parts = ap (slice_split (λ c. c == 32)) (strip_end (codes "history" ++ flat_map (λ i. 32 ∷ decimal i) order)) ∙ split_order (codes "history") order word a in
     ap (λ ps. option_map (map session_of) (places_after ps)) parts ∙ ap Some (all_back order a)
+
+-- no byte of the line before its end is an LF
+abbrev NoEnd : List ℕ → Type 0
+NoEnd xs = AllByRecursion (λ c. (c == 10) ≡ false) xs
+
+NoEnd-append : (xs ys : List ℕ) → NoEnd xs → NoEnd ys → NoEnd (xs ++ ys)
+NoEnd-append [] ys h k = k
+NoEnd-append (x ∷ xs) ys h k = (h.0, NoEnd-append xs ys h.1 k)
+
+no_end : (i : ℕ) → i ≤ 64 → NoEnd (decimal i)
+no_end i most = elim (nat_le 10 i) as (λ b. nat_le 10 i ≡ b → NoEnd (decimal i)) [
+  | true ↦ λ e. subst NoEnd (sym (two i (grind (arith, nat_tests, e)) most)) (grind (arith, nat_tests), (grind (arith, nat_tests), tt))
+  | false ↦ λ e. subst NoEnd (sym (decimal_digit i (grind (arith, nat_tests, e)))) (grind (arith, nat_tests), tt)
+] refl
+
+no_ends : (order : List ℕ) → AreSessions order → NoEnd (flat_map (λ i. 32 ∷ decimal i) order)
+no_ends [] a = tt
+no_ends (i ∷ order) a = (refl, NoEnd-append (decimal i) (flat_map (λ j. 32 ∷ decimal j) order) (no_end i a.0.1) (no_ends order a.1))
+
+none_among : (xs : List ℕ) → NoEnd xs → list_any (λ c. c == 10) xs ≡ false
+none_among [] h = refl
+none_among (x ∷ xs) h = ap (λ b. b || list_any (λ c. c == 10) xs) h.0 ∙ none_among xs h.1
+
+pub one_line : (order : List ℕ) → AreSessions order → list_any (λ c. c == 10) (codes "history" ++ flat_map (λ i. 32 ∷ decimal i) order) ≡ false
+one_line order a =
+    let word : NoEnd (codes "history") = (refl, (refl, (refl, (refl, (refl, (refl, (refl, tt))))))) in
+    none_among (codes "history" ++ flat_map (λ i. 32 ∷ decimal i) order) (NoEnd-append (codes "history") (flat_map (λ i. 32 ∷ decimal i) order) word (no_ends order a))

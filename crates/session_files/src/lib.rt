@@ -5,10 +5,12 @@
 #![tactic(auto)]
 
 mod fault;
+mod laws;
 mod loading;
 mod running;
 mod session_run;
 
 pub use fault::RunFault;
+pub use laws::{a_print_is_replayed, unrefused_files_read_alike};
 pub use running::run_files;
 pub use session_run::SessionRun;
