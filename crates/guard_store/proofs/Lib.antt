@@ -4,4 +4,5 @@ pub mod Turning
 pub mod Opening
 pub mod Fitting
 pub mod Telling
+pub mod Meeting
 pub mod Calling

@@ -1,14 +1,21 @@
 -- What turns, openings and meetings do to what callers have seen.
-use Rattle.std.specs.Prelude.{◌≡◌, ℕ, true, false, List, [], ◌∷◌, ◌++◌}
+use Rattle.std.specs.Prelude.{◌≡◌, ◌⊎◌, ℕ, ◌==◌, ◌||◌, Bool, true, false, List, [], ◌∷◌, ◌++◌}
+use Rattle.std.specs.List.{filter}
 use Rattle.turn_lock.specs.History.{OthersAdded, has_number, reserved, under}
-use Rattle.turn_lock.specs.Callers.{Caller}
+use Rattle.turn_lock.specs.Callers.{Caller, met_caller}
 use Rattle.store_model.specs.declared.event.Limits.{Limits}
 use Rattle.store_model.specs.declared.event.Event.{Event}
 use Rattle.store_model.specs.declared.event.Action.TheVariants as actions
 use Rattle.store_model.specs.declared.event.Reply.TheVariants as replies
 use Rattle.store_model.specs.Store.{State, Step, Replays, empty_store}
-use Rattle.guard_store.specs.Fronts.{Turn, session_of}
-use Rattle.guard_store.specs.Answers.{Opens, event_of}
+use Rattle.thread_model.specs.Following.{is_opening}
+use Rattle.guard_store.specs.declared.faults.OpenFault.{OpenFault}
+use Rattle.guard_store.specs.declared.faults.OpenFault.TheVariants.{SessionsFull, Memory}
+use Rattle.guard_store.specs.declared.session.Keeper.{Keeper}
+use Rattle.guard_store.specs.declared.session.Session.{Session}
+use Rattle.guard_store.specs.Fronts.{At, SharedStore, Turn, session_of, void_of}
+use Rattle.guard_store.specs.Callers.{IsCaller, IsKeeper, IsSession}
+use Rattle.guard_store.specs.Answers.{Opens, OpensNothing, OpensSession, event_of}
 
 -- The new front is the old one, what others added, and this event; the event is the plain store's step from where all
 -- before it leads. Under the number of a caller that holds it stands just this event more.
@@ -46,3 +53,41 @@ pub record MeetsBoth (keeper session after : Caller Event Limits) : Type 0 where
 
 abbrev pub MeetingsKeepFronts : Type 0
 MeetingsKeepFronts = (keeper session after : Caller Event Limits) → keeper.known.first ≡ true → OthersAdded session_of false keeper.known after.known.front → OthersAdded session_of false session.known after.known.front → MeetsBoth keeper session after
+
+-- the entries that a keeper alone makes: openings, and those under 0
+abbrev pub is_keepers : Event → Bool
+is_keepers e = is_opening e.action || e.session == 0
+
+abbrev pub keepers_entries : List Event → List Event
+keepers_entries front = filter is_keepers front
+
+-- The keeper has met session i, whose last front this was: it holds the number, and of the entries under it has seen just
+-- those.
+pub record HasMet (store : SharedStore) (keeper : Caller Event Limits) (i : ℕ) (last : List Event) : Type 0 where
+  pub caller : IsCaller store i keeper
+  pub entries : under session_of i keeper.known.front ≡ under session_of i last
+
+-- From old to new the keeper has seen these openings and entries under 0 more, and no other. Of each session that it had met
+-- it still has just the entries of that session's last front.
+pub record KeepsEntries (store : SharedStore) (old new : Caller Event Limits) (more : List Event) : Type 0 where
+  pub keepers : At store.limits new.known.front (λ s. keepers_entries new.known.front ≡ keepers_entries old.known.front ++ more)
+  pub met : (i : ℕ) (last : List Event) → HasMet store old i last → HasMet store new i last
+
+-- an opening adds its entry
+abbrev pub OpeningsKeepEntries : Type 0
+OpeningsKeepEntries = (store : SharedStore) (old new : Keeper) (s : Session) → IsKeeper store old → OpensSession store old new s → KeepsEntries store old.pass new.pass (event_of s.number actions.Open (replies.Session s.number) ∷ [])
+
+-- the entry of a call that opened nothing; where memory ran out there may be none
+abbrev pub AreOfFault : OpenFault → List Event → Type 0
+AreOfFault SessionsFull more = more ≡ event_of 0 actions.Open replies.SessionsFull ∷ []
+AreOfFault Memory more = (more ≡ []) ⊎ (more ≡ void_of 0 ∷ [])
+
+abbrev pub FailedOpeningsKeepEntries : Type 0
+FailedOpeningsKeepEntries = (store : SharedStore) (f : OpenFault) (old new : Keeper) → IsKeeper store old → OpensNothing f store old new → (more : List Event) × AreOfFault f more × KeepsEntries store old.pass new.pass more
+
+-- a meeting adds no such entry, and from then on the session is one that was met
+abbrev pub MeetingsKeepEntries : Type 0
+MeetingsKeepEntries =
+    (store : SharedStore) (keeper after : Keeper) (session : Session) → IsKeeper store keeper → IsSession store session → after ≡ record keeper { pass = met_caller keeper.pass session.pass }
+    → OthersAdded session_of false keeper.pass.known after.pass.known.front → OthersAdded session_of false session.pass.known after.pass.known.front
+    → HasMet store after.pass session.number session.pass.known.front × KeepsEntries store keeper.pass after.pass []

@@ -16,7 +16,10 @@ mod transaction;
 mod turn;
 
 pub use faults::{BeginFault, CommitFault, Committed, FindFault, HeadFault, OpenFault, StageFault};
-pub use laws::{a_meeting_keeps_both_fronts, a_turn_adds_one_event, an_opening_adds_one_event};
+pub use laws::{
+    a_failed_opening_keeps_entries, a_meeting_keeps_both_fronts, a_meeting_keeps_entries,
+    a_turn_adds_one_event, an_opening_adds_one_event, an_opening_keeps_entries,
+};
 pub use session::{Keeper, Session};
 pub use store::Store;
 pub use transaction::OpenTransaction;
