@@ -6,7 +6,7 @@ ghost use Rattle.guard_store.specs.Transactions.{begun_at, change_of, changes_of
 
 use collections::Sequence;
 use commit_core::{Snap, Transaction};
-use rdf_model::{Change, Net, Pattern, Term, Triple};
+use rdf_model::{Change, Net, Pattern, Triple};
 use shapes_graph::ShapesGraph;
 use std::alloc::{AllocError, Global};
 use std::mem;
@@ -71,30 +71,11 @@ fn appended(net: Net, more: Vec<Change>) -> (Net, bool)
     (Sequence::from_vec(changes), grew)
 }
 
-fn copy_of_part(part: &Option<Term>) -> Result<Option<Term>, AllocError>
-    ensures { IfOk result (λ copy. copy ≡ part.now) }
-{
-    match part {
-        Some(term) => Ok(Some(term.clone()?)),
-        None => Ok(None),
-    }
-}
-
-fn copy_of(pattern: &Pattern) -> Result<Pattern, AllocError>
-    ensures { IfOk result (λ copy. copy ≡ pattern.now) }
-{
-    Ok(Pattern {
-        subject: copy_of_part(&pattern.subject)?,
-        predicate: copy_of_part(&pattern.predicate)?,
-        object: copy_of_part(&pattern.object)?,
-    })
-}
-
 fn record_find(finds: &mut Sequence<Pattern>, pattern: &Pattern) -> Result<(), AllocError>
     ensures ok { OnOk result (finds.new ≡ finds.old ++ pattern.now ∷ []) }
     ensures err { OnErr result (finds.new ≡ finds.old) }
 {
-    let pattern = copy_of(pattern)?;
+    let pattern = pattern.clone()?;
     finds.push(pattern)?;
     Ok(())
 }

@@ -6,28 +6,9 @@ ghost use Rattle.session_player.specs.Ready.{IsReady, Performs};
 use crate::transaction::OpenTransaction;
 use collections::{Sequence, let_go};
 use commit_core::Core;
-use rdf_model::{Pattern, Term, Text, Triple};
+use rdf_model::{Pattern, Text, Triple};
 use session_model::{Command, SessionReply};
 use std::alloc::{AllocError, Global};
-
-fn copy_of_part(part: &Option<Term>) -> Result<Option<Term>, AllocError>
-    ensures { IfOk result (λ copy. copy ≡ part.now) }
-{
-    match part {
-        Some(term) => Ok(Some(term.clone()?)),
-        None => Ok(None),
-    }
-}
-
-fn copy_of(pattern: &Pattern) -> Result<Pattern, AllocError>
-    ensures { IfOk result (λ copy. copy ≡ pattern.now) }
-{
-    Ok(Pattern {
-        subject: copy_of_part(&pattern.subject)?,
-        predicate: copy_of_part(&pattern.predicate)?,
-        object: copy_of_part(&pattern.object)?,
-    })
-}
 
 // The reply to a find that gave these triples.
 fn reply_of_find(alloc: Global, triples: &[Triple]) -> Result<SessionReply, AllocError>
@@ -61,7 +42,7 @@ pub fn find(
     };
     let triples = open.find(alloc, pattern)?;
     let reply = reply_of_find(alloc, &triples)?;
-    let open = open.with_find(copy_of(pattern)?)?;
+    let open = open.with_find(pattern.clone()?)?;
     replies.push(reply)?;
     Ok(Some(open))
 }
