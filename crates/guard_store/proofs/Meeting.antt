@@ -150,7 +150,7 @@ meetings_keep_entries store keeper after session is has e this that =
     let lock = ap (λ c. c.lock) p ∙ is.lock in
     let start = ap (λ c. c.opening) p ∙ is.opening in
     let opens = λ (i : ℕ) (front rest : List Event) (same : front ++ rest ≡ after.pass.known.front) (at : At l front (λ s. IsOpened s i)).
-        subst (λ (x : List Event). At l x (λ s. IsOpened s i)) same (still_at l (λ s. IsOpened s i) (λ s t m o. opened_more i s t m o) front rest at) in
+    subst (λ (x : List Event). At l x (λ s. IsOpened s i)) same (still_at l (λ s. IsOpened s i) (λ s t m o. opened_more i s t m o) front rest at) in
     let now : HasMet store after.pass session.number session.pass.known.front = record {
       caller = record {
         lock = lock;

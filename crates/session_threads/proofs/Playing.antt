@@ -258,7 +258,7 @@ plays_committed store old mid new w v r x rs more was mid_is is o change h t by 
           let one : HasPlayed l i old.pass.known.front file (up_to_event (Some (plain w)) (Commit ∷ cs) rs) = subst (λ (y : Option Sessions.OpenTransaction). HasPlayed l i old.pass.known.front file (up_to_event y (Commit ∷ cs) rs)) (plain_open old w o) p in
           let two : HasPlayed l i old.pass.known.front file (record { current = Some (plain w); commands = Commit ∷ cs; replies = rs }) =
           subst (HasPlayed l i old.pass.known.front file) (up_to_event-event (Some (plain w)) Commit cs rs (local-change (plain w) w.transaction.net w.transaction.staged change)) one in
-          let three : HasPlayed l i mid.pass.known.front file (record { current = Some u; commands = Commit ∷ cs; replies = rs }) = 
+          let three : HasPlayed l i mid.pass.known.front file (record { current = Some u; commands = Commit ∷ cs; replies = rs }) =
           played_turn store i old.pass mid.pass file (Some (plain w)) Commit cs rs actions.Head (replies.Version v) (record { current = Some u; commands = Commit ∷ cs; replies = rs }) refl was.caller h.1.0 (record { event = refl; next = refl }) two in
           let four : HasPlayed l i new.pass.known.front file (up_to_event None cs (rs ++ x ∷ [])) = committed_turn store i mid new file w cs rs r x caller t same by three in
           let five : HasPlayed l i new.pass.known.front file (up_to_event (plain_in new.current) cs more) =
