@@ -1,3 +1,4 @@
+pub mod Kept
 pub mod Ascending
 pub mod Places
 pub mod SortedOnce

@@ -8,3 +8,7 @@ use Rattle.collections.specs.Ordered.{IsAscending}
 pub record IsListing {X : Type 0} (R : X → X → Ordering) (P : X → Type 0) (items : List X) : Type 0 where
   pub ascending : IsAscending R items
   pub members : (x : X) → Contains items x ↔ P x
+
+-- what was in the list is in it still
+abbrev pub Keeps : {X : Type 0} → List X → List X → Type 0
+Keeps old new = (x : _) → Contains old x → Contains new x

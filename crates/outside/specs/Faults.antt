@@ -24,3 +24,13 @@ Refusal = List ℕ × List ℕ
 abbrev pub NotesRefusal : MakeFault → List Refusal → Refusal → List Refusal → Type 0
 NotesRefusal make.Refused old refusal new = new ≡ old ++ refusal ∷ []
 NotesRefusal make.Memory old refusal new = new ≡ old
+
+-- what a maker was asked to build, a pattern with its flags
+abbrev pub Request : Type 0
+Request = List ℕ × List ℕ
+
+-- a build joins the list of what was asked; where memory ran out it may not have been asked
+abbrev pub NotesBuild : {X : Type 0} → Result X MakeFault → List Request → Request → List Request → Type 0
+NotesBuild (Ok regex) old request new = new ≡ old ++ request ∷ []
+NotesBuild (Err make.Refused) old request new = new ≡ old ++ request ∷ []
+NotesBuild (Err make.Memory) old request new = (new ≡ old) ⊎ (new ≡ old ++ request ∷ [])

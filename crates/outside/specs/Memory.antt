@@ -4,7 +4,7 @@ use Rattle.std.specs.Global.{Global}
 use lib.Pointwise.{pointwise}
 use Rattle.regex.specs.declared.string.regex.Regex.{Regex}
 use Rattle.outside.specs.Counts.{counted, is_listed}
-use Rattle.outside.specs.Faults.{Refusal}
+use Rattle.outside.specs.Faults.{Refusal, Request}
 use Rattle.outside.specs.declared.files.LoadFault.{LoadFault}
 use Rattle.outside.specs.declared.files.LoadFault.TheVariants as load
 use Rattle.outside.specs.declared.maker.MakeFault.{MakeFault}
@@ -62,11 +62,18 @@ WritesInMemory old piece (Err failed) new =
     ((is_listed old.fail new.calls ≡ true) ⊎ ((room_left old ≡ 0) × (0 < length piece)))
     × (new ≡ record old { faults = counted old.faults; calls = counted old.calls })
 
--- a maker over another one, the numbers of the calls that are refused, how many calls there were, and what was refused
+-- the maker of the system: what it was asked, and what it refused
+pub record MakerState : Type 0 where
+  pub asked : List Request
+  pub refused : List Refusal
+
+-- a maker over another one, the numbers of the calls that are refused, how many calls there were, what it was asked and
+-- what was refused
 pub record FakeState (M : Type 0) : Type 0 where
   pub maker : M
   pub refuse : List ℕ
   pub calls : ℕ
+  pub asked : List Request
   pub refused : List Refusal
 
 -- a call whose number is listed is refused, and any other one has the answer of the maker below, whose list a refusal

@@ -14,6 +14,7 @@ pub struct FakeMaker<M> {
     maker: M,
     refuse: Vec<u64>,
     calls: u64,
+    asked: Vec<Request>,
     refused: Vec<Request>,
 }
 
@@ -26,6 +27,7 @@ impl<M> Model for FakeMaker<M> {
       maker = m.maker;
       refuse = m.refuse.items;
       calls = m.calls;
+      asked = m.asked.items;
       refused = m.refused.items;
     } };
 }
@@ -35,12 +37,13 @@ impl<M> FakeMaker<M> {
 
     /// A maker that refuses the builds with the numbers `refuse`. It takes no memory.
     pub fn new(alloc: Global, maker: M, refuse: Vec<u64>) -> FakeMaker<M>
-        ensures { result ≡ record { maker = maker; refuse = refuse.items; calls = 0; refused = [] } }
+        ensures { result ≡ record { maker = maker; refuse = refuse.items; calls = 0; asked = []; refused = [] } }
     {
         FakeMaker {
             maker,
             refuse,
             calls: 0,
+            asked: Vec::new(alloc),
             refused: Vec::new(alloc),
         }
     }
@@ -50,17 +53,24 @@ impl<M: Maker> Maker for FakeMaker<M> {
     ghost use Rattle.outside.specs.Counts.{counted};
     ghost use Rattle.outside.specs.Memory.{BuildsOver};
 
+    ghost asked = { λ m. m.asked };
+
     ghost refused = { λ m. m.refused };
 
     ghost build_gives = { λ old pattern flags result new.
-        (new ≡ record old { maker = new.maker; calls = counted old.calls; refused = new.refused })
+        (new ≡ record old { maker = new.maker; calls = counted old.calls; asked = new.asked; refused = new.refused })
         × BuildsOver M.refused M.build_gives old pattern flags result new };
 
     fn build(&mut self, alloc: Global, pattern: &str, flags: &str) -> Result<Regex, MakeFault> {
-        self.calls = self.calls.saturating_add(1);
+        let number = self.calls.saturating_add(1);
+        let is_listed = self.refuse.contains(&number);
+        self.calls = number;
+        let asked = Request::new(alloc, pattern, flags)?;
         let request = Request::new(alloc, pattern, flags)?;
+        self.asked.reserve(1)?;
         self.refused.reserve(1)?;
-        if self.refuse.contains(&self.calls) {
+        self.asked.push_reserved(asked);
+        if is_listed {
             self.refused.push_reserved(request);
             return Err(MakeFault::Refused);
         }

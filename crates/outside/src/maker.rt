@@ -1,5 +1,5 @@
 ghost use Rattle.std.specs.Prelude.{◌≡◌, ℕ, List, Result, IfOk, MatchResult, ⊤};
-ghost use Rattle.outside.specs.Faults.{Refusal, NotesRefusal};
+ghost use Rattle.outside.specs.Faults.{NotesBuild, NotesRefusal, Refusal, Request};
 ghost use Rattle.outside.specs.Patterns.{IsBuilt};
 ghost use Rattle.outside.specs.declared.maker.MakeFault.{MakeFault};
 ghost use Rattle.regex.specs.declared.string.regex.Regex.{Regex};
@@ -28,6 +28,9 @@ impl From<AllocError> for MakeFault {
 
 /// A maker of regular expressions.
 pub trait Maker {
+    /// What it was asked to build, in order, whether or not a pattern came. Nothing is ever lost.
+    ghost asked: { Self → List Request };
+
     /// The patterns that were refused, each with its flags, in order. None is ever lost.
     ghost refused: { Self → List Refusal };
 
@@ -38,11 +41,13 @@ pub trait Maker {
     /// What the grammar of the crate `regex` reads of the pattern, under the flags `i`, `s`, `m` and
     /// `x`; other letters change nothing.
     ///
-    /// `Refused` comes only where the pattern and its flags joined the list of those that were
-    /// refused, which is otherwise as it was.
+    /// The pattern and its flags join the list of what was asked; where memory ran out they may have.
+    /// `Refused` comes only where they joined the list of those that were refused, which is otherwise
+    /// as it was.
     fn build(&mut self, alloc: Global, pattern: &str, flags: &str) -> Result<Regex, MakeFault>
         ensures built { IfOk result (IsBuilt pattern.now flags.now) }
         ensures refused { MatchResult result (λ _. refused self.new ≡ refused self.old)
             (λ fault. NotesRefusal fault (refused self.old) (pattern.now, flags.now) (refused self.new)) }
+        ensures asked { NotesBuild result (asked self.old) (pattern.now, flags.now) (asked self.new) }
         ensures gives { build_gives self.old pattern.now flags.now result self.new };
 }

@@ -10,24 +10,28 @@ use std::marker::Model;
 /// The maker that the crate `regex` is.
 #[derive(Drop)]
 pub struct RegexMaker {
+    asked: Vec<Request>,
     refused: Vec<Request>,
 }
 
 impl Model for RegexMaker {
-    ghost use Rattle.std.specs.Prelude.{List};
-    ghost use Rattle.outside.specs.Faults.{Refusal};
+    ghost use Rattle.outside.specs.Memory.{MakerState};
 
-    ghost Value = { List Refusal };
+    ghost Value = { MakerState };
 
-    ghost view = { λ m. m.refused.items };
+    ghost view = { λ m. record {
+      asked = m.asked.items;
+      refused = m.refused.items;
+    } };
 }
 
 impl RegexMaker {
-    /// A maker that has refused nothing. It takes no memory.
+    /// A maker that was asked nothing. It takes no memory.
     pub fn new(alloc: Global) -> RegexMaker
-        ensures { result ≡ [] }
+        ensures { result ≡ record { asked = []; refused = [] } }
     {
         RegexMaker {
+            asked: Vec::new(alloc),
             refused: Vec::new(alloc),
         }
     }
@@ -41,11 +45,16 @@ fn is_set(flags: &str, letter: u8) -> bool
 }
 
 impl Maker for RegexMaker {
-    ghost refused = { λ m. m };
+    ghost asked = { λ m. m.asked };
+
+    ghost refused = { λ m. m.refused };
 
     fn build(&mut self, alloc: Global, pattern: &str, flags: &str) -> Result<Regex, MakeFault> {
+        let asked = Request::new(alloc, pattern, flags)?;
         let request = Request::new(alloc, pattern, flags)?;
+        self.asked.reserve(1)?;
         self.refused.reserve(1)?;
+        self.asked.push_reserved(asked);
         let builder = RegexBuilder::new(pattern)
             .case_insensitive(is_set(flags, b'i'))
             .dot_matches_new_line(is_set(flags, b's'))

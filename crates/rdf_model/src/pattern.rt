@@ -1,8 +1,10 @@
-ghost use Rattle.std.specs.Prelude.{◌≡◌};
+ghost use Rattle.std.specs.Prelude.{◌≡◌, IfOk};
 ghost use Rattle.rdf_model.specs.Matching;
 ghost use Rattle.rdf_model.specs.Matching.{fits};
 
 use crate::{Term, Triple};
+use collections::ExactClone;
+use std::alloc::AllocError;
 
 /// Which triples a find asks for; `None` stands for any term.
 #[derive(Debug, Drop)]
@@ -20,6 +22,31 @@ fn is_wanted(wanted: &Option<Term>, term: &Term) -> bool
         Some(wanted) => wanted == term,
         None => true,
     }
+}
+
+fn copy_of(wanted: &Option<Term>) -> Result<Option<Term>, AllocError>
+    ensures { IfOk result (λ copy. copy ≡ wanted.now) }
+{
+    match wanted {
+        Some(term) => Ok(Some(term.clone()?)),
+        None => Ok(None),
+    }
+}
+
+impl Clone for Pattern {
+    ghost is_clone = { λ source copy. copy ≡ source };
+
+    fn clone(&self) -> Result<Pattern, AllocError> {
+        Ok(Pattern {
+            subject: copy_of(&self.subject)?,
+            predicate: copy_of(&self.predicate)?,
+            object: copy_of(&self.object)?,
+        })
+    }
+}
+
+impl ExactClone for Pattern {
+    ghost clone_is_equal = { λ source copy is_copy. is_copy };
 }
 
 impl Pattern {

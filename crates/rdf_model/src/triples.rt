@@ -1,7 +1,7 @@
-ghost use Rattle.std.specs.Prelude.{◌≡◌, ◌↔◌, ◌⊎◌, ◌++◌, IfOk, IsTrue, List, OnOk};
+ghost use Rattle.std.specs.Prelude.{◌≡◌, ◌↔◌, ◌⊎◌, ◌++◌, IfOk, IsTrue, List, OnErr, OnOk};
 ghost use Rattle.std.specs.List.{Contains, filter_map};
 ghost use Rattle.std.specs.Ordering.{nat_cmp};
-ghost use Rattle.collections.specs.Listings.{IsListing};
+ghost use Rattle.collections.specs.Listings.{IsListing, Keeps};
 ghost use Rattle.collections.specs.Pairs.{pair_cmp};
 ghost use Rattle.rdf_model.specs.Numbers.{AsksForOne, IsEdge, IsFound, IsJoined, edge_in, number_in, pair_in};
 ghost use Rattle.rdf_model.specs.declared.ids.Ids.{Ids as IdsData};
@@ -20,10 +20,12 @@ pub trait Triples {
         requires { AsksForOne look.now }
         ensures { IfOk result (λ found. IsListing nat_cmp (IsFound look.now (triples self.now)) found.items) };
 
-    /// Adds the numbers that the look asks for, in no order that is told, maybe several times.
+    /// Adds the numbers that the look asks for, in no order that is told, maybe several times. What was
+    /// there stays, also where memory runs out.
     fn add_found(&self, look: &Look<u32>, found: &mut Vec<u32>) -> Result<(), AllocError>
         requires { AsksForOne look.now }
-        ensures { OnOk result ((n : _) → Contains found.new.items n ↔ (Contains found.old.items n ⊎ IsFound look.now (triples self.now) n)) };
+        ensures found { OnOk result ((n : _) → Contains found.new.items n ↔ (Contains found.old.items n ⊎ IsFound look.now (triples self.now) n)) }
+        ensures kept { OnErr result (Keeps found.old.items found.new.items) };
 
     /// Predicate and object of each triple of the subject, ascending, each pair once.
     fn edges(&self, alloc: Global, subject: u32) -> Result<Vec<(u32, u32)>, AllocError>
@@ -76,7 +78,8 @@ fn found_in(look: &Look<u32>, triple: Ids) -> Option<u32>
 // What the look asks for comes to the end.
 #[tactic(auto, using(std::proofs::lemmas::Grind::common_steps, crate::proofs::Finding::filter_map_append))]
 fn add_all_found(triples: &[Ids], look: &Look<u32>, found: &mut Vec<u32>) -> Result<(), AllocError>
-    ensures { OnOk result (found.new.items ≡ found.old.items ++ filter_map (number_in look.now) triples.now) }
+    ensures found { OnOk result (found.new.items ≡ found.old.items ++ filter_map (number_in look.now) triples.now) }
+    ensures kept { OnErr result (Keeps found.old.items found.new.items) }
 {
     for triple in triples {
         if let Some(number) = found_in(look, *triple) {

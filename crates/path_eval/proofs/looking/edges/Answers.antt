@@ -16,7 +16,7 @@ loop-start-preserved g c =
     let R = λ (x y : ℕ). IsFound (look_from c.args.turned c.args.predicate x) (g.R.Triples.triples c.args.graph.now) y in
     let L = λ (x : ℕ) (look : Look ℕ). look ≡ look_from c.args.turned c.args.predicate x in
     let more : Adds c.loop-start.found.items c.add_found.new.found.items (R (get_or xs i 0)) =
-    subst (λ (look : Look ℕ). Adds c.loop-start.found.items c.add_found.new.found.items (IsFound look (g.R.Triples.triples c.args.graph.now))) c.look_for-look.ensures.look c.in_ok-add_found.ensures in
+    subst (λ (look : Look ℕ). Adds c.loop-start.found.items c.add_found.new.found.items (IsFound look (g.R.Triples.triples c.args.graph.now))) c.look_for-look.ensures.look c.in_ok-add_found.ensures.found in
     record {
       found = adds_same [] c.add_found.new.found.items _ (FromSome (take (i + 1) xs) R) (some_more xs i R (omega arith))
           (adds_then [] c.loop-start.found.items c.add_found.new.found.items (FromSome (take i xs) R) (R (get_or xs i 0)) c.loop-start.invariant.found more);

@@ -9,7 +9,7 @@ use Rattle.target_nodes.proofs.testing.finds.Goals as goal
 pub returns-clause-answer : goal.returns-clause-answer
 returns-clause-answer g c =
     let any = subst (λ (l : List ℕ). IsTrue c.has_any.result ↔ ((n : ℕ) × Contains l n)) c.deref.ensures.value c.has_any.ensures in
-    let found = c.in_ok-add_found.ensures in (
+    let found = c.in_ok-add_found.ensures.found in (
       λ t. let k = any.0 t in elim ((found k.0).0 k.1) [ inl d ↦ absurd (no_start k.0 (subst (λ (l : List ℕ). Contains l k.0) c.new-found.ensures.items d)) | inr f ↦ (k.0, f) ],
       λ f. any.1 (f.0, (found f.0).1 (inr f.1)),
     )

@@ -1,8 +1,8 @@
 use Rattle.std.proofs.Common.{◌≡◌, rules, inl, inr}
 use Rattle.outside.proofs.fake_maker.FakeMakerMaker.build.Goals as goal
 
-pub returns-then-contains-clause-gives : goal.returns-then-contains-clause-gives
-returns-then-contains-clause-gives g c = (search rules, inl (search rules, search rules))
+pub returns-then-is_listed-clause-gives : goal.returns-then-is_listed-clause-gives
+returns-then-is_listed-clause-gives g c = (search rules, inl (search rules, search rules))
 
 pub returns-in-Ok-clause-gives : goal.returns-in-Ok-clause-gives
 returns-in-Ok-clause-gives g c =

@@ -6,8 +6,8 @@ use Rattle.rdf_model.specs.Numbers.{IsFound}
 use Rattle.overlay_view.specs.Overlays.{overlaid}
 use Rattle.overlay_view.proofs.overlay.OverlayTriples.add_found.Goals as goal
 
-pub returns : goal.returns
-returns g c n =
+pub returns-clause-found : goal.returns-clause-found
+returns-clause-found g c n =
     let old = c.args.found.now.items in
     let more = c.in_ok-more.more.items in
     let e : c.extend_from_slice.new.self.items ≡ old ++ more = c.in_ok-extend_from_slice.ensures.items ∙ ap (λ (l : List ℕ). old ++ l) c.deref.ensures.value in

@@ -5,8 +5,8 @@ use Rattle.std.proofs.lemmas.List.Elements.{Contains-append_cases, Contains-appe
 use Rattle.rdf_model.specs.Numbers.{IsFound}
 use Rattle.triple_index.proofs.find.IndexTriples.add_found.Goals as goal
 
-pub returns : goal.returns
-returns c n =
+pub returns-clause-found : goal.returns-clause-found
+returns-clause-found c n =
     let old = c.args.found.now.items in
     let more = c.in_ok-more.more.items in
     let e : c.extend_from_slice.new.self.items ≡ old ++ more = c.in_ok-extend_from_slice.ensures.items ∙ ap (λ (l : List ℕ). old ++ l) c.deref.ensures.value in
