@@ -46,8 +46,7 @@ module _ (terms : List Term) (ids : List Ids) (shapes : List (Shape ℕ)) (k : �
       let named = named_shapes terms shapes in
       let there = read_there terms shapes k sh c lt at in
       let read : read_shape (term_at terms) sh ≡ c = subst (λ (x : Shape ℕ). read_shape (term_at terms) x ≡ c) (sym is) there.0 in
-      let same = subst (λ (d : ReadShape). SameReading (reading s c.node) (shape_reading named d)) (sym read) (stand.each c there.1) in
-      (
+      let same = subst (λ (d : ReadShape). SameReading (reading s c.node) (shape_reading named d)) (sym read) (stand.each c there.1) in (
         ap (λ (d : ReadShape). d.node) read,
         same_then (reading s c.node) (shape_reading named (read_shape (term_at terms) sh)) (declared_reading terms sh.targets) same (declares terms named sh),
       )

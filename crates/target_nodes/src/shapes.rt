@@ -24,13 +24,7 @@ pub fn targets<R: Triples>(
     ensures numbers { IfOk result (λ found. NumberedShapes (R.triples graph.now) words bound.now.shapes (λ terms. All (λ n. n < length terms) found.items)) }
 {
     let own = &bound.shapes.as_slice()[shape];
-    Ok(declared_targets(
-        alloc,
-        graph,
-        words,
-        own.node,
-        own.targets.as_slice(),
-    )?)
+    Ok(declared_targets(alloc, graph, words, own.node, own.targets.as_slice())?)
 }
 
 /// Whether a node is a target of the shape at a place (SHACL section 2.1.3), as in each shapes graph that the shapes

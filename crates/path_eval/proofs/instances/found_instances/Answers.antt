@@ -19,3 +19,6 @@ returns-clause-followed g c =
 
 pub returns-clause-kept : goal.returns-clause-kept
 returns-clause-kept g c = λ look h. c.edges.ensures.kept look (c.repeated.ensures.kept look h)
+
+pub returns-in_err-edges-clause-kept : goal.returns-in_err-edges-clause-kept
+returns-in_err-edges-clause-kept g c = λ look h. c.edges.ensures.kept look (c.repeated.ensures.kept look h)
