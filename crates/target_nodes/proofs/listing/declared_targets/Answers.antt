@@ -3,7 +3,7 @@ use Rattle.shape_model.specs.Targets.{TargetOf}
 use Rattle.target_nodes.specs.Declarations.{IsTargetBySome, declared_reading}
 use Rattle.target_nodes.proofs.Laws.{target_law}
 use Rattle.target_nodes.proofs.Members.{listed_every, listed_members, members_same}
-use Rattle.target_nodes.proofs.listing.targets.Goals as goal
+use Rattle.target_nodes.proofs.listing.declared_targets.Goals as goal
 
 pub returns : goal.returns
 returns g c = λ terms numbering numbered named bound lt.
