@@ -22,10 +22,6 @@ FromSome {Y} xs R y = (x : ℕ) × Contains xs x × R x y
 abbrev pub Adds : {Y : Type 0} → List Y → List Y → (Y → Type 0) → Type 0
 Adds {Y} old new P = (y : Y) → Contains new y ↔ (Contains old y ⊎ P y)
 
--- the list has what it had, and maybe more
-abbrev pub Keeps : {Y : Type 0} → List Y → List Y → Type 0
-Keeps {Y} old new = (y : Y) → Contains old y → Contains new y
-
 -- the nodes of which P holds have come to the end of the list, unless they were there
 pub record Enters (old new : List ℕ) (P : ℕ → Type 0) : Type 0 where
   pub more : List ℕ

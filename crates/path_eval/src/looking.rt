@@ -1,6 +1,7 @@
 ghost use Rattle.std.specs.Prelude.{◌≡◌, IfOk};
 ghost use Rattle.rdf_model.specs.Numbers.{AsksForOne, IsFound};
-ghost use Rattle.path_eval.specs.Relations.{IsFollowed, Keeps};
+ghost use Rattle.collections.specs.Listings.{Keeps};
+ghost use Rattle.path_eval.specs.Relations.{IsFollowed};
 ghost use Rattle.path_eval.specs.NumberedWalks.{look_from};
 
 use collections::sorted_once;

@@ -1,5 +1,6 @@
 ghost use Rattle.std.specs.Prelude.{IfOk};
-ghost use Rattle.path_eval.specs.Relations.{IsFollowed, Keeps, Repeated};
+ghost use Rattle.collections.specs.Listings.{Keeps};
+ghost use Rattle.path_eval.specs.Relations.{IsFollowed, Repeated};
 ghost use Rattle.path_eval.specs.NumberedWalks.{Reaches};
 ghost use Rattle.path_eval.specs.NumberedLooks.{AtRepeated, Reads};
 ghost use Rattle.path_eval.specs.Walkers.{Goes, IsNew, Sees, plan_of};

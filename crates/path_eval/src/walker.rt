@@ -1,5 +1,5 @@
 ghost use Rattle.std.specs.Prelude.{◌≤◌, IfOk, OnOk, length, drop, ◌≡◌};
-ghost use Rattle.path_eval.specs.Relations.{Keeps};
+ghost use Rattle.collections.specs.Listings.{Keeps};
 ghost use Rattle.path_eval.specs.Walkers.{Advances, Explores, GoesOn};
 
 use crate::looking::edges;

@@ -6,7 +6,7 @@
 
 ghost use Rattle.std.specs.Prelude.{IfOk, OnOk};
 ghost use Rattle.path_eval.specs.Naming.{Numbered};
-ghost use Rattle.path_eval.specs.Relations.{Keeps};
+ghost use Rattle.collections.specs.Listings.{Keeps};
 ghost use Rattle.reverse_walk.specs.Walkers.{AddsBackReads, AreWalkers};
 
 use compiled_paths::Path;

@@ -17,7 +17,7 @@ use Rattle.shape_model.proofs.NodeLooks.{reads_law}
 use Rattle.component_rows.specs.Nodes.{AreNodes}
 use Rattle.component_rows.proofs.Collecting.{mapped_from, mapped_to}
 use Rattle.path_eval.specs.Naming.{AddsLooks}
-use Rattle.path_eval.specs.Relations.{Keeps}
+use Rattle.collections.specs.Listings.{Keeps}
 use Rattle.path_eval.proofs.Footprints.{looks_none, looks_one, looks_same, next_looks, none_before}
 use Rattle.shape_ast.specs.declared.shape.Shape.{Shape}
 use Rattle.shape_ast.specs.Readings.{named_shapes, read_shape}

@@ -5,7 +5,7 @@ ghost use Rattle.component_rows.specs.Answers.{AreAnswersTo};
 ghost use Rattle.component_rows.specs.Listed.{Collects};
 ghost use Rattle.component_rows.specs.Nodes.{AreNodes};
 ghost use Rattle.path_eval.specs.Instances.{AreClassWords};
-ghost use Rattle.path_eval.specs.Relations.{Keeps};
+ghost use Rattle.collections.specs.Listings.{Keeps};
 ghost use Rattle.shape_ast.specs.Readings.{AreBound, named_shapes};
 ghost use Rattle.shape_ast.specs.Standing.{AreBuilt, StandFor};
 ghost use Rattle.shape_eval.specs.Around.{around};

@@ -8,7 +8,7 @@ ghost use Rattle.component_rows.specs.Answers.{AreAnswersTo};
 ghost use Rattle.component_rows.specs.Nodes.{AreNodes, HasNode};
 ghost use Rattle.path_eval.specs.Instances.{AreClassWords};
 ghost use Rattle.path_eval.specs.Naming.{AddsLooks};
-ghost use Rattle.path_eval.specs.Relations.{Keeps};
+ghost use Rattle.collections.specs.Listings.{Keeps};
 ghost use Rattle.shape_ast.specs.Components.{term_component};
 ghost use Rattle.shape_eval.specs.Looks.{AreInstanceAnswers, ComponentReads, ReadsAtEach};
 

@@ -5,7 +5,7 @@ ghost use Rattle.component_rows.specs.Listed.{Collects};
 ghost use Rattle.component_rows.specs.Nodes.{AreNodes, HasNode};
 ghost use Rattle.path_eval.specs.Instances.{AreClassWords};
 ghost use Rattle.path_eval.specs.Naming.{AddsLooks};
-ghost use Rattle.path_eval.specs.Relations.{Keeps};
+ghost use Rattle.collections.specs.Listings.{Keeps};
 ghost use Rattle.shape_ast.specs.Readings.{AreBound, HoldsOfConstraint, HoldsOfShape, named_shapes, read_constraint, read_shape};
 ghost use Rattle.shape_ast.specs.Standing.{IsBuilt, IsLinked};
 ghost use Rattle.shape_eval.specs.Around.{around};

@@ -1,9 +1,8 @@
 ghost use Rattle.std.specs.Prelude.{◌≡◌, IfOk, OnOk};
 ghost use Rattle.std.specs.Ordering.{nat_cmp};
-ghost use Rattle.collections.specs.Listings.{IsListing};
+ghost use Rattle.collections.specs.Listings.{IsListing, Keeps};
 ghost use Rattle.rdf_model.specs.Numbers.{graph_of, term_at};
 ghost use Rattle.path_eval.specs.Naming.{AddsLooks};
-ghost use Rattle.path_eval.specs.Relations.{Keeps};
 ghost use Rattle.shape_ast.specs.Readings.{read_optional_path};
 ghost use Rattle.shape_eval.specs.Looks.{OptionalReads};
 ghost use Rattle.shape_eval.specs.ValueNodes.{AreValueNodes, AtNumbers};

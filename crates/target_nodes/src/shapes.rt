@@ -1,6 +1,6 @@
 ghost use Rattle.std.specs.Prelude.{◌<◌, IfOk, OnOk, length};
 ghost use Rattle.std.specs.List.{All};
-ghost use Rattle.path_eval.specs.Relations.{Keeps};
+ghost use Rattle.collections.specs.Listings.{Keeps};
 ghost use Rattle.target_nodes.specs.ShapeTargets.{AddsTargetLooks, AreTargets, AtShape, IsTargetAnswer, NumberedShapes};
 
 use crate::listing::declared_targets;

@@ -1,7 +1,7 @@
 ghost use Rattle.std.specs.Prelude.{◌≡◌, ◌↔◌, ◌<◌, ◌⊎◌, [], ◌∷◌, ◌++◌, IfOk, IsTrue, OnOk};
 ghost use Rattle.std.specs.List.{Contains};
 ghost use Rattle.rdf_model.specs.Numbers.{AsksForOne, IsFound};
-ghost use Rattle.path_eval.specs.Relations.{Keeps};
+ghost use Rattle.collections.specs.Listings.{Keeps};
 ghost use Rattle.target_nodes.specs.TargetNumbers.{AddsDeclaredLooks, AtNode, ByOne, Declared, IsDecidedBy, IsDecidedBySome, IsDeclaredAnswer};
 
 use path_eval::{ClassWords, is_instance};

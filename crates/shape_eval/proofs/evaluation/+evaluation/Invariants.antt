@@ -8,7 +8,7 @@ use Rattle.shape_model.specs.Validation.{AtDepth}
 use Rattle.component_rows.specs.Answers.{AreAnswersTo, Tells}
 use Rattle.component_rows.specs.Listed.{Collects}
 use Rattle.path_eval.specs.Naming.{AddsLooks}
-use Rattle.path_eval.specs.Relations.{Keeps}
+use Rattle.collections.specs.Listings.{Keeps}
 use Rattle.shape_ast.specs.Readings.{named_shapes}
 use Rattle.shape_ast.specs.Standing.{StandFor}
 use Rattle.shape_eval.specs.declared.told.Told.{Told}

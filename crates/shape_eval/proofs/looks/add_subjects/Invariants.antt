@@ -4,7 +4,7 @@ use Rattle.rdf_model.specs.declared.look.Look.TheVariants.{OutAny}
 use Rattle.rdf_model.specs.Numbers.{IsNumbering, term_at}
 use Rattle.component_rows.specs.Nodes.{AreNodes}
 use Rattle.path_eval.specs.Naming.{AddsLooks}
-use Rattle.path_eval.specs.Relations.{Keeps}
+use Rattle.collections.specs.Listings.{Keeps}
 use Rattle.shape_eval.specs.Looks.{ReadsOfSome}
 use Rattle.shape_eval.proofs.looks.add_subjects.Given as goal
 

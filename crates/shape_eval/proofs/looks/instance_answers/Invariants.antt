@@ -7,7 +7,7 @@ use Rattle.component_rows.specs.Answers.{Tells}
 use Rattle.component_rows.specs.Nodes.{AreNodes}
 use Rattle.path_eval.specs.Instances.{AreClassWords}
 use Rattle.path_eval.specs.Naming.{AddsLooks}
-use Rattle.path_eval.specs.Relations.{Keeps}
+use Rattle.collections.specs.Listings.{Keeps}
 use Rattle.shape_eval.specs.Looks.{ReadsOfSome}
 use Rattle.shape_eval.proofs.looks.instance_answers.Given as goal
 

@@ -7,7 +7,7 @@ use Rattle.shape_ast.specs.Standing.{IsLinked}
 use Rattle.shape_eval.specs.Around.{around}
 use Rattle.component_rows.specs.Nodes.{HasNode}
 use Rattle.path_eval.specs.Naming.{AddsLooks}
-use Rattle.path_eval.specs.Relations.{Keeps}
+use Rattle.collections.specs.Listings.{Keeps}
 use Rattle.shape_eval.specs.Looks.{ConstraintReads, ReadsOfSome}
 use Rattle.shape_eval.specs.ShapeRows.{ConstraintRow, FromSome}
 use Rattle.shape_eval.specs.Told.{AsksSome, WhereRight}

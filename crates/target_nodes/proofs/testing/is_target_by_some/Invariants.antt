@@ -1,5 +1,5 @@
 use Rattle.std.proofs.Common.{take}
-use Rattle.path_eval.specs.Relations.{Keeps}
+use Rattle.collections.specs.Listings.{Keeps}
 use Rattle.target_nodes.specs.TargetNumbers.{AtNode, Declared, IsDecidedBySome}
 use Rattle.target_nodes.proofs.testing.is_target_by_some.Given as goal
 
