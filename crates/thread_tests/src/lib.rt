@@ -9,5 +9,3 @@ mod files;
 mod held;
 #[cfg(test)]
 mod holding_gate;
-#[cfg(test)]
-mod told;
