@@ -119,11 +119,7 @@ fn two_shapes(alloc: Global, text: &str) -> Result<Bound, AllocError> {
 }
 
 // The nodes among the first nine that are targets of the second shape one by one, and the looks of asking for the last.
-fn tested(
-    alloc: Global,
-    graph: &ListGraph,
-    bound: &Bound,
-) -> Result<(u64, usize), AllocError>
+fn tested(alloc: Global, graph: &ListGraph, bound: &Bound) -> Result<(u64, usize), AllocError>
     requires { 1 < length bound.now.shapes }
 {
     let mut all: u64 = 0;
