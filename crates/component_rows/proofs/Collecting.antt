@@ -9,7 +9,9 @@ use Rattle.rdf_model.specs.declared.term.Term.{Term}
 use Rattle.rdf_model.specs.Numbers.{term_at}
 use Rattle.shape_model.specs.declared.result_row.ResultRow.{ResultRow}
 use Rattle.shape_model.specs.Components.{Finding, ForEach, found_at}
-use Rattle.component_rows.specs.Listed.{Collects, at_nodes}
+use Rattle.collections.specs.Listings.{IsListing}
+use Rattle.shape_model.specs.Rows.{result_row_cmp}
+use Rattle.component_rows.specs.Listed.{Collects, Lists, at_nodes}
 use Rattle.component_rows.specs.Nodes.{HasNode}
 
 -- the results that some item of the list gives
@@ -27,6 +29,20 @@ collects_one P row is only r = (
   λ c. elim (has_cases row [] r c) [ inl e ↦ subst P e is | inr d ↦ absurd (omega arith) ],
   λ p. has_equal row [] r (sym (only r p)),
 )
+
+-- the same of lists in order
+pub lists_same : (P Q : ResultRow → Type 0) (rows : List ResultRow) → ((r : ResultRow) → P r ↔ Q r) → Lists P rows → Lists Q rows
+lists_same P Q rows e h = record { ascending = h.ascending; members = collects_same P Q rows e h.members }
+
+pub lists_none : (P : ResultRow → Type 0) → ((r : ResultRow) → P r → ⊥) → Lists P []
+lists_none P none = record { ascending = tt; members = collects_none P none }
+
+pub lists_one : (P : ResultRow → Type 0) (row : ResultRow) → P row → ((r : ResultRow) → P r → r ≡ row) → Lists P (row ∷ [])
+lists_one P row is only = record { ascending = (tt, tt); members = collects_one P row is only }
+
+-- results that were put in order
+pub lists_sorted : (P : ResultRow → Type 0) (rows sorted : List ResultRow) → Collects P rows → IsListing result_row_cmp (Contains rows) sorted → Lists P sorted
+lists_sorted P rows sorted h k = record { ascending = k.ascending; members = λ r. ((λ c. (h r).0 ((k.members r).0 c)), (λ p. (k.members r).1 ((h r).1 p))) }
 
 -- before the first item nothing is given
 pub from_none : {X : Type 0} → (Gives : X → ResultRow → Type 0) → Collects (FromSome [] Gives) []

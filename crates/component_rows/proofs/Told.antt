@@ -8,10 +8,10 @@ use Rattle.rdf_model.specs.Numbers.{term_at}
 use Rattle.shape_model.specs.declared.result_row.ResultRow.{ResultRow}
 use Rattle.shape_model.specs.Components.{Finding, ForEach}
 use Rattle.component_rows.specs.Answers.{AreAnswersTo, Tells}
-use Rattle.component_rows.specs.Listed.{Collects, at_nodes}
+use Rattle.component_rows.specs.Listed.{Lists, at_nodes}
 use Rattle.component_rows.specs.Nodes.{HasNode, IsAnswered}
 use Rattle.component_rows.proofs.Answering.{place_in}
-use Rattle.component_rows.proofs.Collecting.{collects_same, mapped_from}
+use Rattle.component_rows.proofs.Collecting.{lists_same, mapped_from}
 
 -- one answer more
 pub tells_more : (P : ℕ → Type 0) (answers new : List Bool) (n : ℕ) (b : Bool) → new ≡ answers ++ b ∷ [] → Tells P n answers → IsTrue b ↔ P n → Tells P (n + 1) new
@@ -52,9 +52,9 @@ module _ (P : Term → Type 0) (terms : List Term) (numbers : List ℕ) where
         record { place = place.0; within = place.1; has_term = has; yes = (are.each place.0 place.1).1 (subst P (sym has) p) }
 
     -- so the results about nodes that are refused are those about nodes of which P doesn't hold
-    pub refused_where : (row : Finding → ResultRow) (rows : List ResultRow) → Collects (ForEach (at_nodes (HasNode terms numbers)) row (λ v. IsAnswered terms numbers answers v → ⊥)) rows
-        → Collects (ForEach (at_nodes (HasNode terms numbers)) row (λ v. P v → ⊥)) rows
-    refused_where row rows = collects_same (ForEach (at_nodes (HasNode terms numbers)) row (λ v. IsAnswered terms numbers answers v → ⊥))
+    pub refused_where : (row : Finding → ResultRow) (rows : List ResultRow) → Lists (ForEach (at_nodes (HasNode terms numbers)) row (λ v. IsAnswered terms numbers answers v → ⊥)) rows
+        → Lists (ForEach (at_nodes (HasNode terms numbers)) row (λ v. P v → ⊥)) rows
+    refused_where row rows = lists_same (ForEach (at_nodes (HasNode terms numbers)) row (λ v. IsAnswered terms numbers answers v → ⊥))
         (ForEach (at_nodes (HasNode terms numbers)) row (λ v. P v → ⊥)) rows (λ r. (
           λ h. (h.0, h.1, (λ p. h.2 (told_to h.0 h.1 p)), h.3),
           λ h. (h.0, h.1, (λ told. h.2 (told_from h.0 told)), h.3),

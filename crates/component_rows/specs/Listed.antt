@@ -1,15 +1,21 @@
 -- When a list of results is what a component gives at the value nodes of a focus node.
 use Rattle.std.specs.Prelude.{◌≡◌, ◌↔◌, List, Some}
 use Rattle.std.specs.List.{Contains}
+use Rattle.collections.specs.Listings.{IsListing}
 use Rattle.rdf_model.specs.declared.term.Term.{Term}
 use Rattle.shape_model.specs.declared.component.Component.{Component}
 use Rattle.shape_model.specs.declared.result_row.ResultRow.{ResultRow}
 use Rattle.shape_model.specs.Components.{Surroundings, Finding, RowsOf, row_of}
 use Rattle.shape_model.specs.Readings.{Reading}
+use Rattle.shape_model.specs.Rows.{result_row_cmp}
 
 -- the list has just the results of which P holds, in any order, each once or more
 abbrev pub Collects : (ResultRow → Type 0) → List ResultRow → Type 0
 Collects P rows = (r : ResultRow) → Contains rows r ↔ P r
+
+-- the list has just the results of which P holds, each once, in the order of results
+abbrev pub Lists : (ResultRow → Type 0) → List ResultRow → Type 0
+Lists P rows = IsListing result_row_cmp P rows
 
 -- about one node, with another value and what else tells the result apart
 abbrev pub found_with : Term → Term → Term → Finding
@@ -30,6 +36,6 @@ with_list members = record untold { has_list = λ p head ms. ms ≡ members }
 abbrev pub with_allowed : (Term → Type 0) → Reading
 with_allowed IsAllowed = record untold { allowed = IsAllowed }
 
--- just the results of the component at the value q of its parameter
+-- just the results of the component at the value q of its parameter, each once, in order
 abbrev pub ListsRows : Component → Surroundings → Reading → Term → Term → Term → List ResultRow → Type 0
-ListsRows c t y shape f q rows = Collects (RowsOf c t y q (row_of c shape f q)) rows
+ListsRows c t y shape f q rows = Lists (RowsOf c t y q (row_of c shape f q)) rows

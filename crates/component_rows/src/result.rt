@@ -1,8 +1,10 @@
 ghost use Rattle.std.specs.Prelude.{◌≡◌, ◌<◌, IfOk, length};
 ghost use Rattle.rdf_model.specs.Numbers.{term_at};
-ghost use Rattle.shape_model.specs.Components.{row_of, found_alone, found_at};
+ghost use Rattle.shape_model.specs.Components.{found_alone, found_at};
 ghost use Rattle.component_rows.specs.Listed.{found_with};
+ghost use Rattle.component_rows.specs.Sites.{site_row};
 
+use crate::Site;
 use collections::both;
 use rdf_model::{Names, Term};
 use shape_model::{Component, ResultRow};
@@ -21,18 +23,13 @@ pub fn named<'a, N: Names>(names: &'a N, number: u32) -> &'a Term
 
 /// The result of a component about no value node (SHACL section 3.6.2).
 pub fn row_alone<N: Names>(
-    names: &N,
-    source: &Term,
+    site: &Site<'_, N>,
     component: Component,
-    parameter: u32,
-    focus: u32,
 ) -> Result<ResultRow, AllocError>
-    requires parameter { parameter < length (N.terms names.now) }
-    requires focus { focus < length (N.terms names.now) }
-    ensures { IfOk result (λ row. row ≡ row_of component source.now (term_at (N.terms names.now) focus) (term_at (N.terms names.now) parameter) found_alone) }
+    ensures { IfOk result (λ row. row ≡ site_row component site.now found_alone) }
 {
-    let ends = both(source.clone(), named(names, focus).clone());
-    let ((source_shape, focus_node), parameter) = both(ends, named(names, parameter).clone())?;
+    let ends = both(site.source().clone(), site.focus_term().clone());
+    let ((source_shape, focus_node), parameter) = both(ends, site.parameter_term().clone())?;
     Ok(ResultRow {
         source_shape,
         focus_node,
@@ -46,20 +43,15 @@ pub fn row_alone<N: Names>(
 
 /// The result of a component about a value node, which it names (SHACL section 3.6.2).
 pub fn row_about<N: Names>(
-    names: &N,
-    source: &Term,
+    site: &Site<'_, N>,
     component: Component,
-    parameter: u32,
-    focus: u32,
     value: &Term,
 ) -> Result<ResultRow, AllocError>
-    requires parameter { parameter < length (N.terms names.now) }
-    requires focus { focus < length (N.terms names.now) }
-    ensures { IfOk result (λ row. row ≡ row_of component source.now (term_at (N.terms names.now) focus) (term_at (N.terms names.now) parameter) (found_at value.now)) }
+    ensures { IfOk result (λ row. row ≡ site_row component site.now (found_at value.now)) }
 {
-    let ends = both(source.clone(), named(names, focus).clone());
+    let ends = both(site.source().clone(), site.focus_term().clone());
     let values = both(value.clone(), value.clone());
-    let rest = both(named(names, parameter).clone(), values);
+    let rest = both(site.parameter_term().clone(), values);
     let ((source_shape, focus_node), (parameter, (about, value))) = both(ends, rest)?;
     Ok(ResultRow {
         source_shape,
@@ -75,26 +67,20 @@ pub fn row_about<N: Names>(
 /// The result of a component about a value node, with what it names beside: the value and what else tells
 /// it apart (SHACL section 3.6.2).
 pub fn row_beside<N: Names>(
-    names: &N,
-    source: &Term,
+    site: &Site<'_, N>,
     component: Component,
-    parameter: u32,
-    focus: u32,
     about: u32,
     value: u32,
     other: u32,
 ) -> Result<ResultRow, AllocError>
-    requires parameter { parameter < length (N.terms names.now) }
-    requires focus { focus < length (N.terms names.now) }
-    requires about { about < length (N.terms names.now) }
-    requires value { value < length (N.terms names.now) }
-    requires other { other < length (N.terms names.now) }
-    ensures { IfOk result (λ row. row ≡ row_of component source.now (term_at (N.terms names.now) focus) (term_at (N.terms names.now) parameter)
-        (found_with (term_at (N.terms names.now) about) (term_at (N.terms names.now) value) (term_at (N.terms names.now) other))) }
+    requires about { about < length site.now.terms }
+    requires value { value < length site.now.terms }
+    requires other { other < length site.now.terms }
+    ensures { IfOk result (λ row. row ≡ site_row component site.now (found_with (term_at site.now.terms about) (term_at site.now.terms value) (term_at site.now.terms other))) }
 {
-    let ends = both(source.clone(), named(names, focus).clone());
-    let values = both(named(names, about).clone(), named(names, value).clone());
-    let rest = both(named(names, parameter).clone(), named(names, other).clone());
+    let ends = both(site.source().clone(), site.focus_term().clone());
+    let values = both(site.named(about).clone(), site.named(value).clone());
+    let rest = both(site.parameter_term().clone(), site.named(other).clone());
     let (((source_shape, focus_node), (about, value)), (parameter, other)) = both(
         both(ends, values),
         rest,

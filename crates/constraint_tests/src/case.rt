@@ -3,10 +3,12 @@ ghost use Rattle.std.specs.Ordering.{nat_cmp};
 ghost use Rattle.collections.specs.Ordered.{IsAscending};
 ghost use Rattle.rdf_model.specs.Numbers.{AreNumbered, IsNumbering};
 ghost use Rattle.component_rows.specs.Nodes.{AreNodes};
+ghost use Rattle.component_rows.specs.Sites.{spot};
 
 use crate::checks::{are_distinct, are_nodes, are_numbered};
 use crate::short_terms::{term, text_of_row};
 use collections::{Sequence, sorted_once};
+use component_rows::Site;
 use rdf_model::{Ids, ListGraph, ListNames, Names, Term};
 use shape_model::ResultRow;
 use std::alloc::{AllocError, Global};
@@ -210,6 +212,19 @@ pub(crate) fn read_case<'a>(
     })
 }
 
+// Where the row asks its component.
+pub(crate) fn site_of<'a>(alloc: Global, case: &'a Case<'_>) -> Site<'a, ListNames>
+    requires numbering { IsNumbering case.now.names }
+    requires nodes { AreNodes case.now.names case.now.values.items }
+    requires parameter { case.now.parameter < length case.now.names }
+    requires focus { case.now.focus < length case.now.names }
+    ensures { result ≡ spot case.entry.now.names case.entry.now.source case.entry.now.parameter case.entry.now.focus case.entry.now.values.items }
+{
+    let (names, source) = (&case.names, &case.source);
+    let values = case.values.as_slice();
+    Site::new(alloc, names, source, case.parameter, case.focus, values)
+}
+
 fn part<'a>(text: Option<&'a str>) -> &'a str {
     text.unwrap_or("").trim()
 }
@@ -234,12 +249,10 @@ fn is_of(alloc: Global, case: &Case<'_>, row: &ResultRow) -> Result<bool, AllocE
     )
 }
 
-// The texts in their order, with blanks between them.
+// The texts as they stand, with blanks between them.
 fn joined(alloc: Global, texts: Vec<String>) -> Result<String, AllocError> {
-    let mut sorted = texts;
-    sorted.sort()?;
     let mut all = String::new(alloc);
-    for text in &sorted {
+    for text in &texts {
         write!(all, "{text} ")?;
     }
     Ok(all)
@@ -270,7 +283,7 @@ fn wanted(alloc: Global, words: &str) -> Result<String, AllocError> {
     joined(alloc, texts)
 }
 
-// The results are those that the row wants, each once.
+// The results are those that the row wants, each once, in their order.
 pub(crate) fn assert_found(
     rt: &impl Abort,
     alloc: Global,

@@ -7,7 +7,6 @@ ghost use Rattle.collections.specs.Ordered.{IsAscending};
 ghost use Rattle.component_rows.specs.Conformance.{AreTold};
 ghost use Rattle.component_rows.specs.Nodes.{AreNodes};
 ghost use Rattle.rdf_model.specs.Numbers.{AreNumbered, IsNumbering, term_at};
-ghost use Rattle.shape_model.specs.Vocabulary.{true_literal};
 
 // Tests of what the calls ask for, made on the tables' rows.
 
@@ -78,32 +77,6 @@ pub(crate) fn are_numbered(triples: &[Ids], terms: &[Term]) -> bool
     ensures { IsTrue result → AreNumbered terms.now triples.now }
 {
     are_below(triples, terms.len())
-}
-
-const BOOLEAN: &str = "http://www.w3.org/2001/XMLSchema#boolean";
-
-#[tactic(auto, unfolding(shape_model::specs::Vocabulary::true_literal))]
-fn is_true_term(term: &Term) -> bool
-    ensures { IsTrue result → term.now ≡ true_literal }
-{
-    match term {
-        Term::Literal {
-            lexical,
-            datatype,
-            language: None,
-        } => lexical.as_str() == "true" && datatype.as_str() == BOOLEAN,
-        _ => false,
-    }
-}
-
-// Whether the number is that of the literal true.
-pub(crate) fn is_true(names: &ListNames, number: u32) -> bool
-    ensures { IsTrue result → term_at names.now number ≡ true_literal }
-{
-    match names.term(number) {
-        Some(term) => is_true_term(term),
-        None => false,
-    }
 }
 
 // Whether two places with equal shapes have equal answers.

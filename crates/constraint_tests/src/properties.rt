@@ -2,7 +2,6 @@ ghost use Rattle.std.specs.Prelude.{◌≡◌, length};
 
 use crate::case::{Case, read_case};
 use crate::short_terms::{term, text_of_row};
-use collections::sorted_once;
 use logic_constraints::property;
 use rdf_model::Names;
 use shape_model::{Component, ResultRow};
@@ -66,9 +65,9 @@ fn lists_of(alloc: Global, case: &Case<'_>, line: &str) -> Result<Vec<Vec<Result
     Ok(lists)
 }
 
-fn text_of(alloc: Global, rows: Vec<ResultRow>) -> Result<String, AllocError> {
+fn text_of(alloc: Global, rows: &[ResultRow]) -> Result<String, AllocError> {
     let mut text = String::new(alloc);
-    for row in &sorted_once(rows)? {
+    for row in rows {
         write!(text, "{} ", text_of_row(alloc, row)?)?;
     }
     Ok(text)
@@ -78,7 +77,7 @@ fn assert_property(rt: &impl Abort, alloc: Global, line: &str) -> Result<(), Fai
     let case = read_case(rt, alloc, "", line)?;
     let lists = lists_of(alloc, &case, line)?;
     assert_eq!(rt; lists.len(), case.values.len());
-    let found = text_of(alloc, property(alloc, &case.values, &lists)?)?;
+    let found = text_of(alloc, &property(alloc, &case.values, &lists)?)?;
     let wanted = format!(in alloc; "{} ", case.wanted)?;
     assert_eq!(rt; found.trim(), wanted.trim(), "{line}");
     Ok(())

@@ -1,14 +1,13 @@
-ghost use Rattle.std.specs.Prelude.{◌≡◌, ◌<◌, ◌∷◌, [], length, map};
+ghost use Rattle.std.specs.Prelude.{◌<◌, ◌∷◌, [], length, map};
 ghost use Rattle.std.specs.List.{Contains};
-ghost use Rattle.rdf_model.specs.Numbers.{IsNumbering};
 ghost use Rattle.component_rows.specs.Conformance.{AreTold};
-ghost use Rattle.component_rows.specs.Nodes.{AreNodes};
 
-use crate::case::{Case, assert_found, read_case};
+use crate::case::{assert_found, read_case, site_of};
 use crate::checks::{are_told, have_names};
+use component_rows::Site;
 use logic_constraints::{and, node, not, or, xone};
 use qualified_shapes::{qualified_max_count, qualified_min_count};
-use rdf_model::Names;
+use rdf_model::{ListNames, Names};
 use shape_model::ResultRow;
 use std::alloc::{AllocError, Global};
 use std::process::Abort;
@@ -26,7 +25,7 @@ Class; e:C; ; ; ;";
 // The last part has for the shape, the parameter, the answers to the value nodes, whether each conforms.
 const SINGLE: &str = "\
 Node; e:T; e:v e:w _1 1^integer; ; e:w 1^integer; ynyn
-Not; e:T; e:v e:w _1 1^integer; ; e:v _1; ynyn
+Not; e:T; e:v e:w _1 1^integer; ; _1 e:v; ynyn
 Node; e:T; ; ; ; .
 Not; e:T; five^integer x@EN; ; five^integer x@en; yy
 Node; e:T; five^integer x@EN; ; ; yy
@@ -34,11 +33,11 @@ Not; e:T; ; ; ; .";
 
 // Lists of shapes, also of none and with repeats, and such answers for each member.
 const LISTS: &str = "\
-And; e:L; e:v e:w _1 1^integer; e:T e:U; e:w _1 1^integer; yynn ynyn
+And; e:L; e:v e:w _1 1^integer; e:T e:U; _1 e:w 1^integer; yynn ynyn
 Or; e:L; e:v e:w _1 1^integer; e:T e:U; 1^integer; yynn ynyn
 Xone; e:L; e:v e:w _1 1^integer; e:T e:U; e:v 1^integer; yynn ynyn
 Xone; e:L; e:v; e:T e:T; e:v; y y
-Xone; e:L; e:v e:w _1; e:T e:U e:T; e:v _1; ynn nyn ynn
+Xone; e:L; e:v e:w _1; e:T e:U e:T; _1 e:v; ynn nyn ynn
 Xone; e:L; e:v e:w; e:T; e:w; yn
 And; e:L; e:v; ; ;
 Or; e:L; e:v; ; e:v;
@@ -97,34 +96,20 @@ fn assert_class(rt: &impl Abort, alloc: Global, line: &str) -> Result<(), Fail> 
     let case = read_case(rt, alloc, "", line)?;
     let answers = letters(alloc, line.split(';').nth(5).unwrap_or(""))?;
     assert_eq!(rt; answers.len(), case.values.len());
-    let rows = class(
-        alloc,
-        &case.names,
-        &case.source,
-        case.parameter,
-        case.focus,
-        &case.values,
-        &answers,
-    )?;
+    let rows = class(&site_of(alloc, &case), &answers)?;
     assert_found(rt, alloc, &case, &rows, line)
 }
 
 fn single_rows(
-    alloc: Global,
-    case: &Case<'_>,
+    component: &str,
+    site: &Site<'_, ListNames>,
     answers: &[Vec<bool>],
 ) -> Result<Vec<ResultRow>, AllocError>
-    requires numbering { IsNumbering case.now.names }
-    requires nodes { AreNodes case.now.names case.now.values.items }
-    requires parameter { case.now.parameter < length case.now.names }
-    requires focus { case.now.focus < length case.now.names }
-    requires answers { AreTold (case.now.parameter ∷ []) case.now.values.items (map (λ a. a.items) answers.now) }
+    requires { AreTold (site.now.parameter ∷ []) site.now.values (map (λ a. a.items) answers.now) }
 {
-    let (names, source) = (&case.names, &case.source);
-    let (parameter, focus, values) = (case.parameter, case.focus, case.values.as_slice());
-    match case.component {
-        "Not" => not(alloc, names, source, parameter, focus, values, answers),
-        _ => node(alloc, names, source, parameter, focus, values, answers),
+    match component {
+        "Not" => not(site, answers),
+        _ => node(site, answers),
     }
 }
 
@@ -132,29 +117,23 @@ fn assert_single(rt: &impl Abort, alloc: Global, line: &str) -> Result<(), Fail>
     let case = read_case(rt, alloc, "", line)?;
     let answers = answers_of(alloc, line)?;
     assert!(rt; are_told(&[case.parameter], &case.values, &answers));
-    let rows = single_rows(alloc, &case, &answers)?;
+    let rows = single_rows(case.component, &site_of(alloc, &case), &answers)?;
     assert_found(rt, alloc, &case, &rows, line)
 }
 
 fn list_rows(
-    alloc: Global,
-    case: &Case<'_>,
+    component: &str,
+    site: &Site<'_, ListNames>,
     members: &[u32],
     answers: &[Vec<bool>],
 ) -> Result<Vec<ResultRow>, AllocError>
-    requires numbering { IsNumbering case.now.names }
-    requires nodes { AreNodes case.now.names case.now.values.items }
-    requires members { (n : _) → Contains members.now n → n < length case.now.names }
-    requires parameter { case.now.parameter < length case.now.names }
-    requires focus { case.now.focus < length case.now.names }
-    requires answers { AreTold members.now case.now.values.items (map (λ a. a.items) answers.now) }
+    requires members { (n : _) → Contains members.now n → n < length site.now.terms }
+    requires answers { AreTold members.now site.now.values (map (λ a. a.items) answers.now) }
 {
-    let (names, source) = (&case.names, &case.source);
-    let (list, focus, values) = (case.parameter, case.focus, case.values.as_slice());
-    match case.component {
-        "And" => and(alloc, names, source, list, members, focus, values, answers),
-        "Or" => or(alloc, names, source, list, members, focus, values, answers),
-        _ => xone(alloc, names, source, list, members, focus, values, answers),
+    match component {
+        "And" => and(site, members, answers),
+        "Or" => or(site, members, answers),
+        _ => xone(site, members, answers),
     }
 }
 
@@ -164,34 +143,24 @@ fn assert_list(rt: &impl Abort, alloc: Global, line: &str) -> Result<(), Fail> {
     let members = case.others.as_slice();
     assert!(rt; have_names(members, &case.names));
     assert!(rt; are_told(members, &case.values, &answers));
-    let rows = list_rows(alloc, &case, members, &answers)?;
+    let rows = list_rows(case.component, &site_of(alloc, &case), members, &answers)?;
     assert_found(rt, alloc, &case, &rows, line)
 }
 
 fn qualified_rows(
-    alloc: Global,
-    case: &Case<'_>,
+    component: &str,
+    site: &Site<'_, ListNames>,
     shape: u32,
     siblings: &[u32],
     answers: &[Vec<bool>],
 ) -> Result<Vec<ResultRow>, AllocError>
-    requires numbering { IsNumbering case.now.names }
-    requires nodes { AreNodes case.now.names case.now.values.items }
-    requires shape { shape < length case.now.names }
-    requires siblings { (n : _) → Contains siblings.now n → n < length case.now.names }
-    requires parameter { case.now.parameter < length case.now.names }
-    requires focus { case.now.focus < length case.now.names }
-    requires answers { AreTold (shape ∷ siblings.now) case.now.values.items (map (λ a. a.items) answers.now) }
+    requires shape { shape < length site.now.terms }
+    requires siblings { (n : _) → Contains siblings.now n → n < length site.now.terms }
+    requires answers { AreTold (shape ∷ siblings.now) site.now.values (map (λ a. a.items) answers.now) }
 {
-    let (names, source) = (&case.names, &case.source);
-    let (count, focus, values) = (case.parameter, case.focus, case.values.as_slice());
-    match case.component {
-        "QualifiedMinCount" => qualified_min_count(
-            alloc, names, source, count, shape, siblings, focus, values, answers,
-        ),
-        _ => qualified_max_count(
-            alloc, names, source, count, shape, siblings, focus, values, answers,
-        ),
+    match component {
+        "QualifiedMinCount" => qualified_min_count(site, shape, siblings, answers),
+        _ => qualified_max_count(site, shape, siblings, answers),
     }
 }
 
@@ -203,7 +172,7 @@ fn assert_qualified(rt: &impl Abort, alloc: Global, line: &str) -> Result<(), Fa
     if let [shape, siblings @ ..] = shapes {
         assert!(rt; *shape < case.names.count());
         assert!(rt; have_names(siblings, &case.names));
-        let rows = qualified_rows(alloc, &case, *shape, siblings, &answers)?;
+        let rows = qualified_rows(case.component, &site_of(alloc, &case), *shape, siblings, &answers)?;
         assert_found(rt, alloc, &case, &rows, line)?;
     }
     Ok(())

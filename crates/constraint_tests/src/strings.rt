@@ -1,13 +1,12 @@
-ghost use Rattle.std.specs.Prelude.{◌≡◌, ◌<◌, IsTrue, length};
-ghost use Rattle.std.specs.List.{Contains};
-ghost use Rattle.rdf_model.specs.Numbers.{IsNumbering, term_at};
+ghost use Rattle.std.specs.Prelude.{◌<◌, length};
+ghost use Rattle.rdf_model.specs.Numbers.{IsNumbering};
 ghost use Rattle.component_rows.specs.Nodes.{AreNodes};
-ghost use Rattle.shape_model.specs.Vocabulary.{true_literal};
 
-use crate::case::{Case, assert_found, read_case};
-use crate::checks::{have_names, is_true};
+use crate::case::{Case, assert_found, read_case, site_of};
+use crate::checks::have_names;
+use component_rows::Site;
 use outside::{MakeFault, Maker, RegexMaker};
-use rdf_model::Names;
+use rdf_model::{ListNames, Names};
 use regex::Regex;
 use shape_model::ResultRow;
 use std::alloc::{AllocError, Global};
@@ -20,8 +19,8 @@ use string_constraints::{language_in, max_length, min_length, pattern, unique_la
 const LENGTHS: &str = "\
 MinLength; 2^integer; ^string a^string ab^string abc^string;; ^string a^string
 MaxLength; 2^integer; ^string a^string ab^string abc^string;; abc^string
-MinLength; 3^integer; äöü^string 日本^string e:a e: _1 five^integer 12^integer a@en;; 日本^string e: _1 12^integer a@en
-MaxLength; 3^integer; äöü^string 日本^string e:a e:ab _1 five^integer 12^integer a@en;; e:ab _1 five^integer
+MinLength; 3^integer; äöü^string 日本^string e:a e: _1 five^integer 12^integer a@en;; _1 e: 12^integer a@en 日本^string
+MaxLength; 3^integer; äöü^string 日本^string e:a e:ab _1 five^integer 12^integer a@en;; _1 e:ab five^integer
 MinLength; 0^integer; ^string _1 e:a;; _1
 MaxLength; 0^integer; ^string _1 a^string;; _1 a^string
 MinLength; 5^decimal; ^string a^string _2;; _2
@@ -33,17 +32,18 @@ MaxLength; 9^integer;;;";
 
 // Ranges and tags of both cases, whole subtags, any tag, empty lists, repeated members.
 const LANGUAGES: &str = "\
-LanguageIn; e:L; x@en x@EN-us x@english x@de x^string e:a _1; en^string; x@english x@de x^string e:a _1
+LanguageIn; e:L; x@en x@EN-us x@english x@de x^string e:a _1; en^string; _1 e:a x@de x@english x^string
 LanguageIn; e:L; x@en y@DE-at z@fr; EN^string De^string; z@fr
 LanguageIn; e:L; x@en-us x@en; en-US^string; x@en
-LanguageIn; e:L; x@en x^string e:a; *^string; x^string e:a
+LanguageIn; e:L; x@en x^string e:a; *^string; e:a x^string
 LanguageIn; e:L; x@en x^string;; x@en x^string
 LanguageIn; e:L; x@fr y@fr z@de; fr^string fr^string; z@de
 LanguageIn; e:L; five^integer x@EN; en^string; five^integer
 LanguageIn; e:L;; en^string;
 LanguageIn; e:L; x@en; ^string _1 e:a; x@en";
 
-// One result for each tag that two value nodes have, whichever their case; texts without a tag share none.
+// One result for each tag that two value nodes have, whichever their case; texts without a tag share none. Another
+// literal than true has no effect.
 const TAGS: &str = "\
 UniqueLang; true^boolean; x@en y@EN z@de w@de;; -|-|de^string -|-|en^string
 UniqueLang; true^boolean; x@en x@EN;;
@@ -52,78 +52,49 @@ UniqueLang; true^boolean; x@en x@en-us y@de x^string y^string e:a _1;;
 UniqueLang; true^boolean; a@EN-us b@en-US;; -|-|en-us^string
 UniqueLang; true^boolean; a@en b@EN c@de d@DE e@fr;; -|-|de^string -|-|en^string
 UniqueLang; true^boolean; five^integer six^integer e:a _1 x@en;;
+UniqueLang; 1^boolean; x@en y@EN;;
+UniqueLang; false^boolean; x@en y@EN;;
+UniqueLang; true^string; x@en y@EN;;
 UniqueLang; true^boolean;;;";
 
 // Patterns that match a part, the whole or nothing; flags, where other terms tell them.
 const PATTERNS: &str = "\
 Pattern; ^a+$^string; aa^string b^string;; b^string
-Pattern; b^string; abc^string e:b xb@en _1 B^string 5^integer;; _1 B^string 5^integer
+Pattern; b^string; abc^string e:b xb@en _1 B^string 5^integer;; _1 5^integer B^string
 Pattern; b^string; abc^string B^string _1; i; _1
 Pattern; ^string; ^string _1 e:a;; _1
 Pattern; [0-9]{2}^string; 12^integer 1^integer five^integer;; 1^integer five^integer
-Pattern; ^e:^string; e:a f:a^string _1 e:^string;; f:a^string _1
+Pattern; ^e:^string; e:a f:a^string _1 e:^string;; _1 f:a^string
 Pattern; ^.$^string; a^string 日^string ab^string;; ab^string
 Pattern; x^string;;;";
 
-fn length_rows(alloc: Global, case: &Case<'_>) -> Result<Vec<ResultRow>, AllocError>
-    requires nodes { AreNodes case.now.names case.now.values.items }
-    requires parameter { case.now.parameter < length case.now.names }
-    requires focus { case.now.focus < length case.now.names }
-{
-    let (names, source) = (&case.names, &case.source);
-    let (parameter, focus, values) = (case.parameter, case.focus, case.values.as_slice());
-    match case.component {
-        "MinLength" => min_length(alloc, names, source, parameter, focus, values),
-        _ => max_length(alloc, names, source, parameter, focus, values),
+fn length_rows(
+    component: &str,
+    site: &Site<'_, ListNames>,
+) -> Result<Vec<ResultRow>, AllocError> {
+    match component {
+        "MinLength" => min_length(site),
+        _ => max_length(site),
     }
 }
 
 fn assert_length(rt: &impl Abort, alloc: Global, line: &str) -> Result<(), Fail> {
     let case = read_case(rt, alloc, "", line)?;
-    let rows = length_rows(alloc, &case)?;
+    let rows = length_rows(case.component, &site_of(alloc, &case))?;
     assert_found(rt, alloc, &case, &rows, line)
-}
-
-fn language_rows(
-    alloc: Global,
-    case: &Case<'_>,
-    ranges: &[u32],
-) -> Result<Vec<ResultRow>, AllocError>
-    requires nodes { AreNodes case.now.names case.now.values.items }
-    requires ranges { (n : _) → Contains ranges.now n → n < length case.now.names }
-    requires parameter { case.now.parameter < length case.now.names }
-    requires focus { case.now.focus < length case.now.names }
-{
-    language_in(
-        alloc,
-        &case.names,
-        &case.source,
-        case.parameter,
-        ranges,
-        case.focus,
-        &case.values,
-    )
 }
 
 fn assert_languages(rt: &impl Abort, alloc: Global, line: &str) -> Result<(), Fail> {
     let case = read_case(rt, alloc, "", line)?;
     let ranges = case.others.as_slice();
     assert!(rt; have_names(ranges, &case.names));
-    let rows = language_rows(alloc, &case, ranges)?;
+    let rows = language_in(&site_of(alloc, &case), ranges)?;
     assert_found(rt, alloc, &case, &rows, line)
 }
 
 fn assert_tags(rt: &impl Abort, alloc: Global, line: &str) -> Result<(), Fail> {
     let case = read_case(rt, alloc, "", line)?;
-    assert!(rt; is_true(&case.names, case.parameter));
-    let rows = unique_lang(
-        alloc,
-        &case.names,
-        &case.source,
-        case.parameter,
-        case.focus,
-        &case.values,
-    )?;
+    let rows = unique_lang(&site_of(alloc, &case))?;
     assert_found(rt, alloc, &case, &rows, line)
 }
 
@@ -164,17 +135,8 @@ fn pattern_rows(
     requires parameter { case.now.parameter < length case.now.names }
     requires focus { case.now.focus < length case.now.names }
 {
-    let (names, source) = (&case.names, &case.source);
     match regex_of(alloc, case, flags)? {
-        Some(regex) => Ok(Some(pattern(
-            alloc,
-            names,
-            source,
-            case.parameter,
-            &regex,
-            case.focus,
-            &case.values,
-        )?)),
+        Some(regex) => Ok(Some(pattern(&site_of(alloc, case), &regex)?)),
         None => Ok(None),
     }
 }

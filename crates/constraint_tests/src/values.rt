@@ -1,8 +1,8 @@
-ghost use Rattle.std.specs.Prelude.{◌<◌, length};
-ghost use Rattle.rdf_model.specs.Numbers.{IsNumbering};
 ghost use Rattle.component_rows.specs.Nodes.{AreNodes};
 
-use crate::case::{Case, assert_found, read_case};
+use crate::case::{assert_found, read_case, site_of};
+use component_rows::Site;
+use rdf_model::ListNames;
 use shape_model::ResultRow;
 use std::alloc::{AllocError, Global};
 use std::process::Abort;
@@ -20,26 +20,26 @@ MinInclusive; 5^integer; 4^integer 5^integer 6^integer 05^byte;; 4^integer
 MinExclusive; 5^integer; 4^integer 5^integer 6^integer 5.0^decimal 5.01^decimal;; 4^integer 5^integer 5.0^decimal
 MaxInclusive; 5^integer; 4^integer 5^integer 6^integer 5.00^decimal;; 6^integer
 MaxExclusive; 5^integer; 4^integer 5^integer 6^integer 4.99^decimal;; 5^integer 6^integer
-MinInclusive; 0^integer; e:a _1 5^string x@en five^integer 1.5^integer 300^byte true^boolean 1^float 1^integer;; e:a _1 5^string x@en five^integer 1.5^integer 300^byte true^boolean 1^float
-MaxExclusive; 0^integer; e:a _1 -5^string x@en five^integer -200^byte false^boolean -1^integer;; e:a _1 -5^string x@en five^integer -200^byte false^boolean
-MinExclusive; five^integer; five^integer 9^integer;; five^integer 9^integer
+MinInclusive; 0^integer; e:a _1 5^string x@en five^integer 1.5^integer 300^byte true^boolean 1^float 1^integer;; _1 e:a 1^float 1.5^integer 300^byte 5^string five^integer true^boolean x@en
+MaxExclusive; 0^integer; e:a _1 -5^string x@en five^integer -200^byte false^boolean -1^integer;; _1 e:a -200^byte -5^string false^boolean five^integer x@en
+MinExclusive; five^integer; five^integer 9^integer;; 9^integer five^integer
 MaxInclusive; e:a; e:a 1^integer;; e:a 1^integer
 MinInclusive; 2000-01-01^date; 2000-01-01^date 1999-12-31^date 2000-01-01Z^date 2000-01-02^date 2000-02-30^date;; 1999-12-31^date 2000-01-01Z^date 2000-02-30^date
-MaxInclusive; 2000-01-01Z^date; 2000-01-01Z^date 2000-01-01+01:00^date 2000-01-01-01:00^date 1999-01-01^date;; 2000-01-01-01:00^date 1999-01-01^date
-MinExclusive; 2000-01-01T00:00:00Z^dateTime; 2000-01-01T01:00:00+01:00^dateTime 2000-01-01T00:00:00.1Z^dateTime 1999-12-31T24:00:00Z^dateTime 2001-01-01T00:00:00^dateTime 2001-01-01Z^date;; 2000-01-01T01:00:00+01:00^dateTime 1999-12-31T24:00:00Z^dateTime 2001-01-01T00:00:00^dateTime 2001-01-01Z^date
-MaxExclusive; true^boolean; false^boolean 0^boolean true^boolean 1^boolean;; true^boolean 1^boolean
-MaxExclusive; b^string; a^string b^string ab^string c^string ^string a@en;; b^string c^string a@en
-MinInclusive; 2000-01-01T00:00:00^dateTime; 2000-01-01T00:00:00^dateTime 2000-01-02T00:00:00Z^dateTime 2000-01-01T00:00:00Z^dateTime 1999-12-31T23:59:59^dateTime;; 2000-01-02T00:00:00Z^dateTime 2000-01-01T00:00:00Z^dateTime 1999-12-31T23:59:59^dateTime
-MaxExclusive; 5^integer; e:a _1 five^integer x@en 4^integer;; e:a _1 five^integer x@en
+MaxInclusive; 2000-01-01Z^date; 2000-01-01Z^date 2000-01-01+01:00^date 2000-01-01-01:00^date 1999-01-01^date;; 1999-01-01^date 2000-01-01-01:00^date
+MinExclusive; 2000-01-01T00:00:00Z^dateTime; 2000-01-01T01:00:00+01:00^dateTime 2000-01-01T00:00:00.1Z^dateTime 1999-12-31T24:00:00Z^dateTime 2001-01-01T00:00:00^dateTime 2001-01-01Z^date;; 1999-12-31T24:00:00Z^dateTime 2000-01-01T01:00:00+01:00^dateTime 2001-01-01T00:00:00^dateTime 2001-01-01Z^date
+MaxExclusive; true^boolean; false^boolean 0^boolean true^boolean 1^boolean;; 1^boolean true^boolean
+MaxExclusive; b^string; a^string b^string ab^string c^string ^string a@en;; a@en b^string c^string
+MinInclusive; 2000-01-01T00:00:00^dateTime; 2000-01-01T00:00:00^dateTime 2000-01-02T00:00:00Z^dateTime 2000-01-01T00:00:00Z^dateTime 1999-12-31T23:59:59^dateTime;; 1999-12-31T23:59:59^dateTime 2000-01-01T00:00:00Z^dateTime 2000-01-02T00:00:00Z^dateTime
+MaxExclusive; 5^integer; e:a _1 five^integer x@en 4^integer;; _1 e:a five^integer x@en
 MinInclusive; 5^integer;;;";
 
 // Terms that are members and value nodes, values alike that are other terms, empty lists, repeated members.
 const SETS: &str = "\
-In; e:L; 5.^decimal .5^decimal; 5.0^decimal; 5.^decimal .5^decimal
+In; e:L; 5.^decimal .5^decimal; 5.0^decimal; .5^decimal 5.^decimal
 In; e:L; e:a _1 x@en x^string; e:a x@EN e:a; _1 x^string
 In; e:L; e:a 1^integer;; e:a 1^integer
 In; e:L;; e:a;
-In; e:L; five^integer six^integer e:a; five^integer; six^integer e:a
+In; e:L; five^integer six^integer e:a; five^integer; e:a six^integer
 In; e:L; x@en-US x@en; x@EN-us; x@en
 In; e:L; e:L; e:a; e:L
 In; e:L; _1 _2 x^string; x^string _2 e:a _2; _1
@@ -52,23 +52,23 @@ HasValue; _1; _1;;
 HasValue; _1; _2 e:a;; -
 HasValue; five^integer; five^integer;;
 HasValue; e:v;;; -
-Datatype; http://www.w3.org/2001/XMLSchema#integer; 1^integer -1^integer five^integer 1.0^integer ^integer 1^int 1^decimal 1^string e:a _1;; five^integer 1.0^integer ^integer 1^int 1^decimal 1^string e:a _1
-Datatype; http://www.w3.org/2001/XMLSchema#byte; 127^byte 128^byte -128^byte -129^byte +5^byte;; 128^byte -129^byte
+Datatype; http://www.w3.org/2001/XMLSchema#integer; 1^integer -1^integer five^integer 1.0^integer ^integer 1^int 1^decimal 1^string e:a _1;; _1 e:a ^integer 1^decimal 1^int 1^string 1.0^integer five^integer
+Datatype; http://www.w3.org/2001/XMLSchema#byte; 127^byte 128^byte -128^byte -129^byte +5^byte;; -129^byte 128^byte
 Datatype; http://www.w3.org/2001/XMLSchema#date; 2000-02-29^date 1900-02-29^date 2000-02-29Z^date 2000-02-29+14:00^date 2000-02-29+14:01^date 2000-02-29T00:00:00^date 2000-2-29^date;; 1900-02-29^date 2000-02-29+14:01^date 2000-02-29T00:00:00^date 2000-2-29^date
 Datatype; http://www.w3.org/2001/XMLSchema#float; 1^float abc^float 1^double;; 1^double
-Datatype; http://www.w3.org/2001/XMLSchema#boolean; true^boolean 0^boolean TRUE^boolean 2^boolean;; TRUE^boolean 2^boolean
+Datatype; http://www.w3.org/2001/XMLSchema#boolean; true^boolean 0^boolean TRUE^boolean 2^boolean;; 2^boolean TRUE^boolean
 Datatype; http://www.w3.org/1999/02/22-rdf-syntax-ns#langString; x@en x@EN-us x^string;; x^string
-Datatype; http://www.w3.org/2001/XMLSchema#string; x^string ^string x@en http://www.w3.org/2001/XMLSchema#string;; x@en http://www.w3.org/2001/XMLSchema#string";
+Datatype; http://www.w3.org/2001/XMLSchema#string; x^string ^string x@en http://www.w3.org/2001/XMLSchema#string;; http://www.w3.org/2001/XMLSchema#string x@en";
 
 // The six kinds and a term that is none; counts 0 and 1, below 0, with a sign, and terms that say no number.
 const KINDS: &str = "\
-NodeKind; http://www.w3.org/ns/shacl#IRI; e:a _1 x^string 1^integer;; _1 x^string 1^integer
+NodeKind; http://www.w3.org/ns/shacl#IRI; e:a _1 x^string 1^integer;; _1 1^integer x^string
 NodeKind; http://www.w3.org/ns/shacl#BlankNode; e:a _1 x@en;; e:a x@en
-NodeKind; http://www.w3.org/ns/shacl#Literal; e:a _1 x^string;; e:a _1
+NodeKind; http://www.w3.org/ns/shacl#Literal; e:a _1 x^string;; _1 e:a
 NodeKind; http://www.w3.org/ns/shacl#BlankNodeOrIRI; e:a _1 x^string;; x^string
 NodeKind; http://www.w3.org/ns/shacl#BlankNodeOrLiteral; e:a _1 x@en;; e:a
 NodeKind; http://www.w3.org/ns/shacl#IRIOrLiteral; e:a _1 x@en;; _1
-NodeKind; http://www.w3.org/ns/shacl#Literal; five^integer x@EN e:a _1;; e:a _1
+NodeKind; http://www.w3.org/ns/shacl#Literal; five^integer x@EN e:a _1;; _1 e:a
 NodeKind; http://www.w3.org/ns/shacl#IRI;;;
 NodeKind; e:IRI; e:a;; e:a
 MinCount; 1^integer; e:a;;
@@ -89,75 +89,58 @@ MaxCount; 2^integer; e:a _1;;
 MaxCount; -1^integer;;; -
 MaxCount; 1^int; e:a _1;;";
 
-fn range_rows(alloc: Global, case: &Case<'_>) -> Result<Vec<ResultRow>, AllocError>
-    requires nodes { AreNodes case.now.names case.now.values.items }
-    requires parameter { case.now.parameter < length case.now.names }
-    requires focus { case.now.focus < length case.now.names }
-{
-    let (names, source) = (&case.names, &case.source);
-    let (parameter, focus, values) = (case.parameter, case.focus, case.values.as_slice());
-    match case.component {
-        "MinInclusive" => min_inclusive(alloc, names, source, parameter, focus, values),
-        "MinExclusive" => min_exclusive(alloc, names, source, parameter, focus, values),
-        "MaxInclusive" => max_inclusive(alloc, names, source, parameter, focus, values),
-        _ => max_exclusive(alloc, names, source, parameter, focus, values),
+fn range_rows(
+    component: &str,
+    site: &Site<'_, ListNames>,
+) -> Result<Vec<ResultRow>, AllocError> {
+    match component {
+        "MinInclusive" => min_inclusive(site),
+        "MinExclusive" => min_exclusive(site),
+        "MaxInclusive" => max_inclusive(site),
+        _ => max_exclusive(site),
     }
 }
 
-fn set_rows(alloc: Global, case: &Case<'_>) -> Result<Vec<ResultRow>, AllocError>
-    requires numbering { IsNumbering case.now.names }
-    requires nodes { AreNodes case.now.names case.now.values.items }
-    requires members { AreNodes case.now.names case.now.members.items }
-    requires parameter { case.now.parameter < length case.now.names }
-    requires focus { case.now.focus < length case.now.names }
+fn set_rows(
+    component: &str,
+    site: &Site<'_, ListNames>,
+    members: &[u32],
+) -> Result<Vec<ResultRow>, AllocError>
+    requires { AreNodes site.now.terms members.now }
 {
-    let (names, source) = (&case.names, &case.source);
-    let (parameter, focus, values) = (case.parameter, case.focus, case.values.as_slice());
-    match case.component {
-        "In" => in_list(
-            alloc,
-            names,
-            source,
-            parameter,
-            &case.members,
-            focus,
-            values,
-        ),
-        "HasValue" => has_value(alloc, names, source, parameter, focus, values),
-        _ => datatype(alloc, names, source, parameter, focus, values),
+    match component {
+        "In" => in_list(site, members),
+        "HasValue" => has_value(site),
+        _ => datatype(site),
     }
 }
 
-fn kind_rows(alloc: Global, case: &Case<'_>) -> Result<Vec<ResultRow>, AllocError>
-    requires numbering { IsNumbering case.now.names }
-    requires nodes { AreNodes case.now.names case.now.values.items }
-    requires parameter { case.now.parameter < length case.now.names }
-    requires focus { case.now.focus < length case.now.names }
-{
-    let (names, source) = (&case.names, &case.source);
-    let (parameter, focus, values) = (case.parameter, case.focus, case.values.as_slice());
-    match case.component {
-        "MinCount" => min_count(alloc, names, source, parameter, focus, values),
-        "MaxCount" => max_count(alloc, names, source, parameter, focus, values),
-        _ => node_kind(alloc, names, source, parameter, focus, values),
+fn kind_rows(
+    component: &str,
+    site: &Site<'_, ListNames>,
+) -> Result<Vec<ResultRow>, AllocError> {
+    match component {
+        "MinCount" => min_count(site),
+        "MaxCount" => max_count(site),
+        _ => node_kind(site),
     }
 }
 
 fn assert_range(rt: &impl Abort, alloc: Global, line: &str) -> Result<(), Fail> {
     let case = read_case(rt, alloc, "", line)?;
-    let rows = range_rows(alloc, &case)?;
+    let rows = range_rows(case.component, &site_of(alloc, &case))?;
     assert_found(rt, alloc, &case, &rows, line)
 }
 
 fn assert_set(rt: &impl Abort, alloc: Global, line: &str) -> Result<(), Fail> {
     let case = read_case(rt, alloc, "", line)?;
-    let rows = set_rows(alloc, &case)?;
+    let rows = set_rows(case.component, &site_of(alloc, &case), &case.members)?;
     assert_found(rt, alloc, &case, &rows, line)
 }
 
 fn assert_kind(rt: &impl Abort, alloc: Global, line: &str) -> Result<(), Fail> {
     let case = read_case(rt, alloc, "", line)?;
-    let rows = kind_rows(alloc, &case)?;
+    let rows = kind_rows(case.component, &site_of(alloc, &case))?;
     assert_found(rt, alloc, &case, &rows, line)
 }
 

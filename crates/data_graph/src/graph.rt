@@ -216,7 +216,8 @@ impl DataGraph {
 
     /// The results of validating the graph by the shapes graph (SHACL section 3.6), each once, in the
     /// order of results. All terms of both are named. Without shapes nothing is numbered. The evaluations are counted in
-    /// `steps`: there are as many as there are pairs of a shape and its target.
+    /// `steps`: there are as many as there are pairs of a shape and its target. After an error the count is what it was,
+    /// or more.
     pub fn listing<L: Ledger>(
         &mut self,
         shapes: &ShapesGraph,
@@ -227,6 +228,7 @@ impl DataGraph {
         ensures same { self.new ≡ self.old }
         ensures rows { IfOk result (λ rows. Listing self.old.triples shapes.now rows.items) }
         ensures steps { OnOk result (GrowsByCount (IsTargetPair self.old.triples shapes.now) steps.old steps.new) }
+        ensures counted { steps.old ≤ steps.new }
     {
         if is_without_shapes(shapes) {
             return Ok(Vec::new(self.alloc));

@@ -1,4 +1,4 @@
-ghost use Rattle.std.specs.Prelude.{◌≡◌, ◌↔◌, IfOk, OnOk, map};
+ghost use Rattle.std.specs.Prelude.{◌≡◌, ◌≤◌, ◌↔◌, IfOk, OnOk, map};
 ghost use Rattle.std.specs.List.{AllByRecursion, Contains};
 ghost use Rattle.rdf_model.specs.Numbers.{AreNumbered, graph_of};
 ghost use Rattle.shape_model.specs.Validation.{Listing};
@@ -106,6 +106,7 @@ pub fn listing_by<L: Ledger>(
     requires shapes { AreNamedTriples names.now.terms shapes.now }
     ensures rows { IfOk result (λ rows. Listing (graph_of names.now.terms index.now) shapes.now rows.items) }
     ensures steps { OnOk result (GrowsByCount (IsTargetPair (graph_of names.now.terms index.now) shapes.now) steps.old steps.new) }
+    ensures counted { steps.old ≤ steps.new }
 {
     names.is_numbering();
     Ok(listing_over(alloc, index, names, CLASS_WORDS, shapes, steps)?)

@@ -21,11 +21,10 @@ use Rattle.component_rows.proofs.Collecting.{mapped_from, mapped_to}
 use Rattle.shape_ast.specs.declared.shape.Shape.{Shape}
 use Rattle.shape_ast.specs.Readings.{ReadShape, named_shapes, read_shape}
 use Rattle.shape_ast.specs.Standing.{shape_cmp}
-use Rattle.target_nodes.specs.TargetNumbers.{AreTargets}
+use Rattle.target_nodes.specs.ShapeTargets.{AreTargets, AtShape}
 use Rattle.shape_eval.proofs.Growing.{joined}
-use Rattle.shape_eval.proofs.Lookups.{at_place, got_at, named_place, of_place, read_here, taken_at}
+use Rattle.shape_eval.proofs.Lookups.{at_place, got_at}
 use Rattle.graph_validation.specs.Counting.{IsApart, IsCount, IsNodeOf, IsTargetPair, StepsOfFirst, StepsOfGraph, StepsOfShape}
-use Rattle.graph_validation.proofs.Declarations.{target_is}
 
 -- what is Less is not Equal
 not_tied : (o : Ordering) → o ≡ Less → o ≡ Equal → ⊥
@@ -63,24 +62,20 @@ before_place {X} R (y ∷ ys) a (suc k) d lt x c = let within : k < length ys = 
 
 module _ (terms : List Term) (ids : List Ids) (shapes : List (Shape ℕ)) where
   -- one step for each target of a shape
-  pub shape_steps : (k : ℕ) (sh : Shape ℕ) (nodes : List ℕ) (old new : ℕ) → IsNumbering terms → k < length shapes → sh ≡ get_or shapes k sh → AreTargets terms ids sh.targets sh.node nodes
-      → new ≡ old + length nodes → StepsOfShape terms ids shapes k old new
-  shape_steps k sh nodes old new numbering lt is targets steps s c stand at =
+  pub shape_steps : (k : ℕ) (nodes : List ℕ) (old new : ℕ) → IsNumbering terms → AtShape terms shapes k (λ s own. AreTargets terms ids s own nodes) → new ≡ old + length nodes → StepsOfShape terms ids shapes k old new
+  shape_steps k nodes old new numbering targets steps s c stand at =
       let g = graph_of terms ids in
-      let named = named_shapes terms shapes in
-      let read = read_shape (term_at terms) sh in
-      let taken = taken_at shapes k sh lt is in
-      let same = stand.each read (of_place named k read (named_place terms shapes k sh taken)) in
-      let counted : IsCount (Target g s read.node) (length nodes) = record {
+      let t = targets s c stand at in
+      let counted : IsCount (Target g s c.node) (length nodes) = record {
         items = map (term_at terms) nodes;
-        apart = apart_mapped (term_at terms) nodes (apart_ascending nodes targets.listed.ascending) (λ m n c d e. numbering m n ((targets.listed.members m).0 c).0 ((targets.listed.members n).0 d).0 e);
+        apart = apart_mapped (term_at terms) nodes (apart_ascending nodes t.listed.ascending) (λ m n i j e. numbering m n ((t.listed.members m).0 i).0 ((t.listed.members n).0 j).0 e);
         members = λ f. (
-          λ c. let m = mapped_from (term_at terms) nodes f c in subst (λ (v : Term). Target g s read.node v) m.2 ((target_is terms g named sh (term_at terms m.0) s same).1 ((targets.listed.members m.0).0 m.1).1),
-          λ t. targets.every f ((target_is terms g named sh f s same).0 t),
+          λ i. let m = mapped_from (term_at terms) nodes f i in subst (λ (v : Term). Target g s c.node v) m.2 ((t.listed.members m.0).0 m.1).1,
+          λ h. t.every f h,
         );
         count = length-map nodes (term_at terms);
       } in
-      (length nodes, subst (λ (d : ReadShape). IsCount (Target g s d.node) (length nodes)) (read_here terms shapes k sh taken c at) counted, steps)
+      (length nodes, counted, steps)
 
   pub no_steps : (old : ℕ) → StepsOfFirst terms ids shapes 0 old old
   no_steps old s stand = (0, record { items = []; apart = tt; members = λ e. ((λ c. absurd (omega arith)), λ h. (let c = h.0.1 in absurd (omega arith))); count = refl }, omega arith)

@@ -17,12 +17,11 @@ use Rattle.component_rows.specs.Listed.{Collects}
 use Rattle.component_rows.proofs.Collecting.{collects_same, from_none, loop_all, loop_more, mapped_from}
 use Rattle.shape_ast.specs.declared.shape.Shape.{Shape}
 use Rattle.shape_ast.specs.Readings.{ReadShape, named_shapes, read_shape}
-use Rattle.target_nodes.specs.TargetNumbers.{AreTargets}
+use Rattle.target_nodes.specs.ShapeTargets.{AreTargets, AtShape}
 use Rattle.shape_eval.specs.Results.{ListsResults}
 use Rattle.shape_eval.specs.ShapeRows.{FromSome}
-use Rattle.shape_eval.proofs.Lookups.{at_place, got_at, named_place, of_place, only_some, taken_at}
+use Rattle.shape_eval.proofs.Lookups.{at_place, got_at}
 use Rattle.graph_validation.specs.Whole.{CollectsAtNodes, CollectsOfShape, CollectsResults, IsResultOf, ListsGraph}
-use Rattle.graph_validation.proofs.Declarations.{target_is}
 
 module _ (terms : List Term) (ids : List Ids) (shapes : List (Shape ℕ)) where
   pub no_node : (k : ℕ) → CollectsAtNodes terms ids shapes k [] []
@@ -38,23 +37,14 @@ module _ (terms : List Term) (ids : List Ids) (shapes : List (Shape ℕ)) where
   all_nodes k nodes i rows le before s c stand at acyclic shallow = loop_all (λ m. At (graph_of terms ids) s c.node (term_at terms m)) nodes i rows le (before s c stand at acyclic shallow)
 
   -- the nodes are the targets of the shape
-  pub at_targets : (k : ℕ) (sh : Shape ℕ) (nodes : List ℕ) (rows : List ResultRow) → k < length shapes → sh ≡ get_or shapes k sh
-      → AreTargets terms ids sh.targets sh.node nodes → CollectsAtNodes terms ids shapes k nodes rows → CollectsOfShape terms ids shapes k rows
-  at_targets k sh nodes rows lt e targets gathered s c stand at acyclic shallow =
+  pub at_targets : (k : ℕ) (nodes : List ℕ) (rows : List ResultRow) → AtShape terms shapes k (λ s own. AreTargets terms ids s own nodes) → CollectsAtNodes terms ids shapes k nodes rows → CollectsOfShape terms ids shapes k rows
+  at_targets k nodes rows targets gathered s c stand at acyclic shallow =
       let g = graph_of terms ids in
-      let named = named_shapes terms shapes in
-      let read = read_shape (term_at terms) sh in
-      let here : slice_get named k ≡ Some read = named_place terms shapes k sh (taken_at shapes k sh lt e) in
-      let c_is : read ≡ c = only_some (slice_get named k) read c here at in
-      let same = stand.each read (of_place named k read here) in
-      let goal_at : Collects (IsResultOf g s read.node) rows =
-      collects_same (FromSome nodes (λ n. At g s read.node (term_at terms n))) (IsResultOf g s read.node) rows (λ r. (
-        λ i. (term_at terms i.0, (target_is terms g named sh (term_at terms i.0) s same).1 ((targets.listed.members i.0).0 i.1).1, i.2),
-        λ i.
-            let m = mapped_from (term_at terms) nodes i.0 (targets.every i.0 ((target_is terms g named sh i.0 s same).0 i.1)) in
-            (m.0, m.1, subst (λ (f : Term). At g s read.node f r) (sym m.2) i.2),
-      )) (gathered s read stand here acyclic shallow) in
-      subst (λ (d : ReadShape). Collects (IsResultOf g s d.node) rows) c_is goal_at
+      let t = targets s c stand at in
+      collects_same (FromSome nodes (λ n. At g s c.node (term_at terms n))) (IsResultOf g s c.node) rows (λ r. (
+        λ i. (term_at terms i.0, ((t.listed.members i.0).0 i.1).1, i.2),
+        λ i. let m = mapped_from (term_at terms) nodes i.0 (t.every i.0 i.1) in (m.0, m.1, subst (λ (f : Term). At g s c.node f r) (sym m.2) i.2),
+      )) (gathered s c stand at acyclic shallow)
 
   pub no_shape : CollectsResults terms ids shapes 0 []
   no_shape s stand acyclic shallow = from_none (λ (c : ReadShape). IsResultOf (graph_of terms ids) s c.node)

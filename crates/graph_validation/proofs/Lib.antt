@@ -1,3 +1,2 @@
-pub mod Declarations
 pub mod Gathering
 pub mod Counting

@@ -1,4 +1,4 @@
-ghost use Rattle.std.specs.Prelude.{◌≡◌, ◌+◌, ◌<◌, IfOk, OnOk, length};
+ghost use Rattle.std.specs.Prelude.{◌≡◌, ◌+◌, ◌<◌, ◌≤◌, IfOk, OnOk, length};
 ghost use Rattle.std.specs.List.{All};
 ghost use Rattle.rdf_model.specs.Numbers.{AreNumbered, IsNumbering, term_at};
 ghost use Rattle.path_eval.specs.Instances.{AreClassWords};
@@ -64,6 +64,7 @@ fn rows_at<R: Triples, N: Names, L: Ledger>(
     requires nodes { All (λ n. n < length (N.terms names.now)) nodes.now }
     ensures rows { IfOk result (λ rows. CollectsAtNodes (N.terms names.now) (R.triples graph.now) bound.now.shapes shape nodes.now rows.items) }
     ensures steps { OnOk result (steps.new ≡ steps.old + length nodes.now) }
+    ensures counted { steps.old ≤ steps.new }
 {
     let mut rows = Vec::new(alloc);
     for node in nodes {
@@ -92,9 +93,9 @@ fn rows_of_shape<R: Triples, N: Names, L: Ledger>(
     requires shape { shape < length bound.now.shapes }
     ensures rows { IfOk result (λ rows. CollectsOfShape (N.terms names.now) (R.triples graph.now) bound.now.shapes shape rows.items) }
     ensures steps { OnOk result (StepsOfShape (N.terms names.now) (R.triples graph.now) bound.now.shapes shape steps.old steps.new) }
+    ensures counted { steps.old ≤ steps.new }
 {
-    let own = &bound.shapes.as_slice()[shape];
-    let nodes = targets(alloc, graph, words, own.node, own.targets.as_slice())?;
+    let nodes = targets(alloc, graph, words, bound, shape)?;
     Ok(rows_at(alloc, graph, names, words, bound, shape, &nodes, steps)?)
 }
 
@@ -114,6 +115,7 @@ fn all_rows<R: Triples, N: Names, L: Ledger>(
     requires built { AreBuilt (term_at (N.terms names.now)) bound.now.shapes }
     ensures rows { IfOk result (λ rows. CollectsResults (N.terms names.now) (R.triples graph.now) bound.now.shapes (length bound.now.shapes) rows.items) }
     ensures steps { OnOk result (StepsOfFirst (N.terms names.now) (R.triples graph.now) bound.now.shapes (length bound.now.shapes) steps.old steps.new) }
+    ensures counted { steps.old ≤ steps.new }
 {
     let mut rows = Vec::new(alloc);
     for shape in 0..bound.shapes.len() {
@@ -126,7 +128,7 @@ fn all_rows<R: Triples, N: Names, L: Ledger>(
 /// The results of validating the data graph (SHACL section 3.6), each once, in the order of results. They are the
 /// listing under each shapes graph that the shapes stand for, where no shape refers to itself and no chain of references
 /// is longer than 256. Each evaluation, of one shape at one of its targets, is counted in `steps`: there are as many as
-/// there are pairs of a shape and its target.
+/// there are pairs of a shape and its target. After an error the count is what it was, or more.
 pub fn whole<R: Triples, N: Names, L: Ledger>(
     alloc: Global,
     graph: &R,
@@ -142,6 +144,7 @@ pub fn whole<R: Triples, N: Names, L: Ledger>(
     requires built { AreBuilt (term_at (N.terms names.now)) bound.now.shapes }
     ensures rows { IfOk result (λ rows. ListsGraph (N.terms names.now) (R.triples graph.now) bound.now.shapes rows.items) }
     ensures steps { OnOk result (StepsOfGraph (N.terms names.now) (R.triples graph.now) bound.now.shapes steps.old steps.new) }
+    ensures counted { steps.old ≤ steps.new }
 {
     let rows = all_rows(alloc, graph, names, words, bound, steps)?;
     Ok(sorted_once(rows)?)

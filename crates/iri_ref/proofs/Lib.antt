@@ -5,3 +5,4 @@ pub mod Rounds
 pub mod Joins
 pub mod Dots
 pub mod Delimiters
+pub mod Characters

@@ -1,6 +1,7 @@
 -- What holds of the definitions.
-use Rattle.std.specs.Prelude.{◌≡◌, ◌<◌, ℕ, true, false, List, ◌++◌, ◌==◌, Some, None, IfSome, nat_eq, length, codes}
-use Rattle.std.specs.List.{list_any, starts_with}
+use Rattle.std.specs.Prelude.{◌≡◌, ◌<◌, ℕ, Bool, true, false, List, ◌++◌, ◌==◌, Some, None, IfSome, nat_eq, length, codes}
+use Rattle.std.specs.List.{list_all, list_any, starts_with}
+use Rattle.std.specs.Str.{IsUtf8, chars}
 use Rattle.iri_ref.specs.Scheme.{has_scheme}
 use Rattle.iri_ref.specs.Components.{Components, components, joined, slash, question_mark, number_sign}
 use Rattle.iri_ref.specs.DotSegments.{Buffers, step, without_dot_segments, has_dot_segment}
@@ -48,3 +49,9 @@ KeepsOtherSegments = (path : List ℕ) → has_dot_segment path ≡ false → wi
 -- each step at dot segments shortens the input
 abbrev pub ShortensInput : Type 0
 ShortensInput = (b : Buffers) → 0 < length b.input → length (step b).input < length b.input
+
+-- A target is a text of characters of the base and of the reference, and of the four delimiters: it passes each test of
+-- characters that these pass.
+abbrev pub KeepsCharacters : Type 0
+KeepsCharacters = (passes : ℕ → Bool) (base reference : List ℕ) → list_all passes (codes ":/?#") ≡ true → IsUtf8 base → IsUtf8 reference
+    → list_all passes (chars base) ≡ true → list_all passes (chars reference) ≡ true → IsUtf8 (resolved base reference) × (list_all passes (chars (resolved base reference)) ≡ true)

@@ -1,4 +1,4 @@
-ghost use Rattle.iri_ref.specs.Laws.{JoinsAgain, SplitsAtDelimiters, KeepsWithScheme, BeginsWithScheme, GivesScheme, RemovesDotSegments, KeepsOtherSegments, ShortensInput};
+ghost use Rattle.iri_ref.specs.Laws.{JoinsAgain, SplitsAtDelimiters, KeepsWithScheme, BeginsWithScheme, GivesScheme, RemovesDotSegments, KeepsOtherSegments, ShortensInput, KeepsCharacters};
 
 /// The components of a text, joined, are that text.
 pub fn split_then_join()
@@ -39,4 +39,9 @@ pub fn other_segments_are_kept()
 /// characters are enough.
 pub fn dot_segments_end()
     ensures { ShortensInput }
+{}
+
+/// A target has the characters of the base and of the reference, and delimiters, and no others.
+pub fn resolve_keeps_characters()
+    ensures { KeepsCharacters }
 {}

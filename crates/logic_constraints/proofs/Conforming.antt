@@ -10,9 +10,9 @@ use Rattle.shape_model.specs.declared.result_row.ResultRow.{ResultRow}
 use Rattle.shape_model.specs.Components.{Finding, Surroundings, ConformsTo, ForEach, NoneOf, OneOf, RowsOf}
 use Rattle.shape_model.specs.Triples.{IsMember}
 use Rattle.component_rows.specs.Answers.{AreAnswersTo}
-use Rattle.component_rows.specs.Listed.{Collects, at_nodes, untold, with_list}
+use Rattle.component_rows.specs.Listed.{Lists, at_nodes, untold, with_list}
 use Rattle.component_rows.specs.Nodes.{AreNodes, HasNode}
-use Rattle.component_rows.proofs.Collecting.{collects_same}
+use Rattle.component_rows.proofs.Collecting.{lists_same}
 use Rattle.logic_constraints.specs.declared.demand.Demand.{Demand}
 use Rattle.logic_constraints.specs.declared.demand.Demand.TheVariants.{All, Any, One, Neither}
 use Rattle.component_rows.specs.Conformance.{AreTold, told_shapes, yes_at}
@@ -53,8 +53,8 @@ module _ (terms : List Term) (numbering : IsNumbering terms) (values : List ℕ)
       module _ (row : Finding → ResultRow) (q : Term) (rows : List ResultRow) where
         -- a value node that isn't enough, in two ways of saying
         swapped : (demand : Demand) (P : Term → Type 0) → ((r : ResultRow) (v : Term) (i : ℕ) → i < length values → term_at terms (get_or values i 0) ≡ v → (IsMet demand (yes_at i answers) (length answers) → ⊥) ↔ P v)
-            → Collects (Unmet terms values answers row demand) rows → Collects (ForEach Around row P) rows
-        swapped demand P same = collects_same (Unmet terms values answers row demand) (ForEach Around row P) rows (λ r. (
+            → Lists (Unmet terms values answers row demand) rows → Lists (ForEach Around row P) rows
+        swapped demand P same = lists_same (Unmet terms values answers row demand) (ForEach Around row P) rows (λ r. (
           λ h. let p = placed terms numbering values nodes h.0 h.1 in (h.0, h.1, (same r h.0 p.0 p.1 p.2).0 (λ met. h.2 ((meets_at demand h.0 p.0 p.1 p.2).1 met)), h.3),
           λ h. let p = placed terms numbering values nodes h.0 h.1 in (h.0, h.1, (λ m. (same r h.0 p.0 p.1 p.2).1 h.2 ((meets_at demand h.0 p.0 p.1 p.2).0 m)), h.3),
         ))
@@ -62,22 +62,22 @@ module _ (terms : List Term) (numbering : IsNumbering terms) (values : List ℕ)
         abbrev Members : List Term
         Members = map (term_at terms) shapes
 
-        pub and_rows : Collects (Unmet terms values answers row All) rows → Collects (RowsOf components.And Around (with_list Members) q row) rows
-        and_rows h = collects_same (ForEach Around row (λ v. ((m : Term) → IsMember Members m → ConformsTo Around m v) → ⊥)) (RowsOf components.And Around (with_list Members) q row) rows
+        pub and_rows : Lists (Unmet terms values answers row All) rows → Lists (RowsOf components.And Around (with_list Members) q row) rows
+        and_rows h = lists_same (ForEach Around row (λ v. ((m : Term) → IsMember Members m → ConformsTo Around m v) → ⊥)) (RowsOf components.And Around (with_list Members) q row) rows
             (λ r. (λ p. (Members, refl, p), λ p. subst (λ (ms : List Term). ForEach Around row (λ v. ((m : Term) → IsMember ms m → ConformsTo Around m v) → ⊥) r) p.1 p.2))
             (swapped All (λ v. ((m : Term) → IsMember Members m → ConformsTo Around m v) → ⊥) (λ r v i lt is.
             let both = all_yes (λ m. ConformsTo Around m v) i Members answers (agreed terms numbering values nodes answers shapes named told r v i lt is) in
             (λ unmet all. unmet (both.0 all), λ not met. not (both.1 met))) h)
 
-        pub or_rows : Collects (Unmet terms values answers row Any) rows → Collects (RowsOf components.Or Around (with_list Members) q row) rows
-        or_rows h = collects_same (ForEach Around row (λ v. NoneOf (λ m. ConformsTo Around m v) Members)) (RowsOf components.Or Around (with_list Members) q row) rows
+        pub or_rows : Lists (Unmet terms values answers row Any) rows → Lists (RowsOf components.Or Around (with_list Members) q row) rows
+        or_rows h = lists_same (ForEach Around row (λ v. NoneOf (λ m. ConformsTo Around m v) Members)) (RowsOf components.Or Around (with_list Members) q row) rows
             (λ r. (λ p. (Members, refl, p), λ p. subst (λ (ms : List Term). ForEach Around row (λ v. NoneOf (λ m. ConformsTo Around m v) ms) r) p.1 p.2))
             (swapped Any (λ v. NoneOf (λ m. ConformsTo Around m v) Members) (λ r v i lt is.
             let both = none_yes (λ m. ConformsTo Around m v) i Members answers (agreed terms numbering values nodes answers shapes named told r v i lt is) in
             (λ unmet. both.1 (zero_from (yes_at i answers) unmet), λ none met. let total = both.0 none in absurd (omega (arith, total, met)))) h)
 
-        pub xone_rows : Collects (Unmet terms values answers row One) rows → Collects (RowsOf components.Xone Around (with_list Members) q row) rows
-        xone_rows h = collects_same (ForEach Around row (λ v. OneOf (λ m. ConformsTo Around m v) Members → ⊥)) (RowsOf components.Xone Around (with_list Members) q row) rows
+        pub xone_rows : Lists (Unmet terms values answers row One) rows → Lists (RowsOf components.Xone Around (with_list Members) q row) rows
+        xone_rows h = lists_same (ForEach Around row (λ v. OneOf (λ m. ConformsTo Around m v) Members → ⊥)) (RowsOf components.Xone Around (with_list Members) q row) rows
             (λ r. (λ p. (Members, refl, p), λ p. subst (λ (ms : List Term). ForEach Around row (λ v. OneOf (λ m. ConformsTo Around m v) ms → ⊥) r) p.1 p.2))
             (swapped One (λ v. OneOf (λ m. ConformsTo Around m v) Members → ⊥) (λ r v i lt is.
             let both = one_yes (λ m. ConformsTo Around m v) i Members answers (agreed terms numbering values nodes answers shapes named told r v i lt is) in
@@ -88,13 +88,13 @@ module _ (terms : List Term) (numbering : IsNumbering terms) (values : List ℕ)
       only : (n : ℕ) → Contains (shape ∷ []) n → n < length terms
       only n c = elim (has_cases shape [] n c) [ inl e ↦ subst (λ (k : ℕ). k < length terms) e bound | inr never ↦ absurd (omega arith) ]
 
-      pub not_rows : Collects (Unmet terms values answers row Neither) rows
-          → Collects (RowsOf components.Not (told_shapes terms (shape ∷ []) values answers) untold (term_at terms shape) row) rows
+      pub not_rows : Lists (Unmet terms values answers row Neither) rows
+          → Lists (RowsOf components.Not (told_shapes terms (shape ∷ []) values answers) untold (term_at terms shape) row) rows
       not_rows = swapped (shape ∷ []) only told row (term_at terms shape) rows Neither (λ v. ConformsTo (told_shapes terms (shape ∷ []) values answers) (term_at terms shape) v) (λ r v i lt is.
           some_yes (λ m. ConformsTo (told_shapes terms (shape ∷ []) values answers) m v) i (term_at terms shape) answers (agreed terms numbering values nodes answers (shape ∷ []) only told r v i lt is))
 
-      pub node_rows : Collects (Unmet terms values answers row All) rows
-          → Collects (RowsOf components.Node (told_shapes terms (shape ∷ []) values answers) untold (term_at terms shape) row) rows
+      pub node_rows : Lists (Unmet terms values answers row All) rows
+          → Lists (RowsOf components.Node (told_shapes terms (shape ∷ []) values answers) untold (term_at terms shape) row) rows
       node_rows = swapped (shape ∷ []) only told row (term_at terms shape) rows All (λ v. ConformsTo (told_shapes terms (shape ∷ []) values answers) (term_at terms shape) v → ⊥) (λ r v i lt is.
           let both = all_yes (λ m. ConformsTo (told_shapes terms (shape ∷ []) values answers) m v) i (term_at terms shape ∷ []) answers (agreed terms numbering values nodes answers (shape ∷ []) only told r v i lt is) in (
             λ unmet conforms. unmet (both.0 (λ m d. elim d [ inl e ↦ subst (λ (n : Term). ConformsTo (told_shapes terms (shape ∷ []) values answers) n v) e conforms | inr never ↦ absurd never ])),

@@ -1,13 +1,12 @@
 ghost use Rattle.std.specs.Prelude.{◌≡◌, ◌<◌, ◌↔◌, IfOk, IsTrue, length, map};
 ghost use Rattle.std.specs.List.{Contains};
-ghost use Rattle.rdf_model.specs.Numbers.{IsNumbering, term_at};
-ghost use Rattle.shape_model.specs.Components.{ForEach, row_of};
-ghost use Rattle.component_rows.specs.Listed.{Collects, at_nodes};
-ghost use Rattle.component_rows.specs.Nodes.{AreNodes, HasNode};
+ghost use Rattle.shape_model.specs.Components.{ForEach};
+ghost use Rattle.component_rows.specs.Listed.{Lists};
+ghost use Rattle.component_rows.specs.Sites.{at_values, site_row};
 ghost use Rattle.logic_constraints.specs.Demands.{AreMet, IsMet, Meets};
 
-use component_rows::{count_yes, refused};
-use rdf_model::{Names, Term};
+use component_rows::{Site, count_yes, refused};
+use rdf_model::Names;
 use shape_model::{Component, ResultRow};
 use std::alloc::{AllocError, Global};
 
@@ -51,27 +50,17 @@ fn are_met(
 
 /// One result about each value node that doesn't conform to as many of the shapes as it has to.
 pub(crate) fn unmet<N: Names>(
-    alloc: Global,
-    names: &N,
-    source: &Term,
+    site: &Site<'_, N>,
     component: Component,
     demand: Demand,
-    parameter: u32,
-    focus: u32,
-    values: &[u32],
     answers: &[Vec<bool>],
 ) -> Result<Vec<ResultRow>, AllocError>
-    requires numbering { IsNumbering (N.terms names.now) }
-    requires nodes { AreNodes (N.terms names.now) values.now }
-    requires parameter { parameter < length (N.terms names.now) }
-    requires focus { focus < length (N.terms names.now) }
-    requires answers { (a : _) → Contains answers.now a → length a.items ≡ length values.now }
-    ensures { IfOk result (λ rows. Collects (ForEach (at_nodes (HasNode (N.terms names.now) values.now))
-        (row_of component source.now (term_at (N.terms names.now) focus) (term_at (N.terms names.now) parameter))
-        (λ v. Meets demand (N.terms names.now) values.now (map (λ a. a.items) answers.now) v → ⊥)) rows.items) }
+    requires { (a : _) → Contains answers.now a → length a.items ≡ length site.now.values }
+    ensures { IfOk result (λ rows. Lists (ForEach (at_values site.now) (site_row component site.now)
+        (λ v. Meets demand site.now.terms site.now.values (map (λ a. a.items) answers.now) v → ⊥)) rows.items) }
 {
-    let met = are_met(alloc, demand, values.len(), answers)?;
-    refused(
-        alloc, names, source, component, parameter, focus, values, &met,
-    )
+    site.recall();
+    let places = site.values().len();
+    let met = are_met(site.alloc(), demand, places, answers)?;
+    refused(site, component, &met)
 }

@@ -1,14 +1,14 @@
 ghost use Rattle.std.specs.Prelude.{◌≡◌, IfOk, length, map};
 ghost use Rattle.shape_model.specs.Components.{PropertyRow};
-ghost use Rattle.component_rows.specs.Listed.{Collects};
+ghost use Rattle.component_rows.specs.Listed.{Lists};
 ghost use Rattle.logic_constraints.specs.Properties.{told_rows, with_property};
 
-use collections::Sequence;
+use collections::{Sequence, sorted_once};
 use shape_model::ResultRow;
 use std::alloc::{AllocError, Global};
 
 /// The results of sh:property (SHACL section 4.7.2) for one property shape: those that the property shape gives at each
-/// value node. There is a list of them for each value node.
+/// value node, each once, in order. There is a list of them for each value node.
 pub fn property(
     alloc: Global,
     values: &[u32],
@@ -16,7 +16,7 @@ pub fn property(
 ) -> Result<Vec<ResultRow>, AllocError>
     requires { length rows.now ≡ length values.now }
     ensures { IfOk result (λ all. (terms : _) (shape : _)
-        → Collects (PropertyRow (told_rows terms values.now (map (λ l. l.items) rows.now)) (with_property shape)) all.items) }
+        → Lists (PropertyRow (told_rows terms values.now (map (λ l. l.items) rows.now)) (with_property shape)) all.items) }
 {
     let mut all = Vec::new(alloc);
     for list in rows {
@@ -24,5 +24,5 @@ pub fn property(
         let mut more = copy.into_vec();
         all.append(&mut more)?;
     }
-    Ok(all)
+    Ok(sorted_once(all)?)
 }

@@ -71,12 +71,12 @@ bind_ok : {A B : Type 0} (r : Result A RefusalKind) (f : A → Result B RefusalK
 bind_ok (Ok x) f y h = (x, refl, h)
 bind_ok (Err k) f y h = cc
 
-scalars_drop : (n : ℕ) (cs : List ℕ) → scalars cs ≡ true → scalars (drop n cs) ≡ true
+pub scalars_drop : (n : ℕ) (cs : List ℕ) → scalars cs ≡ true → scalars (drop n cs) ≡ true
 scalars_drop zero cs s = s
 scalars_drop (suc n) [] s = refl
 scalars_drop (suc n) (c ∷ cs) s = scalars_drop n cs ((and_parts (scalar c) (scalars cs) s).1)
 
-scalars_take : (n : ℕ) (cs : List ℕ) → scalars cs ≡ true → scalars (take n cs) ≡ true
+pub scalars_take : (n : ℕ) (cs : List ℕ) → scalars cs ≡ true → scalars (take n cs) ≡ true
 scalars_take zero cs s = refl
 scalars_take (suc n) [] s = refl
 scalars_take (suc n) (c ∷ cs) s = let p = and_parts (scalar c) (scalars cs) s in and_from (scalar c) (scalars (take n cs)) p.0 (scalars_take n cs p.1)
@@ -102,10 +102,10 @@ lower_scalars [] s = refl
 lower_scalars (c ∷ cs) s = let p = and_parts (scalar c) (scalars cs) s in and_from (scalar (lower_case c)) (scalars (map lower_case cs)) (lower_scalar c p.0) (lower_scalars cs p.1)
 
 -- what stands between one character on each side
-abbrev IsBody : Enclosed → List ℕ → Type 0
+abbrev pub IsBody : Enclosed → List ℕ → Type 0
 IsBody e a = IsUtf8 a × (list_all (may_stand_for e) (chars a) ≡ true)
 
-body_of : (e : Enclosed) (a : ℕ) (t b : List ℕ) → closing_length e ≡ 1 → t ≡ a ∷ b → scalars t ≡ true → IsEnclosed e b → IsBody e (unescaped 0 (inner 1 t))
+pub body_of : (e : Enclosed) (a : ℕ) (t b : List ℕ) → closing_length e ≡ 1 → t ≡ a ∷ b → scalars t ≡ true → IsEnclosed e b → IsBody e (unescaped 0 (inner 1 t))
 body_of e a t b one is s (ps, f, all) =
     let js = joined_texts ps in
     let close : replicate (closing_length e) (mark e) ≡ mark e ∷ [] = ap (λ n. replicate n (mark e)) one in
@@ -118,7 +118,7 @@ body_of e a t b one is s (ps, f, all) =
     let body : IsBody e (encodes v.0) = ((v.0, (v.3, refl)), ap (list_all (may_stand_for e)) same ∙ v.2) in
     subst (λ (x : List ℕ). IsBody e x) (sym text) body
 
-tag_of : (t : List ℕ) → scalars t ≡ true → IsLanguageTag t → IsUtf8 (lower_text (drop 1 t)) × IsTagChars (chars (lower_text (drop 1 t)))
+pub tag_of : (t : List ℕ) → scalars t ≡ true → IsLanguageTag t → IsUtf8 (lower_text (drop 1 t)) × IsTagChars (chars (lower_text (drop 1 t)))
 tag_of t s (l, ts, is, some, all) =
     let y = l ++ joined_texts ts in
     let rest : drop 1 t ≡ y = ap (drop 1) is in

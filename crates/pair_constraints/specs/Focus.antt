@@ -10,12 +10,16 @@ use Rattle.shape_model.specs.TermTests.{IsLess, IsAtMost}
 use Rattle.shape_model.specs.Triples.{Has}
 use Rattle.component_rows.specs.Listed.{at_nodes}
 use Rattle.component_rows.specs.Nodes.{HasNode}
+use Rattle.component_rows.specs.Sites.{Spot}
 use Rattle.pair_constraints.specs.declared.order.Comparison.{Comparison}
 use Rattle.pair_constraints.specs.declared.order.Comparison.TheVariants.{Less, AtMost}
 
 -- surroundings in which the value nodes and the values of properties at the focus node are told
 abbrev pub at_focus : List Term → List Ids → List ℕ → Term → Surroundings
 at_focus terms ids values f = record (at_nodes (HasNode terms values)) { focus_value = λ q w. Has (graph_of terms ids) f q w }
+
+abbrev pub at_site : List Ids → Spot → Surroundings
+at_site ids s = at_focus s.terms ids s.values (term_at s.terms s.focus)
 
 -- the number is one of the others, or where it isn't wanted there, none of them
 abbrev pub IsKept : Bool → List ℕ → ℕ → Type 0

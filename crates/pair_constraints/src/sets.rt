@@ -1,16 +1,18 @@
-ghost use Rattle.std.specs.Prelude.{◌≡◌, ◌↔◌, ◌<◌, ◌∷◌, ◌++◌, [], IfOk, IsTrue, OnOk, length};
+ghost use Rattle.std.specs.Prelude.{◌≡◌, ◌↔◌, ◌∷◌, ◌++◌, [], IfOk, IsTrue, OnOk};
 ghost use Rattle.std.proofs.Common.{cond};
 ghost use Rattle.std.specs.List.{Contains};
 ghost use Rattle.std.specs.Ordering.{nat_cmp};
 ghost use Rattle.collections.specs.Ordered.{IsAscending};
-ghost use Rattle.rdf_model.specs.Numbers.{AreNumbered, IsNumbering, term_at};
+ghost use Rattle.rdf_model.specs.Numbers.{AreNumbered};
 ghost use Rattle.shape_model.specs.declared.component.Component.TheVariants as components;
-ghost use Rattle.component_rows.specs.Listed.{ListsRows, untold};
-ghost use Rattle.component_rows.specs.Nodes.{AreNodes};
-ghost use Rattle.pair_constraints.specs.Focus.{IsKept, at_focus};
+ghost use Rattle.component_rows.specs.Listed.{untold};
+ghost use Rattle.component_rows.specs.Sites.{ListsAt};
+ghost use Rattle.pair_constraints.specs.Focus.{IsKept, at_site};
 
-use component_rows::{about_each, is_among};
-use rdf_model::{Look, Names, Term, Triples};
+use crate::found::found;
+use collections::sorted_once;
+use component_rows::{Site, about_each, is_among};
+use rdf_model::{Names, Triples};
 use shape_model::{Component, ResultRow};
 use std::alloc::{AllocError, Global};
 
@@ -57,53 +59,36 @@ fn kept(
 /// The results of sh:equals (SHACL section 4.5.1): one about each value node that is no value of the property
 /// at the focus node, and one about each such value that is no value node.
 pub fn equals<R: Triples, N: Names>(
-    alloc: Global,
     graph: &R,
-    names: &N,
-    source: &Term,
-    parameter: u32,
-    focus: u32,
-    values: &[u32],
+    site: &Site<'_, N>,
 ) -> Result<Vec<ResultRow>, AllocError>
-    requires numbering { IsNumbering (N.terms names.now) }
-    requires graph { AreNumbered (N.terms names.now) (R.triples graph.now) }
-    requires nodes { AreNodes (N.terms names.now) values.now }
-    requires parameter { parameter < length (N.terms names.now) }
-    requires focus { focus < length (N.terms names.now) }
-    ensures { IfOk result (λ rows. ListsRows components.Equals (at_focus (N.terms names.now) (R.triples graph.now) values.now (term_at (N.terms names.now) focus)) untold
-        source.now (term_at (N.terms names.now) focus) (term_at (N.terms names.now) parameter) rows.items) }
+    requires { AreNumbered site.now.terms (R.triples graph.now) }
+    ensures { IfOk result (λ rows. ListsAt components.Equals (at_site (R.triples graph.now) site.now) untold site.now rows.items) }
 {
-    let others = graph.find(alloc, &Look::Out(focus, parameter))?;
-    let component = Component::Equals;
+    site.recall();
+    let alloc = site.alloc();
+    let values = site.values();
+    let others = found(graph, site)?;
     let alone = kept(alloc, values, &others, false)?;
     let missing = kept(alloc, &others, values, false)?;
-    let mut rows = about_each(alloc, names, source, component, parameter, focus, &alone)?;
-    let mut more = about_each(alloc, names, source, component, parameter, focus, &missing)?;
+    let mut rows = about_each(site, Component::Equals, &alone)?;
+    let mut more = about_each(site, Component::Equals, &missing)?;
     rows.append(&mut more)?;
-    Ok(rows)
+    Ok(sorted_once(rows)?)
 }
 
 /// The results of sh:disjoint (SHACL section 4.5.2): one about each value node that is a value of the property
 /// at the focus node.
 pub fn disjoint<R: Triples, N: Names>(
-    alloc: Global,
     graph: &R,
-    names: &N,
-    source: &Term,
-    parameter: u32,
-    focus: u32,
-    values: &[u32],
+    site: &Site<'_, N>,
 ) -> Result<Vec<ResultRow>, AllocError>
-    requires numbering { IsNumbering (N.terms names.now) }
-    requires graph { AreNumbered (N.terms names.now) (R.triples graph.now) }
-    requires nodes { AreNodes (N.terms names.now) values.now }
-    requires parameter { parameter < length (N.terms names.now) }
-    requires focus { focus < length (N.terms names.now) }
-    ensures { IfOk result (λ rows. ListsRows components.Disjoint (at_focus (N.terms names.now) (R.triples graph.now) values.now (term_at (N.terms names.now) focus)) untold
-        source.now (term_at (N.terms names.now) focus) (term_at (N.terms names.now) parameter) rows.items) }
+    requires { AreNumbered site.now.terms (R.triples graph.now) }
+    ensures { IfOk result (λ rows. ListsAt components.Disjoint (at_site (R.triples graph.now) site.now) untold site.now rows.items) }
 {
-    let others = graph.find(alloc, &Look::Out(focus, parameter))?;
-    let common = kept(alloc, values, &others, true)?;
-    let component = Component::Disjoint;
-    Ok(about_each(alloc, names, source, component, parameter, focus, &common)?)
+    site.recall();
+    let alloc = site.alloc();
+    let others = found(graph, site)?;
+    let common = kept(alloc, site.values(), &others, true)?;
+    Ok(about_each(site, Component::Disjoint, &common)?)
 }

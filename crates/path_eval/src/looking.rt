@@ -1,5 +1,6 @@
 ghost use Rattle.std.specs.Prelude.{◌≡◌, IfOk};
 ghost use Rattle.rdf_model.specs.Numbers.{AsksForOne, IsFound};
+ghost use Rattle.collections.specs.Listings.{Keeps};
 ghost use Rattle.path_eval.specs.Relations.{IsFollowed};
 ghost use Rattle.path_eval.specs.NumberedWalks.{look_from};
 
@@ -28,7 +29,8 @@ pub(crate) fn edges<R: Triples>(
     starts: &[u32],
     footprint: &mut Footprint,
 ) -> Result<Vec<u32>, AllocError>
-    ensures { IfOk result (λ ends. IsFollowed starts.now (λ x y. IsFound (look_from turned predicate x) (R.triples graph.now) y) (λ x look. look ≡ look_from turned predicate x) footprint.old footprint.new ends.items) }
+    ensures followed { IfOk result (λ ends. IsFollowed starts.now (λ x y. IsFound (look_from turned predicate x) (R.triples graph.now) y) (λ x look. look ≡ look_from turned predicate x) footprint.old footprint.new ends.items) }
+    ensures kept { Keeps footprint.old footprint.new }
 {
     let mut found = Vec::new(alloc);
     for start in starts {

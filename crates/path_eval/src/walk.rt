@@ -1,4 +1,5 @@
 ghost use Rattle.std.specs.Prelude.{IfOk};
+ghost use Rattle.collections.specs.Listings.{Keeps};
 ghost use Rattle.path_eval.specs.Relations.{IsFollowed, Repeated};
 ghost use Rattle.path_eval.specs.NumberedWalks.{Reaches};
 ghost use Rattle.path_eval.specs.NumberedLooks.{AtRepeated, Reads};
@@ -21,7 +22,8 @@ fn follow<R: Triples>(
     footprint: &mut Footprint,
 ) -> Result<Vec<u32>, AllocError>
     requires { IsNew walker }
-    ensures { IfOk result (λ ends. IsFollowed starts.now (Goes (R.triples graph.now) (plan_of walker)) (Sees (R.triples graph.now) (plan_of walker)) footprint.old footprint.new ends.items) }
+    ensures followed { IfOk result (λ ends. IsFollowed starts.now (Goes (R.triples graph.now) (plan_of walker)) (Sees (R.triples graph.now) (plan_of walker)) footprint.old footprint.new ends.items) }
+    ensures kept { Keeps footprint.old footprint.new }
 {
     let mut walker = walker;
     let ends = walk_on(alloc, graph, &mut walker, starts, footprint)?;
@@ -37,7 +39,8 @@ fn walked<R: Triples>(
     starts: &[u32],
     footprint: &mut Footprint,
 ) -> Result<Vec<u32>, AllocError>
-    ensures { IfOk result (λ ends. IsFollowed starts.now (Reaches (R.triples graph.now) turned path.now) (Reads (R.triples graph.now) turned path.now) footprint.old footprint.new ends.items) }
+    ensures followed { IfOk result (λ ends. IsFollowed starts.now (Reaches (R.triples graph.now) turned path.now) (Reads (R.triples graph.now) turned path.now) footprint.old footprint.new ends.items) }
+    ensures kept { Keeps footprint.old footprint.new }
 {
     let walker = walker_of(alloc, path, turned)?;
     follow(alloc, graph, walker, starts, footprint)
@@ -52,7 +55,8 @@ pub(crate) fn step<R: Triples>(
     starts: &[u32],
     footprint: &mut Footprint,
 ) -> Result<Vec<u32>, AllocError>
-    ensures { IfOk result (λ ends. IsFollowed starts.now (Reaches (R.triples graph.now) turned path.now) (Reads (R.triples graph.now) turned path.now) footprint.old footprint.new ends.items) }
+    ensures followed { IfOk result (λ ends. IsFollowed starts.now (Reaches (R.triples graph.now) turned path.now) (Reads (R.triples graph.now) turned path.now) footprint.old footprint.new ends.items) }
+    ensures kept { Keeps footprint.old footprint.new }
 {
     match path {
         Path::Predicate(predicate) => edges(alloc, graph, *predicate, turned, starts, footprint),
@@ -69,7 +73,8 @@ pub(crate) fn repeated<R: Triples>(
     starts: &[u32],
     footprint: &mut Footprint,
 ) -> Result<Vec<u32>, AllocError>
-    ensures { IfOk result (λ ends. IsFollowed starts.now (Repeated (Reaches (R.triples graph.now) turned path.now)) (AtRepeated (Reaches (R.triples graph.now) turned path.now) (Reads (R.triples graph.now) turned path.now)) footprint.old footprint.new ends.items) }
+    ensures followed { IfOk result (λ ends. IsFollowed starts.now (Repeated (Reaches (R.triples graph.now) turned path.now)) (AtRepeated (Reaches (R.triples graph.now) turned path.now) (Reads (R.triples graph.now) turned path.now)) footprint.old footprint.new ends.items) }
+    ensures kept { Keeps footprint.old footprint.new }
 {
     let once = walker_of(alloc, path, turned)?;
     let walker = any_number(alloc, once)?;

@@ -1,4 +1,5 @@
 ghost use Rattle.std.specs.Prelude.{◌≤◌, IfOk, OnOk, length, drop, ◌≡◌};
+ghost use Rattle.collections.specs.Listings.{Keeps};
 ghost use Rattle.path_eval.specs.Walkers.{Advances, Explores, GoesOn};
 
 use crate::looking::edges;
@@ -33,7 +34,8 @@ pub(crate) fn walk_on<R: Triples>(
     starts: &[u32],
     footprint: &mut Footprint,
 ) -> Result<Vec<u32>, AllocError>
-    ensures { IfOk result (λ ends. GoesOn (R.triples graph.now) walker.old walker.new starts.now footprint.old footprint.new ends.items) }
+    ensures ends { IfOk result (λ ends. GoesOn (R.triples graph.now) walker.old walker.new starts.now footprint.old footprint.new ends.items) }
+    ensures kept { Keeps footprint.old footprint.new }
 {
     match walker {
         Walker::Here => copied(alloc, starts),
@@ -81,7 +83,8 @@ fn advance<R: Triples>(
     footprint: &mut Footprint,
 ) -> Result<(), AllocError>
     requires { done ≤ length entered.old }
-    ensures { OnOk result (Advances (R.triples graph.now) walker.old walker.new done entered.old entered.new footprint.old footprint.new) }
+    ensures entered { OnOk result (Advances (R.triples graph.now) walker.old walker.new done entered.old entered.new footprint.old footprint.new) }
+    ensures kept { Keeps footprint.old footprint.new }
 {
     let ends = walk_on(alloc, graph, walker, entered.entered_after(done), footprint)?;
     enter_all(entered, &ends)?;
@@ -99,7 +102,8 @@ fn explore<R: Triples>(
     footprint: &mut Footprint,
 ) -> Result<(), AllocError>
     requires { from ≤ length entered.old }
-    ensures { OnOk result (Explores (R.triples graph.now) walker.old walker.new from (length entered.new) entered.old entered.new footprint.old footprint.new) }
+    ensures entered { OnOk result (Explores (R.triples graph.now) walker.old walker.new from (length entered.new) entered.old entered.new footprint.old footprint.new) }
+    ensures kept { Keeps footprint.old footprint.new }
 {
     let mut done = from;
     while done < entered.len() {

@@ -1,7 +1,9 @@
+ghost use Rattle.std.specs.Prelude.{◌<◌, length};
+
 use collections::Sequence;
-use path_eval::ClassWords;
+use path_eval::{ClassWords, class_instances};
 use rdf_model::{Footprint, Ids, ListGraph};
-use shape_ast::Target;
+use shape_ast::{Bound, Shape, Target};
 use std::alloc::{AllocError, Global};
 use std::process::Abort;
 use std::test::Fail;
@@ -30,6 +32,14 @@ s6 13\n\
 o6 45\n\
 o0n7 78\n\
 s6n6c8 1236";
+
+// Classes, and their instances.
+const CLASS_ROWS: &str = "\
+7 12\n\
+8 12\n\
+9 12\n\
+4 0\n\
+1 0";
 
 // Nodes 1 and 2 have types among the classes 7, 8 and 9, which lie above one another in a circle; 1 and 3
 // know others.
@@ -73,25 +83,54 @@ fn target(letter: u8, number: u32) -> Target<u32> {
     }
 }
 
-fn declarations(alloc: Global, text: &[u8]) -> Result<Vec<Target<u32>>, AllocError> {
-    let mut declared = Vec::new(alloc);
+fn declarations(alloc: Global, text: &[u8]) -> Result<Sequence<Target<u32>>, AllocError> {
+    let mut declared = Sequence::new(alloc);
     for pair in text.chunks_exact(2) {
         declared.push(target(pair[0], pair[1].wrapping_sub(b'0') as u32))?;
     }
     Ok(declared)
 }
 
-// The nodes among the first nine that are targets one by one, and the looks of asking for the last.
+fn shape(alloc: Global, node: u32, targets: Sequence<Target<u32>>) -> Shape<u32> {
+    Shape {
+        node,
+        path: None,
+        is_deactivated: false,
+        severity: None,
+        messages: Sequence::new(alloc),
+        targets,
+        constraints: Sequence::new(alloc),
+        pattern: None,
+        flags: None,
+        properties: Sequence::new(alloc),
+        qualified: None,
+        siblings: Sequence::new(alloc),
+        ignored: Sequence::new(alloc),
+    }
+}
+
+// Two shapes: 7 without a target, and 8 with these.
+fn two_shapes(alloc: Global, text: &str) -> Result<Bound, AllocError> {
+    let declared = declarations(alloc, text.as_bytes())?;
+    let mut shapes = Sequence::new(alloc);
+    shapes.push(shape(alloc, 7, Sequence::new(alloc)))?;
+    shapes.push(shape(alloc, 8, declared))?;
+    Ok(Bound { shapes })
+}
+
+// The nodes among the first nine that are targets of the second shape one by one, and the looks of asking for the last.
 fn tested(
     alloc: Global,
     graph: &ListGraph,
-    declared: &[Target<u32>],
-) -> Result<(u64, usize), AllocError> {
+    bound: &Bound,
+) -> Result<(u64, usize), AllocError>
+    requires { 1 < length bound.now.shapes }
+{
     let mut all: u64 = 0;
     let mut looks = 0;
     for node in 1..10 {
         let mut footprint = Footprint::new(alloc);
-        if is_target(alloc, graph, WORDS, 8, declared, node, &mut footprint)? {
+        if is_target(alloc, graph, WORDS, bound, 1, node, &mut footprint)? {
             all = all.wrapping_mul(10).wrapping_add(node as u64);
         }
         looks = footprint.looks().len();
@@ -99,25 +138,39 @@ fn tested(
     Ok((all, looks))
 }
 
-fn listed(alloc: Global, graph: &ListGraph, declared: &[Target<u32>]) -> Result<u64, AllocError> {
-    let nodes = targets(alloc, graph, WORDS, 8, declared)?;
+fn listed(alloc: Global, graph: &ListGraph, bound: &Bound) -> Result<u64, AllocError>
+    requires { 1 < length bound.now.shapes }
+{
+    let nodes = targets(alloc, graph, WORDS, bound, 1)?;
     Ok(told(&nodes))
 }
 
-fn both(alloc: Global, graph: &ListGraph, text: &str) -> Result<(u64, u64), AllocError> {
-    let declared = declarations(alloc, text.as_bytes())?;
-    let nodes = listed(alloc, graph, &declared)?;
-    let (all, _looks) = tested(alloc, graph, &declared)?;
-    Ok((nodes, all))
+// What is found of the second of the shapes; nothing, where there are not so many.
+fn found_of(
+    alloc: Global,
+    graph: &ListGraph,
+    bound: &Bound,
+) -> Result<(u64, u64, usize), AllocError> {
+    if bound.shapes.len() < 2 {
+        return Ok((0, 0, 0));
+    }
+    let nodes = listed(alloc, graph, bound)?;
+    let (all, looks) = tested(alloc, graph, bound)?;
+    Ok((nodes, all, looks))
+}
+
+fn found(alloc: Global, graph: &ListGraph, text: &str) -> Result<(u64, u64, usize), AllocError> {
+    let bound = two_shapes(alloc, text)?;
+    found_of(alloc, graph, &bound)
 }
 
 // The number that the digits tell.
-fn number(word: Option<&str>) -> u64 {
-    let mut number: u64 = 0;
+fn number(word: Option<&str>) -> u32 {
+    let mut number: u32 = 0;
     for digit in word.unwrap_or("").as_bytes() {
         number = number
             .wrapping_mul(10)
-            .wrapping_add(digit.wrapping_sub(b'0') as u64);
+            .wrapping_add(digit.wrapping_sub(b'0') as u32);
     }
     number
 }
@@ -126,9 +179,9 @@ fn all_rows(rt: &impl Abort, alloc: Global) -> Result<(), AllocError> {
     let graph = graph(alloc)?;
     for row in ROWS.lines() {
         let mut words = row.split(' ');
-        let found = both(alloc, &graph, words.next().unwrap_or(""))?;
-        let want = number(words.next());
-        assert_eq!(rt; found, (want, want), "{row}");
+        let (nodes, all, _looks) = found(alloc, &graph, words.next().unwrap_or(""))?;
+        let want = number(words.next()) as u64;
+        assert_eq!(rt; (nodes, all), (want, want), "{row}");
     }
     Ok(())
 }
@@ -139,11 +192,34 @@ fn each_kind_of_target(rt: HostRuntime) -> Result<(), Fail> {
     Ok(())
 }
 
+fn instances(alloc: Global, graph: &ListGraph, class: u32) -> Result<u64, AllocError> {
+    let mut footprint = Footprint::new(alloc);
+    let nodes = class_instances(alloc, graph, WORDS, class, &mut footprint)?;
+    Ok(told(&nodes))
+}
+
+fn all_class_rows(rt: &impl Abort, alloc: Global) -> Result<(), AllocError> {
+    let graph = graph(alloc)?;
+    for row in CLASS_ROWS.lines() {
+        let mut words = row.split(' ');
+        let class = number(words.next());
+        let want = number(words.next()) as u64;
+        let found = instances(alloc, &graph, class)?;
+        assert_eq!(rt; found, want, "{row}");
+    }
+    Ok(())
+}
+
+#[test]
+fn instances_of_classes_in_a_circle(rt: HostRuntime) -> Result<(), Fail> {
+    all_class_rows(&rt, rt.alloc())?;
+    Ok(())
+}
+
 // At 9 the path of a class asks for types alone, and a predicate for values.
 fn looks_of_two(alloc: Global) -> Result<usize, AllocError> {
     let graph = graph(alloc)?;
-    let declared = declarations(alloc, b"c8s6n1")?;
-    let (_all, looks) = tested(alloc, &graph, &declared)?;
+    let (_nodes, _all, looks) = found(alloc, &graph, "c8s6n1")?;
     Ok(looks)
 }
 

@@ -45,6 +45,13 @@ pq|*^ 5 12345 5\n\
 n* 3 3 3\n\
 nq| 4 5 0";
 
+// A graph whose triples are three letters each, a path, a node, and the values at it.
+const LETTER_ROWS: &str = "\
+- p* x x\n\
+- p+ x \n\
+ftx,mpf,mqn,nqm,nqg p^q*/ f gmn\n\
+ftx,mpf,mqn,nqm,nqg q* m gmn";
+
 const WORDS: ClassWords = ClassWords {
     rdf_type: b'q' as u32,
     sub_class_of: b'p' as u32,
@@ -161,6 +168,19 @@ fn found(
     Ok((told(&ends), told(&starts), footprint.looks().len()))
 }
 
+// The nodes that walk to the node, as they are read from the end of the path.
+fn walkers(
+    alloc: Global,
+    graph: &ListGraph,
+    text: &str,
+    node: u32,
+) -> Result<(u64, usize), AllocError> {
+    let path = path(alloc, text)?;
+    let mut footprint = Footprint::new(alloc);
+    let starts = reverse_walk::back(alloc, graph, &path, node, &mut footprint)?;
+    Ok((told(&starts), footprint.looks().len()))
+}
+
 fn found_by_text(
     alloc: Global,
     graph: &ListGraph,
@@ -182,18 +202,23 @@ fn number(word: Option<&str>) -> u32 {
     number
 }
 
-// What a row wants, and what is found.
+// What a row wants, and what is found, read from the end too.
 fn wanted_and_found(
     alloc: Global,
     graph: &ListGraph,
     row: &str,
-) -> Result<((u64, u64), (u64, u64)), AllocError> {
+) -> Result<((u64, u64, u64), (u64, u64, u64)), AllocError> {
     let mut words = row.split(' ');
     let text = words.next().unwrap_or("");
     let node = number(words.next());
-    let want = (number(words.next()) as u64, number(words.next()) as u64);
-    let (ends, starts, _looks) = found_by_text(alloc, graph, text, node)?;
-    Ok((want, (ends, starts)))
+    let ends = number(words.next()) as u64;
+    let starts = number(words.next()) as u64;
+    let (found_ends, found_starts, _looks) = found_by_text(alloc, graph, text, node)?;
+    let (read_starts, _looks) = walkers(alloc, graph, text, node)?;
+    Ok((
+        (ends, starts, starts),
+        (found_ends, found_starts, read_starts),
+    ))
 }
 
 fn all_rows(rt: &impl Abort, alloc: Global) -> Result<(), AllocError> {
@@ -208,6 +233,57 @@ fn all_rows(rt: &impl Abort, alloc: Global) -> Result<(), AllocError> {
 #[test]
 fn each_kind_of_path(rt: HostRuntime) -> Result<(), Fail> {
     all_rows(&rt, rt.alloc())?;
+    Ok(())
+}
+
+fn letter_graph(alloc: Global, text: &str) -> Result<ListGraph, AllocError> {
+    let mut triples = Sequence::new(alloc);
+    for part in text.split(',') {
+        if let [subject, predicate, object] = part.as_bytes() {
+            triples.push(triple(*subject as u32, *predicate, *object as u32))?;
+        }
+    }
+    Ok(ListGraph::from_triples(triples))
+}
+
+// The number of a node that is a letter.
+fn letter(word: Option<&str>) -> u32 {
+    match word.unwrap_or("").as_bytes() {
+        [letter] => *letter as u32,
+        _ => 0,
+    }
+}
+
+// Whether the nodes are just the letters, in their order.
+fn are_letters(nodes: &[u32], letters: &[u8]) -> bool {
+    nodes.len() == letters.len()
+        && nodes
+            .iter()
+            .zip(letters)
+            .all(|(node, letter)| *node == *letter as u32)
+}
+
+// Whether the values that a row wants are found.
+fn finds_letters(alloc: Global, row: &str) -> Result<bool, AllocError> {
+    let mut words = row.split(' ');
+    let graph = letter_graph(alloc, words.next().unwrap_or(""))?;
+    let path = path(alloc, words.next().unwrap_or(""))?;
+    let node = letter(words.next());
+    let mut footprint = Footprint::new(alloc);
+    let ends = values(alloc, &graph, &path, node, &mut footprint)?;
+    Ok(are_letters(&ends, words.next().unwrap_or("").as_bytes()))
+}
+
+fn all_letter_rows(rt: &impl Abort, alloc: Global) -> Result<(), AllocError> {
+    for row in LETTER_ROWS.lines() {
+        assert!(rt; finds_letters(alloc, row)?, "{row}");
+    }
+    Ok(())
+}
+
+#[test]
+fn a_literal_alone_and_an_inverse_before_a_repetition(rt: HostRuntime) -> Result<(), Fail> {
+    all_letter_rows(&rt, rt.alloc())?;
     Ok(())
 }
 
@@ -237,9 +313,17 @@ fn looks_and_ends(alloc: Global) -> Result<(usize, u64), AllocError> {
     Ok((looks, ends))
 }
 
+// From the end of the path: subjects at 1, 2 and 3.
+fn looks_of_walkers(alloc: Global) -> Result<usize, AllocError> {
+    let graph = graph(alloc)?;
+    let (_starts, looks) = walkers(alloc, &graph, "p*", 1)?;
+    Ok(looks)
+}
+
 #[test]
 fn looks_long_sequences_and_classes(rt: HostRuntime) -> Result<(), Fail> {
     assert_eq!(rt; looks_and_ends(rt.alloc())?, (7, 4));
+    assert_eq!(rt; looks_of_walkers(rt.alloc())?, 3);
     assert_eq!(rt; class_answers(rt.alloc())?, (true, false));
     Ok(())
 }

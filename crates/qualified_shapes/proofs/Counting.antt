@@ -12,9 +12,9 @@ use Rattle.shape_model.specs.Readings.{Reading}
 use Rattle.shape_model.specs.TermTests.{count_of}
 use Rattle.component_rows.specs.Answers.{Tells}
 use Rattle.component_rows.specs.Conformance.{AreTold, how_many, told_shapes}
-use Rattle.component_rows.specs.Listed.{Collects}
+use Rattle.component_rows.specs.Listed.{Lists}
 use Rattle.component_rows.specs.Nodes.{AreNodes, HasNode}
-use Rattle.component_rows.proofs.Collecting.{collects_same}
+use Rattle.component_rows.proofs.Collecting.{lists_same}
 use Rattle.component_rows.proofs.Conforming.{agreed}
 use Rattle.component_rows.proofs.Numbers.{counted_answers, counts_same, one_count}
 use Rattle.component_rows.proofs.Tally.{Agrees, first_yes, none_yes}
@@ -65,9 +65,9 @@ module _ (terms : List Term) (numbering : IsNumbering terms) (values : List ℕ)
       (counted_answers Alone terms numbering values nodes met (told_alone met h))
 
   pub qualified_rows : (end : End) (met : List Bool) → Tells (Qualifies answers) (length values) met → (rows : List ResultRow)
-      → Collects (λ r. IsWrong end (count_of q) (how_many met) × (r ≡ row found_alone)) rows
-      → Collects (ForQualifiedCount Around Said row (IsWrong end (count_of q))) rows
-  qualified_rows end met h rows = collects_same (λ r. IsWrong end (count_of q) (how_many met) × (r ≡ row found_alone)) (ForQualifiedCount Around Said row (IsWrong end (count_of q))) rows (λ r. (
+      → Lists (λ r. IsWrong end (count_of q) (how_many met) × (r ≡ row found_alone)) rows
+      → Lists (ForQualifiedCount Around Said row (IsWrong end (count_of q))) rows
+  qualified_rows end met h rows = lists_same (λ r. IsWrong end (count_of q) (how_many met) × (r ≡ row found_alone)) (ForQualifiedCount Around Said row (IsWrong end (count_of q))) rows (λ r. (
     λ p. (term_at terms shape, refl, (how_many met, qualified_many met h, p.0, p.1)),
     λ p. let c = p.2 in
         let counts : Counts (IsQualified Around Said (term_at terms shape)) c.0 = subst (λ (m : Term). Counts (IsQualified Around Said m) c.0) p.1 c.1 in

@@ -1,5 +1,5 @@
 -- The characters that an IRIREF or a string stands for.
-use Rattle.std.proofs.Common.{◌≡◌, ◌∙◌, ℕ, suc, ◌+◌, ◌-◌, Bool, true, false, cond, eqb, ltb, ◌||◌, List, [], ◌∷◌, ◌++◌, length, drop, Option, Some, None, refl, sym, ap, subst, arith, length-append, inl, inr}
+use Rattle.std.proofs.Common.{◌≡◌, ◌∙◌, ℕ, zero, suc, ◌+◌, ◌-◌, Bool, true, false, cond, eqb, ltb, ◌||◌, List, [], ◌∷◌, ◌++◌, length, take, drop, Option, Some, None, refl, sym, ap, subst, arith, length-append, inl, inr}
 use Rattle.std.specs.Prelude.{replicate}
 use Rattle.std.specs.List.{AllByRecursion, list_all}
 use Rattle.std.proofs.lemmas.Bool.{and_parts, and_from}
@@ -10,10 +10,12 @@ use Rattle.rdf_lexical.specs.declared.enclosing.Enclosed.{Enclosed}
 use Rattle.rdf_lexical.specs.declared.enclosing.Enclosed.TheVariants.{Iri, Text}
 use Rattle.rdf_lexical.specs.declared.escapes.Escape.TheVariants as escapes
 use Rattle.rdf_lexical.specs.Characters.{is_within, is_iri_char}
-use Rattle.rdf_lexical.specs.Escapes.{escaped_char, scalar_of, hex_number_from}
-use Rattle.rdf_lexical.specs.Escaping.{escape_at}
+use Rattle.rdf_lexical.specs.declared.classes.Class.TheVariants.{Hexadecimal}
+use Rattle.rdf_lexical.specs.Classes.{run_length}
+use Rattle.rdf_lexical.specs.Escapes.{escaped_char, scalar_of, hex_number_from, numbered_char}
+use Rattle.rdf_lexical.specs.Escaping.{escape_of, numbered_escape, character_escape, escape_at}
 use Rattle.rdf_lexical.specs.Enclosed.{mark, closing_length, may_hold}
-use Rattle.rdf_lexical.specs.Meanings.{escaped_character, unescaped}
+use Rattle.rdf_lexical.specs.Meanings.{escaped_character, character_at, unescaped}
 use Rattle.rdf_lexical.specs.Productions.{joined_texts, IsUchar, IsEchar, IsEscape, IsUnit, IsPiece}
 use Rattle.rdf_lexical.proofs.Runs.{apart}
 use Rattle.rdf_lexical.proofs.EnclosedTokens.{uchar_met, echar_met, backslash_not_held}
@@ -132,3 +134,39 @@ pieces_value e (p ∷ ps) one ((n, u, is, few, unit), all) s =
       and_from (may_stand_for e v.0) (list_all (may_stand_for e) more.0) v.2 more.2,
       and_from (scalar v.0) (scalars more.0) v.3 more.3,
     )
+
+-- any escape stands for a character
+of_scalar : (n : ℕ) (o : Option ℕ) → ((x : ℕ) → o ≡ Some x → scalar x ≡ true) → scalar (escaped_character (escape_of n o)).0 ≡ true
+of_scalar n None h = refl
+of_scalar n (Some x) h = h x refl
+
+numbered_scalar : (count : ℕ) (cs : List ℕ) → scalar (escaped_character (numbered_escape count cs)).0 ≡ true
+numbered_scalar count cs =
+    elim (ltb (run_length Hexadecimal cs) count) as (λ b. scalar (escaped_character (cond b (cond (eqb (run_length Hexadecimal cs) (length cs)) escapes.Cut escapes.Faulty) (escape_of (suc count) (numbered_char (take count cs))))).0 ≡ true) [
+      | true ↦ elim (eqb (run_length Hexadecimal cs) (length cs)) as (λ b. scalar (escaped_character (cond b escapes.Cut escapes.Faulty)).0 ≡ true) [ true ↦ refl | false ↦ refl ]
+      | false ↦ of_scalar (suc count) (numbered_char (take count cs)) (λ x e. scalar_some (hex_number_from 0 (take count cs)) x e)
+    ]
+
+escape_scalar : (cs : List ℕ) → scalars cs ≡ true → scalar (escaped_character (escape_at cs)).0 ≡ true
+escape_scalar [] s = refl
+escape_scalar (c ∷ cs) s =
+    elim (eqb c 117) as (λ b. scalar (escaped_character (cond b (numbered_escape 4 cs) (cond (eqb c 85) (numbered_escape 8 cs) (character_escape c)))).0 ≡ true) [
+      | true ↦ numbered_scalar 4 cs
+      | false ↦ elim (eqb c 85) as (λ b. scalar (escaped_character (cond b (numbered_escape 8 cs) (character_escape c))).0 ≡ true) [
+        | true ↦ numbered_scalar 8 cs
+        | false ↦ of_scalar 1 (escaped_char c) (λ x e. escaped_scalar c x ((and_parts (scalar c) (scalars cs) s).0) e)
+      ]
+    ]
+
+character_scalar : (c : ℕ) (cs : List ℕ) → scalar c ≡ true → scalars cs ≡ true → scalar (character_at c cs).0 ≡ true
+character_scalar c cs one s = elim (eqb c 92) as (λ b. scalar (cond b (escaped_character (escape_at cs)) (c, 1)).0 ≡ true) [ true ↦ escape_scalar cs s | false ↦ one ]
+
+-- the value of any string is a text
+pub unescaped_text : (n : ℕ) (cs : List ℕ) → scalars cs ≡ true → (vs : List ℕ) × (unescaped n cs ≡ encodes vs) × (scalars vs ≡ true)
+unescaped_text n [] s = ([], refl, refl)
+unescaped_text (suc n) (c ∷ cs) s = unescaped_text n cs ((and_parts (scalar c) (scalars cs) s).1)
+unescaped_text zero (c ∷ cs) s =
+    let parts = and_parts (scalar c) (scalars cs) s in
+    let more = unescaped_text ((character_at c cs).1 - 1) cs parts.1 in
+    let v : ℕ = (character_at c cs).0 in
+    (v ∷ more.0, ap (λ x. encode v ++ x) more.1, and_from (scalar v) (scalars more.0) (character_scalar c cs parts.0 parts.1) more.2)

@@ -6,6 +6,7 @@
 
 ghost use Rattle.std.specs.Prelude.{IfOk, OnOk};
 ghost use Rattle.path_eval.specs.Naming.{Numbered};
+ghost use Rattle.collections.specs.Listings.{Keeps};
 ghost use Rattle.reverse_walk.specs.Walkers.{AddsBackReads, AreWalkers};
 
 use compiled_paths::Path;
@@ -13,7 +14,7 @@ use rdf_model::{Footprint, Triples};
 use std::alloc::{AllocError, Global};
 
 /// The nodes with a walk to the node along the path (SHACL section 2.3.1), each once, ascending by
-/// number. The looks of the way back are added to the footprint.
+/// number. The looks of the way back are added to the footprint, which keeps what it had after an error too.
 pub fn back<R: Triples>(
     alloc: Global,
     graph: &R,
@@ -23,6 +24,7 @@ pub fn back<R: Triples>(
 ) -> Result<Vec<u32>, AllocError>
     ensures walkers { IfOk result (λ walkers. Numbered (R.triples graph.now) path.now node (λ terms. AreWalkers terms (R.triples graph.now) path.now node walkers.items)) }
     ensures looks { OnOk result (Numbered (R.triples graph.now) path.now node (λ terms. AddsBackReads terms (R.triples graph.now) path.now node footprint.old footprint.new)) }
+    ensures kept { Keeps footprint.old footprint.new }
 {
     Ok(path_eval::back(alloc, graph, path, node, footprint)?)
 }

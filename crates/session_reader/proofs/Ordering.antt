@@ -6,7 +6,7 @@ use Rattle.rdf_model.specs.declared.triple.Triple.{Triple}
 use Rattle.rdf_model.specs.Terms.{triple_cmp}
 use Rattle.rdf_lexical.specs.declared.refusal.RefusalKind.{RefusalKind}
 use Rattle.ntriples_text.proofs.Gives.{gives_readable}
-use Rattle.turtle_reader.proofs.NodesWithin.{gives_triples}
+use Rattle.turtle_reader.proofs.NodesWithin.{gives_readable as turtle_readable}
 use Rattle.session_reader.specs.declared.line.Syntax.{Syntax}
 use Rattle.session_reader.specs.declared.line.Syntax.TheVariants.{NTriples, Turtle}
 use Rattle.session_reader.specs.declared.line.BlockKind.{BlockKind}
@@ -21,7 +21,7 @@ use Rattle.session_reader.specs.SessionFile.{Item, add_of, remove_of, shapes_of,
 -- what a reading in one of the languages gives
 new_ascends : (syntax : Syntax) (text : List ℕ) (s first next : ℕ) (ts : List Triple) → new_reading syntax text s first ≡ Ok (ts, next) → IsAscending triple_cmp ts
 new_ascends NTriples text s first next ts h = (gives_readable text s first next ts h).2
-new_ascends Turtle text s first next ts h = (gives_triples text s first next ts h).2
+new_ascends Turtle text s first next ts h = (turtle_readable text s first next ts h).2
 
 -- the command of a block
 add_ordered : (reading : Result (List Triple × ℕ) (ℕ × RefusalKind)) → IsOrdered (add_of reading)

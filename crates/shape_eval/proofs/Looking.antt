@@ -2,7 +2,8 @@
 use Rattle.std.proofs.Common.{◌≡◌, ℕ, ◌+◌, ◌<◌, ◌≤◌, List, [], ◌∷◌, ◌++◌, length, map, take, get_or, IfOk, refl, sym, subst}
 use Rattle.std.specs.Prelude.{Err, Ok, Result}
 use Rattle.std.proofs.lemmas.List.{get_or_default, take_all}
-use Rattle.std.proofs.lemmas.List.Elements.{Contains-get_or}
+use Rattle.std.specs.List.{Contains}
+use Rattle.std.proofs.lemmas.List.Elements.{Contains-append_left, Contains-get_or}
 use Rattle.rdf_model.specs.declared.term.Term.{Term}
 use Rattle.rdf_model.specs.declared.ids.Ids.{Ids}
 use Rattle.rdf_model.specs.declared.look.Look.{Look}
@@ -16,6 +17,7 @@ use Rattle.shape_model.proofs.NodeLooks.{reads_law}
 use Rattle.component_rows.specs.Nodes.{AreNodes}
 use Rattle.component_rows.proofs.Collecting.{mapped_from, mapped_to}
 use Rattle.path_eval.specs.Naming.{AddsLooks}
+use Rattle.collections.specs.Listings.{Keeps}
 use Rattle.path_eval.proofs.Footprints.{looks_none, looks_one, looks_same, next_looks, none_before}
 use Rattle.shape_ast.specs.declared.shape.Shape.{Shape}
 use Rattle.shape_ast.specs.Readings.{named_shapes, read_shape}
@@ -28,6 +30,10 @@ use Rattle.shape_eval.proofs.Lookups.{at_place, named_place, one_at}
 pub always : {X Y : Type 0} → (r : Result X Y) (P : X → Type 0) → ((x : X) → P x) → IfOk r P
 always (Ok x) P all = all x
 always (Err y) P all = tt
+
+-- what was there is there beside one look more
+pub kept_added : (old new : List (Look ℕ)) (look : Look ℕ) → new ≡ old ++ look ∷ [] → Keeps old new
+kept_added old new look is l h = subst (λ (ls : List (Look ℕ)). Contains ls l) (sym is) (Contains-append_left old (look ∷ []) l h)
 
 module _ (terms : List Term) {X : Type 0} (Reads : X → Look Term → Type 0) where
   -- no item has looks

@@ -5,7 +5,7 @@ use Rattle.rdf_model.specs.declared.triple.Triple.{Triple}
 use Rattle.rdf_model.specs.declared.ids.Ids.{Ids}
 use Rattle.shape_model.specs.declared.result_row.ResultRow.{ResultRow}
 use Rattle.shape_model.specs.Components.{Finding, RowsOf}
-use Rattle.component_rows.specs.Listed.{Collects, at_nodes, with_list}
+use Rattle.component_rows.specs.Listed.{Lists, at_nodes, with_list}
 use Rattle.component_rows.specs.Nodes.{HasNode}
 use Rattle.shape_ast.specs.declared.component.ListComponent.{ListComponent}
 use Rattle.shape_ast.specs.declared.component.ListComponent.TheVariants as by_list
@@ -14,6 +14,6 @@ use Rattle.shape_eval.specs.Around.{around}
 
 -- a component of a list asks for no more than the value nodes
 pub list_around : (terms : List Term) (ids : List Ids) (s : List Triple) (n : ℕ) (values : List ℕ) (f : ℕ) (k : ListComponent) (ms : List Term) (q : Term) (row : Finding → ResultRow) (rows : List ResultRow)
-    → Collects (RowsOf (list_component k) (at_nodes (HasNode terms values)) (with_list ms) q row) rows → Collects (RowsOf (list_component k) (around terms ids s n values f) (with_list ms) q row) rows
+    → Lists (RowsOf (list_component k) (at_nodes (HasNode terms values)) (with_list ms) q row) rows → Lists (RowsOf (list_component k) (around terms ids s n values f) (with_list ms) q row) rows
 list_around terms ids s n values f by_list.LanguageIn ms q row rows h = h
 list_around terms ids s n values f by_list.In ms q row rows h = h

@@ -1,33 +1,14 @@
-ghost use Rattle.std.specs.Prelude.{◌≡◌, ◌<◌, ◌⊎◌, ◌↔◌, IfOk, IsTrue, OnOk, Some, length};
+ghost use Rattle.std.specs.Prelude.{◌≡◌, ◌<◌, ◌⊎◌, ◌↔◌, IfOk, OnOk, Some, length};
 ghost use Rattle.std.specs.List.{All, Contains};
 ghost use Rattle.std.specs.Ordering.{nat_cmp};
 ghost use Rattle.collections.specs.Listings.{IsListing};
-ghost use Rattle.shape_model.specs.Vocabulary.{true_literal};
 ghost use Rattle.compiled_paths.specs.declared.path.Path.{Predicate};
 ghost use Rattle.shape_eval.specs.Predicates.{IsPathAtSome};
 
 use collections::sorted_once;
 use compiled_paths::Path;
-use rdf_model::Term;
 use shape_ast::Shape;
 use std::alloc::{AllocError, Global};
-
-const BOOLEAN: &str = "http://www.w3.org/2001/XMLSchema#boolean";
-
-/// Whether the term is `true`.
-#[tactic(auto, unfolding(shape_model::specs::Vocabulary::true_literal))]
-pub(crate) fn is_true(term: &Term) -> bool
-    ensures { IsTrue result ↔ (term.now ≡ true_literal) }
-{
-    match term {
-        Term::Literal {
-            lexical,
-            datatype,
-            language: None,
-        } => lexical.as_str() == "true" && datatype.as_str() == BOOLEAN,
-        _ => false,
-    }
-}
 
 // Adds the predicate that is the path, if it is one.
 fn add_predicate(found: &mut Vec<u32>, path: &Option<Path<u32>>) -> Result<(), AllocError>

@@ -5,6 +5,7 @@ ghost use Rattle.component_rows.specs.Answers.{AreAnswersTo};
 ghost use Rattle.component_rows.specs.Listed.{Collects};
 ghost use Rattle.component_rows.specs.Nodes.{AreNodes};
 ghost use Rattle.path_eval.specs.Instances.{AreClassWords};
+ghost use Rattle.collections.specs.Listings.{Keeps};
 ghost use Rattle.shape_ast.specs.Readings.{AreBound, named_shapes};
 ghost use Rattle.shape_ast.specs.Standing.{AreBuilt, StandFor};
 ghost use Rattle.shape_eval.specs.Around.{around};
@@ -50,6 +51,7 @@ fn answers_at<R: Triples, N: Names>(
     ensures told { IfOk result (λ answers. AtPlace (N.terms names.now) shapes.now place
         (λ s c. AreAnswersTo (ConformsAt (graph_of (N.terms names.now) (R.triples graph.now)) s levels c.node) (N.terms names.now) values.now answers.items)) }
     ensures looks { OnOk result (AddsAtEach (N.terms names.now) (R.triples graph.now) shapes.now levels place values.now footprint.old footprint.new) }
+    ensures kept { Keeps footprint.old footprint.new }
 {
     let mut answers = Vec::with_capacity(alloc, values.len())?;
     for value in values {
@@ -85,6 +87,7 @@ fn told_of_each<R: Triples, N: Names>(
     ensures right { IfOk result (λ told. (s : _) → StandFor (named_shapes (N.terms names.now) shapes.now) s
         → AreRight (N.terms names.now) (R.triples graph.now) s levels shapes.now values.now told.items (Contains places.now)) }
     ensures looks { OnOk result (AddsAtPlaces (N.terms names.now) (R.triples graph.now) shapes.now levels places.now values.now footprint.old footprint.new) }
+    ensures kept { Keeps footprint.old footprint.new }
 {
     let mut told = Vec::with_capacity(alloc, places.len())?;
     for place in places {
@@ -121,6 +124,7 @@ fn rows_at_each<R: Triples, N: Names>(
     requires nodes { AreNodes (N.terms names.now) values.now }
     ensures rows { IfOk result (λ rows. CollectsAtEach (N.terms names.now) (R.triples graph.now) shapes.now levels place values.now rows.items) }
     ensures looks { OnOk result (AddsAtEach (N.terms names.now) (R.triples graph.now) shapes.now levels place values.now footprint.old footprint.new) }
+    ensures kept { Keeps footprint.old footprint.new }
 {
     let mut rows = Vec::with_capacity(alloc, values.len())?;
     for value in values {
@@ -155,6 +159,7 @@ fn property_rows<R: Triples, N: Names>(
     ensures rows { IfOk result (λ rows. (s : _) (f : _) → StandFor (named_shapes (N.terms names.now) shapes.now) s
         → Collects (FromSome places.now (PropertyAt (around (N.terms names.now) (R.triples graph.now) s levels values.now f) (named_shapes (N.terms names.now) shapes.now))) rows.items) }
     ensures looks { OnOk result (AddsAtPlaces (N.terms names.now) (R.triples graph.now) shapes.now levels places.now values.now footprint.old footprint.new) }
+    ensures kept { Keeps footprint.old footprint.new }
 {
     let mut rows = Vec::new(alloc);
     for place in places {
@@ -188,6 +193,7 @@ fn rows_at<R: Triples, N: Names>(
     requires focus { focus < length (N.terms names.now) }
     ensures rows { IfOk result (λ rows. CollectsAt (N.terms names.now) (R.triples graph.now) shapes.now levels place focus rows.items) }
     ensures looks { OnOk result (AddsAt (N.terms names.now) (R.triples graph.now) shapes.now levels place focus footprint.old footprint.new) }
+    ensures kept { Keeps footprint.old footprint.new }
 {
     let shape = &shapes[place];
     if levels == 0 || shape.is_deactivated {
@@ -221,7 +227,7 @@ fn most_levels() -> usize
 /// The results of a shape, by its place among the compiled shapes, at a focus node (SHACL section 3.4): each once, in the
 /// order of results. They are those of each shapes graph that the shapes stand for, where no shape refers to itself and
 /// no chain of references is longer than 256. The footprint takes exactly the looks of the shape at the focus node, without
-/// those of its targets, likewise. The permit is used up.
+/// those of its targets, likewise; it keeps what it had, also where memory runs out. The permit is used up.
 pub fn eval<R: Triples, N: Names>(
     alloc: Global,
     graph: &R,
@@ -242,6 +248,7 @@ pub fn eval<R: Triples, N: Names>(
     requires focus { focus < length (N.terms names.now) }
     ensures rows { IfOk result (λ rows. ListsResults (N.terms names.now) (R.triples graph.now) bound.now.shapes shape focus rows.items) }
     ensures looks { OnOk result (AddsShapeLooks (N.terms names.now) (R.triples graph.now) bound.now.shapes shape focus footprint.old footprint.new) }
+    ensures kept { Keeps footprint.old footprint.new }
 {
     allowed.spend();
     let shapes = bound.shapes.as_slice();

@@ -8,11 +8,11 @@ ghost use Rattle.component_rows.specs.Answers.{AreAnswersTo};
 ghost use Rattle.component_rows.specs.Nodes.{AreNodes, HasNode};
 ghost use Rattle.path_eval.specs.Instances.{AreClassWords};
 ghost use Rattle.path_eval.specs.Naming.{AddsLooks};
+ghost use Rattle.collections.specs.Listings.{Keeps};
 ghost use Rattle.shape_ast.specs.Components.{term_component};
 ghost use Rattle.shape_eval.specs.Looks.{AreInstanceAnswers, ComponentReads, ReadsAtEach};
 
-use crate::closing::is_true;
-use component_rows::named;
+use component_rows::{is_true, named};
 use path_eval::{ClassWords, is_instance};
 use rdf_model::{Footprint, Look, Names, Triples};
 use shape_ast::TermComponent;
@@ -32,6 +32,7 @@ fn instance_answers<R: Triples>(
         → AreAnswersTo (λ v. Instance (graph_of terms (R.triples graph.now)) v (term_at terms class)) terms nodes.now answers.items) }
     ensures looks { OnOk result ((terms : _) → IsNumbering terms → AreNumbered terms (R.triples graph.now) → AreClassWords terms words → AreNodes terms nodes.now
         → AddsLooks terms (ReadsAtEach terms nodes.now (PathReads (graph_of terms (R.triples graph.now)) false class_path)) footprint.old footprint.new) }
+    ensures kept { Keeps footprint.old footprint.new }
 {
     let mut answers = Vec::with_capacity(alloc, nodes.len())?;
     for node in nodes {
@@ -42,7 +43,8 @@ fn instance_answers<R: Triples>(
 
 // Adds the look at all triples of each node.
 fn add_subjects(nodes: &[u32], footprint: &mut Footprint) -> Result<(), AllocError>
-    ensures { OnOk result ((terms : _) → IsNumbering terms → AreNodes terms nodes.now → AddsLooks terms (ReadsAtEach terms nodes.now (λ v look. look ≡ OutAny v)) footprint.old footprint.new) }
+    ensures looks { OnOk result ((terms : _) → IsNumbering terms → AreNodes terms nodes.now → AddsLooks terms (ReadsAtEach terms nodes.now (λ v look. look ≡ OutAny v)) footprint.old footprint.new) }
+    ensures kept { Keeps footprint.old footprint.new }
 {
     for node in nodes {
         footprint.add(Look::OutAny(*node))?;
@@ -60,7 +62,8 @@ fn add_closed<N: Names>(
     requires numbering { IsNumbering (N.terms names.now) }
     requires nodes { AreNodes (N.terms names.now) values.now }
     requires parameter { parameter < length (N.terms names.now) }
-    ensures { OnOk result ((g : _) (f : _) → AddsLooks (N.terms names.now) (ComponentReads g (HasNode (N.terms names.now) values.now) f components.Closed (term_at (N.terms names.now) parameter)) footprint.old footprint.new) }
+    ensures looks { OnOk result ((g : _) (f : _) → AddsLooks (N.terms names.now) (ComponentReads g (HasNode (N.terms names.now) values.now) f components.Closed (term_at (N.terms names.now) parameter)) footprint.old footprint.new) }
+    ensures kept { Keeps footprint.old footprint.new }
 {
     if !is_true(named(names, parameter)) {
         return Ok(());
@@ -92,6 +95,7 @@ pub(crate) fn component_looks<R: Triples, N: Names>(
         (term_at (N.terms names.now) focus) (term_component component) (term_at (N.terms names.now) parameter)) footprint.old footprint.new) }
     ensures instances { IfOk result (λ answers. AreInstanceAnswers (graph_of (N.terms names.now) (R.triples graph.now)) (term_component component)
         (term_at (N.terms names.now) parameter) (N.terms names.now) values.now answers.items) }
+    ensures kept { Keeps footprint.old footprint.new }
 {
     match component {
         TermComponent::Class => instance_answers(alloc, graph, words, parameter, values, footprint),

@@ -5,6 +5,7 @@ ghost use Rattle.component_rows.specs.Listed.{Collects};
 ghost use Rattle.component_rows.specs.Nodes.{AreNodes, HasNode};
 ghost use Rattle.path_eval.specs.Instances.{AreClassWords};
 ghost use Rattle.path_eval.specs.Naming.{AddsLooks};
+ghost use Rattle.collections.specs.Listings.{Keeps};
 ghost use Rattle.shape_ast.specs.Readings.{AreBound, HoldsOfConstraint, HoldsOfShape, named_shapes, read_constraint, read_shape};
 ghost use Rattle.shape_ast.specs.Standing.{IsBuilt, IsLinked};
 ghost use Rattle.shape_eval.specs.Around.{around};
@@ -17,7 +18,7 @@ use crate::by_shape::{shape_rows, shapes_rows};
 use crate::by_term::term_rows;
 use crate::looks::component_looks;
 use crate::told::Told;
-use component_rows::named;
+use component_rows::{Site, named};
 use path_eval::ClassWords;
 use rdf_model::{Footprint, Names, Triples};
 use shape_ast::{Constraint, Shape};
@@ -54,6 +55,7 @@ fn constraint_rows<R: Triples, N: Names>(
         (read_shape (term_at (N.terms names.now)) shape.now) (term_at (N.terms names.now) focus) (read_constraint (term_at (N.terms names.now)) constraint.now)) rows.items)) }
     ensures looks { OnOk result (AddsLooks (N.terms names.now) (ConstraintReads (graph_of (N.terms names.now) (R.triples graph.now)) (HasNode (N.terms names.now) values.now)
         (term_at (N.terms names.now) focus) (read_constraint (term_at (N.terms names.now)) constraint.now)) footprint.old footprint.new) }
+    ensures kept { Keeps footprint.old footprint.new }
 {
     let source = named(names, shape.node);
     match constraint {
@@ -64,48 +66,33 @@ fn constraint_rows<R: Triples, N: Names>(
             let instances = component_looks(
                 alloc, graph, names, words, *component, *parameter, focus, values, footprint,
             )?;
-            term_rows(
-                alloc, graph, names, shapes, shape, told, &instances, source, *component,
-                *parameter, focus, values,
-            )
+            let site = Site::new(alloc, names, source, *parameter, focus, values);
+            term_rows(graph, &site, shapes, shape, told, &instances, *component)
         }
         Constraint::ByList {
             component,
             parameter,
             members,
-        } => list_rows(
-            alloc,
-            names,
-            source,
-            *component,
-            *parameter,
-            members.as_slice(),
-            focus,
-            values,
-        ),
+        } => {
+            let site = Site::new(alloc, names, source, *parameter, focus, values);
+            list_rows(&site, *component, members.as_slice())
+        }
         Constraint::ByShape {
             component,
             parameter,
             shape: place,
-        } => shape_rows(
-            alloc, names, shapes, told, source, *component, *parameter, *place, focus, values,
-        ),
+        } => {
+            let site = Site::new(alloc, names, source, *parameter, focus, values);
+            shape_rows(&site, shapes, told, *component, *place)
+        }
         Constraint::ByShapes {
             component,
             parameter,
             shapes: places,
-        } => shapes_rows(
-            alloc,
-            names,
-            shapes,
-            told,
-            source,
-            *component,
-            *parameter,
-            places.as_slice(),
-            focus,
-            values,
-        ),
+        } => {
+            let site = Site::new(alloc, names, source, *parameter, focus, values);
+            shapes_rows(&site, shapes, told, *component, places.as_slice())
+        }
     }
 }
 
@@ -139,6 +126,7 @@ fn constraints_rows<R: Triples, N: Names>(
         (read_shape (term_at (N.terms names.now)) shape.now) (term_at (N.terms names.now) focus))) rows.items)) }
     ensures looks { OnOk result (AddsLooks (N.terms names.now) (ReadsOfSome (map (read_constraint (term_at (N.terms names.now))) constraints.now)
         (ConstraintReads (graph_of (N.terms names.now) (R.triples graph.now)) (HasNode (N.terms names.now) values.now) (term_at (N.terms names.now) focus))) footprint.old footprint.new) }
+    ensures kept { Keeps footprint.old footprint.new }
 {
     let mut rows = Vec::new(alloc);
     for constraint in constraints {
@@ -169,15 +157,10 @@ fn pattern_rows<N: Names>(
     let source = named(names, shape.node);
     match &shape.pattern {
         None => Ok(Vec::new(alloc)),
-        Some(built) => pattern(
-            alloc,
-            names,
-            source,
-            built.parameter,
-            &built.regex,
-            focus,
-            values,
-        ),
+        Some(built) => {
+            let site = Site::new(alloc, names, source, built.parameter, focus, values);
+            pattern(&site, &built.regex)
+        }
     }
 }
 
@@ -209,6 +192,7 @@ pub(crate) fn own_rows<R: Triples, N: Names>(
         (read_shape (term_at (N.terms names.now)) shape.now) (term_at (N.terms names.now) focus)) rows.items)) }
     ensures looks { OnOk result (AddsLooks (N.terms names.now) (ReadsOfSome (map (read_constraint (term_at (N.terms names.now))) shape.now.constraints)
         (ConstraintReads (graph_of (N.terms names.now) (R.triples graph.now)) (HasNode (N.terms names.now) values.now) (term_at (N.terms names.now) focus))) footprint.old footprint.new) }
+    ensures kept { Keeps footprint.old footprint.new }
 {
     let constraints = shape.constraints.as_slice();
     let mut rows = constraints_rows(

@@ -1,6 +1,6 @@
 ghost use Rattle.std.specs.Prelude.{◌≡◌, IfOk, OnOk};
 ghost use Rattle.std.specs.Ordering.{nat_cmp};
-ghost use Rattle.collections.specs.Listings.{IsListing};
+ghost use Rattle.collections.specs.Listings.{IsListing, Keeps};
 ghost use Rattle.rdf_model.specs.Numbers.{graph_of, term_at};
 ghost use Rattle.path_eval.specs.Naming.{AddsLooks};
 ghost use Rattle.shape_ast.specs.Readings.{read_optional_path};
@@ -24,6 +24,7 @@ pub(crate) fn value_nodes<R: Triples>(
     ensures values { IfOk result (λ values. AtNumbers (R.triples graph.now) path.now focus (λ terms. AreValueNodes terms (R.triples graph.now) path.now focus values.items)) }
     ensures looks { OnOk result (AtNumbers (R.triples graph.now) path.now focus (λ terms. AddsLooks terms
         (OptionalReads (graph_of terms (R.triples graph.now)) (read_optional_path (term_at terms) path.now) (term_at terms focus)) footprint.old footprint.new)) }
+    ensures kept { Keeps footprint.old footprint.new }
 {
     match path {
         None => alone(alloc, focus),

@@ -2,16 +2,16 @@ ghost use Rattle.std.specs.Prelude.{◌≡◌, ◌<◌, IfOk, length, map, optio
 ghost use Rattle.std.specs.List.{Contains, list_any};
 ghost use Rattle.rdf_model.specs.Numbers.{term_at};
 ghost use Rattle.shape_model.specs.declared.component.Component.TheVariants as components;
-ghost use Rattle.component_rows.specs.Listed.{ListsRows, at_nodes, with_list};
-ghost use Rattle.component_rows.specs.Nodes.{AreNodes, HasNode};
+ghost use Rattle.component_rows.specs.Listed.{with_list};
+ghost use Rattle.component_rows.specs.Sites.{ListsAt, at_values};
 ghost use Rattle.string_constraints.specs.Languages.{is_in_range, tag_of};
 
-use component_rows::{ValueTest, failing, named};
+use component_rows::{Site, ValueTest, failing};
 use literal_order::lang_matches;
 use rdf_model::{Names, Term};
 use rdf_text::Text;
 use shape_model::{Component, ResultRow};
-use std::alloc::{AllocError, Global};
+use std::alloc::AllocError;
 
 // The language tag of a literal that has one.
 pub(crate) fn tag(term: &Term) -> Option<&Text>
@@ -64,17 +64,13 @@ impl ValueTest for InLanguages<'_> {
 }
 
 // The terms of some numbers.
-fn terms_of<'a, N: Names>(
-    alloc: Global,
-    names: &'a N,
-    numbers: &[u32],
-) -> Result<Vec<&'a Term>, AllocError>
-    requires { (n : _) → Contains numbers.now n → n < length (N.terms names.now) }
-    ensures { IfOk result (λ terms. map (λ t. t.now) terms.items ≡ map (term_at (N.terms names.now)) numbers.now) }
+fn terms_of<'a, N: Names>(site: &Site<'a, N>, numbers: &[u32]) -> Result<Vec<&'a Term>, AllocError>
+    requires { (n : _) → Contains numbers.now n → n < length site.now.terms }
+    ensures { IfOk result (λ terms. map (λ t. t.now) terms.items ≡ map (term_at site.now.terms) numbers.now) }
 {
-    let mut terms = Vec::with_capacity(alloc, numbers.len())?;
+    let mut terms = Vec::with_capacity(site.alloc(), numbers.len())?;
     for number in numbers {
-        terms.push(named(names, *number))?;
+        terms.push(site.named(*number))?;
     }
     Ok(terms)
 }
@@ -82,31 +78,13 @@ fn terms_of<'a, N: Names>(
 /// The results of sh:languageIn (SHACL section 4.4.4): one about each value node without a language tag that
 /// some member of the list matches. The parameter is the head of the list.
 pub fn language_in<N: Names>(
-    alloc: Global,
-    names: &N,
-    source: &Term,
-    parameter: u32,
+    site: &Site<'_, N>,
     members: &[u32],
-    focus: u32,
-    values: &[u32],
 ) -> Result<Vec<ResultRow>, AllocError>
-    requires nodes { AreNodes (N.terms names.now) values.now }
-    requires members { (n : _) → Contains members.now n → n < length (N.terms names.now) }
-    requires parameter { parameter < length (N.terms names.now) }
-    requires focus { focus < length (N.terms names.now) }
-    ensures { IfOk result (λ rows. ListsRows components.LanguageIn (at_nodes (HasNode (N.terms names.now) values.now)) (with_list (map (term_at (N.terms names.now)) members.now))
-        source.now (term_at (N.terms names.now) focus) (term_at (N.terms names.now) parameter) rows.items) }
+    requires { (n : _) → Contains members.now n → n < length site.now.terms }
+    ensures { IfOk result (λ rows. ListsAt components.LanguageIn (at_values site.now) (with_list (map (term_at site.now.terms) members.now)) site.now rows.items) }
 {
-    let ranges = terms_of(alloc, names, members)?;
+    let ranges = terms_of(site, members)?;
     let test = InLanguages { ranges: &ranges };
-    failing(
-        alloc,
-        names,
-        source,
-        Component::LanguageIn,
-        parameter,
-        focus,
-        values,
-        &test,
-    )
+    failing(site, Component::LanguageIn, &test)
 }

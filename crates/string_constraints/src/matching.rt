@@ -1,19 +1,18 @@
-ghost use Rattle.std.specs.Prelude.{◌≡◌, ◌<◌, ◌↔◌, IfOk, IsTrue, is_some, length};
-ghost use Rattle.rdf_model.specs.Numbers.{IsNumbering, term_at};
+ghost use Rattle.std.specs.Prelude.{◌≡◌, ◌↔◌, IfOk, IsTrue, is_some, length};
+ghost use Rattle.rdf_model.specs.Numbers.{term_at};
 ghost use Rattle.regex.specs.Patterns.{SameCaptures, find_str};
 ghost use Rattle.regex.specs.Strings.{matcher_pattern, regex_pattern};
 ghost use Rattle.shape_model.specs.declared.component.Component.TheVariants as components;
 ghost use Rattle.shape_model.specs.Patterns.{IsPatternOf};
 ghost use Rattle.component_rows.specs.Answers.{AreAnswersTo};
-ghost use Rattle.component_rows.specs.Listed.{ListsRows, at_nodes};
-ghost use Rattle.component_rows.specs.Nodes.{AreNodes, HasNode};
+ghost use Rattle.component_rows.specs.Sites.{ListsAt, at_values};
 ghost use Rattle.string_constraints.specs.Matches.{IsFoundIn, with_flags};
 
-use component_rows::{named, refused};
+use component_rows::{Site, refused};
 use rdf_model::{Names, Term};
 use regex::{Matcher, Regex};
 use shape_model::{Component, ResultRow};
-use std::alloc::{AllocError, Global};
+use std::alloc::AllocError;
 
 // Whether the pattern matches some part of the text; so does each that captures the same.
 fn is_match(matcher: &mut Matcher<'_>, text: &str) -> bool
@@ -35,51 +34,26 @@ fn is_found_in(matcher: &mut Matcher<'_>, value: &Term) -> bool
 }
 
 // Whether the pattern matches the text of each value node.
-fn are_found<N: Names>(
-    alloc: Global,
-    names: &N,
-    regex: &Regex,
-    values: &[u32],
-) -> Result<Vec<bool>, AllocError>
-    requires nodes { AreNodes (N.terms names.now) values.now }
-    ensures as_many { IfOk result (λ answers. length answers.items ≡ length values.now) }
-    ensures told { IfOk result (λ answers. (re : _) → SameCaptures (regex_pattern regex.now) re → AreAnswersTo (IsFoundIn re) (N.terms names.now) values.now answers.items) }
+fn are_found<N: Names>(site: &Site<'_, N>, regex: &Regex) -> Result<Vec<bool>, AllocError>
+    ensures as_many { IfOk result (λ answers. length answers.items ≡ length site.now.values) }
+    ensures told { IfOk result (λ answers. (re : _) → SameCaptures (regex_pattern regex.now) re → AreAnswersTo (IsFoundIn re) site.now.terms site.now.values answers.items) }
 {
+    site.recall();
+    let (alloc, values) = (site.alloc(), site.values());
     let mut matcher = regex.matcher(alloc)?;
     let mut answers = Vec::with_capacity(alloc, values.len())?;
     for value in values {
-        answers.push(is_found_in(&mut matcher, named(names, *value)))?;
+        answers.push(is_found_in(&mut matcher, site.named(*value)))?;
     }
     Ok(answers)
 }
 
 /// The results of sh:pattern (SHACL section 4.4.3): one about each value node that is blank, or whose text the
 /// pattern doesn't match. The regex is what was built of the parameter's text under the shape's flags.
-pub fn pattern<N: Names>(
-    alloc: Global,
-    names: &N,
-    source: &Term,
-    parameter: u32,
-    regex: &Regex,
-    focus: u32,
-    values: &[u32],
-) -> Result<Vec<ResultRow>, AllocError>
-    requires numbering { IsNumbering (N.terms names.now) }
-    requires nodes { AreNodes (N.terms names.now) values.now }
-    requires parameter { parameter < length (N.terms names.now) }
-    requires focus { focus < length (N.terms names.now) }
-    ensures { (flags : _) → IsPatternOf (term_at (N.terms names.now) parameter) flags regex.now → IfOk result (λ rows. ListsRows components.Pattern (at_nodes (HasNode (N.terms names.now) values.now)) (with_flags flags)
-        source.now (term_at (N.terms names.now) focus) (term_at (N.terms names.now) parameter) rows.items) }
+pub fn pattern<N: Names>(site: &Site<'_, N>, regex: &Regex) -> Result<Vec<ResultRow>, AllocError>
+    ensures { (flags : _) → IsPatternOf (term_at site.now.terms site.now.parameter) flags regex.now
+        → IfOk result (λ rows. ListsAt components.Pattern (at_values site.now) (with_flags flags) site.now rows.items) }
 {
-    let answers = are_found(alloc, names, regex, values)?;
-    refused(
-        alloc,
-        names,
-        source,
-        Component::Pattern,
-        parameter,
-        focus,
-        values,
-        &answers,
-    )
+    let answers = are_found(site, regex)?;
+    refused(site, Component::Pattern, &answers)
 }

@@ -1,16 +1,14 @@
-ghost use Rattle.std.specs.Prelude.{◌≡◌, ◌<◌, ◌↔◌, IfOk, IsTrue, OnOk, Some, length};
+ghost use Rattle.std.specs.Prelude.{◌≡◌, ◌↔◌, IfOk, IsTrue, OnOk, Some};
 ghost use Rattle.std.specs.List.{Contains};
-ghost use Rattle.rdf_model.specs.Numbers.{IsNumbering, term_at};
-ghost use Rattle.shape_model.specs.Components.{row_of};
-ghost use Rattle.shape_model.specs.TermTests.{HasTag};
 ghost use Rattle.shape_model.specs.Vocabulary as vocabulary;
 ghost use Rattle.shape_model.specs.declared.component.Component.TheVariants as components;
-ghost use Rattle.component_rows.specs.Listed.{Collects, ListsRows, at_nodes, untold};
-ghost use Rattle.component_rows.specs.Nodes.{AreNodes, HasNode};
+ghost use Rattle.component_rows.specs.Listed.{Lists, untold};
+ghost use Rattle.component_rows.specs.Sites.{ListsAt, at_values, site_row};
 ghost use Rattle.string_constraints.specs.Languages.{Adds, AreShared, Notes, found_for, tag_of};
 
 use crate::language::tag;
-use component_rows::{named, row_alone};
+use collections::sorted_once;
+use component_rows::{Site, is_true, row_alone};
 use rdf_model::{Names, Term};
 use rdf_text::Text;
 use shape_model::{Component, ResultRow};
@@ -65,19 +63,15 @@ fn note_term(
 }
 
 // The tags that two of the value nodes have.
-fn shared_tags<N: Names>(
-    alloc: Global,
-    names: &N,
-    values: &[u32],
-) -> Result<BTreeSet<Text>, AllocError>
-    requires numbering { IsNumbering (N.terms names.now) }
-    requires nodes { AreNodes (N.terms names.now) values.now }
-    ensures { IfOk result (λ tags. AreShared (N.terms names.now) values.now tags.keys) }
+fn shared_tags<N: Names>(site: &Site<'_, N>) -> Result<BTreeSet<Text>, AllocError>
+    ensures { IfOk result (λ tags. AreShared site.now.terms site.now.values tags.keys) }
 {
+    site.recall();
+    let (alloc, values) = (site.alloc(), site.values());
     let mut seen = BTreeSet::new(alloc);
     let mut shared = BTreeSet::new(alloc);
     for value in values {
-        note_term(&mut seen, &mut shared, named(names, *value))?;
+        note_term(&mut seen, &mut shared, site.named(*value))?;
     }
     Ok(shared)
 }
@@ -95,63 +89,37 @@ fn tag_literal(alloc: Global, tag: Text) -> Result<Term, AllocError>
 }
 
 // The result of a tag that value nodes share.
-fn row_for<N: Names>(
-    alloc: Global,
-    names: &N,
-    source: &Term,
-    parameter: u32,
-    focus: u32,
-    tag: Text,
-) -> Result<ResultRow, AllocError>
-    requires parameter { parameter < length (N.terms names.now) }
-    requires focus { focus < length (N.terms names.now) }
-    ensures { IfOk result (λ row. row ≡ row_of components.UniqueLang source.now (term_at (N.terms names.now) focus) (term_at (N.terms names.now) parameter) (found_for tag)) }
+fn row_for<N: Names>(site: &Site<'_, N>, tag: Text) -> Result<ResultRow, AllocError>
+    ensures { IfOk result (λ row. row ≡ site_row components.UniqueLang site.now (found_for tag)) }
 {
-    let mut row = row_alone(names, source, Component::UniqueLang, parameter, focus)?;
-    row.other = Some(tag_literal(alloc, tag)?);
+    let mut row = row_alone(site, Component::UniqueLang)?;
+    row.other = Some(tag_literal(site.alloc(), tag)?);
     Ok(row)
 }
 
 // One result for each of the tags.
 fn rows_for<N: Names>(
-    alloc: Global,
-    names: &N,
-    source: &Term,
-    parameter: u32,
-    focus: u32,
+    site: &Site<'_, N>,
     tags: BTreeSet<Text>,
 ) -> Result<Vec<ResultRow>, AllocError>
-    requires parameter { parameter < length (N.terms names.now) }
-    requires focus { focus < length (N.terms names.now) }
-    ensures { IfOk result (λ rows. Collects (λ r. (t : _) × Contains tags.keys t
-        × (r ≡ row_of components.UniqueLang source.now (term_at (N.terms names.now) focus) (term_at (N.terms names.now) parameter) (found_for t))) rows.items) }
+    ensures { IfOk result (λ rows. Lists (λ r. (t : _) × Contains tags.keys t × (r ≡ site_row components.UniqueLang site.now (found_for t))) rows.items) }
 {
     let mut rest = tags;
-    let mut rows = Vec::new(alloc);
+    let mut rows = Vec::new(site.alloc());
     while let Some(tag) = rest.pop_first() {
-        rows.push(row_for(alloc, names, source, parameter, focus, tag)?)?;
+        rows.push(row_for(site, tag)?)?;
     }
-    Ok(rows)
+    Ok(sorted_once(rows)?)
 }
 
-/// The results of sh:uniqueLang (SHACL section 4.4.5), where its value is true: one for each language tag that two
-/// value nodes have, in the order of the tags.
-pub fn unique_lang<N: Names>(
-    alloc: Global,
-    names: &N,
-    source: &Term,
-    parameter: u32,
-    focus: u32,
-    values: &[u32],
-) -> Result<Vec<ResultRow>, AllocError>
-    requires numbering { IsNumbering (N.terms names.now) }
-    requires nodes { AreNodes (N.terms names.now) values.now }
-    requires parameter { parameter < length (N.terms names.now) }
-    requires is_true { term_at (N.terms names.now) parameter ≡ vocabulary.true_literal }
-    requires focus { focus < length (N.terms names.now) }
-    ensures { IfOk result (λ rows. ListsRows components.UniqueLang (at_nodes (HasNode (N.terms names.now) values.now)) untold
-        source.now (term_at (N.terms names.now) focus) (term_at (N.terms names.now) parameter) rows.items) }
+/// The results of sh:uniqueLang (SHACL section 4.4.5): where its value is `true`, one for each language tag that two
+/// value nodes have.
+pub fn unique_lang<N: Names>(site: &Site<'_, N>) -> Result<Vec<ResultRow>, AllocError>
+    ensures { IfOk result (λ rows. ListsAt components.UniqueLang (at_values site.now) untold site.now rows.items) }
 {
-    let tags = shared_tags(alloc, names, values)?;
-    rows_for(alloc, names, source, parameter, focus, tags)
+    if !is_true(site.parameter_term()) {
+        return Ok(Vec::new(site.alloc()));
+    }
+    let tags = shared_tags(site)?;
+    rows_for(site, tags)
 }

@@ -23,17 +23,17 @@ pub record AreMembers (terms : List Term) (P : Term → Type 0) (numbers : List 
   pub every : (t : Term) → P t → Contains (map (term_at terms) numbers) t
 
 -- the numbers of just the targets of the shape, each once, ascending; each target has a number
-pub record AreTargets (terms : List Term) (ids : List Ids) (targets : List (Target ℕ)) (shape : ℕ) (numbers : List ℕ) : Type 0 where
+pub record AreDeclaredTargets (terms : List Term) (ids : List Ids) (targets : List (Target ℕ)) (shape : ℕ) (numbers : List ℕ) : Type 0 where
   pub listed : IsListing nat_cmp (λ n. (n < length terms) × TargetOf (graph_of terms ids) (declared_reading terms targets) (term_at terms shape) (term_at terms n)) numbers
   pub every : (f : Term) → TargetOf (graph_of terms ids) (declared_reading terms targets) (term_at terms shape) f → Contains (map (term_at terms) numbers) f
 
 -- whether the node is one
-abbrev pub IsTargetAnswer : List Term → List Ids → List (Target ℕ) → ℕ → ℕ → Bool → Type 0
-IsTargetAnswer terms ids targets shape node answer = IsTrue answer ↔ TargetOf (graph_of terms ids) (declared_reading terms targets) (term_at terms shape) (term_at terms node)
+abbrev pub IsDeclaredAnswer : List Term → List Ids → List (Target ℕ) → ℕ → ℕ → Bool → Type 0
+IsDeclaredAnswer terms ids targets shape node answer = IsTrue answer ↔ TargetOf (graph_of terms ids) (declared_reading terms targets) (term_at terms shape) (term_at terms node)
 
 -- just the looks that decide it have been added
-abbrev pub AddsTargetLooks : List Term → List Ids → List (Target ℕ) → ℕ → List (Look ℕ) → List (Look ℕ) → Type 0
-AddsTargetLooks terms ids targets node old new = AddsLooks terms (IsLook (graph_of terms ids) (TargetLook (declared_reading terms targets)) (term_at terms node)) old new
+abbrev pub AddsDeclaredLooks : List Term → List Ids → List (Target ℕ) → ℕ → List (Look ℕ) → List (Look ℕ) → Type 0
+AddsDeclaredLooks terms ids targets node old new = AddsLooks terms (IsLook (graph_of terms ids) (TargetLook (declared_reading terms targets)) (term_at terms node)) old new
 
 -- the same by one declaration, and by any of several
 pub record IsDecidedBy (terms : List Term) (ids : List Ids) (target : Target ℕ) (shape node : ℕ) (answer : Bool) (old new : List (Look ℕ)) : Type 0 where

@@ -3,7 +3,7 @@ ghost use Rattle.std.specs.List.{Contains};
 ghost use Rattle.rdf_model.specs.Numbers.{graph_of, term_at};
 ghost use Rattle.path_eval.specs.Instances.{AreInstances, Classed};
 ghost use Rattle.target_nodes.specs.Declarations.{IsTargetBy, IsTargetBySome};
-ghost use Rattle.target_nodes.specs.TargetNumbers.{AreMembers, AreTargets, ByOne, Declared};
+ghost use Rattle.target_nodes.specs.TargetNumbers.{AreMembers, AreDeclaredTargets, ByOne, Declared};
 
 use collections::sorted_once;
 use path_eval::{ClassWords, class_instances};
@@ -101,14 +101,14 @@ fn all_targets<R: Triples>(
 
 /// The targets of a shape with these declarations, each once, ascending by number (SHACL section
 /// 2.1.3). `shape` is the number of the shape's own node.
-pub fn targets<R: Triples>(
+pub(crate) fn declared_targets<R: Triples>(
     alloc: Global,
     graph: &R,
     words: ClassWords,
     shape: u32,
     declared: &[Target<u32>],
 ) -> Result<Vec<u32>, AllocError>
-    ensures { IfOk result (λ found. Declared (R.triples graph.now) words declared.now shape (λ terms. AreTargets terms (R.triples graph.now) declared.now shape found.items)) }
+    ensures { IfOk result (λ found. Declared (R.triples graph.now) words declared.now shape (λ terms. AreDeclaredTargets terms (R.triples graph.now) declared.now shape found.items)) }
 {
     let found = all_targets(alloc, graph, words, shape, declared)?;
     Ok(sorted_once(found)?)

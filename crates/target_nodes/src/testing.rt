@@ -1,7 +1,8 @@
 ghost use Rattle.std.specs.Prelude.{◌≡◌, ◌↔◌, ◌<◌, ◌⊎◌, [], ◌∷◌, ◌++◌, IfOk, IsTrue, OnOk};
 ghost use Rattle.std.specs.List.{Contains};
 ghost use Rattle.rdf_model.specs.Numbers.{AsksForOne, IsFound};
-ghost use Rattle.target_nodes.specs.TargetNumbers.{AddsTargetLooks, AtNode, ByOne, Declared, IsDecidedBy, IsDecidedBySome, IsTargetAnswer};
+ghost use Rattle.collections.specs.Listings.{Keeps};
+ghost use Rattle.target_nodes.specs.TargetNumbers.{AddsDeclaredLooks, AtNode, ByOne, Declared, IsDecidedBy, IsDecidedBySome, IsDeclaredAnswer};
 
 use path_eval::{ClassWords, is_instance};
 use rdf_model::{Footprint, Look, Triples};
@@ -31,6 +32,7 @@ fn finds<R: Triples>(
     requires { AsksForOne look }
     ensures answer { IfOk result (λ answer. IsTrue answer ↔ ((n : _) × IsFound look (R.triples graph.now) n)) }
     ensures looks { OnOk result (footprint.new ≡ footprint.old ++ look ∷ []) }
+    ensures kept { Keeps footprint.old footprint.new }
 {
     let mut found = Vec::new(alloc);
     graph.add_found(&look, &mut found)?;
@@ -48,7 +50,8 @@ fn is_target_by<R: Triples>(
     node: u32,
     footprint: &mut Footprint,
 ) -> Result<bool, AllocError>
-    ensures { IfOk result (λ answer. ByOne (R.triples graph.now) words target.now shape (AtNode node (λ terms. IsDecidedBy terms (R.triples graph.now) target.now shape node answer footprint.old footprint.new))) }
+    ensures decided { IfOk result (λ answer. ByOne (R.triples graph.now) words target.now shape (AtNode node (λ terms. IsDecidedBy terms (R.triples graph.now) target.now shape node answer footprint.old footprint.new))) }
+    ensures kept { Keeps footprint.old footprint.new }
 {
     match target {
         Target::Node(other) => Ok(*other == node),
@@ -79,7 +82,8 @@ fn is_target_by_some<R: Triples>(
     node: u32,
     footprint: &mut Footprint,
 ) -> Result<bool, AllocError>
-    ensures { IfOk result (λ answer. Declared (R.triples graph.now) words declared.now shape (AtNode node (λ terms. IsDecidedBySome terms (R.triples graph.now) declared.now shape node answer footprint.old footprint.new))) }
+    ensures decided { IfOk result (λ answer. Declared (R.triples graph.now) words declared.now shape (AtNode node (λ terms. IsDecidedBySome terms (R.triples graph.now) declared.now shape node answer footprint.old footprint.new))) }
+    ensures kept { Keeps footprint.old footprint.new }
 {
     let mut answer = false;
     for target in declared {
@@ -90,8 +94,9 @@ fn is_target_by_some<R: Triples>(
 }
 
 /// Whether a node is a target of the shape with these declarations (SHACL section 2.1.3). `shape` is
-/// the number of the shape's own node. The looks that decide it are added to the footprint.
-pub fn is_target<R: Triples>(
+/// the number of the shape's own node. The looks that decide it are added to the footprint, which keeps what it had
+/// after an error too.
+pub(crate) fn is_declared_target<R: Triples>(
     alloc: Global,
     graph: &R,
     words: ClassWords,
@@ -100,8 +105,9 @@ pub fn is_target<R: Triples>(
     node: u32,
     footprint: &mut Footprint,
 ) -> Result<bool, AllocError>
-    ensures answer { IfOk result (λ answer. Declared (R.triples graph.now) words declared.now shape (AtNode node (λ terms. IsTargetAnswer terms (R.triples graph.now) declared.now shape node answer))) }
-    ensures looks { OnOk result (Declared (R.triples graph.now) words declared.now shape (AtNode node (λ terms. AddsTargetLooks terms (R.triples graph.now) declared.now node footprint.old footprint.new))) }
+    ensures answer { IfOk result (λ answer. Declared (R.triples graph.now) words declared.now shape (AtNode node (λ terms. IsDeclaredAnswer terms (R.triples graph.now) declared.now shape node answer))) }
+    ensures looks { OnOk result (Declared (R.triples graph.now) words declared.now shape (AtNode node (λ terms. AddsDeclaredLooks terms (R.triples graph.now) declared.now node footprint.old footprint.new))) }
+    ensures kept { Keeps footprint.old footprint.new }
 {
     Ok(is_target_by_some(alloc, graph, words, shape, declared, node, footprint)?)
 }

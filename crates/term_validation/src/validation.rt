@@ -1,4 +1,4 @@
-ghost use Rattle.std.specs.Prelude.{◌≡◌, ◌↔◌, [], IfOk, IsTrue, OnOk};
+ghost use Rattle.std.specs.Prelude.{◌≡◌, ◌≤◌, ◌↔◌, [], IfOk, IsTrue, OnOk};
 ghost use Rattle.rdf_model.specs.Numbers.{AreNumbered, IsNumbering, graph_of};
 ghost use Rattle.rdf_model.specs.declared.term.Term.{Term as TermData};
 ghost use Rattle.shape_model.specs.ShapeSyntax.{IsShape};
@@ -35,7 +35,7 @@ pub fn is_without_shapes(shapes: &ShapesGraph) -> bool
 /// The results of validating the data graph by the shapes graph (SHACL section 3.6), each once, in
 /// the order of results. The graph is given by the numbers of its terms; all terms of the shapes, rdf:type
 /// and rdfs:subClassOf are among the names. The evaluations are counted in `steps`: there are as many as there are pairs
-/// of a shape and its target. It fails only for want of memory.
+/// of a shape and its target. It fails only for want of memory, and then the count is what it was, or more.
 pub fn listing_over<R: Triples, N: Names, L: Ledger>(
     alloc: Global,
     graph: &R,
@@ -50,6 +50,7 @@ pub fn listing_over<R: Triples, N: Names, L: Ledger>(
     requires shapes { AreNamedTriples (N.terms names.now) shapes.now }
     ensures rows { IfOk result (λ rows. Listing (graph_of (N.terms names.now) (R.triples graph.now)) shapes.now rows.items) }
     ensures steps { OnOk result (GrowsByCount (IsTargetPair (graph_of (N.terms names.now) (R.triples graph.now)) shapes.now) steps.old steps.new) }
+    ensures counted { steps.old ≤ steps.new }
 {
     let bound = bind(alloc, shapes.shapes(), names)?;
     Ok(whole(alloc, graph, names, words, &bound, steps)?)
@@ -71,6 +72,7 @@ pub fn listing<N: Names, L: Ledger>(
     requires shapes { AreNamedTriples (N.terms names.now) shapes.now }
     ensures rows { IfOk result (λ rows. Listing graph.now shapes.now rows.items) }
     ensures steps { OnOk result (GrowsByCount (IsTargetPair graph.now shapes.now) steps.old steps.new) }
+    ensures counted { steps.old ≤ steps.new }
 {
     if is_without_shapes(shapes) {
         return Ok(Vec::new(alloc));

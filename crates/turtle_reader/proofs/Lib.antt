@@ -9,5 +9,8 @@ pub mod Sorting
 pub mod Characters
 pub mod Examples
 pub mod Repeats
+pub mod IriTexts
+pub mod Vocabulary
 pub mod Nodes
 pub mod NodesWithin
+pub mod ReadBack

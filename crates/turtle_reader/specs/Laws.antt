@@ -1,11 +1,13 @@
 -- What the productions say of their repetitions, and what a text gives.
-use Rattle.std.specs.Prelude.{◌≡◌, ℕ, ◌≤◌, ◌<◌, List, Ok, if◌then◌else◌}
+use Rattle.std.specs.Prelude.{◌≡◌, ℕ, ◌^◌, ◌≤◌, List, Ok, if◌then◌else◌}
 use Rattle.std.specs.List.{AllByRecursion}
 use Rattle.collections.specs.Ordered.{IsAscending}
 use Rattle.rdf_model.specs.declared.term.Term.{Term}
-use Rattle.rdf_model.specs.declared.term.Term.TheVariants.{Blank, Iri, Literal}
 use Rattle.rdf_model.specs.declared.triple.Triple.{Triple}
 use Rattle.rdf_model.specs.Terms.{triple_cmp}
+use Rattle.ntriples_text.specs.Document.{reads_named}
+use Rattle.ntriples_text.specs.Writing.{written}
+use Rattle.ntriples_text.specs.Laws.{IsReadable, IsWithin}
 use Rattle.turtle_reader.specs.declared.state.State.{State}
 use Rattle.turtle_reader.specs.Readings.{and_then, ◌>>=◌, give, many}
 use Rattle.turtle_reader.specs.Tokens.{is_comma, is_semicolon, is_close_parenthesis, may_begin_verb, next, is_next, is_other, is_unfinished, where_next}
@@ -37,30 +39,14 @@ RepeatsMembers = (text : List ℕ) (levels : ℕ) (node : Term) (s : State)
     → many text (is_other is_close_parenthesis) (next_member text (object text levels)) node s
     ≡ (if is_other is_close_parenthesis s then and_then (next_member text (object text levels) node s) (many text (is_other is_close_parenthesis) (next_member text (object text levels))) else Ok (node, s))
 
--- a blank node of the session, with a number from first up to below next; or no blank node
-abbrev pub IsWithin : ℕ → ℕ → ℕ → Term → Type 0
-IsWithin session first next (Blank s n) = (s ≡ session) × (first ≤ n) × (n < next)
-IsWithin session first next (Iri a) = Unit {0}
-IsWithin session first next (Literal lexical datatype language) = Unit {0}
+-- The triples of a text ascend, and each can be written and read again (as `IsReadable` of N-Triples says); its blank nodes
+-- are the session's, with numbers from first up to below next.
+abbrev pub GivesReadable : Type 0
+GivesReadable = (bytes : List ℕ) (session first next : ℕ) (triples : List Triple) → reads bytes session first ≡ Ok (triples, next)
+    → (first ≤ next) × AllByRecursion (IsReadable (IsWithin session first next)) triples × IsAscending triple_cmp triples
 
--- a subject is no literal, and a predicate is an IRI
-abbrev pub IsSubject : ℕ → ℕ → ℕ → Term → Type 0
-IsSubject session first next (Blank s n) = (s ≡ session) × (first ≤ n) × (n < next)
-IsSubject session first next (Iri a) = Unit {0}
-IsSubject session first next (Literal lexical datatype language) = ⊥
-
-abbrev pub IsPredicate : Term → Type 0
-IsPredicate (Blank s n) = ⊥
-IsPredicate (Iri a) = Unit {0}
-IsPredicate (Literal lexical datatype language) = ⊥
-
-pub record IsTripleWithin (session first next : ℕ) (t : Triple) : Type 0 where
-  pub subject : IsSubject session first next t.subject
-  pub predicate : IsPredicate t.predicate
-  pub object : IsWithin session first next t.object
-
--- What a text gives ascends and is RDF triples, whose blank nodes are the session's, with numbers from first up to below
--- next.
-abbrev pub GivesTriples : Type 0
-GivesTriples = (bytes : List ℕ) (session first next : ℕ) (triples : List Triple) → reads bytes session first ≡ Ok (triples, next)
-    → (first ≤ next) × AllByRecursion (IsTripleWithin session first next) triples × IsAscending triple_cmp triples
+-- What a text gives, written as N-Triples, is read again as the same triples, blank nodes included, by the labels of the
+-- store: those of sessions 1 to 64, with numbers of 32 bits from 1.
+abbrev pub ReadsBack : Type 0
+ReadsBack = (bytes : List ℕ) (session first next : ℕ) (triples : List Triple) → reads bytes session first ≡ Ok (triples, next)
+    → 1 ≤ session → session ≤ 64 → 1 ≤ first → next ≤ 2 ^ 32 → reads_named (written triples) ≡ Ok triples

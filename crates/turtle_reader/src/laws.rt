@@ -1,4 +1,4 @@
-ghost use Rattle.turtle_reader.specs.Laws.{RepeatsStatements, RepeatsObjects, RepeatsVerbs, RepeatsMembers, GivesTriples};
+ghost use Rattle.turtle_reader.specs.Laws.{RepeatsStatements, RepeatsObjects, RepeatsVerbs, RepeatsMembers, GivesReadable, ReadsBack};
 
 /// turtleDoc has statements as long as anything is left of the text.
 pub fn statements_repeat()
@@ -20,9 +20,16 @@ pub fn members_repeat()
     ensures { RepeatsMembers }
 {}
 
-/// What a text gives ascends and is RDF triples: no subject is a literal, and each predicate is an
-/// IRI. Their blank nodes are those of the session whose numbers are from the first free one up to
-/// below the next.
-pub fn read_gives_triples()
-    ensures { GivesTriples }
+/// What a text gives ascends, and can be written as N-Triples and read again: no subject is a
+/// literal, each predicate is an IRI, and all IRIs, literals and tags are such as a text can hold.
+/// Its blank nodes are those of the session whose numbers are from the first free one up to below
+/// the next.
+pub fn read_gives_readable()
+    ensures { GivesReadable }
+{}
+
+/// What a text gives, written as N-Triples, is read by the labels of the store as the same triples,
+/// blank nodes included.
+pub fn read_back_after_write()
+    ensures { ReadsBack }
 {}

@@ -1,7 +1,6 @@
 -- Results of triples that a closed shape doesn't allow, edge by edge and value node by value node.
-use Rattle.std.proofs.Common.{◌≡◌, ◌∙◌, ℕ, ◌<◌, ◌≤◌, List, [], ◌∷◌, ◌++◌, length, take, sym, ap, arith, subst, inl, inr}
+use Rattle.std.proofs.Common.{◌≡◌, ◌∙◌, ℕ, ◌<◌, List, [], ◌∷◌, ◌++◌, length, sym, ap, arith, subst, inl, inr}
 use Rattle.std.specs.List.{Contains}
-use Rattle.std.proofs.lemmas.List.{take_all}
 use Rattle.collections.specs.Listings.{IsListing}
 use Rattle.collections.specs.Pairs.{pair_cmp}
 use Rattle.collections.proofs.Members.{has_cases}
@@ -13,14 +12,10 @@ use Rattle.shape_model.specs.Vocabulary.{true_literal}
 use Rattle.shape_model.specs.declared.component.Component.TheVariants as components
 use Rattle.shape_model.specs.declared.result_row.ResultRow.{ResultRow}
 use Rattle.shape_model.specs.Components.{Finding, RowsOf}
-use Rattle.component_rows.specs.Listed.{Collects, found_with, with_allowed}
+use Rattle.component_rows.specs.Listed.{Collects, Lists, found_with, with_allowed}
 use Rattle.component_rows.specs.Nodes.{AreNodes, HasNode}
-use Rattle.component_rows.proofs.Collecting.{FromSome, collects_same, mapped_from, mapped_to}
-use Rattle.value_constraints.specs.Closing.{in_graph, ForbiddenEdge, ForbiddenAt}
-
--- the results of all edges of a value node
-abbrev pub ForbiddenOf : List Term → List Ids → (Finding → ResultRow) → List ℕ → ℕ → ResultRow → Type 0
-ForbiddenOf terms ids row allowed value r = (e : ℕ × ℕ) × IsEdge ids value e × ForbiddenEdge terms row allowed value e r
+use Rattle.component_rows.proofs.Collecting.{collects_same, lists_none, mapped_from, mapped_to}
+use Rattle.value_constraints.specs.Closing.{in_graph, ForbiddenEdge, ForbiddenAt, ForbiddenOf, ForbiddenOfSome}
 
 module _ (terms : List Term) (numbering : IsNumbering terms) (ids : List Ids) (numbered : AreNumbered terms ids) where
   all_in : (is : List Ids) → AreNumbered terms is → (i : Ids) → Contains is i → (i.subject < length terms) × (i.predicate < length terms) × (i.object < length terms)
@@ -57,7 +52,7 @@ module _ (terms : List Term) (numbering : IsNumbering terms) (ids : List Ids) (n
     abbrev ClosedRow : Term → ResultRow → Type 0
     ClosedRow q = RowsOf components.Closed (in_graph terms ids values) (with_allowed (HasNode terms allowed)) q row
 
-    from_numbers : (q : Term) → q ≡ true_literal → (r : ResultRow) → FromSome values (ForbiddenOf terms ids row allowed) r → ClosedRow q r
+    from_numbers : (q : Term) → q ≡ true_literal → (r : ResultRow) → ForbiddenOfSome terms ids row allowed values r → ClosedRow q r
     from_numbers q is r h =
         let n = h.0 in
         let edge = h.2.0 in
@@ -75,7 +70,7 @@ module _ (terms : List Term) (numbering : IsNumbering terms) (ids : List Ids) (n
           ),
         )
 
-    to_numbers : (q : Term) (r : ResultRow) → ClosedRow q r → FromSome values (ForbiddenOf terms ids row allowed) r
+    to_numbers : (q : Term) (r : ResultRow) → ClosedRow q r → ForbiddenOfSome terms ids row allowed values r
     to_numbers q r h =
         let t = h.1 in
         let n = mapped_from (term_at terms) values t.0 t.3 in
@@ -97,6 +92,9 @@ module _ (terms : List Term) (numbering : IsNumbering terms) (ids : List Ids) (n
           ),
         )
 
-    pub all_closed : (q : Term) → q ≡ true_literal → (i : ℕ) (rows : List ResultRow) → length values ≤ i → Collects (FromSome (take i values) (ForbiddenOf terms ids row allowed)) rows → Collects (ClosedRow q) rows
-    all_closed q is i rows le h = collects_same (FromSome values (ForbiddenOf terms ids row allowed)) (ClosedRow q) rows (λ r. (from_numbers q is r, to_numbers q r))
-        (subst (λ (ns : List ℕ). Collects (FromSome ns (ForbiddenOf terms ids row allowed)) rows) (take_all i values le) h)
+    pub all_closed : (q : Term) → q ≡ true_literal → (rows : List ResultRow) → Collects (ForbiddenOfSome terms ids row allowed values) rows → Collects (ClosedRow q) rows
+    all_closed q is rows = collects_same (ForbiddenOfSome terms ids row allowed values) (ClosedRow q) rows (λ r. (from_numbers q is r, to_numbers q r))
+
+    -- where the parameter isn't true there are none
+    pub none_closed : (q : Term) → (q ≡ true_literal → ⊥) → Lists (ClosedRow q) []
+    none_closed q not = lists_none (ClosedRow q) (λ r h. not h.0)

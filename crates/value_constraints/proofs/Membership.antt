@@ -11,9 +11,9 @@ use Rattle.shape_model.specs.declared.component.Component.TheVariants as compone
 use Rattle.shape_model.specs.declared.result_row.ResultRow.{ResultRow}
 use Rattle.shape_model.specs.Components.{Finding, RowsOf, ForEach, row_of, found_alone}
 use Rattle.shape_model.specs.Triples.{IsMember}
-use Rattle.component_rows.specs.Listed.{Collects, at_nodes, untold, with_list}
+use Rattle.component_rows.specs.Listed.{Lists, at_nodes, untold, with_list}
 use Rattle.component_rows.specs.Nodes.{AreNodes, HasNode, IsAnswered}
-use Rattle.component_rows.proofs.Collecting.{collects_none, collects_one, collects_same, mapped_from, mapped_to}
+use Rattle.component_rows.proofs.Collecting.{lists_none, lists_one, lists_same, mapped_from, mapped_to}
 use Rattle.component_rows.proofs.Answering.{place_in}
 use Rattle.value_constraints.specs.Answers.{AreAnswers}
 
@@ -28,11 +28,11 @@ module _ (terms : List Term) (numbering : IsNumbering terms) (values : List ℕ)
     abbrev pub HasValueRow : ResultRow → Type 0
     HasValueRow = RowsOf components.HasValue (at_nodes (HasNode terms values)) untold (term_at terms q) (row_of components.HasValue shape f (term_at terms q))
 
-    pub is_there : Contains values q → Collects HasValueRow []
-    is_there c = collects_none HasValueRow (λ r h. h.0 (mapped_to (term_at terms) values q c))
+    pub is_there : Contains values q → Lists HasValueRow []
+    is_there c = lists_none HasValueRow (λ r h. h.0 (mapped_to (term_at terms) values q c))
 
-    pub is_missing : (Contains values q → ⊥) → (row : ResultRow) → row ≡ row_of components.HasValue shape f (term_at terms q) found_alone → Collects HasValueRow (row ∷ [])
-    is_missing none row is = collects_one HasValueRow row (λ h. none (node_number q bound h), is) (λ r h. h.1 ∙ sym is)
+    pub is_missing : (Contains values q → ⊥) → (row : ResultRow) → row ≡ row_of components.HasValue shape f (term_at terms q) found_alone → Lists HasValueRow (row ∷ [])
+    is_missing none row is = lists_one HasValueRow row (λ h. none (node_number q bound h), is) (λ r h. h.1 ∙ sym is)
 
 -- a member is an element
 contained : (ms : List Term) (v : Term) → IsMember ms v → Contains ms v
@@ -96,9 +96,9 @@ module _ (terms : List Term) (numbering : IsNumbering terms) (values members : L
         yes = (are.each place.0 place.1).1 (subst (λ (j : ℕ). Contains members j) (same ∙ sym here) k.1);
       }
 
-  pub in_rows : (row : Finding → ResultRow) (q : Term) (rows : List ResultRow) → Collects (ForEach (at_nodes (HasNode terms values)) row (λ v. IsAnswered terms values answers v → ⊥)) rows
-      → Collects (RowsOf components.In (at_nodes (HasNode terms values)) (with_list (map (term_at terms) members)) q row) rows
-  in_rows row q rows = collects_same (ForEach (at_nodes (HasNode terms values)) row (λ v. IsAnswered terms values answers v → ⊥))
+  pub in_rows : (row : Finding → ResultRow) (q : Term) (rows : List ResultRow) → Lists (ForEach (at_nodes (HasNode terms values)) row (λ v. IsAnswered terms values answers v → ⊥)) rows
+      → Lists (RowsOf components.In (at_nodes (HasNode terms values)) (with_list (map (term_at terms) members)) q row) rows
+  in_rows row q rows = lists_same (ForEach (at_nodes (HasNode terms values)) row (λ v. IsAnswered terms values answers v → ⊥))
       (RowsOf components.In (at_nodes (HasNode terms values)) (with_list (map (term_at terms) members)) q row) rows (λ r. (
         λ h. (map (term_at terms) members, refl, (h.0, h.1, λ member. h.2 (member_to h.0 h.1 (contained (map (term_at terms) members) h.0 member)), h.3)),
         λ h. let each : ForEach (at_nodes (HasNode terms values)) row (λ v. IsMember (map (term_at terms) members) v → ⊥) r = subst (λ (ms : List Term). ForEach (at_nodes (HasNode terms values)) row (λ v. IsMember ms v → ⊥) r) h.1 h.2 in

@@ -1,16 +1,15 @@
-ghost use Rattle.std.specs.Prelude.{◌≡◌, ◌⊎◌, ◌<◌, ◌↔◌, IfOk, IsTrue, codes, length};
-ghost use Rattle.rdf_model.specs.Numbers.{term_at};
+ghost use Rattle.std.specs.Prelude.{◌≡◌, ◌⊎◌, ◌↔◌, IfOk, IsTrue, codes};
 ghost use Rattle.rdf_model.specs.declared.term.Term.TheVariants as data_terms;
 ghost use Rattle.shape_model.specs.TermTests.{IsOfKind};
 ghost use Rattle.shape_model.specs.Vocabulary.{sh};
 ghost use Rattle.shape_model.specs.declared.component.Component.TheVariants as components;
-ghost use Rattle.component_rows.specs.Listed.{ListsRows, at_nodes, untold};
-ghost use Rattle.component_rows.specs.Nodes.{AreNodes, HasNode};
+ghost use Rattle.component_rows.specs.Listed.{untold};
+ghost use Rattle.component_rows.specs.Sites.{ListsAt, at_values};
 
-use component_rows::{ValueTest, failing, named};
+use component_rows::{Site, ValueTest, failing};
 use rdf_model::{Names, Term};
 use shape_model::{Component, ResultRow};
-use std::alloc::{AllocError, Global};
+use std::alloc::AllocError;
 
 // Whether the term is the IRI.
 fn is_named(term: &Term, iri: &str) -> bool
@@ -80,31 +79,10 @@ impl ValueTest for OfKind<'_> {
 }
 
 /// The results of sh:nodeKind (SHACL section 4.1.3): one about each value node that isn't of the kind.
-pub fn node_kind<N: Names>(
-    alloc: Global,
-    names: &N,
-    source: &Term,
-    parameter: u32,
-    focus: u32,
-    values: &[u32],
-) -> Result<Vec<ResultRow>, AllocError>
-    requires nodes { AreNodes (N.terms names.now) values.now }
-    requires parameter { parameter < length (N.terms names.now) }
-    requires focus { focus < length (N.terms names.now) }
-    ensures { IfOk result (λ rows. ListsRows components.NodeKind (at_nodes (HasNode (N.terms names.now) values.now)) untold
-        source.now (term_at (N.terms names.now) focus) (term_at (N.terms names.now) parameter) rows.items) }
+pub fn node_kind<N: Names>(site: &Site<'_, N>) -> Result<Vec<ResultRow>, AllocError>
+    ensures { IfOk result (λ rows. ListsAt components.NodeKind (at_values site.now) untold site.now rows.items) }
 {
-    let test = OfKind {
-        kind: named(names, parameter),
-    };
-    failing(
-        alloc,
-        names,
-        source,
-        Component::NodeKind,
-        parameter,
-        focus,
-        values,
-        &test,
-    )
+    let kind = site.parameter_term();
+    let test = OfKind { kind };
+    failing(site, Component::NodeKind, &test)
 }

@@ -1,16 +1,16 @@
-ghost use Rattle.std.specs.Prelude.{◌<◌, IfOk, length};
+ghost use Rattle.std.specs.Prelude.{IfOk};
 ghost use Rattle.rdf_model.specs.Numbers.{term_at};
 ghost use Rattle.shape_model.specs.declared.component.Component.TheVariants as components;
-ghost use Rattle.component_rows.specs.Listed.{Collects, ListsRows, at_nodes, untold};
-ghost use Rattle.shape_model.specs.Components.{ForEach, row_of};
+ghost use Rattle.shape_model.specs.Components.{ForEach};
+ghost use Rattle.component_rows.specs.Listed.{Lists, untold};
+ghost use Rattle.component_rows.specs.Sites.{ListsAt, at_values, site_row};
 ghost use Rattle.value_constraints.specs.Ranges.{IsWithin};
-ghost use Rattle.component_rows.specs.Nodes.{AreNodes, HasNode};
 
-use component_rows::{ValueTest, failing, named};
+use component_rows::{Site, ValueTest, failing};
 use literal_order::{less, less_or_equal};
 use rdf_model::{Names, Term};
 use shape_model::{Component, ResultRow};
-use std::alloc::{AllocError, Global};
+use std::alloc::AllocError;
 
 // Where a value has to lie.
 #[derive(Clone, Copy)]
@@ -44,109 +44,42 @@ impl ValueTest for InRange<'_> {
 
 // One result about each value node that doesn't lie on that side of the bound.
 fn outside<N: Names>(
-    alloc: Global,
-    names: &N,
-    source: &Term,
+    site: &Site<'_, N>,
     component: Component,
     side: Side,
-    parameter: u32,
-    focus: u32,
-    values: &[u32],
 ) -> Result<Vec<ResultRow>, AllocError>
-    requires nodes { AreNodes (N.terms names.now) values.now }
-    requires parameter { parameter < length (N.terms names.now) }
-    requires focus { focus < length (N.terms names.now) }
-    ensures { IfOk result (λ rows. Collects (ForEach (at_nodes (HasNode (N.terms names.now) values.now))
-        (row_of component source.now (term_at (N.terms names.now) focus) (term_at (N.terms names.now) parameter))
-        (λ v. IsWithin side (term_at (N.terms names.now) parameter) v → ⊥)) rows.items) }
+    ensures { IfOk result (λ rows. Lists (ForEach (at_values site.now) (site_row component site.now)
+        (λ v. IsWithin side (term_at site.now.terms site.now.parameter) v → ⊥)) rows.items) }
 {
-    let bound = named(names, parameter);
+    let bound = site.parameter_term();
     let test = InRange { side, bound };
-    failing(
-        alloc, names, source, component, parameter, focus, values, &test,
-    )
+    failing(site, component, &test)
 }
 
 /// The results of sh:minExclusive (SHACL section 4.3.1): one about each value node, unless the bound is less than it.
-pub fn min_exclusive<N: Names>(
-    alloc: Global,
-    names: &N,
-    source: &Term,
-    parameter: u32,
-    focus: u32,
-    values: &[u32],
-) -> Result<Vec<ResultRow>, AllocError>
-    requires nodes { AreNodes (N.terms names.now) values.now }
-    requires parameter { parameter < length (N.terms names.now) }
-    requires focus { focus < length (N.terms names.now) }
-    ensures { IfOk result (λ rows. ListsRows components.MinExclusive (at_nodes (HasNode (N.terms names.now) values.now)) untold
-        source.now (term_at (N.terms names.now) focus) (term_at (N.terms names.now) parameter) rows.items) }
+pub fn min_exclusive<N: Names>(site: &Site<'_, N>) -> Result<Vec<ResultRow>, AllocError>
+    ensures { IfOk result (λ rows. ListsAt components.MinExclusive (at_values site.now) untold site.now rows.items) }
 {
-    let (component, side) = (Component::MinExclusive, Side::Above);
-    outside(
-        alloc, names, source, component, side, parameter, focus, values,
-    )
+    outside(site, Component::MinExclusive, Side::Above)
 }
 
 /// The results of sh:minInclusive (SHACL section 4.3.2): one about each value node, unless the bound is at most it.
-pub fn min_inclusive<N: Names>(
-    alloc: Global,
-    names: &N,
-    source: &Term,
-    parameter: u32,
-    focus: u32,
-    values: &[u32],
-) -> Result<Vec<ResultRow>, AllocError>
-    requires nodes { AreNodes (N.terms names.now) values.now }
-    requires parameter { parameter < length (N.terms names.now) }
-    requires focus { focus < length (N.terms names.now) }
-    ensures { IfOk result (λ rows. ListsRows components.MinInclusive (at_nodes (HasNode (N.terms names.now) values.now)) untold
-        source.now (term_at (N.terms names.now) focus) (term_at (N.terms names.now) parameter) rows.items) }
+pub fn min_inclusive<N: Names>(site: &Site<'_, N>) -> Result<Vec<ResultRow>, AllocError>
+    ensures { IfOk result (λ rows. ListsAt components.MinInclusive (at_values site.now) untold site.now rows.items) }
 {
-    let (component, side) = (Component::MinInclusive, Side::AtLeast);
-    outside(
-        alloc, names, source, component, side, parameter, focus, values,
-    )
+    outside(site, Component::MinInclusive, Side::AtLeast)
 }
 
 /// The results of sh:maxExclusive (SHACL section 4.3.3): one about each value node, unless it is less than the bound.
-pub fn max_exclusive<N: Names>(
-    alloc: Global,
-    names: &N,
-    source: &Term,
-    parameter: u32,
-    focus: u32,
-    values: &[u32],
-) -> Result<Vec<ResultRow>, AllocError>
-    requires nodes { AreNodes (N.terms names.now) values.now }
-    requires parameter { parameter < length (N.terms names.now) }
-    requires focus { focus < length (N.terms names.now) }
-    ensures { IfOk result (λ rows. ListsRows components.MaxExclusive (at_nodes (HasNode (N.terms names.now) values.now)) untold
-        source.now (term_at (N.terms names.now) focus) (term_at (N.terms names.now) parameter) rows.items) }
+pub fn max_exclusive<N: Names>(site: &Site<'_, N>) -> Result<Vec<ResultRow>, AllocError>
+    ensures { IfOk result (λ rows. ListsAt components.MaxExclusive (at_values site.now) untold site.now rows.items) }
 {
-    let (component, side) = (Component::MaxExclusive, Side::Below);
-    outside(
-        alloc, names, source, component, side, parameter, focus, values,
-    )
+    outside(site, Component::MaxExclusive, Side::Below)
 }
 
 /// The results of sh:maxInclusive (SHACL section 4.3.4): one about each value node, unless it is at most the bound.
-pub fn max_inclusive<N: Names>(
-    alloc: Global,
-    names: &N,
-    source: &Term,
-    parameter: u32,
-    focus: u32,
-    values: &[u32],
-) -> Result<Vec<ResultRow>, AllocError>
-    requires nodes { AreNodes (N.terms names.now) values.now }
-    requires parameter { parameter < length (N.terms names.now) }
-    requires focus { focus < length (N.terms names.now) }
-    ensures { IfOk result (λ rows. ListsRows components.MaxInclusive (at_nodes (HasNode (N.terms names.now) values.now)) untold
-        source.now (term_at (N.terms names.now) focus) (term_at (N.terms names.now) parameter) rows.items) }
+pub fn max_inclusive<N: Names>(site: &Site<'_, N>) -> Result<Vec<ResultRow>, AllocError>
+    ensures { IfOk result (λ rows. ListsAt components.MaxInclusive (at_values site.now) untold site.now rows.items) }
 {
-    let (component, side) = (Component::MaxInclusive, Side::AtMost);
-    outside(
-        alloc, names, source, component, side, parameter, focus, values,
-    )
+    outside(site, Component::MaxInclusive, Side::AtMost)
 }

@@ -1,22 +1,32 @@
-use Rattle.std.proofs.Common.{get_or}
+use Rattle.std.proofs.Common.{◌≡◌, ◌≤◌, List, ℕ, get_or, length, subst}
+use Rattle.std.specs.List.{Contains}
 use Rattle.std.proofs.lemmas.List.Elements.{Contains-get_or}
-use Rattle.rdf_model.specs.Numbers.{term_at}
-use Rattle.shape_model.specs.Components.{row_of}
-use Rattle.component_rows.proofs.Answering.{place_more, all_places}
+use Rattle.shape_model.specs.Components.{ForEach}
+use Rattle.component_rows.specs.Listed.{Collects}
+use Rattle.component_rows.specs.Nodes.{AreNodes, IsAnswered}
+use Rattle.component_rows.specs.Sites.{at_values, site_row}
+use Rattle.component_rows.proofs.Answering.{BeforePlace, place_more, all_places}
+use Rattle.component_rows.proofs.Collecting.{lists_sorted}
 use Rattle.component_rows.proofs.answered.refused.Goals as goal
 
-pub add_refused-requires-clause-value : goal.add_refused-requires-clause-value
-add_refused-requires-clause-value g c =
-    c.requires.nodes.named (get_or c.args.values.now c.loop-at.at 0) (Contains-get_or c.args.values.now c.loop-at.at 0 c.loop-at-test.true)
+pub add_refused-requires : goal.add_refused-requires
+add_refused-requires g c =
+    let value = get_or c.values-values.result.now c.loop-at.at 0 in
+    c.recall.ensures.nodes.named value (subst (λ (ns : List ℕ). Contains ns value) c.values-values.ensures (Contains-get_or c.values-values.result.now c.loop-at.at 0 c.loop-at-test.true))
 
 pub loop-at-preserved : goal.loop-at-preserved
 loop-at-preserved g c =
-    let terms = g.N.Names.terms c.args.names.now in
-    place_more terms c.args.values.now c.args.answers.now (row_of c.args.component c.args.source.now (term_at terms c.args.focus) (term_at terms c.args.parameter))
+    place_more c.args.site.now.terms c.values-values.result.now c.args.answers.now (site_row c.args.component c.args.site.now)
     c.loop-at.at c.loop-at.rows.items c.add_refused.new.rows.items c.loop-at.invariant c.in_ok-add_refused.ensures
 
 pub returns : goal.returns
 returns g c =
-    let terms = g.N.Names.terms c.args.names.now in
-    all_places terms c.requires.numbering c.args.values.now c.requires.nodes c.args.answers.now (row_of c.args.component c.args.source.now (term_at terms c.args.focus) (term_at terms c.args.parameter))
-    c.loop-at.at c.loop-at.rows.items c.loop-at-test.false c.loop-at.auto.at-end c.loop-at.invariant
+    let s = c.args.site.now in
+    let row = site_row c.args.component s in
+    let Before : List ℕ → Type 0 = λ ns. Collects (BeforePlace s.terms ns c.args.answers.now row c.loop-at.at) c.loop-at.rows.items in
+    lists_sorted (ForEach (at_values s) row (λ v. IsAnswered s.terms s.values c.args.answers.now v → ⊥)) c.loop-at.rows.items c.in_ok-sorted_once.field-0.items
+    (all_places s.terms c.recall.ensures.numbering s.values c.recall.ensures.nodes c.args.answers.now row c.loop-at.at c.loop-at.rows.items
+    (subst (λ (ns : List ℕ). length ns ≤ c.loop-at.at) c.values-values.ensures c.loop-at-test.false)
+    (subst (λ (ns : List ℕ). c.loop-at.at ≤ length ns) c.values-values.ensures c.loop-at.auto.at-end)
+    (subst Before c.values-values.ensures c.loop-at.invariant))
+    c.in_ok-sorted_once.ensures

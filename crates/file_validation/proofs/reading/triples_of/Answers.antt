@@ -1,8 +1,8 @@
-use Rattle.turtle_reader.proofs.NodesWithin.{gives_triples}
+use Rattle.turtle_reader.proofs.NodesWithin.{gives_readable}
 use Rattle.file_validation.proofs.reading.triples_of.Goals as goal
 
 pub returns : goal.returns
 returns c = record {
   read = (c.read.new.next, c.in_ok-triples.ensures.reads);
-  ascending = (gives_triples c.args.text.now c.args.session 1 c.read.new.next c.in_ok-triples.triples c.in_ok-triples.ensures.reads).2;
+  ascending = (gives_readable c.args.text.now c.args.session 1 c.read.new.next c.in_ok-triples.triples c.in_ok-triples.ensures.reads).2;
 }

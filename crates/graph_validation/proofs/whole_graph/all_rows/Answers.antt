@@ -11,6 +11,7 @@ loop-shape-preserved g c =
     record {
       rows = more_shape (g.N.Names.terms c.args.names.now) (g.R.Triples.triples c.args.graph.now) c.args.bound.now.shapes c.loop-shape.shape c.loop-shape.rows.items c.in_ok-more.more.items c.append.new.self.items within c.in_ok-append.ensures.items c.loop-shape.invariant.rows c.in_ok-more.ensures.rows;
       steps = more_steps (g.N.Names.terms c.args.names.now) (g.R.Triples.triples c.args.graph.now) c.args.bound.now.shapes c.loop-shape.shape c.args.steps.now c.loop-shape.steps c.rows_of_shape.new.steps within c.loop-shape.invariant.steps c.in_ok-more.ensures.steps;
+      counted = let before = c.loop-shape.invariant.counted in let more = c.rows_of_shape.ensures.counted in omega (arith, before, more);
     }
 
 pub returns-clause-rows : goal.returns-clause-rows
@@ -33,4 +34,14 @@ pub loop-shape-init : goal.loop-shape-init
 loop-shape-init g c = record {
   rows = search rules;
   steps = no_steps (g.N.Names.terms c.args.names.now) (g.R.Triples.triples c.args.graph.now) c.args.bound.now.shapes c.args.steps.now;
+  counted = omega arith;
 }
+
+pub returns-clause-counted : goal.returns-clause-counted
+returns-clause-counted g c = c.loop-shape.invariant.counted
+
+pub returns-in_err-more-clause-counted : goal.returns-in_err-more-clause-counted
+returns-in_err-more-clause-counted g c = let before = c.loop-shape.invariant.counted in let more = c.rows_of_shape.ensures.counted in omega (arith, before, more)
+
+pub returns-in_err-append-clause-counted : goal.returns-in_err-append-clause-counted
+returns-in_err-append-clause-counted g c = let before = c.loop-shape.invariant.counted in let more = c.rows_of_shape.ensures.counted in omega (arith, before, more)

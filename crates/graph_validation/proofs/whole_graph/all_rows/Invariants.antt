@@ -1,3 +1,4 @@
+use Rattle.std.proofs.Common.{◌≤◌}
 use Rattle.graph_validation.specs.Counting.{StepsOfFirst}
 use Rattle.graph_validation.specs.Whole.{CollectsResults}
 use Rattle.graph_validation.proofs.whole_graph.all_rows.Given as goal
@@ -6,4 +7,5 @@ abbrev pub invariant-loop-shape : goal.invariant-loop-shape
 invariant-loop-shape g l = record {
   rows : CollectsResults (g.N.Names.terms l.names) (g.R.Triples.triples l.graph) l.bound.shapes l.shape l.rows.items;
   steps : StepsOfFirst (g.N.Names.terms l.names) (g.R.Triples.triples l.graph) l.bound.shapes l.shape l.fn.steps l.steps;
+  counted : l.fn.steps ≤ l.steps;
 }

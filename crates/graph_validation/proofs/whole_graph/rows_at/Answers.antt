@@ -13,3 +13,12 @@ returns-clause-rows g c = all_nodes (g.N.Names.terms c.args.names.now) (g.R.Trip
 
 pub returns-clause-steps : goal.returns-clause-steps
 returns-clause-steps g c = let counted = c.loop-node.invariant.steps in omega (arith, counted, c.loop-node-test.false, c.loop-node.auto.node-index-end)
+
+pub returns-clause-counted : goal.returns-clause-counted
+returns-clause-counted g c = let counted = c.loop-node.invariant.steps in omega (arith, counted)
+
+pub returns-in_err-more-clause-counted : goal.returns-in_err-more-clause-counted
+returns-in_err-more-clause-counted g c = let before = c.loop-node.invariant.steps in let taken = c.permit-allowed.ensures in omega (arith, before, taken)
+
+pub returns-in_err-append-clause-counted : goal.returns-in_err-append-clause-counted
+returns-in_err-append-clause-counted g c = let before = c.loop-node.invariant.steps in let taken = c.permit-allowed.ensures in omega (arith, before, taken)

@@ -8,3 +8,6 @@ returns-clause-rows g c = all_shapes (g.N.Names.terms c.args.names.now) (g.R.Tri
 
 pub returns-clause-steps : goal.returns-clause-steps
 returns-clause-steps g c = all_steps (g.N.Names.terms c.args.names.now) (g.R.Triples.triples c.args.graph.now) c.args.bound.now.shapes (length c.args.bound.now.shapes) c.args.steps.now c.all_rows.new.steps (omega arith) c.in_ok-rows.ensures.steps
+
+pub returns-clause-counted : goal.returns-clause-counted
+returns-clause-counted g c = c.all_rows.ensures.counted

@@ -29,11 +29,12 @@ returns g c =
       instances = λ terms numbering numbered named lt.
           let W = λ (x y : Term). Walk (graph_of terms ids) class_path y x in
           let m = turned_mirrors terms numbering ids numbered words named in
-          let l = one_listed R L x old new nodes c.in_ok-found_instances.ensures in
+          let l = one_listed R L x old new nodes c.in_ok-found_instances.ensures.followed in
           record { listed = ends_named terms numbering x lt R W m nodes l; every = every_end terms numbering x lt R W m nodes l };
       looks = λ terms numbering numbered named lt.
-          let a = one_read R L x old new nodes c.in_ok-found_instances.ensures in
+          let a = one_read R L x old new nodes c.in_ok-found_instances.ensures.followed in
           let s = turned_shows terms numbering ids numbered words named in
           let M = PathReads (graph_of terms ids) true class_path in
           record { added = looks_named terms numbering x lt L M s old new a; every = every_look terms numbering x lt L M s old new a };
+      kept = c.found_instances.ensures.kept;
     }

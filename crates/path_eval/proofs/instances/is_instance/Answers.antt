@@ -27,11 +27,12 @@ returns g c =
     let has = subst (λ (l : List ℕ). IsTrue c.has.result ↔ Contains l c.args.class) c.deref.ensures.value c.has.ensures in
     record {
       answer = λ terms numbering numbered named lt class_lt.
-          let l = ends_named terms numbering x lt R (Walk (graph_of terms ids) class_path) (class_mirrors terms numbering ids numbered words named) classes (one_listed R L x old new classes c.in_ok-classes.ensures) in
+          let l = ends_named terms numbering x lt R (Walk (graph_of terms ids) class_path) (class_mirrors terms numbering ids numbered words named) classes (one_listed R L x old new classes c.in_ok-classes.ensures.followed) in
           (λ t. ((l.members c.args.class).0 (has.0 t)).1, λ i. has.1 ((l.members c.args.class).1 (class_lt, i)));
       looks = λ terms numbering numbered named lt.
-          let a = one_read R L x old new classes c.in_ok-classes.ensures in
+          let a = one_read R L x old new classes c.in_ok-classes.ensures.followed in
           let s = class_shows terms numbering ids numbered words named in
           let M = PathReads (graph_of terms ids) false class_path in
           record { added = looks_named terms numbering x lt L M s old new a; every = every_look terms numbering x lt L M s old new a };
+      kept = c.classes_of.ensures.kept;
     }

@@ -1,4 +1,4 @@
-use Rattle.std.proofs.Common.{◌≡◌, ℕ, ◌+◌, List, [], ◌∷◌, ◌++◌, take, get_or, arith, sym, subst}
+use Rattle.std.proofs.Common.{◌≡◌, ℕ, ◌+◌, List, [], ◌∷◌, ◌++◌, take, get_or, arith, inl, sym, subst}
 use Rattle.std.specs.List.{Contains}
 use Rattle.std.specs.Ordering.{nat_cmp}
 use Rattle.std.proofs.lemmas.List.{take_all}
@@ -26,8 +26,8 @@ loop-start-preserved g c =
           (subst (λ (look : Look ℕ). Adds c.loop-start.footprint (c.loop-start.footprint ++ c.look_for-look.result ∷ []) (λ l. l ≡ look)) c.look_for-look.ensures.look (adds_one c.loop-start.footprint c.look_for-look.result))));
     }
 
-pub returns : goal.returns
-returns g c =
+pub returns-clause-followed : goal.returns-clause-followed
+returns-clause-followed g c =
     let xs = c.args.starts.now in
     let R = λ (x y : ℕ). IsFound (look_from c.args.turned c.args.predicate x) (g.R.Triples.triples c.args.graph.now) y in
     let L = λ (x : ℕ) (look : Look ℕ). look ≡ look_from c.args.turned c.args.predicate x in
@@ -38,3 +38,16 @@ returns g c =
           c.in_ok-sorted_once.field-0.items c.in_ok-sorted_once.ensures;
       looks = subst (λ (l : List ℕ). Adds c.args.footprint.now c.loop-start.footprint (FromSome l L)) all c.loop-start.invariant.looks;
     }
+
+-- the looks so far were added to what was there
+pub returns-clause-kept : goal.returns-clause-kept
+returns-clause-kept g c = λ look h. (c.loop-start.invariant.looks look).1 (inl h)
+
+pub returns-in_err-add_found-clause-kept : goal.returns-in_err-add_found-clause-kept
+returns-in_err-add_found-clause-kept g c = λ look h. (c.loop-start.invariant.looks look).1 (inl h)
+
+pub returns-in_err-add-clause-kept : goal.returns-in_err-add-clause-kept
+returns-in_err-add-clause-kept g c = λ look h. subst (λ (l : List (Look ℕ)). Contains l look) (sym c.in_err-add.ensures.err) ((c.loop-start.invariant.looks look).1 (inl h))
+
+pub returns-in_err-sorted_once-clause-kept : goal.returns-in_err-sorted_once-clause-kept
+returns-in_err-sorted_once-clause-kept g c = λ look h. (c.loop-start.invariant.looks look).1 (inl h)

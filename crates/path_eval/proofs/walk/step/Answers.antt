@@ -5,7 +5,7 @@ use Rattle.path_eval.specs.NumberedWalks.{Reaches}
 use Rattle.path_eval.specs.NumberedLooks.{Reads}
 use Rattle.path_eval.proofs.walk.step.Goals as goal
 
-pub returns-in-Predicate : goal.returns-in-Predicate
-returns-in-Predicate g c =
+pub returns-in-Predicate-clause-followed : goal.returns-in-Predicate-clause-followed
+returns-in-Predicate-clause-followed g c =
     let ids = g.R.Triples.triples c.args.graph.now in
-    subst (λ (p : Path ℕ). IfOk c.edges.result (λ ends. IsFollowed c.args.starts.now (Reaches ids c.args.turned p) (Reads ids c.args.turned p) c.args.footprint.now c.edges.new.footprint ends.items)) (sym c.in-Predicate.is) c.edges.ensures
+    subst (λ (p : Path ℕ). IfOk c.edges.result (λ ends. IsFollowed c.args.starts.now (Reaches ids c.args.turned p) (Reads ids c.args.turned p) c.args.footprint.now c.edges.new.footprint ends.items)) (sym c.in-Predicate.is) c.edges.ensures.followed

@@ -8,12 +8,12 @@ use Rattle.shape_eval.proofs.by_list.list_rows.Goals as goal
 
 pub returns-in-LanguageIn : goal.returns-in-LanguageIn
 returns-in-LanguageIn g c =
-    let terms = g.N.Names.terms c.args.names.now in
-    subst (λ (k : ListComponent). IfOk c.language_in.result (λ rows. ListsRows (list_component k) (at_nodes (HasNode terms c.args.values.now)) (with_list (map (term_at terms) c.args.members.now))
-    c.args.source.now (term_at terms c.args.focus) (term_at terms c.args.parameter) rows.items)) (sym c.in-LanguageIn.is) c.language_in.ensures
+    let terms = c.args.site.now.terms in
+    subst (λ (k : ListComponent). IfOk c.language_in.result (λ rows. ListsRows (list_component k) (at_nodes (HasNode terms c.args.site.now.values)) (with_list (map (term_at terms) c.args.members.now))
+    c.args.site.now.source (term_at terms c.args.site.now.focus) (term_at terms c.args.site.now.parameter) rows.items)) (sym c.in-LanguageIn.is) c.language_in.ensures
 
 pub returns-in-In : goal.returns-in-In
 returns-in-In g c =
-    let terms = g.N.Names.terms c.args.names.now in
-    subst (λ (k : ListComponent). IfOk c.in_rows.result (λ rows. ListsRows (list_component k) (at_nodes (HasNode terms c.args.values.now)) (with_list (map (term_at terms) c.args.members.now))
-    c.args.source.now (term_at terms c.args.focus) (term_at terms c.args.parameter) rows.items)) (sym c.in-In.is) c.in_rows.ensures
+    let terms = c.args.site.now.terms in
+    subst (λ (k : ListComponent). IfOk c.in_rows.result (λ rows. ListsRows (list_component k) (at_nodes (HasNode terms c.args.site.now.values)) (with_list (map (term_at terms) c.args.members.now))
+    c.args.site.now.source (term_at terms c.args.site.now.focus) (term_at terms c.args.site.now.parameter) rows.items)) (sym c.in-In.is) c.in_rows.ensures

@@ -10,7 +10,7 @@ use Rattle.rdf_model.specs.Numbers.{graph_of, term_at}
 use Rattle.shape_model.specs.declared.result_row.ResultRow.{ResultRow}
 use Rattle.shape_model.specs.Components.{PropertyRow}
 use Rattle.component_rows.specs.Answers.{AreAnswersTo}
-use Rattle.component_rows.specs.Listed.{Collects}
+use Rattle.component_rows.specs.Listed.{Collects, Lists}
 use Rattle.component_rows.specs.Nodes.{AreNodes, HasNode}
 use Rattle.component_rows.proofs.Collecting.{loop_all, loop_more}
 use Rattle.logic_constraints.specs.Properties.{told_rows, with_property}
@@ -45,6 +45,7 @@ answers_at-loop-value-init g t c = record {
   many = search rules;
   told = search rules;
   looks = looked_none (g.N.Names.terms c.args.names.now) (g.R.Triples.triples c.args.graph.now) c.args.shapes.now c.args.levels c.args.place c.args.values.now c.args.footprint.now;
+  kept = λ look h. h;
 }
 
 pub answers_at-loop-value-preserved : goal.answers_at-loop-value-preserved
@@ -59,6 +60,7 @@ answers_at-loop-value-preserved g t c =
       told = answered_more terms ids c.args.shapes.now c.args.levels c.args.place c.args.values.now c.loop-value.value-index c.loop-value.answers.items c.push.new.self.items c.is_empty.result rows.items c.in_ok-push.ensures.items before.told c.in_ok-rows.ensures.rows
           (empty_when c.is_empty.result (vec_len rows) rows.items c.is_empty.ensures many);
       looks = looked_more terms ids c.args.shapes.now c.args.levels c.args.place c.args.values.now c.loop-value.value-index c.loop-value-test.true c.args.footprint.now c.loop-value.footprint c.rows_at.new.footprint before.looks c.in_ok-rows.ensures.looks;
+      kept = λ look h. c.rows_at.ensures.kept look (c.loop-value.invariant.kept look h);
     }
 
 pub answers_at-returns-clause-as_many : goal.answers_at-returns-clause-as_many
@@ -77,6 +79,7 @@ pub told_of_each-loop-place-init : goal.told_of_each-loop-place-init
 told_of_each-loop-place-init g t c = record {
   entries = search rules;
   looks = places_none (g.N.Names.terms c.args.names.now) (g.R.Triples.triples c.args.graph.now) c.args.shapes.now c.args.levels c.args.values.now c.args.footprint.now;
+  kept = λ look h. h;
 }
 
 pub told_of_each-loop-place-preserved : goal.told_of_each-loop-place-preserved
@@ -95,6 +98,7 @@ told_of_each-loop-place-preserved g t c =
           (ap (λ (answers : List Bool). length answers) c.from_vec.ensures ∙ c.in_ok-answers.ensures.as_many)
           (entry_right terms ids shapes c.args.levels values place entry node within (subst (λ (answers : List Bool). AtPlace terms shapes place (λ s m. AreAnswersTo (ConformsAt (graph_of terms ids) s c.args.levels m.node) terms values answers)) (sym c.from_vec.ensures) c.in_ok-answers.ensures.told));
       looks = places_more terms ids shapes c.args.levels values c.args.places.now i c.loop-place-test.true within c.args.footprint.now c.loop-place.footprint c.answers_at.new.footprint c.loop-place.invariant.looks c.in_ok-answers.ensures.looks;
+      kept = λ look h. c.answers_at.ensures.kept look (c.loop-place.invariant.kept look h);
     }
 
 pub told_of_each-returns-clause-as_many : goal.told_of_each-returns-clause-as_many
@@ -121,6 +125,7 @@ pub rows_at_each-loop-value-init : goal.rows_at_each-loop-value-init
 rows_at_each-loop-value-init g t c = record {
   rows = search rules;
   looks = looked_none (g.N.Names.terms c.args.names.now) (g.R.Triples.triples c.args.graph.now) c.args.shapes.now c.args.levels c.args.place c.args.values.now c.args.footprint.now;
+  kept = λ look h. h;
 }
 
 pub rows_at_each-loop-value-preserved : goal.rows_at_each-loop-value-preserved
@@ -132,6 +137,7 @@ rows_at_each-loop-value-preserved g t c =
       rows = listed_more terms ids c.args.shapes.now c.args.levels c.args.place c.args.values.now c.loop-value.value-index (map (λ l. l.items) c.loop-value.rows.items) (map (λ l. l.items) c.push.new.self.items) c.in_ok-more.more.items
           (ap (λ ls. map (λ l. l.items) ls) c.in_ok-push.ensures.items ∙ map-append (λ l. l.items) c.loop-value.rows.items (c.in_ok-more.more ∷ [])) before.rows c.in_ok-more.ensures.rows;
       looks = looked_more terms ids c.args.shapes.now c.args.levels c.args.place c.args.values.now c.loop-value.value-index c.loop-value-test.true c.args.footprint.now c.loop-value.footprint c.rows_at.new.footprint before.looks c.in_ok-more.ensures.looks;
+      kept = λ look h. c.rows_at.ensures.kept look (c.loop-value.invariant.kept look h);
     }
 
 pub rows_at_each-property-requires : goal.rows_at_each-property-requires
@@ -150,9 +156,9 @@ rows_at_each-returns-clause-rows g t c =
     let lists : List (List ResultRow) = map (λ list. list.items) c.deref.result.now in
     let before = subst (λ ls. ListedUpTo terms ids c.args.shapes.now c.args.levels c.args.place values c.loop-value.value-index (map (λ list. list.items) ls)) (sym c.deref.ensures.value) c.loop-value.invariant.rows in
     IfOk-weaker c.property.result
-    (λ all. (within : List Term) (shape : Term) → Collects (PropertyRow (told_rows within values lists) (with_property shape)) all.items)
+    (λ all. (within : List Term) (shape : Term) → Lists (PropertyRow (told_rows within values lists) (with_property shape)) all.items)
     (λ all. CollectsAtEach terms ids c.args.shapes.now c.args.levels c.args.place values all.items)
-    (λ all given. listed_all terms ids c.args.shapes.now c.args.levels c.args.place values c.loop-value.value-index lists all.items c.loop-value-test.false c.loop-value.auto.value-index-end before given)
+    (λ all given. listed_all terms ids c.args.shapes.now c.args.levels c.args.place values c.loop-value.value-index lists all.items c.loop-value-test.false c.loop-value.auto.value-index-end before (λ within shape. (given within shape).members))
     c.property.ensures
 
 pub rows_at_each-returns-clause-looks : goal.rows_at_each-returns-clause-looks
@@ -161,7 +167,7 @@ rows_at_each-returns-clause-looks g t c =
     let ids = g.R.Triples.triples c.args.graph.now in
     let looks = looked_all terms ids c.args.shapes.now c.args.levels c.args.place c.args.values.now c.loop-value.value-index c.loop-value-test.false c.args.footprint.now c.loop-value.footprint c.loop-value.invariant.looks in
     IfOk-weaker c.property.result
-    (λ all. (within : List Term) (shape : Term) → Collects (PropertyRow (told_rows within c.args.values.now (map (λ list. list.items) c.deref.result.now)) (with_property shape)) all.items)
+    (λ all. (within : List Term) (shape : Term) → Lists (PropertyRow (told_rows within c.args.values.now (map (λ list. list.items) c.deref.result.now)) (with_property shape)) all.items)
     (λ _. AddsAtEach terms ids c.args.shapes.now c.args.levels c.args.place c.args.values.now c.args.footprint.now c.loop-value.footprint)
     (λ _ _. looks)
     c.property.ensures
@@ -170,6 +176,7 @@ pub property_rows-loop-place-init : goal.property_rows-loop-place-init
 property_rows-loop-place-init g t c = record {
   rows = search rules;
   looks = places_none (g.N.Names.terms c.args.names.now) (g.R.Triples.triples c.args.graph.now) c.args.shapes.now c.args.levels c.args.values.now c.args.footprint.now;
+  kept = λ look h. h;
 }
 
 pub property_rows-loop-place-preserved : goal.property_rows-loop-place-preserved
@@ -186,6 +193,7 @@ property_rows-loop-place-preserved g t c =
           loop_more (PropertyAt (around terms ids s c.args.levels values f) (named_shapes terms shapes)) places i 0 c.loop-place.rows.items c.append.new.self.items c.loop-place-test.true (c.loop-place.invariant.rows s f stand)
           (c.in_ok-more.more.items, c.in_ok-append.ensures.items, property_at terms ids shapes c.args.levels (get_or places i 0) values f c.in_ok-more.more.items within c.in_ok-more.ensures.rows s stand);
       looks = places_more terms ids shapes c.args.levels values places i c.loop-place-test.true within c.args.footprint.now c.loop-place.footprint c.rows_at_each.new.footprint c.loop-place.invariant.looks c.in_ok-more.ensures.looks;
+      kept = λ look h. c.rows_at_each.ensures.kept look (c.loop-place.invariant.kept look h);
     }
 
 pub property_rows-returns-clause-rows : goal.property_rows-returns-clause-rows
@@ -211,6 +219,7 @@ rows_at-returns-then-levels-eq0 g t c =
     record {
       rows = subst (λ (rows : List ResultRow). CollectsAt terms ids shapes c.args.levels c.args.place c.args.focus rows) (sym c.new.ensures.items) (nothing_at terms ids shapes c.args.place x taken c.args.focus c.args.levels why);
       looks = no_looks_at terms ids shapes c.args.place x taken c.args.focus c.args.levels why c.args.footprint.now;
+      kept = λ look h. h;
     }
 
 pub rows_at-told_of_each-requires : goal.rows_at-told_of_each-requires
@@ -291,3 +300,60 @@ rows_at-returns-clause-looks g t c =
     let constraints = subst (λ (ns : List ℕ). AddsLooks terms (ReadsOfSome (map (read_constraint (term_at terms)) x.constraints) (ConstraintReads graph (HasNode terms ns) (term_at terms f))) told own) c.deref-4.ensures.value c.in_ok-rows.ensures.looks in
     let properties = subst (λ (ps : List ℕ). AddsAtPlaces terms ids shapes below ps nodes own new) c.as_slice-properties.ensures (subst (λ (ns : List ℕ). AddsAtPlaces terms ids shapes below c.as_slice-properties.result.now ns own new) c.deref-5.ensures.value c.in_ok-more.ensures.looks) in
     all_looks_at terms ids shapes c.args.place x taken f c.requires.bound c.args.levels below (omega (arith, c.if-levels-eq0.false)) nodes values (λ d. let off = c.if-shape.false in cc) asked are c.args.footprint.now walked told own new paths others constraints properties
+
+pub answers_at-returns-clause-kept : goal.answers_at-returns-clause-kept
+answers_at-returns-clause-kept g t c = c.loop-value.invariant.kept
+
+pub answers_at-returns-in_err-rows-clause-kept : goal.answers_at-returns-in_err-rows-clause-kept
+answers_at-returns-in_err-rows-clause-kept g t c = λ look h. c.rows_at.ensures.kept look (c.loop-value.invariant.kept look h)
+
+pub answers_at-returns-in_err-push-clause-kept : goal.answers_at-returns-in_err-push-clause-kept
+answers_at-returns-in_err-push-clause-kept g t c = λ look h. c.rows_at.ensures.kept look (c.loop-value.invariant.kept look h)
+
+pub told_of_each-returns-clause-kept : goal.told_of_each-returns-clause-kept
+told_of_each-returns-clause-kept g t c = c.loop-place.invariant.kept
+
+pub told_of_each-returns-in_err-answers-clause-kept : goal.told_of_each-returns-in_err-answers-clause-kept
+told_of_each-returns-in_err-answers-clause-kept g t c = λ look h. c.answers_at.ensures.kept look (c.loop-place.invariant.kept look h)
+
+pub told_of_each-returns-in_err-push-clause-kept : goal.told_of_each-returns-in_err-push-clause-kept
+told_of_each-returns-in_err-push-clause-kept g t c = λ look h. c.answers_at.ensures.kept look (c.loop-place.invariant.kept look h)
+
+pub rows_at_each-returns-clause-kept : goal.rows_at_each-returns-clause-kept
+rows_at_each-returns-clause-kept g t c = c.loop-value.invariant.kept
+
+pub rows_at_each-returns-in_err-more-clause-kept : goal.rows_at_each-returns-in_err-more-clause-kept
+rows_at_each-returns-in_err-more-clause-kept g t c = λ look h. c.rows_at.ensures.kept look (c.loop-value.invariant.kept look h)
+
+pub rows_at_each-returns-in_err-push-clause-kept : goal.rows_at_each-returns-in_err-push-clause-kept
+rows_at_each-returns-in_err-push-clause-kept g t c = λ look h. c.rows_at.ensures.kept look (c.loop-value.invariant.kept look h)
+
+pub property_rows-returns-clause-kept : goal.property_rows-returns-clause-kept
+property_rows-returns-clause-kept g t c = c.loop-place.invariant.kept
+
+pub property_rows-returns-in_err-more-clause-kept : goal.property_rows-returns-in_err-more-clause-kept
+property_rows-returns-in_err-more-clause-kept g t c = λ look h. c.rows_at_each.ensures.kept look (c.loop-place.invariant.kept look h)
+
+pub property_rows-returns-in_err-append-clause-kept : goal.property_rows-returns-in_err-append-clause-kept
+property_rows-returns-in_err-append-clause-kept g t c = λ look h. c.rows_at_each.ensures.kept look (c.loop-place.invariant.kept look h)
+
+pub rows_at-returns-in_err-values-clause-kept : goal.rows_at-returns-in_err-values-clause-kept
+rows_at-returns-in_err-values-clause-kept g t c = λ look h. c.value_nodes.ensures.kept look h
+
+pub rows_at-returns-in_err-asked-clause-kept : goal.rows_at-returns-in_err-asked-clause-kept
+rows_at-returns-in_err-asked-clause-kept g t c = λ look h. c.value_nodes.ensures.kept look h
+
+pub rows_at-returns-in_err-told-clause-kept : goal.rows_at-returns-in_err-told-clause-kept
+rows_at-returns-in_err-told-clause-kept g t c = λ look h. c.told_of_each.ensures.kept look (c.value_nodes.ensures.kept look h)
+
+pub rows_at-returns-in_err-rows-clause-kept : goal.rows_at-returns-in_err-rows-clause-kept
+rows_at-returns-in_err-rows-clause-kept g t c = λ look h. c.own_rows.ensures.kept look (c.told_of_each.ensures.kept look (c.value_nodes.ensures.kept look h))
+
+pub rows_at-returns-in_err-more-clause-kept : goal.rows_at-returns-in_err-more-clause-kept
+rows_at-returns-in_err-more-clause-kept g t c = λ look h. c.property_rows.ensures.kept look (c.own_rows.ensures.kept look (c.told_of_each.ensures.kept look (c.value_nodes.ensures.kept look h)))
+
+pub rows_at-returns-in_err-append-clause-kept : goal.rows_at-returns-in_err-append-clause-kept
+rows_at-returns-in_err-append-clause-kept g t c = λ look h. c.property_rows.ensures.kept look (c.own_rows.ensures.kept look (c.told_of_each.ensures.kept look (c.value_nodes.ensures.kept look h)))
+
+pub rows_at-returns-clause-kept : goal.rows_at-returns-clause-kept
+rows_at-returns-clause-kept g t c = λ look h. c.property_rows.ensures.kept look (c.own_rows.ensures.kept look (c.told_of_each.ensures.kept look (c.value_nodes.ensures.kept look h)))

@@ -8,6 +8,7 @@ use Rattle.shape_model.specs.Validation.{AtDepth}
 use Rattle.component_rows.specs.Answers.{AreAnswersTo, Tells}
 use Rattle.component_rows.specs.Listed.{Collects}
 use Rattle.path_eval.specs.Naming.{AddsLooks}
+use Rattle.collections.specs.Listings.{Keeps}
 use Rattle.shape_ast.specs.Readings.{named_shapes}
 use Rattle.shape_ast.specs.Standing.{StandFor}
 use Rattle.shape_eval.specs.declared.told.Told.{Told}
@@ -42,6 +43,7 @@ invariant-answers_at-loop-value g l =
       many : length l.answers.items ≡ l.value-index;
       told : AtPlace terms l.shapes l.place (λ s c. Tells (λ i. ConformsAt (graph_of terms ids) s l.levels c.node (term_at terms (get_or l.values i 0))) l.value-index l.answers.items);
       looks : AtPlace terms l.shapes l.place (λ s c. AddsLooks terms (ReadsOfSome (take l.value-index l.values) (λ v. ShapeReads l.levels (graph_of terms ids) (reading s) c.node (term_at terms v))) l.fn.footprint l.footprint);
+      kept : Keeps l.fn.footprint l.footprint;
     }
 
 -- the entries so far are for the shapes so far
@@ -55,6 +57,7 @@ invariant-told_of_each-loop-place g l =
           × ((s : List Triple) → StandFor (named_shapes terms l.shapes) s → (t : Told) → Contains l.told.items t
           → AreAnswersTo (ConformsAt (graph_of terms ids) s l.levels (term_at terms t.node)) terms l.values t.answers);
       looks : AddsAtPlaces terms ids l.shapes l.levels (take l.place-index l.places) l.values l.fn.footprint l.footprint;
+      kept : Keeps l.fn.footprint l.footprint;
     }
 
 abbrev pub invariant-rows_at_each-loop-value : goal.invariant-rows_at_each-loop-value
@@ -65,6 +68,7 @@ invariant-rows_at_each-loop-value g l =
       rows : (length (map (λ list. list.items) l.rows.items) ≡ l.value-index)
           × AtPlace terms l.shapes l.place (λ s c. (k : ℕ) → k < l.value-index → Collects (AtDepth l.levels (graph_of terms ids) (reading s) c.node (term_at terms (get_or l.values k 0))) (get_or (map (λ list. list.items) l.rows.items) k []));
       looks : AtPlace terms l.shapes l.place (λ s c. AddsLooks terms (ReadsOfSome (take l.value-index l.values) (λ v. ShapeReads l.levels (graph_of terms ids) (reading s) c.node (term_at terms v))) l.fn.footprint l.footprint);
+      kept : Keeps l.fn.footprint l.footprint;
     }
 
 abbrev pub invariant-property_rows-loop-place : goal.invariant-property_rows-loop-place
@@ -75,4 +79,5 @@ invariant-property_rows-loop-place g l =
       rows : (s : List Triple) (f : ℕ) → StandFor (named_shapes terms l.shapes) s
           → Collects (FromSome (take l.place-index l.places) (PropertyAt (around terms ids s l.levels l.values f) (named_shapes terms l.shapes))) l.rows.items;
       looks : AddsAtPlaces terms ids l.shapes l.levels (take l.place-index l.places) l.values l.fn.footprint l.footprint;
+      kept : Keeps l.fn.footprint l.footprint;
     }

@@ -30,3 +30,9 @@ returns-clause-looks g c =
     let given = subst (λ (n : ℕ). AddsAt terms ids c.as_slice-shapes.result.now n c.args.shape c.args.focus old new) c.most_levels-levels.ensures c.in_ok-rows.ensures.looks in
     always c.sorted_once.result (λ sorted. AddsShapeLooks terms ids c.args.bound.now.shapes c.args.shape c.args.focus old new)
     (λ sorted. subst (λ (xs : List (Shape ℕ)). AddsShapeLooks terms ids xs c.args.shape c.args.focus old new) c.as_slice-shapes.ensures (shape_looks terms ids c.as_slice-shapes.result.now c.args.shape c.args.focus old new given))
+
+pub returns-clause-kept : goal.returns-clause-kept
+returns-clause-kept g c = c.rows_at.ensures.kept
+
+pub returns-in_err-rows-clause-kept : goal.returns-in_err-rows-clause-kept
+returns-in_err-rows-clause-kept g c = c.rows_at.ensures.kept

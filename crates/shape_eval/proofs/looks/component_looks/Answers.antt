@@ -1,5 +1,7 @@
-use Rattle.std.proofs.Common.{◌≡◌, OnOk, inl, inr, refl, sym, subst}
+use Rattle.std.proofs.Common.{◌≡◌, ℕ, List, OnOk, inl, inr, refl, sym, subst}
 use Rattle.std.proofs.lemmas.Result.{on_ok_weaker}
+use Rattle.std.specs.List.{Contains}
+use Rattle.rdf_model.specs.declared.look.Look.{Look}
 use Rattle.rdf_model.specs.declared.look.Look.TheVariants.{Out}
 use Rattle.rdf_model.specs.Numbers.{graph_of, term_at}
 use Rattle.component_rows.specs.Nodes.{HasNode}
@@ -8,6 +10,7 @@ use Rattle.path_eval.proofs.Footprints.{looks_one}
 use Rattle.shape_ast.specs.declared.component.TermComponent.{TermComponent}
 use Rattle.shape_ast.specs.Components.{term_component}
 use Rattle.shape_eval.specs.Looks.{ComponentReads}
+use Rattle.shape_eval.proofs.Looking.{kept_added}
 use Rattle.shape_eval.proofs.looks.component_looks.Goals as goal
 
 pub returns-in-Class-clause-looks : goal.returns-in-Class-clause-looks
@@ -39,4 +42,19 @@ returns-in_ok-add_closed-in-Closed-clause-looks g c =
     let graph = graph_of terms (g.R.Triples.triples c.args.graph.now) in
     let f = term_at terms c.args.focus in
     subst (λ (k : TermComponent). AddsLooks terms (ComponentReads graph (HasNode terms c.args.values.now) f (term_component k) (term_at terms c.args.parameter)) c.args.footprint.now c.add_closed.new.footprint) (sym c.in-Closed.is)
-    (c.in_ok-add_closed-in-Closed.ensures graph f)
+    (c.in_ok-add_closed-in-Closed.ensures.looks graph f)
+
+pub returns-in-Class-clause-kept : goal.returns-in-Class-clause-kept
+returns-in-Class-clause-kept g c = c.instance_answers.ensures.kept
+
+pub returns-in_ok-add-in-Equals-clause-kept : goal.returns-in_ok-add-in-Equals-clause-kept
+returns-in_ok-add-in-Equals-clause-kept g c = kept_added c.args.footprint.now c.add.new.self (Out c.args.focus c.args.parameter) c.in_ok-add-in-Equals.ensures.ok
+
+pub returns-in_err-add-in-Equals-clause-kept : goal.returns-in_err-add-in-Equals-clause-kept
+returns-in_err-add-in-Equals-clause-kept g c = λ look h. subst (λ (ls : List (Look ℕ)). Contains ls look) (sym c.in_err-add-in-Equals.ensures.err) h
+
+pub returns-in_ok-add_closed-in-Closed-clause-kept : goal.returns-in_ok-add_closed-in-Closed-clause-kept
+returns-in_ok-add_closed-in-Closed-clause-kept g c = c.add_closed.ensures.kept
+
+pub returns-in_err-add_closed-in-Closed-clause-kept : goal.returns-in_err-add_closed-in-Closed-clause-kept
+returns-in_err-add_closed-in-Closed-clause-kept g c = c.add_closed.ensures.kept

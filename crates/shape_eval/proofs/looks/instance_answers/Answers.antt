@@ -22,7 +22,17 @@ loop-node-preserved g c =
           reads_more terms (λ (n : ℕ). PathReads (graph_of terms (g.R.Triples.triples c.args.graph.now)) false class_path (term_at terms n)) nodes i 0 c.loop-node-test.true c.args.footprint.now c.loop-node.footprint c.is_instance.new.footprint
           (before.2 terms numbering numbered words are)
           (c.in_ok-is_instance.ensures.looks terms numbering numbered words (are.named (get_or nodes i 0) (Contains-get_or nodes i 0 c.loop-node-test.true))),
+      λ look h. c.is_instance.ensures.kept look (before.3 look h),
     )
+
+pub returns-clause-kept : goal.returns-clause-kept
+returns-clause-kept g c = c.loop-node.invariant.3
+
+pub returns-in_err-is_instance-clause-kept : goal.returns-in_err-is_instance-clause-kept
+returns-in_err-is_instance-clause-kept g c = λ look h. c.is_instance.ensures.kept look (c.loop-node.invariant.3 look h)
+
+pub returns-in_err-push-clause-kept : goal.returns-in_err-push-clause-kept
+returns-in_err-push-clause-kept g c = λ look h. c.is_instance.ensures.kept look (c.loop-node.invariant.3 look h)
 
 pub returns-clause-as_many : goal.returns-clause-as_many
 returns-clause-as_many g c = let count = c.loop-node.invariant.0 in omega (arith, count, c.loop-node-test.false, c.loop-node.auto.node-index-end)

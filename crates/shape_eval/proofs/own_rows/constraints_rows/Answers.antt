@@ -53,6 +53,7 @@ loop-constraint-preserved g c =
             (All-contains (IsLinked named) (map (read_constraint (term_at terms)) constraints) (read_constraint (term_at terms) (get_or constraints i d)) linked (mapped_to (read_constraint (term_at terms)) constraints (get_or constraints i d) there)),
       );
       looks = reads_more terms Reads constraints i d c.loop-constraint-test.true old mid new c.loop-constraint.invariant.looks looked;
+      kept = λ look h. c.constraint_rows.ensures.kept look (c.loop-constraint.invariant.kept look h);
     }
 
 pub returns-clause-rows : goal.returns-clause-rows
@@ -69,3 +70,12 @@ returns-clause-looks g c =
     let Reads = ConstraintReads (graph_of terms (g.R.Triples.triples c.args.graph.now)) (HasNode terms c.args.values.now) (term_at terms c.args.focus) in
     reads_mapped terms (read_constraint (term_at terms)) constraints Reads c.args.footprint.now c.loop-constraint.footprint
     (reads_all terms (λ (k : Constraint ℕ). Reads (read_constraint (term_at terms) k)) constraints c.loop-constraint.constraint-index c.loop-constraint-test.false c.args.footprint.now c.loop-constraint.footprint c.loop-constraint.invariant.looks)
+
+pub returns-clause-kept : goal.returns-clause-kept
+returns-clause-kept g c = c.loop-constraint.invariant.kept
+
+pub returns-in_err-more-clause-kept : goal.returns-in_err-more-clause-kept
+returns-in_err-more-clause-kept g c = λ look h. c.constraint_rows.ensures.kept look (c.loop-constraint.invariant.kept look h)
+
+pub returns-in_err-append-clause-kept : goal.returns-in_err-append-clause-kept
+returns-in_err-append-clause-kept g c = λ look h. c.constraint_rows.ensures.kept look (c.loop-constraint.invariant.kept look h)

@@ -7,6 +7,7 @@ use Rattle.shape_ast.specs.Standing.{IsLinked}
 use Rattle.shape_eval.specs.Around.{around}
 use Rattle.component_rows.specs.Nodes.{HasNode}
 use Rattle.path_eval.specs.Naming.{AddsLooks}
+use Rattle.collections.specs.Listings.{Keeps}
 use Rattle.shape_eval.specs.Looks.{ConstraintReads, ReadsOfSome}
 use Rattle.shape_eval.specs.ShapeRows.{ConstraintRow, FromSome}
 use Rattle.shape_eval.specs.Told.{AsksSome, WhereRight}
@@ -20,4 +21,5 @@ invariant-loop-constraint g l =
       rows : WhereRight terms ids l.shapes l.values l.told (AsksSome l.shape l.constraints) (λ s n. All (IsLinked (named_shapes terms l.shapes)) (map (read_constraint (term_at terms)) l.constraints)
           → Collects (FromSome (take l.constraint-index l.constraints) (λ k r. ConstraintRow (around terms ids s n l.values l.focus) (named_shapes terms l.shapes) (read_shape (term_at terms) l.shape) (term_at terms l.focus) (read_constraint (term_at terms) k) r)) l.rows.items);
       looks : AddsLooks terms (ReadsOfSome (take l.constraint-index l.constraints) (λ k. ConstraintReads (graph_of terms ids) (HasNode terms l.values) (term_at terms l.focus) (read_constraint (term_at terms) k))) l.fn.footprint l.footprint;
+      kept : Keeps l.fn.footprint l.footprint;
     }

@@ -36,3 +36,15 @@ returns-clause-looks g c =
     let terms = g.N.Names.terms c.args.names.now in
     subst (λ (ks : List (Constraint ℕ)). AddsLooks terms (ReadsOfSome (map (read_constraint (term_at terms)) ks) (ConstraintReads (graph_of terms (g.R.Triples.triples c.args.graph.now)) (HasNode terms c.args.values.now) (term_at terms c.args.focus)))
     c.args.footprint.now c.constraints_rows.new.footprint) c.as_slice-constraints.ensures c.in_ok-rows.ensures.looks
+
+pub returns-clause-kept : goal.returns-clause-kept
+returns-clause-kept g c = c.constraints_rows.ensures.kept
+
+pub returns-in_err-rows-clause-kept : goal.returns-in_err-rows-clause-kept
+returns-in_err-rows-clause-kept g c = c.constraints_rows.ensures.kept
+
+pub returns-in_err-more-clause-kept : goal.returns-in_err-more-clause-kept
+returns-in_err-more-clause-kept g c = c.constraints_rows.ensures.kept
+
+pub returns-in_err-append-clause-kept : goal.returns-in_err-append-clause-kept
+returns-in_err-append-clause-kept g c = c.constraints_rows.ensures.kept

@@ -1,4 +1,4 @@
-use Rattle.std.proofs.Common.{◌≡◌, ℕ, List, sym, ap, subst}
+use Rattle.std.proofs.Common.{◌≡◌, ℕ, IfOk, List, sym, ap, subst}
 use Rattle.std.specs.Prelude.{MatchOption, Option, Some}
 use Rattle.std.specs.Arc.{arc_value}
 use Rattle.std.proofs.lemmas.Result.{IfOk-weaker}
@@ -8,7 +8,8 @@ use Rattle.rdf_model.specs.declared.ids.Ids.{Ids}
 use Rattle.rdf_model.specs.Numbers.{term_at}
 use Rattle.shape_model.specs.declared.component.Component.TheVariants as components
 use Rattle.shape_model.specs.Components.{RowsOf, row_of}
-use Rattle.component_rows.specs.Listed.{Collects, ListsRows, at_nodes}
+use Rattle.component_rows.specs.Listed.{Collects, Lists, ListsRows, at_nodes}
+use Rattle.component_rows.specs.Sites.{ListsAt, Spot, at_values}
 use Rattle.component_rows.specs.Nodes.{HasNode}
 use Rattle.component_rows.proofs.Collecting.{collects_none, collects_same}
 use Rattle.shape_ast.specs.Readings.{ReadShape, read_optional, read_pattern, read_shape}
@@ -45,10 +46,11 @@ returns-in-Some g c =
     (λ rows. (ids : List Ids) (s : List Triple) (n : ℕ) (shapes : List ReadShape) → Collects (PatternRow (around terms ids s n values c.args.focus) shapes read f) rows.items)
     (λ rows h ids s n shapes.
     let around_it = around terms ids s n values c.args.focus in
-    let h2 = subst (λ (x : Term). Collects (RowsOf components.Pattern around_it (with_flags b.0) q (row_of components.Pattern x f q)) rows.items) c.named-source.ensures h in
+    let h2 = subst (λ (x : Term). Lists (RowsOf components.Pattern around_it (with_flags b.0) q (row_of components.Pattern x f q)) rows.items) c.named-source.ensures h in
     collects_same (RowsOf components.Pattern around_it (with_flags b.0) q (row_of components.Pattern read.node f q)) (PatternRow around_it shapes read f) rows.items
     (λ r. let same = pattern_same b.0 around_it shapes read b.1 q (row_of components.Pattern read.node f q) r in (
       (λ a. (q, is, same.0 a)),
       (λ k. same.1 (subst (λ (x : Term). RowsOf components.Pattern around_it (shape_reading shapes read) x (row_of components.Pattern read.node f x) r) (only_some read.pattern k.0 q k.1 is) k.2)),
-    )) h2)
-    (c.pattern.ensures b.0 (subst (λ x. IsPatternOf q b.0 x) (sym c.deref.ensures) b.2))
+    )) h2.members)
+    (subst (λ (x : Spot). IfOk c.pattern.result (λ rows. ListsAt components.Pattern (at_values x) (with_flags b.0) x rows.items)) c.new-site.ensures
+    (c.pattern.ensures b.0 (subst (λ (x : Spot). IsPatternOf (term_at x.terms x.parameter) b.0 c.deref.result.now) (sym c.new-site.ensures) (subst (λ x. IsPatternOf q b.0 x) (sym c.deref.ensures) b.2))))

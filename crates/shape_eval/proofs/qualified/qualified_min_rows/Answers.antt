@@ -10,7 +10,7 @@ use Rattle.shape_model.specs.TermTests.{IsFewer}
 use Rattle.component_rows.specs.Answers.{AreAnswersTo}
 use Rattle.component_rows.specs.Conformance.{told_shapes}
 use Rattle.component_rows.specs.Listed.{ListsRows}
-use Rattle.component_rows.proofs.Collecting.{collects_same}
+use Rattle.component_rows.proofs.Collecting.{lists_same}
 use Rattle.qualified_shapes.specs.Qualified.{with_qualified}
 use Rattle.shape_ast.specs.Readings.{named_shapes, read_shape}
 use Rattle.shape_ast.specs.Standing.{AreAt, IsAt, shape_reading}
@@ -23,11 +23,11 @@ use Rattle.shape_eval.proofs.qualified.qualified_min_rows.Goals as goal
 
 pub qualified_min_count-requires-clause-siblings : goal.qualified_min_count-requires-clause-siblings
 qualified_min_count-requires-clause-siblings g c =
-    let terms = g.N.Names.terms c.args.names.now in
+    let terms = c.args.site.now.terms in
     let shapes = c.args.shapes.now in
     let shape = c.args.shape.now in
     let told = c.args.told.now in
-    let values = c.args.values.now in
+    let values = c.args.site.now.values in
     let place = c.in-Some.place in
     let node = (get_or shapes place c.index-shapes-place.result).node in
     let others = c.deref-2.result.now in
@@ -39,11 +39,11 @@ qualified_min_count-requires-clause-siblings g c =
 
 pub qualified_min_count-requires-clause-answers : goal.qualified_min_count-requires-clause-answers
 qualified_min_count-requires-clause-answers g c =
-    let terms = g.N.Names.terms c.args.names.now in
+    let terms = c.args.site.now.terms in
     let shapes = c.args.shapes.now in
     let shape = c.args.shape.now in
     let told = c.args.told.now in
-    let values = c.args.values.now in
+    let values = c.args.site.now.values in
     let place = c.in-Some.place in
     let node = (get_or shapes place c.index-shapes-place.result).node in
     let others = c.deref-2.result.now in
@@ -61,11 +61,11 @@ qualified_min_count-requires-clause-answers g c =
 
 pub returns : goal.returns
 returns g c =
-    let terms = g.N.Names.terms c.args.names.now in
+    let terms = c.args.site.now.terms in
     let shapes = c.args.shapes.now in
     let shape = c.args.shape.now in
     let told = c.args.told.now in
-    let values = c.args.values.now in
+    let values = c.args.site.now.values in
     let place = c.in-Some.place in
     let node = (get_or shapes place c.index-shapes-place.result).node in
     let others = c.deref-2.result.now in
@@ -79,22 +79,22 @@ returns g c =
     let have : HaveAnswers shapes values told (Contains (place ∷ shape.siblings)) = qualified_places place shape.siblings (λ p. length (answers_of told (node_at shapes p)) ≡ length values)
     (subst (λ (o : Option ℕ). (n : ℕ) → Contains (places_in o) n ⊎ Contains shape.siblings n → length (answers_of told (node_at shapes n)) ≡ length values) c.in-Some.is c.requires.told) in
     let agreed = all_told shapes told values (place ∷ shape.siblings) (node ∷ others) are lists looked have in
-    let f = term_at terms c.args.focus in
-    let q = term_at terms c.args.parameter in
-    let row = row_of components.QualifiedMinCount c.args.source.now f q in
+    let f = term_at terms c.args.site.now.focus in
+    let q = term_at terms c.args.site.now.parameter in
+    let row = row_of components.QualifiedMinCount c.args.site.now.source f q in
     let named = named_shapes terms shapes in
     let read = read_shape (term_at terms) shape in
     let node_has : node < length terms = subst (λ (m : ℕ). m < length terms) (sym got) (node_bound terms shapes c.requires.bound place within) in
     let at : IsAt named place (term_at terms node) = subst (λ (m : ℕ). IsAt named place (term_at terms m)) (sym got) (is_at terms shapes place within) in
     let all_at : AreAt named shape.siblings (map (term_at terms) others) = subst (λ (ns : List ℕ). AreAt named shape.siblings (map (term_at terms) ns)) (sym beside) (are_at terms shapes shape.siblings c.requires.shape.siblings) in
     IfOk-weaker c.qualified_min_count.result
-    (λ rows. ListsRows components.QualifiedMinCount (told_shapes terms (node ∷ others) values lists) (with_qualified (term_at terms node) (map (term_at terms) others)) c.args.source.now f q rows.items)
+    (λ rows. ListsRows components.QualifiedMinCount (told_shapes terms (node ∷ others) values lists) (with_qualified (term_at terms node) (map (term_at terms) others)) c.args.site.now.source f q rows.items)
     (λ rows. (ids : List Ids) → WhereRight terms ids shapes values told (λ n. Contains (places_in shape.qualified) n ⊎ Contains shape.siblings n)
-    (λ s n. ListsRows components.QualifiedMinCount (around terms ids s n values c.args.focus) (shape_reading named read) c.args.source.now f q rows.items))
+    (λ s n. ListsRows components.QualifiedMinCount (around terms ids s n values c.args.site.now.focus) (shape_reading named read) c.args.site.now.source f q rows.items))
     (λ rows h ids s n right.
     let right_all : AreRight terms ids s n shapes values told (Contains (place ∷ shape.siblings)) = qualified_places place shape.siblings (λ p. AreAnswersTo (ConformsAt (graph_of terms ids) s n (term_at terms (node_at shapes p))) terms values (answers_of told (node_at shapes p)))
     (subst (λ (o : Option ℕ). (m : ℕ) → Contains (places_in o) m ⊎ Contains shape.siblings m → AreAnswersTo (ConformsAt (graph_of terms ids) s n (term_at terms (node_at shapes m))) terms values (answers_of told (node_at shapes m))) c.in-Some.is right) in
-    collects_same (RowsOf components.QualifiedMinCount (told_shapes terms (node ∷ others) values lists) (with_qualified (term_at terms node) (map (term_at terms) others)) q row) (RowsOf components.QualifiedMinCount (around terms ids s n values c.args.focus) (shape_reading named read) q row) rows.items
-    (counts_alike terms c.requires.numbering values c.requires.nodes ids s n c.args.focus node others (beside_named terms node others node_has bound) lists agreed
+    lists_same (RowsOf components.QualifiedMinCount (told_shapes terms (node ∷ others) values lists) (with_qualified (term_at terms node) (map (term_at terms) others)) q row) (RowsOf components.QualifiedMinCount (around terms ids s n values c.args.site.now.focus) (shape_reading named read) q row) rows.items
+    (counts_alike terms c.recall.ensures.numbering values c.recall.ensures.nodes ids s n c.args.site.now.focus node others (beside_named terms node others node_has bound) lists agreed
     (all_right shapes told values (place ∷ shape.siblings) (node ∷ others) are lists looked terms ids s n right_all) named read place c.in-Some.is at all_at row (λ m. IsFewer m q)) h)
     c.qualified_min_count.ensures

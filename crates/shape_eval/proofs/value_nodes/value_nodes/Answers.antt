@@ -42,3 +42,9 @@ pub returns-in-Some-clause-looks : goal.returns-in-Some-clause-looks
 returns-in-Some-clause-looks g c =
     let ids = g.R.Triples.triples c.args.graph.now in
     subst (λ (p : Option (Path ℕ)). OnOk c.values.result (AtNumbers ids p c.args.focus (λ terms. AddsLooks terms (OptionalReads (graph_of terms ids) (read_optional_path (term_at terms) p) (term_at terms c.args.focus)) c.args.footprint.now c.values.new.footprint))) (sym c.in-Some.is) c.values.ensures.looks
+
+pub returns-in-None-clause-kept : goal.returns-in-None-clause-kept
+returns-in-None-clause-kept g c = λ look h. h
+
+pub returns-in-Some-clause-kept : goal.returns-in-Some-clause-kept
+returns-in-Some-clause-kept g c = c.values.ensures.kept

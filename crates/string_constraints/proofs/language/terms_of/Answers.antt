@@ -9,7 +9,7 @@ named-requires g c = c.requires (get_or c.args.numbers.now c.loop-number.number-
 
 pub loop-number-preserved : goal.loop-number-preserved
 loop-number-preserved g c =
-    let terms = g.N.Names.terms c.args.names.now in
+    let terms = c.args.site.now.terms in
     let numbers = c.args.numbers.now in
     let i = c.loop-number.number-index in
     ap (map (λ t. t.now)) c.in_ok-push.ensures.items
@@ -18,4 +18,4 @@ loop-number-preserved g c =
     ∙ sym (ap (map (term_at terms)) (take_more numbers i 0 c.loop-number-test.true) ∙ map-append (term_at terms) (take i numbers) (get_or numbers i 0 ∷ []))
 
 pub returns : goal.returns
-returns g c = c.loop-number.invariant ∙ ap (map (term_at (g.N.Names.terms c.args.names.now))) (take_all c.loop-number.number-index c.args.numbers.now c.loop-number-test.false)
+returns g c = c.loop-number.invariant ∙ ap (map (term_at (c.args.site.now.terms))) (take_all c.loop-number.number-index c.args.numbers.now c.loop-number-test.false)

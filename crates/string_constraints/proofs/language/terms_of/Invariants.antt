@@ -3,4 +3,4 @@ use Rattle.rdf_model.specs.Numbers.{term_at}
 use Rattle.string_constraints.proofs.language.terms_of.Given as goal
 
 abbrev pub invariant-loop-number : goal.invariant-loop-number
-invariant-loop-number g l = map (λ t. t.now) l.terms.items ≡ map (term_at (g.N.Names.terms l.names)) (take l.number-index l.numbers)
+invariant-loop-number g l = map (λ t. t.now) l.terms.items ≡ map (term_at l.site.terms) (take l.number-index l.numbers)

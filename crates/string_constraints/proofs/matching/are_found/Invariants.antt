@@ -10,4 +10,4 @@ abbrev pub invariant-loop-value : goal.invariant-loop-value
 invariant-loop-value g l =
     (matcher_pattern l.matcher ≡ regex_pattern l.regex)
     × (length l.answers.items ≡ l.value-index)
-    × ((re : Re) → SameCaptures (regex_pattern l.regex) re → Tells (λ i. IsFoundIn re (term_at (g.N.Names.terms l.names) (get_or l.values i 0))) l.value-index l.answers.items)
+    × ((re : Re) → SameCaptures (regex_pattern l.regex) re → Tells (λ i. IsFoundIn re (term_at l.site.terms (get_or l.values i 0))) l.value-index l.answers.items)

@@ -1,18 +1,16 @@
 use Rattle.std.proofs.Common.{◌≡◌, ◌∙◌, ℕ, List, [], ◌∷◌, ◌++◌, append-nil, append_assoc, ap, sym, subst}
-use Rattle.rdf_model.specs.Numbers.{term_at}
 use Rattle.shape_model.specs.declared.result_row.ResultRow.{ResultRow}
 use Rattle.shape_model.specs.declared.component.Component.TheVariants as components
-use Rattle.shape_model.specs.Components.{row_of}
+use Rattle.component_rows.specs.Sites.{site_row}
 use Rattle.component_rows.specs.Listed.{Collects}
-use Rattle.component_rows.proofs.Collecting.{FromSome, from_more, collects_one}
+use Rattle.component_rows.proofs.Collecting.{FromSome, from_more, collects_one, lists_sorted}
 use Rattle.string_constraints.specs.Languages.{found_for}
 use Rattle.string_constraints.proofs.Tags.{nothing_left}
 use Rattle.string_constraints.proofs.shared_tag.rows_for.Goals as goal
 
 pub loop-tag-preserved : goal.loop-tag-preserved
 loop-tag-preserved g c =
-    let terms = g.N.Names.terms c.args.names.now in
-    let row : List ℕ → ResultRow = λ t. row_of components.UniqueLang c.args.source.now (term_at terms c.args.focus) (term_at terms c.args.parameter) (found_for t) in
+    let row : List ℕ → ResultRow = λ t. site_row components.UniqueLang c.args.site.now (found_for t) in
     let before = c.loop-tag.invariant in
     let tag = c.in-Some.tag in (
       before.0 ++ tag ∷ [],
@@ -24,9 +22,10 @@ loop-tag-preserved g c =
 
 pub returns : goal.returns
 returns g c =
-    let terms = g.N.Names.terms c.args.names.now in
-    let row : List ℕ → ResultRow = λ t. row_of components.UniqueLang c.args.source.now (term_at terms c.args.focus) (term_at terms c.args.parameter) (found_for t) in
+    let row : List ℕ → ResultRow = λ t. site_row components.UniqueLang c.args.site.now (found_for t) in
     let before = c.loop-tag.invariant in
     let none = nothing_left c.loop-tag.rest.keys c.in_default.ensures.variant.1 in
     let all : c.args.tags.keys ≡ before.0 = before.1 ∙ ap (λ (ts : List (List ℕ)). before.0 ++ ts) none ∙ append-nil before.0 in
-    subst (λ (ts : List (List ℕ)). Collects (FromSome ts (λ t r. r ≡ row t)) c.loop-tag.rows.items) (sym all) before.2
+    lists_sorted (FromSome c.args.tags.keys (λ t r. r ≡ row t)) c.loop-tag.rows.items c.in_ok-sorted_once.field-0.items
+    (subst (λ (ts : List (List ℕ)). Collects (FromSome ts (λ t r. r ≡ row t)) c.loop-tag.rows.items) (sym all) before.2)
+    c.in_ok-sorted_once.ensures

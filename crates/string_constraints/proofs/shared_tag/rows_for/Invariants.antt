@@ -1,6 +1,5 @@
 use Rattle.std.proofs.Common.{◌≡◌, List, ℕ, ◌++◌, length}
-use Rattle.rdf_model.specs.Numbers.{term_at}
-use Rattle.shape_model.specs.Components.{row_of}
+use Rattle.component_rows.specs.Sites.{site_row}
 use Rattle.shape_model.specs.declared.component.Component.TheVariants as components
 use Rattle.component_rows.specs.Listed.{Collects}
 use Rattle.component_rows.proofs.Collecting.{FromSome}
@@ -9,9 +8,8 @@ use Rattle.string_constraints.proofs.shared_tag.rows_for.Given as goal
 
 abbrev pub invariant-loop-tag : goal.invariant-loop-tag
 invariant-loop-tag g l =
-    let terms = g.N.Names.terms l.names in
     (done : List (List ℕ)) × (l.fn.tags.keys ≡ done ++ l.rest.keys)
-    × Collects (FromSome done (λ t r. r ≡ row_of components.UniqueLang l.source (term_at terms l.focus) (term_at terms l.parameter) (found_for t))) l.rows.items
+    × Collects (FromSome done (λ t r. r ≡ site_row components.UniqueLang l.site (found_for t))) l.rows.items
 
 abbrev pub decreases-loop-tag : goal.decreases-loop-tag
 decreases-loop-tag g l = length l.rest.keys

@@ -14,8 +14,8 @@ use Rattle.target_nodes.proofs.testing.is_target_by.Goals as goal
 abbrev Given : List Ids → ClassWords → ℕ → ℕ → Bool → List (Look ℕ) → List (Look ℕ) → Target ℕ → Type 0
 Given ids words shape node answer old new t = ByOne ids words t shape (AtNode node (λ terms. IsDecidedBy terms ids t shape node answer old new))
 
-pub returns-in_ok-is_instance-in-Class : goal.returns-in_ok-is_instance-in-Class
-returns-in_ok-is_instance-in-Class g c =
+pub returns-in_ok-is_instance-in-Class-clause-decided : goal.returns-in_ok-is_instance-in-Class-clause-decided
+returns-in_ok-is_instance-in-Class-clause-decided g c =
     let ids = g.R.Triples.triples c.args.graph.now in
     let e = c.in_ok-is_instance-in-Class.ensures in
     subst (Given ids c.args.words c.args.shape c.args.node c.in_ok-is_instance-in-Class.field-0 c.args.footprint.now c.is_instance.new.footprint) (sym c.in-Class.is)
@@ -24,8 +24,8 @@ returns-in_ok-is_instance-in-Class g c =
       looks = e.looks terms numbering numbered named at;
     })
 
-pub returns-in_ok-is_instance-in-ImplicitClass : goal.returns-in_ok-is_instance-in-ImplicitClass
-returns-in_ok-is_instance-in-ImplicitClass g c =
+pub returns-in_ok-is_instance-in-ImplicitClass-clause-decided : goal.returns-in_ok-is_instance-in-ImplicitClass-clause-decided
+returns-in_ok-is_instance-in-ImplicitClass-clause-decided g c =
     let ids = g.R.Triples.triples c.args.graph.now in
     let e = c.in_ok-is_instance-in-ImplicitClass.ensures in
     subst (Given ids c.args.words c.args.shape c.args.node c.in_ok-is_instance-in-ImplicitClass.field-0 c.args.footprint.now c.is_instance-in-ImplicitClass.new.footprint) (sym c.in-ImplicitClass.is)
@@ -34,8 +34,8 @@ returns-in_ok-is_instance-in-ImplicitClass g c =
       looks = e.looks terms numbering numbered named at;
     })
 
-pub returns-in_ok-finds-in-SubjectsOf : goal.returns-in_ok-finds-in-SubjectsOf
-returns-in_ok-finds-in-SubjectsOf g c =
+pub returns-in_ok-finds-in-SubjectsOf-clause-decided : goal.returns-in_ok-finds-in-SubjectsOf-clause-decided
+returns-in_ok-finds-in-SubjectsOf-clause-decided g c =
     let ids = g.R.Triples.triples c.args.graph.now in
     let p = c.in-SubjectsOf.predicate in
     let e = c.in_ok-finds-in-SubjectsOf.ensures in
@@ -47,8 +47,8 @@ returns-in_ok-finds-in-SubjectsOf g c =
       looks = looks_one terms numbering (Out c.args.node p) (at, bound) (Out (term_at terms c.args.node) (term_at terms p)) refl old new e.looks;
     })
 
-pub returns-in_ok-finds-in-ObjectsOf : goal.returns-in_ok-finds-in-ObjectsOf
-returns-in_ok-finds-in-ObjectsOf g c =
+pub returns-in_ok-finds-in-ObjectsOf-clause-decided : goal.returns-in_ok-finds-in-ObjectsOf-clause-decided
+returns-in_ok-finds-in-ObjectsOf-clause-decided g c =
     let ids = g.R.Triples.triples c.args.graph.now in
     let p = c.in-ObjectsOf.predicate in
     let e = c.in_ok-finds-in-ObjectsOf.ensures in

@@ -1,4 +1,4 @@
-use Rattle.std.proofs.Common.{List, sym, subst}
+use Rattle.std.proofs.Common.{List, arith, sym, subst}
 use Rattle.rdf_model.specs.declared.ids.Ids.{Ids}
 use Rattle.rdf_model.specs.Numbers.{graph_of}
 use Rattle.std.specs.Prelude.{◌↔◌}
@@ -16,6 +16,7 @@ returns-then-is_without_shapes g c =
     record {
       rows = subst (λ (rows : List ResultRow). Listing c.args.graph.now s rows) (sym c.new.ensures.items) (no_shapes c.args.graph.now s none);
       steps = no_pairs c.args.graph.now s none c.args.steps.now;
+      counted = omega arith;
     }
 
 pub listing_over-requires-clause-graph : goal.listing_over-requires-clause-graph

@@ -1,8 +1,7 @@
 use Rattle.std.proofs.Common.{get_or}
 use Rattle.std.proofs.lemmas.List.Elements.{Contains-get_or}
-use Rattle.rdf_model.specs.Numbers.{term_at}
 use Rattle.shape_model.specs.declared.component.Component.TheVariants as components
-use Rattle.shape_model.specs.Components.{row_of}
+use Rattle.component_rows.specs.Sites.{site_row}
 use Rattle.value_constraints.specs.Closing.{ForbiddenEdge}
 use Rattle.component_rows.proofs.Collecting.{grown, all_grown}
 use Rattle.value_constraints.proofs.closed_shape.add_edges.Goals as goal
@@ -13,12 +12,12 @@ add_edge-requires-clause-edge g c =
 
 pub loop-edge-preserved : goal.loop-edge-preserved
 loop-edge-preserved g c =
-    let terms = g.N.Names.terms c.args.names.now in
-    grown (ForbiddenEdge terms (row_of components.Closed c.args.source.now (term_at terms c.args.focus) (term_at terms c.args.parameter)) c.args.allowed.now c.args.value)
+    let terms = c.args.site.now.terms in
+    grown (ForbiddenEdge terms (site_row components.Closed c.args.site.now) c.args.allowed.now c.args.value)
     c.args.edges.now c.loop-edge.edge-index (0, 0) c.args.rows.now.items c.loop-edge.rows.items c.add_edge.new.rows.items c.loop-edge-test.true c.loop-edge.invariant c.in_ok-add_edge.ensures
 
 pub returns : goal.returns
 returns g c =
-    let terms = g.N.Names.terms c.args.names.now in
-    all_grown (ForbiddenEdge terms (row_of components.Closed c.args.source.now (term_at terms c.args.focus) (term_at terms c.args.parameter)) c.args.allowed.now c.args.value)
+    let terms = c.args.site.now.terms in
+    all_grown (ForbiddenEdge terms (site_row components.Closed c.args.site.now) c.args.allowed.now c.args.value)
     c.args.edges.now c.loop-edge.edge-index c.args.rows.now.items c.loop-edge.rows.items c.loop-edge-test.false c.loop-edge.invariant
