@@ -1,12 +1,11 @@
 -- What a keeper has of its own entries and of the sessions that it met.
 use Rattle.std.proofs.Common.{◌≡◌, ◌≢◌, ℕ, ◌+◌, ◌<◌, ◌≤◌, ◌==◌, ◌||◌, Bool, true, false, cond, List, [], ◌∷◌, ◌++◌, refl, sym, ap, ◌∙◌, subst, inl, inr, ⊎_elim, eq-eqb, ne_eqb, nat_lt, ltb-true, append_assoc, arith}
-use Rattle.std.specs.List.{filter}
 use Rattle.std.proofs.lemmas.List.{append-nil}
 use Rattle.std.proofs.lemmas.Bool.Decides.{nat_tests}
 use mathlib.Core.List.{IsPrefix}
 use mathlib.Core.Logic.{dite}
 use native.Mathlib.Decide.{ℕ_discrete}
-use Rattle.turn_lock.specs.History.{has_number, is_empty, is_reserved, reserved, reserved_after, under, OthersAdded}
+use Rattle.turn_lock.specs.History.{has_number, is_empty, is_reserved, reserved, reserved_after, under}
 use Rattle.turn_lock.specs.Callers.{Caller, kept_caller, met_caller}
 use Rattle.turn_lock.proofs.Added.{reserved_own, under_other}
 use Rattle.turn_lock.proofs.Numbers.{has_left, has_right, has_without}
@@ -20,13 +19,11 @@ use Rattle.thread_model.specs.Following.{is_opening}
 use Rattle.thread_model.proofs.Placing.{within, opening}
 use Rattle.guard_store.specs.declared.faults.OpenFault.{OpenFault}
 use Rattle.guard_store.specs.declared.faults.OpenFault.TheVariants.{SessionsFull, Memory}
-use Rattle.guard_store.specs.declared.session.Keeper.{Keeper}
-use Rattle.guard_store.specs.declared.session.Session.{Session}
 use Rattle.guard_store.specs.Fronts.{SharedStore, At, Turn, session_of, void_of}
-use Rattle.guard_store.specs.Callers.{IsCaller, IsKeeper, IsSession}
-use Rattle.guard_store.specs.Answers.{Opens, OpensNot, event_of}
+use Rattle.guard_store.specs.Callers.{IsCaller}
+use Rattle.guard_store.specs.Answers.{OpensNot, event_of}
 use Rattle.guard_store.specs.Laws.{is_keepers, keepers_entries, HasMet, KeepsEntries, AreOfFault, OpeningsKeepEntries, FailedOpeningsKeepEntries, MeetingsKeepEntries}
-use Rattle.guard_store.proofs.Growing.{More, replays_split, still_at}
+use Rattle.guard_store.proofs.Growing.{replays_split, still_at}
 use Rattle.guard_store.proofs.Turning.{opening_reserved, front_is, caller_turned, opened_more}
 use Rattle.guard_store.proofs.Opening.{open_event, next_number}
 use Rattle.guard_store.proofs.Telling.{openings_add_one}

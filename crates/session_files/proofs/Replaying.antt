@@ -1,5 +1,5 @@
 -- A print whose last line is handed in as a history.
-use Rattle.std.proofs.Common.{◌≡◌, ℕ, ◌+◌, ◌<◌, ◌≤◌, ◌==◌, ◌||◌, Bool, true, false, cond, List, [], ◌∷◌, ◌++◌, length, map, take, codes, Option, Some, None, refl, sym, ap, ◌∙◌, subst, inl, inr, ⊎_elim, append_assoc, length-append, arith}
+use Rattle.std.proofs.Common.{◌≡◌, ℕ, ◌+◌, ◌==◌, ◌||◌, Bool, true, false, cond, List, [], ◌∷◌, ◌++◌, map, take, codes, Option, Some, refl, sym, ap, ◌∙◌, subst, inl, inr, ⊎_elim, append_assoc}
 use Rattle.std.specs.List.{flat_map, list_any}
 use Rattle.std.specs.Fmt.{decimal}
 use Rattle.std.proofs.lemmas.List.{append-nil, append_cancel_left, append_cancel_right}
@@ -20,7 +20,7 @@ use Rattle.session_reader.proofs.Checks.{commands_grow, grows_on, grows_same}
 use Rattle.session_reader.proofs.OneSession.{one_session}
 use Rattle.session_files.specs.Loading.{HoldsSession, HoldSessions}
 use Rattle.session_files.specs.Runs.{IsBadPlace}
-use Rattle.session_files.specs.Laws.{EndsLine, IsLastLine, PrintsAgain, ReadAlike, ReplaysPrint, UnrefusedReadAlike}
+use Rattle.session_files.specs.Laws.{EndsLine, IsLastLine, ReplaysPrint, UnrefusedReadAlike}
 
 -- what stands behind the last LF of a text
 last_words : List ℕ → List ℕ

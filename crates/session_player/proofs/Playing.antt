@@ -12,7 +12,6 @@ use Rattle.shape_model.specs.declared.result_row.ResultRow.{ResultRow}
 use Rattle.rdf_model.specs.Graphs.{after}
 use Rattle.rdf_model.specs.declared.change.Change.{Change}
 use Rattle.rdf_model.specs.declared.triple.Triple.{Triple}
-use Rattle.store_model.specs.declared.event.Action.{Action}
 use Rattle.store_model.specs.declared.event.Action.TheVariants as actions
 use Rattle.store_model.specs.declared.event.Reply.{Reply}
 use Rattle.store_model.specs.declared.event.Reply.TheVariants.{Session, SessionsFull, Version, Named, Full, Conflict, FullTriples, Refused}
