@@ -172,7 +172,13 @@ fn assert_qualified(rt: &impl Abort, alloc: Global, line: &str) -> Result<(), Fa
     if let [shape, siblings @ ..] = shapes {
         assert!(rt; *shape < case.names.count());
         assert!(rt; have_names(siblings, &case.names));
-        let rows = qualified_rows(case.component, &site_of(alloc, &case), *shape, siblings, &answers)?;
+        let rows = qualified_rows(
+            case.component,
+            &site_of(alloc, &case),
+            *shape,
+            siblings,
+            &answers,
+        )?;
         assert_found(rt, alloc, &case, &rows, line)?;
     }
     Ok(())

@@ -68,10 +68,7 @@ Pattern; ^e:^string; e:a f:a^string _1 e:^string;; _1 f:a^string
 Pattern; ^.$^string; a^string 日^string ab^string;; ab^string
 Pattern; x^string;;;";
 
-fn length_rows(
-    component: &str,
-    site: &Site<'_, ListNames>,
-) -> Result<Vec<ResultRow>, AllocError> {
+fn length_rows(component: &str, site: &Site<'_, ListNames>) -> Result<Vec<ResultRow>, AllocError> {
     match component {
         "MinLength" => min_length(site),
         _ => max_length(site),

@@ -89,10 +89,7 @@ MaxCount; 2^integer; e:a _1;;
 MaxCount; -1^integer;;; -
 MaxCount; 1^int; e:a _1;;";
 
-fn range_rows(
-    component: &str,
-    site: &Site<'_, ListNames>,
-) -> Result<Vec<ResultRow>, AllocError> {
+fn range_rows(component: &str, site: &Site<'_, ListNames>) -> Result<Vec<ResultRow>, AllocError> {
     match component {
         "MinInclusive" => min_inclusive(site),
         "MinExclusive" => min_exclusive(site),
@@ -115,10 +112,7 @@ fn set_rows(
     }
 }
 
-fn kind_rows(
-    component: &str,
-    site: &Site<'_, ListNames>,
-) -> Result<Vec<ResultRow>, AllocError> {
+fn kind_rows(component: &str, site: &Site<'_, ListNames>) -> Result<Vec<ResultRow>, AllocError> {
     match component {
         "MinCount" => min_count(site),
         "MaxCount" => max_count(site),

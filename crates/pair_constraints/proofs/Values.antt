@@ -11,14 +11,14 @@ use Rattle.rdf_model.specs.declared.term.Term.{Term}
 use Rattle.rdf_model.specs.declared.triple.Triple.{Triple}
 use Rattle.rdf_model.specs.declared.ids.Ids.{Ids}
 use Rattle.rdf_model.specs.declared.look.Look.TheVariants.{Out}
-use Rattle.rdf_model.specs.Numbers.{term_at, triple_at, graph_of, IsNumbering, AreNumbered, IsFound}
+use Rattle.rdf_model.specs.Numbers.{term_at, triple_at, graph_of, AreNumbered, IsFound}
 use Rattle.shape_model.specs.declared.component.Component.TheVariants as components
 use Rattle.shape_model.specs.declared.result_row.ResultRow.{ResultRow}
 use Rattle.shape_model.specs.Components.{Finding, RowsOf, found_at, found_beside}
 use Rattle.shape_model.specs.TermTests.{IsLess, IsAtMost}
 use Rattle.shape_model.specs.Triples.{Has}
 use Rattle.component_rows.specs.Listed.{Collects, Lists, untold}
-use Rattle.component_rows.specs.Nodes.{AreNodes, HasNode}
+use Rattle.component_rows.specs.Nodes.{HasNode}
 use Rattle.component_rows.proofs.Collecting.{lists_same, mapped_from, mapped_to}
 use Rattle.pair_constraints.specs.declared.order.Comparison.TheVariants.{Less, AtMost}
 use Rattle.component_rows.specs.Sites.{IsSpot, Spot}

@@ -1,5 +1,5 @@
 ghost use Rattle.std.specs.Prelude.{◌<◌, IfOk, length, map};
-ghost use Rattle.std.specs.List.{All, Contains};
+ghost use Rattle.std.specs.List.{All};
 ghost use Rattle.rdf_model.specs.Numbers.{term_at};
 ghost use Rattle.shape_model.specs.declared.component.Component.TheVariants as components;
 ghost use Rattle.component_rows.specs.Listed.{with_list};

@@ -1,8 +1,7 @@
-ghost use Rattle.std.specs.Prelude.{◌≡◌, ◌<◌, IfOk, length, map};
+ghost use Rattle.std.specs.Prelude.{◌≡◌, ◌<◌, IfOk, length};
 ghost use Rattle.std.specs.List.{All, Contains};
 ghost use Rattle.rdf_model.specs.Numbers.{term_at};
 ghost use Rattle.shape_model.specs.Components.{RowsOf};
-ghost use Rattle.component_rows.specs.Conformance.{AreTold};
 ghost use Rattle.component_rows.specs.Listed.{Lists, untold, with_list};
 ghost use Rattle.component_rows.specs.Sites.{ListsAt, site_row};
 ghost use Rattle.shape_ast.specs.Components.{shape_component, shapes_component};

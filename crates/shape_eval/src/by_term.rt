@@ -1,11 +1,7 @@
-ghost use Rattle.std.specs.Prelude.{◌≡◌, ◌<◌, IfOk, length};
-ghost use Rattle.std.specs.List.{All, Contains};
+ghost use Rattle.std.specs.Prelude.{◌<◌, IfOk, length};
 ghost use Rattle.rdf_model.specs.Numbers.{AreNumbered, graph_of, term_at};
-ghost use Rattle.shape_model.specs.Components.{ForEach};
 ghost use Rattle.shape_model.specs.declared.component.Component.TheVariants as components;
-ghost use Rattle.component_rows.specs.Listed.{untold, with_allowed};
-ghost use Rattle.component_rows.specs.Nodes.{AreNodes, HasNode};
-ghost use Rattle.component_rows.specs.Sites.{ListsAt, at_values};
+ghost use Rattle.component_rows.specs.Sites.{ListsAt};
 ghost use Rattle.shape_ast.specs.Components.{term_component};
 ghost use Rattle.shape_ast.specs.Readings.{AreBound, HoldsOfShape, named_shapes, read_shape};
 ghost use Rattle.shape_ast.specs.Standing.{shape_reading};

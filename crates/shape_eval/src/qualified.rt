@@ -1,13 +1,12 @@
 ghost use Rattle.std.specs.Prelude.{◌≡◌, ◌<◌, ◌∷◌, ◌⊎◌, IfOk, length, map};
-ghost use Rattle.std.specs.List.{All, Contains};
+ghost use Rattle.std.specs.List.{Contains};
 ghost use Rattle.rdf_model.specs.Numbers.{term_at};
 ghost use Rattle.shape_model.specs.declared.component.Component.TheVariants as components;
-ghost use Rattle.component_rows.specs.Conformance.{AreTold};
 ghost use Rattle.component_rows.specs.Sites.{ListsAt};
 ghost use Rattle.shape_ast.specs.Readings.{AreBound, HoldsOfShape, named_shapes, read_shape};
 ghost use Rattle.shape_ast.specs.Standing.{shape_reading};
 ghost use Rattle.shape_eval.specs.Around.{around};
-ghost use Rattle.shape_eval.specs.Told.{HaveAnswers, WhereRight, answers_of, node_at, places_in};
+ghost use Rattle.shape_eval.specs.Told.{HaveAnswers, WhereRight, answers_of, places_in};
 
 use crate::told::{Told, answers_to, answers_to_node, nodes_at};
 use component_rows::Site;

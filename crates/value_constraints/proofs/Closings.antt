@@ -15,7 +15,7 @@ use Rattle.shape_model.specs.Components.{Finding, RowsOf}
 use Rattle.component_rows.specs.Listed.{Collects, Lists, found_with, with_allowed}
 use Rattle.component_rows.specs.Nodes.{AreNodes, HasNode}
 use Rattle.component_rows.proofs.Collecting.{collects_same, lists_none, mapped_from, mapped_to}
-use Rattle.value_constraints.specs.Closing.{in_graph, ForbiddenEdge, ForbiddenAt, ForbiddenOf, ForbiddenOfSome}
+use Rattle.value_constraints.specs.Closing.{in_graph, ForbiddenAt, ForbiddenOf, ForbiddenOfSome}
 
 module _ (terms : List Term) (numbering : IsNumbering terms) (ids : List Ids) (numbered : AreNumbered terms ids) where
   all_in : (is : List Ids) → AreNumbered terms is → (i : Ids) → Contains is i → (i.subject < length terms) × (i.predicate < length terms) × (i.object < length terms)

@@ -1,6 +1,6 @@
 ghost use Rattle.std.specs.Prelude.{◌≡◌, ◌<◌, ◌++◌, IfOk, OnOk, length};
 ghost use Rattle.std.specs.List.{Contains};
-ghost use Rattle.rdf_model.specs.Numbers.{AreNumbered, IsEdge};
+ghost use Rattle.rdf_model.specs.Numbers.{AreNumbered};
 ghost use Rattle.shape_model.specs.declared.component.Component.TheVariants as components;
 ghost use Rattle.component_rows.specs.Listed.{Collects, with_allowed};
 ghost use Rattle.component_rows.specs.Nodes.{AreNodes, HasNode};

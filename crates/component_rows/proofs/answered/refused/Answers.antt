@@ -1,9 +1,9 @@
-use Rattle.std.proofs.Common.{◌≡◌, ◌≤◌, List, ℕ, get_or, length, subst}
+use Rattle.std.proofs.Common.{◌≤◌, List, ℕ, get_or, length, subst}
 use Rattle.std.specs.List.{Contains}
 use Rattle.std.proofs.lemmas.List.Elements.{Contains-get_or}
 use Rattle.shape_model.specs.Components.{ForEach}
 use Rattle.component_rows.specs.Listed.{Collects}
-use Rattle.component_rows.specs.Nodes.{AreNodes, IsAnswered}
+use Rattle.component_rows.specs.Nodes.{IsAnswered}
 use Rattle.component_rows.specs.Sites.{at_values, site_row}
 use Rattle.component_rows.proofs.Answering.{BeforePlace, place_more, all_places}
 use Rattle.component_rows.proofs.Collecting.{lists_sorted}
