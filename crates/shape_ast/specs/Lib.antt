@@ -1,4 +1,5 @@
 pub mod Components
 pub mod Readings
 pub mod Standing
+pub mod Once
 pub mod Binding

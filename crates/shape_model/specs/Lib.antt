@@ -9,6 +9,8 @@ pub mod Paths
 pub mod Walks
 pub mod Instances
 pub mod ShapeSyntax
+pub mod Parameters
+pub mod Limits
 pub mod Readings
 pub mod Listings
 pub mod Patterns

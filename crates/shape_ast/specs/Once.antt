@@ -1,5 +1,5 @@
 -- That each part of a compiled shape stands there once.
-use Rattle.std.specs.Prelude.{◌≡◌, ◌⊎◌, List, [], ◌∷◌, ◌++◌, map}
+use Rattle.std.specs.Prelude.{List, [], ◌∷◌, map}
 use Rattle.std.specs.List.{Contains}
 use Rattle.std.specs.Ordering.{nat_cmp}
 use Rattle.collections.specs.Ordered.{IsAscending}
@@ -8,8 +8,6 @@ use Rattle.rdf_model.specs.declared.triple.Triple.{Triple}
 use Rattle.rdf_model.specs.Terms.{triple_cmp}
 use Rattle.shape_model.specs.Components.{parameter_of}
 use Rattle.shape_model.specs.Vocabulary.{property_iri, rdf_type, rdfs_class, ShTargetClass, ShTargetNode, ShTargetObjectsOf, ShTargetSubjectsOf}
-use Rattle.shape_properties.specs.declared.property.ShapeProperty.{ShapeProperty}
-use Rattle.shape_properties.specs.Properties.{property_iri as rule_iri}
 use Rattle.shape_ast.specs.declared.constraint.Constraint.{Constraint}
 use Rattle.shape_ast.specs.declared.shape.Shape.{Shape}
 use Rattle.shape_ast.specs.declared.target.Target.{Target}
@@ -20,10 +18,6 @@ use Rattle.shape_ast.specs.Readings.{ReadShape, component_of, parameter, read_sh
 abbrev pub AreDistinct : {X : Type 0} → List X → Type 0
 AreDistinct [] = Unit {0}
 AreDistinct (x ∷ xs) = (Contains xs x → ⊥) × AreDistinct xs
-
--- the node has this value of the property
-abbrev pub value_triple : Term → ShapeProperty → Term → Triple
-value_triple n p v = record { subject = n; predicate = rule_iri p; object = v }
 
 -- the triple of the node that says the constraint: it has this value of the parameter (SHACL 4)
 abbrev pub constraint_triple : Term → Constraint Term → Triple
@@ -47,7 +41,3 @@ pub record IsOnce (c : ReadShape) : Type 0 where
 -- of all the compiled shapes
 abbrev pub AreOnce : List (Shape Term) → Type 0
 AreOnce shapes = (c : ReadShape) → Contains (read_shapes shapes) c → IsOnce c
-
--- the item was added, or nothing was
-abbrev pub MayAdd : {X : Type 0} → X → List X → List X → Type 0
-MayAdd t old new = (new ≡ old) ⊎ (new ≡ old ++ t ∷ [])
