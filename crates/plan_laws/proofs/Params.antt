@@ -21,7 +21,7 @@ use Rattle.shape_model.proofs.Declarations.{values_law}
 use Rattle.shape_ast.specs.declared.constraint.Constraint.{Constraint}
 use Rattle.shape_ast.specs.Readings.{component_of, parameter}
 use Rattle.shape_ast.specs.Standing.{IsFor}
-use Rattle.shape_reader.specs.Once.{constraint_triple}
+use Rattle.shape_ast.specs.Once.{constraint_triple}
 
 -- the properties whose constraints have looks, or name shapes, by numbers
 abbrev pub number : ShapeProperty → ℕ

@@ -30,8 +30,8 @@ use Rattle.shape_ast.specs.declared.constraint.Constraint.TheVariants.{ByList, B
 use Rattle.shape_ast.specs.declared.target.Target.TheVariants.{Class, ImplicitClass, ObjectsOf, SubjectsOf}
 use Rattle.shape_ast.specs.Readings.{ReadShape, parameter}
 use Rattle.shape_ast.specs.Standing.{AreAt, HasMembers, IsAt, IsFor, IsLinked, StandFor, shape_reading}
-use Rattle.shape_reader.specs.Once.{IsOnce}
-use Rattle.shape_reader.proofs.Names.{shape_same}
+use Rattle.shape_ast.specs.Once.{IsOnce}
+use Rattle.shape_properties.proofs.Defined.{shape_same}
 use Rattle.shape_reader.proofs.WellFormed.{one_value}
 use Rattle.read_plans.specs.ShapeRows.{constraint_places, constraint_rows, is_count, optional_place, optional_rows, own_rows, qualified_places, referred_places, target_rows, value_way, with_places}
 use Rattle.read_plans.proofs.Lists.{any_from}

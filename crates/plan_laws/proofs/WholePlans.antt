@@ -18,8 +18,8 @@ use Rattle.shape_rules.proofs.Shallow.{shallow}
 use Rattle.shape_ast.specs.declared.shape.Shape.{Shape}
 use Rattle.shape_ast.specs.Readings.{HoldsOfShape, ReadShape, read_shape, read_shapes}
 use Rattle.shape_ast.specs.Standing.{AreCompiled, IsAt, StandFor, StandsIn}
-use Rattle.shape_reader.specs.Once.{IsOnce}
-use Rattle.shape_reader.proofs.Names.{shape_same}
+use Rattle.shape_ast.specs.Once.{IsOnce}
+use Rattle.shape_properties.proofs.Defined.{shape_same}
 use Rattle.read_plans.specs.declared.fault.PlanFault.TheVariants.{Memory, TooWide}
 use Rattle.read_plans.specs.Rows.{looks_limit}
 use Rattle.read_plans.specs.ShapeRows.{all_target_rows, levels_limit, own_rows, referred_places, rows_with, shape_rows, target_rows, value_way}

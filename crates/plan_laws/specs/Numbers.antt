@@ -8,7 +8,7 @@ use Rattle.shape_sizes.specs.Sizes.{HasLooks, looks_of}
 use Rattle.shape_ast.specs.declared.shape.Shape.{Shape}
 use Rattle.shape_ast.specs.Readings.{ReadShape, read_shapes}
 use Rattle.shape_ast.specs.Standing.{AreCompiled}
-use Rattle.shape_reader.specs.Once.{AreOnce}
+use Rattle.shape_ast.specs.Once.{AreOnce}
 use Rattle.read_plans.specs.declared.fault.PlanFault.{PlanFault}
 use Rattle.read_plans.specs.declared.fault.PlanFault.TheVariants.{Memory}
 use Rattle.read_plans.specs.PathRows.{path_rows}

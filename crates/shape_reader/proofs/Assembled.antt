@@ -16,7 +16,7 @@ use Rattle.shape_ast.specs.declared.shape.Shape.{Shape}
 use Rattle.shape_ast.specs.declared.target.Target.{Target}
 use Rattle.shape_ast.specs.Readings.{read_optional_path, read_shape}
 use Rattle.shape_ast.specs.Standing.{StandsIn}
-use Rattle.shape_reader.specs.Once.{constraint_triple}
+use Rattle.shape_ast.specs.Once.{constraint_triple}
 use Rattle.shape_reader.specs.Parts.{ArePartsOf, HasPlace, IsCompiled, IsOptionalPath, IsOptionalPattern, IsShapeOf}
 use Rattle.shape_reader.proofs.Naming.{constraints_named, constraints_same, ignored_named, map_same, optional_same, path_named, pattern_built, pattern_named, pattern_value, place_named, places_named, shape_stands, siblings_named, targets_named, targets_same, value_named, values_named}
 use Rattle.shape_reader.proofs.WellFormed.{one_value}

@@ -13,7 +13,7 @@ use Rattle.shape_rules.specs.Broken.{IsWellFormed}
 use Rattle.shape_ast.specs.declared.shape.Shape.{Shape}
 use Rattle.shape_ast.specs.Readings.{HoldsOfShape, ReadShape, read_shape, read_shapes}
 use Rattle.shape_ast.specs.Standing.{IsBuilt, StandFor, StandsIn}
-use Rattle.shape_reader.specs.Once.{IsOnce}
+use Rattle.shape_ast.specs.Once.{IsOnce}
 use Rattle.shape_reader.specs.Parts.{AreShapes, IsCompiled, IsShapeOf}
 use Rattle.shape_reader.proofs.Speaking.{node_of, speak_for}
 

@@ -7,7 +7,7 @@ use Rattle.std.specs.declared.cmp.Ordering.TheVariants.{Less}
 use Rattle.std.specs.Cmp.{IsTotalOrder, tied_itself}
 use Rattle.collections.specs.Ordered.{AllAbove, IsAscending}
 use Rattle.collections.proofs.Members.{has_cases, has_equal, has_tail}
-use Rattle.shape_reader.specs.Once.{AreDistinct}
+use Rattle.shape_ast.specs.Once.{AreDistinct}
 
 module _ {X : Type 0} where
   pub distinct_push : (xs : List X) (y : X) → AreDistinct xs → (Contains xs y → ⊥) → AreDistinct (xs ++ y ∷ [])

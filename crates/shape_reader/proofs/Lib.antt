@@ -1,4 +1,3 @@
-pub mod Names
 pub mod Options
 pub mod Places
 pub mod Deciding
@@ -11,7 +10,7 @@ pub mod Assembled
 pub mod Collected
 pub mod Gathered
 pub mod Causes
-pub mod Turns
 pub mod Distinct
 pub mod Rising
 pub mod Sayings
+pub mod Requests

@@ -23,7 +23,7 @@ in_place (x ∷ xs) (suc k) t e = has_tail x xs t (in_place xs k t e)
 not_itself : (t u : Term) → t ≡ u → term_cmp t u ≡ Less → ⊥
 not_itself t u e l = let k = tied_itself term_total t in let m : term_cmp t t ≡ Less = subst (λ (w : Term). term_cmp t w ≡ Less) (sym e) l in cc (k, m)
 
-not_both : (t u : Term) → term_cmp t u ≡ Less → term_cmp u t ≡ Less → ⊥
+pub not_both : (t u : Term) → term_cmp t u ≡ Less → term_cmp u t ≡ Less → ⊥
 not_both t u l m = not_itself t t refl (term_total.trans t u t l m)
 
 place_rises : (xs : List Term) → IsAscending term_cmp xs → (j k : ℕ) (t u : Term) → IsPlace xs j t → IsPlace xs k u → term_cmp t u ≡ Less → j < k
@@ -45,7 +45,7 @@ module _ {X : Type 0} (R : X → X → Ordering) where
   ascending_push (x ∷ xs) y a all = (above_push x xs y a.0 (all x (has_head x xs)), ascending_push xs y a.1 (λ z c. all z (has_tail x xs z c)))
 
   -- an item is above all before it
-  passed_below : (xs : List X) → IsAscending R xs → (i : ℕ) (y x : X) → i < length xs → y ≡ get_or xs i y → Contains (take i xs) x → R x y ≡ Less
+  pub passed_below : (xs : List X) → IsAscending R xs → (i : ℕ) (y x : X) → i < length xs → y ≡ get_or xs i y → Contains (take i xs) x → R x y ≡ Less
   passed_below [] a i y x l e c = absurd (omega (arith, l))
   passed_below (z ∷ xs) a zero y x l e c = absurd (let k = c.1 in omega arith)
   passed_below (z ∷ xs) a (suc i) y x l e c = elim (has_cases z (take i xs) x c) [

@@ -8,9 +8,10 @@ use Rattle.shape_properties.specs.declared.property.ShapeProperty.{ShapeProperty
 use Rattle.shape_properties.specs.Properties.{property_iri as rule_iri}
 use Rattle.shape_ast.specs.declared.constraint.Constraint.{Constraint}
 use Rattle.shape_ast.specs.Readings.{component_of, parameter}
-use Rattle.shape_reader.specs.Once.{constraint_triple, value_triple}
+use Rattle.shape_ast.specs.Once.{constraint_triple}
+use Rattle.shape_properties.specs.Adding.{value_triple}
 use Rattle.shape_reader.specs.Parts.{SaysConstraint}
-use Rattle.shape_reader.proofs.Names.{same_iri}
+use Rattle.shape_properties.proofs.Defined.{same_iri}
 use Rattle.shape_reader.proofs.Told.{same_parameter, same_property}
 use Rattle.shape_reader.specs.Kinds.{kind}
 

@@ -40,7 +40,7 @@ use Rattle.shape_reader.specs.declared.kind.Kind.{Kind}
 use Rattle.shape_reader.specs.declared.kind.Kind.TheVariants as kinds
 use Rattle.shape_reader.specs.Kinds.{kind}
 use Rattle.shape_reader.specs.Parts.{ArePlaces, HasOne, HasPlace, IsCompiled, IsConstraint, IsOptionalPath, IsPlace, IsValue, SaysConstraint}
-use Rattle.shape_reader.proofs.Names.{has_same, rule_property, shape_same, taken_same}
+use Rattle.shape_properties.proofs.Defined.{has_same, rule_property, shape_same, taken_same}
 use Rattle.shape_reader.proofs.Places.{all_places}
 use Rattle.shape_reader.proofs.Told.{Declares, declared, same_parameter, same_property}
 use Rattle.shape_reader.proofs.WellFormed.{list_of, one_value}

@@ -17,7 +17,7 @@ use Rattle.shape_reader.specs.declared.kind.Kind.{Kind}
 use Rattle.shape_reader.specs.declared.kind.Kind.TheVariants as kinds
 use Rattle.shape_reader.specs.Kinds.{kind}
 use Rattle.shape_reader.specs.Parts.{IsConstraint, SaysConstraint, target_of}
-use Rattle.shape_reader.proofs.Names.{rule_property}
+use Rattle.shape_properties.proofs.Defined.{rule_property}
 
 -- what the node has where it has the target
 abbrev pub Declares : List Triple → Term → Target Term → Type 0

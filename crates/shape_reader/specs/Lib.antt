@@ -1,4 +1,4 @@
 pub mod Kinds
-pub mod Once
 pub mod Parts
+pub mod Asked
 pub mod Faults

@@ -31,7 +31,7 @@ use Rattle.outside.specs.declared.maker.MakeFault.TheVariants as make
 use Rattle.outside.specs.Faults.{Refusal}
 use Rattle.std.specs.Arc.{arc_value}
 use Rattle.shape_model.specs.Patterns.{IsPatternOf}
-use Rattle.shape_reader.specs.Once.{AreDistinct, IsOnce, constraint_triple}
+use Rattle.shape_ast.specs.Once.{AreDistinct, IsOnce, constraint_triple}
 use Rattle.shape_reader.specs.declared.kind.Kind.{Kind}
 use Rattle.shape_reader.specs.declared.kind.Kind.TheVariants as kinds
 use Rattle.shape_reader.specs.Kinds.{kind}
@@ -151,7 +151,7 @@ IsMakeFault s n make.Refused old new = IsRefused s n old new
 IsMakeFault s n make.Memory old new = new ≡ old
 
 -- the targets of the node, each once
-pub record AreTargets (s : List Triple) (nodes : List Term) (n : Term) (targets : List (Target Term)) : Type 0 where
+pub record AreTargetsOf (s : List Triple) (nodes : List Term) (n : Term) (targets : List (Target Term)) : Type 0 where
   pub said : (x : Target Term) → Contains targets x ↔ IsTarget s nodes n x
   pub once : AreDistinct targets
 
@@ -167,7 +167,7 @@ AreProperties s nodes n places = IsListing nat_cmp (HasPlace s nodes n vocabular
 -- the parts of the node but for its path and its pattern, with the node
 pub record ArePartsOf (s : List Triple) (nodes : List Term) (n own : Term) (targets : List (Target Term)) (constraints : List (Constraint Term)) (properties siblings : List ℕ) (severity flags : Option Term) (messages ignored : List Term) : Type 0 where
   pub node : own ≡ n
-  pub targets_said : AreTargets s nodes n targets
+  pub targets_said : AreTargetsOf s nodes n targets
   pub constraints_said : AreConstraints s nodes n constraints
   pub properties_said : AreProperties s nodes n properties
   pub siblings_said : (k : ℕ) → Contains siblings k ↔ HasSibling s nodes n k

@@ -5,7 +5,7 @@ ghost use Rattle.rdf_model.specs.declared.term.Term.{Term as TermData};
 ghost use Rattle.rdf_model.specs.Terms.{term_cmp, triple_cmp};
 ghost use Rattle.shape_ast.specs.declared.constraint.Constraint.{Constraint as ConstraintData};
 ghost use Rattle.shape_reader.specs.declared.kind.Kind.TheVariants as kinds;
-ghost use Rattle.shape_reader.specs.Once.{constraint_triple};
+ghost use Rattle.shape_ast.specs.Once.{constraint_triple};
 ghost use Rattle.shape_reader.specs.Parts.{AreConstraints, AreShapesOf, IsConstraint, SaysConstraint};
 
 use crate::kind::{Kind, kind_of};

@@ -8,7 +8,7 @@ ghost use Rattle.rdf_model.specs.Terms.{term_cmp, triple_cmp};
 ghost use Rattle.shape_properties.specs.declared.property.ShapeProperty.{ShapeProperty as PropertyData};
 ghost use Rattle.shape_properties.specs.Syntax.{SomeValue};
 ghost use Rattle.shape_properties.specs.OfProperties.{OfTriple};
-ghost use Rattle.shape_reader.specs.Once.{MayAdd, value_triple};
+ghost use Rattle.shape_properties.specs.Adding.{MayAdd, value_triple};
 
 use collections::Sequence;
 use rdf_model::{Term, Triple};

@@ -5,6 +5,7 @@ ghost use Rattle.collections.specs.Ordered.{IsAscending};
 ghost use Rattle.literal_order.specs.Texts.{string_value};
 ghost use Rattle.rdf_model.specs.Terms.{triple_cmp};
 ghost use Rattle.shape_properties.specs.declared.property.ShapeProperty.TheVariants as properties;
+ghost use Rattle.shape_reader.specs.Asked.{AsksIfAny, AsksInVain};
 ghost use Rattle.shape_reader.specs.Parts.{HasTexts, IsFlagsText, IsMakeFault, IsOptionalPattern};
 
 use crate::values::value_of;
@@ -54,8 +55,10 @@ pub(crate) fn pattern_of<M: Maker>(
     requires graph { IsAscending triple_cmp graph.now }
     requires patterns { HasTexts graph.now node.now properties.Pattern }
     requires flags { HasTexts graph.now node.now properties.Flags }
-    ensures { MatchResult result (λ found. IsOptionalPattern graph.now node.now found × (M.refused maker.new ≡ M.refused maker.old))
+    ensures answer { MatchResult result (λ found. IsOptionalPattern graph.now node.now found × (M.refused maker.new ≡ M.refused maker.old))
         (λ fault. IsMakeFault graph.now node.now fault (M.refused maker.old) (M.refused maker.new)) }
+    ensures asked { MatchResult result (λ _. AsksIfAny graph.now node.now (M.asked maker.old) (M.asked maker.new))
+        (λ fault. AsksInVain graph.now node.now fault (M.asked maker.old) (M.asked maker.new)) }
 {
     let Some(value) = value_of(graph, node, ShapeProperty::Pattern) else {
         return Ok(None);

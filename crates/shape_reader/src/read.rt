@@ -4,8 +4,9 @@ ghost use Rattle.rdf_model.specs.Terms.{triple_cmp};
 ghost use Rattle.shape_ast.specs.Standing.{AreCompiled};
 ghost use Rattle.shape_rules.specs.Broken.{IsWellFormed};
 ghost use Rattle.shape_sizes.specs.Surveys.{IsSurvey};
+ghost use Rattle.shape_reader.specs.Asked.{AsksAll, AsksBeforeFault};
 ghost use Rattle.shape_reader.specs.Faults.{IsCause};
-ghost use Rattle.shape_reader.specs.Once.{AreOnce};
+ghost use Rattle.shape_ast.specs.Once.{AreOnce};
 
 use crate::ShapeFault;
 use crate::shapes::compile_of;
@@ -29,6 +30,8 @@ fn read_of<M: Maker>(
         (λ fault. IsCause graph.now fault (M.refused maker.old) (M.refused maker.new)) }
     ensures once { IfOk result (λ shapes. AreOnce shapes.shapes) }
     ensures refused { IfOk result (λ _. M.refused maker.new ≡ M.refused maker.old) }
+    ensures asked { MatchResult result (λ _. AsksAll graph.now (M.asked maker.old) (M.asked maker.new))
+        (λ fault. AsksBeforeFault graph.now fault (M.asked maker.old) (M.asked maker.new)) }
 {
     let broken = least_broken_of(alloc, graph, survey)?;
     match broken {
@@ -55,6 +58,8 @@ pub fn read_shapes<M: Maker>(
         (λ fault. IsCause graph.now fault (M.refused maker.old) (M.refused maker.new)) }
     ensures once { IfOk result (λ shapes. AreOnce shapes.shapes) }
     ensures refused { IfOk result (λ _. M.refused maker.new ≡ M.refused maker.old) }
+    ensures asked { MatchResult result (λ _. AsksAll graph.now (M.asked maker.old) (M.asked maker.new))
+        (λ fault. AsksBeforeFault graph.now fault (M.asked maker.old) (M.asked maker.new)) }
 {
     let survey = survey_of(alloc, graph)?;
     let shapes = read_of(alloc, maker, graph, &survey)?;

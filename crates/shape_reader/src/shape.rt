@@ -11,8 +11,9 @@ ghost use Rattle.shape_rules.specs.Broken.{IsWellFormed};
 ghost use Rattle.shape_properties.specs.Syntax.{HasProperty, IsShape};
 ghost use Rattle.shape_syntax.specs.PathNodes.{ArePathNodes};
 ghost use Rattle.shape_ast.specs.Readings.{read_optional_path};
+ghost use Rattle.shape_reader.specs.Asked.{AsksAt, AsksIfAny};
 ghost use Rattle.shape_reader.specs.Faults.{IsCompileCause};
-ghost use Rattle.shape_reader.specs.Parts.{AreConstraints, ArePartsOf, AreProperties, AreTargets, HasOne, HasSibling, HasTexts, IsIgnored, IsOptionalPath, IsOptionalPattern, IsPatternFault, IsShapeOf, IsValue};
+ghost use Rattle.shape_reader.specs.Parts.{AreConstraints, ArePartsOf, AreProperties, AreTargetsOf, HasOne, HasSibling, HasTexts, IsIgnored, IsOptionalPath, IsOptionalPattern, IsPatternFault, IsShapeOf, IsValue};
 
 use crate::CompileFault;
 use crate::constraint::constraints_of;
@@ -53,7 +54,7 @@ fn lists_of(
     requires graph { IsAscending triple_cmp graph.now }
     requires turned { IsListing triple_cmp (IsTurned graph.now) turned.now }
     requires nodes { IsAscending term_cmp nodes.now }
-    ensures targets { IfOk result (λ lists. AreTargets graph.now nodes.now node.now lists.0.0) }
+    ensures targets { IfOk result (λ lists. AreTargetsOf graph.now nodes.now node.now lists.0.0) }
     ensures constraints { IfOk result (λ lists. AreConstraints graph.now nodes.now node.now lists.0.1) }
     ensures properties { IfOk result (λ lists. AreProperties graph.now nodes.now node.now lists.1.0) }
     ensures siblings { IfOk result (λ lists. (k : ℕ) → Contains lists.1.1 k ↔ HasSibling graph.now nodes.now node.now k) }
@@ -108,8 +109,10 @@ fn pattern_at<M: Maker>(
     requires graph { IsAscending triple_cmp graph.now }
     requires patterns { HasTexts graph.now node.now properties.Pattern }
     requires flags { HasTexts graph.now node.now properties.Flags }
-    ensures { MatchResult result (λ found. IsOptionalPattern graph.now node.now found × (M.refused maker.new ≡ M.refused maker.old))
+    ensures answer { MatchResult result (λ found. IsOptionalPattern graph.now node.now found × (M.refused maker.new ≡ M.refused maker.old))
         (λ fault. IsCompileCause graph.now fault (M.refused maker.old) (M.refused maker.new)) }
+    ensures asked { MatchResult result (λ _. AsksIfAny graph.now node.now (M.asked maker.old) (M.asked maker.new))
+        (λ fault. AsksAt graph.now node.now fault (M.asked maker.old) (M.asked maker.new)) }
 {
     let own = node.clone()?;
     match pattern_of(alloc, maker, graph, node) {
@@ -132,9 +135,11 @@ fn made_of<M: Maker>(
     requires shape { IsShape graph.now node.now }
     requires patterns { HasTexts graph.now node.now properties.Pattern }
     requires flags { HasTexts graph.now node.now properties.Flags }
-    ensures { MatchResult result
+    ensures answer { MatchResult result
         (λ made. IsOptionalPath graph.now node.now (read_optional_path (λ t. t) made.0) × (IsOptionalPattern graph.now node.now made.1 × (M.refused maker.new ≡ M.refused maker.old)))
         (λ fault. IsCompileCause graph.now fault (M.refused maker.old) (M.refused maker.new)) }
+    ensures asked { MatchResult result (λ _. AsksIfAny graph.now node.now (M.asked maker.old) (M.asked maker.new))
+        (λ fault. AsksAt graph.now node.now fault (M.asked maker.old) (M.asked maker.new)) }
 {
     let path = path_of(alloc, graph, paths, node)?;
     let pattern = pattern_at(alloc, maker, graph, node)?;
@@ -218,9 +223,11 @@ pub(crate) fn compile_shape<M: Maker>(
     requires turned { IsListing triple_cmp (IsTurned graph.now) turned.now }
     requires nodes { IsAscending term_cmp nodes.now }
     requires shape { IsShape graph.now node.now }
-    ensures { MatchResult result
+    ensures answer { MatchResult result
         (λ shape. IsShapeOf graph.now nodes.now node.now shape × (M.refused maker.new ≡ M.refused maker.old))
         (λ fault. IsCompileCause graph.now fault (M.refused maker.old) (M.refused maker.new)) }
+    ensures asked { MatchResult result (λ _. AsksIfAny graph.now node.now (M.asked maker.old) (M.asked maker.new))
+        (λ fault. AsksAt graph.now node.now fault (M.asked maker.old) (M.asked maker.new)) }
 {
     let (path, pattern) = made_of(alloc, maker, graph, paths, node)?;
     let parts = parts_at(alloc, graph, turned, nodes, node)?;

@@ -8,8 +8,9 @@ ghost use Rattle.shape_rules.specs.Broken.{IsWellFormed};
 ghost use Rattle.shape_sizes.specs.Surveys.{IsSurvey};
 ghost use Rattle.shape_syntax.specs.PathNodes.{ArePathNodes};
 ghost use Rattle.shape_ast.specs.Standing.{AreCompiled};
+ghost use Rattle.shape_reader.specs.Asked.{AsksAll, AsksBefore};
 ghost use Rattle.shape_reader.specs.Faults.{IsCompileCause};
-ghost use Rattle.shape_reader.specs.Once.{AreOnce};
+ghost use Rattle.shape_ast.specs.Once.{AreOnce};
 ghost use Rattle.shape_reader.specs.Parts.{AreShapes};
 
 use crate::CompileFault;
@@ -38,9 +39,11 @@ fn compile_nodes<M: Maker>(
     requires paths { ArePathNodes graph.now paths.now.keys }
     requires turned { IsListing triple_cmp (IsTurned graph.now) turned.now }
     requires nodes { IsListing term_cmp (IsShape graph.now) nodes.now }
-    ensures { MatchResult result
+    ensures answer { MatchResult result
         (λ shapes. AreShapes graph.now nodes.now nodes.now shapes × (M.refused maker.new ≡ M.refused maker.old))
         (λ fault. IsCompileCause graph.now fault (M.refused maker.old) (M.refused maker.new)) }
+    ensures asked { MatchResult result (λ _. AsksAll graph.now (M.asked maker.old) (M.asked maker.new))
+        (λ fault. AsksBefore graph.now fault (M.asked maker.old) (M.asked maker.new)) }
 {
     let mut shapes = Sequence::new(alloc);
     for node in nodes {
@@ -65,6 +68,8 @@ pub(crate) fn compile_of<M: Maker>(
         (λ fault. IsCompileCause graph.now fault (M.refused maker.old) (M.refused maker.new)) }
     ensures once { IfOk result (λ shapes. AreOnce shapes.shapes) }
     ensures refused { IfOk result (λ _. M.refused maker.new ≡ M.refused maker.old) }
+    ensures asked { MatchResult result (λ _. AsksAll graph.now (M.asked maker.old) (M.asked maker.new))
+        (λ fault. AsksBefore graph.now fault (M.asked maker.old) (M.asked maker.new)) }
 {
     let turned = turned_properties(alloc, graph)?;
     have_room(alloc, graph, survey)?;
@@ -95,6 +100,8 @@ pub fn compile<M: Maker>(
         (λ fault. IsCompileCause graph.now fault (M.refused maker.old) (M.refused maker.new)) }
     ensures once { IfOk result (λ shapes. AreOnce shapes.shapes) }
     ensures refused { IfOk result (λ _. M.refused maker.new ≡ M.refused maker.old) }
+    ensures asked { MatchResult result (λ _. AsksAll graph.now (M.asked maker.old) (M.asked maker.new))
+        (λ fault. AsksBefore graph.now fault (M.asked maker.old) (M.asked maker.new)) }
 {
     let survey = survey_of(alloc, graph)?;
     let shapes = compile_of(alloc, maker, graph, &survey)?;

@@ -8,8 +8,8 @@ ghost use Rattle.shape_model.specs.Instances.{Instance};
 ghost use Rattle.shape_model.specs.Vocabulary.{rdfs_class};
 ghost use Rattle.shape_ast.specs.declared.target.Target.{Target as TargetData};
 ghost use Rattle.shape_ast.specs.declared.target.Target.TheVariants.{ImplicitClass};
-ghost use Rattle.shape_reader.specs.Once.{AreDistinct, target_triple};
-ghost use Rattle.shape_reader.specs.Parts.{AreTargets, SaysTarget, target_of};
+ghost use Rattle.shape_ast.specs.Once.{AreDistinct, target_triple};
+ghost use Rattle.shape_reader.specs.Parts.{AreTargetsOf, SaysTarget, target_of};
 
 use crate::part::{Part, parts_of};
 use collections::Sequence;
@@ -104,7 +104,7 @@ pub(crate) fn targets_of(
 ) -> Result<Sequence<Target<Term>>, AllocError>
     requires graph { IsAscending triple_cmp graph.now }
     requires nodes { IsAscending term_cmp nodes.now }
-    ensures { IfOk result (λ targets. AreTargets graph.now nodes.now node.now targets) }
+    ensures { IfOk result (λ targets. AreTargetsOf graph.now nodes.now node.now targets) }
 {
     let mut targets = parts_of(alloc, graph, nodes, node)?;
     push_implicit(alloc, graph, node, &mut targets)?;

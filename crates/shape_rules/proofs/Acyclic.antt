@@ -7,10 +7,10 @@ use Rattle.shape_model.specs.Readings.{References, reading}
 use Rattle.shape_references.specs.Chains.{Chain}
 use Rattle.shape_properties.specs.declared.property.ShapeProperty.TheVariants as properties
 use Rattle.shape_rules.specs.Laws.{AcyclicLaw}
-use Rattle.shape_sizes.specs.References.{Refers}
+use Rattle.shape_sizes.specs.References.{NamesShape}
 use Rattle.shape_rules.specs.Rows.{row}
 
-pub refers : (s : List Triple) (a t : Term) → read.Refers (reading s a) t → Refers s a t
+pub refers : (s : List Triple) (a t : Term) → read.Refers (reading s a) t → NamesShape s a t
 refers s a t = elim [
   | inl h ↦ inl (properties.Not, t, h, refl)
   | inr (inl h) ↦ inl (properties.Node, t, h, refl)
@@ -22,7 +22,7 @@ refers s a t = elim [
   | inr (inr (inr (inr (inr (inr (inr h)))))) ↦ inr h.1
 ]
 
-chain : (s : List Triple) (a : Term) (ms : List Term) (b : Term) → References (reading s) a (ms ++ b ∷ []) → Chain (Refers s) a ms b
+chain : (s : List Triple) (a : Term) (ms : List Term) (b : Term) → References (reading s) a (ms ++ b ∷ []) → Chain (NamesShape s) a ms b
 chain s a [] b h = refers s a b h.0
 chain s a (m ∷ ms) b h = (refers s a m h.0, chain s m ms b h.1)
 

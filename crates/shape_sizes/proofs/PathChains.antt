@@ -14,7 +14,7 @@ use Rattle.shape_syntax.proofs.PathWays.{no_blank_iri}
 use Rattle.reference_totals.specs.declared.place.Place.{Place}
 use Rattle.reference_totals.proofs.TotalSums.{sum_has}
 use Rattle.shape_references.specs.Chains.{AreWithChain, HasChain, IsJoined}
-use Rattle.shape_sizes.specs.PathLooks.{AreDeepPaths, ArePathPlaces, AreSteps, MayBePath}
+use Rattle.shape_sizes.specs.PathLooks.{AreDeepPaths, ArePathPlaces, ArePlaceSteps, MayBePath}
 use Rattle.shape_sizes.specs.Sizes.{looks_of}
 use Rattle.shape_sizes.proofs.PathParts.{AreParts, IsMadeAs, IsPart, made_as, member_may_be}
 use Rattle.shape_sizes.proofs.PathSums.{LooksBelow, made_looks}
@@ -71,7 +71,7 @@ iri_depth s n iri (ZeroOrOne r) h = absurd (no_blank_iri n h.1.0 iri)
 no_member : (ms : List Term) (m : Term) → ms ≡ [] → Contains ms m → ⊥
 no_member ms m e c = let none = subst (λ (xs : List Term). Contains xs m) e c in let within = none.1 in omega arith
 
-module _ (s : List Triple) (places : List Place) (are : ArePathPlaces s places) (steps : List Triple) (all : AreSteps places steps) where
+module _ (s : List Triple) (places : List Place) (are : ArePathPlaces s places) (steps : List Triple) (all : ArePlaceSteps places steps) where
   -- a step leads from the node of a place to one of those to which it refers
   step_place : (n m : Term) → IsJoined steps n m → (p : Place) × Contains places p × (p.node ≡ n) × Contains p.to m
   step_place n m h =

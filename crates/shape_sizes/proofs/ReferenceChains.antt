@@ -12,19 +12,19 @@ use Rattle.shape_syntax.specs.Gathering.{Gives}
 use Rattle.shape_references.specs.Chains.{Chain, HasChain, HasLoopAt, IsJoined, IsLeastOnLoop, IsLeastWithChain}
 use Rattle.shape_properties.specs.declared.property.ShapeProperty.TheVariants as properties
 use Rattle.shape_properties.specs.Properties.{property_iri}
-use Rattle.shape_sizes.specs.References.{AreReferences, HasLongChain, IsLeastRecursive, IsLeastWithLongChain, IsRecursive, Refers, chain_limit}
+use Rattle.shape_sizes.specs.References.{AreReferences, HasLongChain, IsLeastRecursive, IsLeastWithLongChain, IsRecursive, NamesShape, chain_limit}
 use Rattle.shape_sizes.specs.Referring.{IsReferenceBy, IsReferredBy}
 
-referred : (s : List Triple) (t : Triple) (n : Term) → Contains s t → IsReferredBy s t n → Refers s t.subject n
+referred : (s : List Triple) (t : Triple) (n : Term) → Contains s t → IsReferredBy s t n → NamesShape s t.subject n
 referred s t n c h = elim h [
   | inl k ↦ inl (k.0, t.object, value_of s t.subject (property_iri k.0) t (c, refl, k.1), k.2)
   | inr k ↦ inr k.1
 ]
 
-joined : (s references : List Triple) → ((r : Triple) → Contains references r ↔ Gives (IsReferenceBy s) s r) → (a b : Term) → IsJoined references a b ↔ Refers s a b
+joined : (s references : List Triple) → ((r : Triple) → Contains references r ↔ Gives (IsReferenceBy s) s r) → (a b : Term) → IsJoined references a b ↔ NamesShape s a b
 joined s references all a b = (
   λ j. let g = (all (record { subject = a; predicate = j.0; object = b })).0 j.1 in let n = g.2 in
-      subst (λ (x : Triple). Refers s x.subject x.object) (sym n.2) (referred s g.0 n.0 g.1 n.1),
+      subst (λ (x : Triple). NamesShape s x.subject x.object) (sym n.2) (referred s g.0 n.0 g.1 n.1),
   λ h. elim h [
     | inl k ↦ (
       property_iri k.0,
@@ -51,8 +51,8 @@ chain_as R S f a (m ∷ ms) b h = (f a m h.0, chain_as R S f m ms b h.1)
 
 pub loop_as : (s references : List Triple) → AreReferences s references → (n : Term) → HasLoopAt references n ↔ IsRecursive s n
 loop_as s references are n = (
-  λ h. (h.0, chain_as (IsJoined references) (Refers s) (λ a b j. (are.exact a b).0 j) n h.0 n h.1),
-  λ h. (h.0, chain_as (Refers s) (IsJoined references) (λ a b k. (are.exact a b).1 k) n h.0 n h.1),
+  λ h. (h.0, chain_as (IsJoined references) (NamesShape s) (λ a b j. (are.exact a b).0 j) n h.0 n h.1),
+  λ h. (h.0, chain_as (NamesShape s) (IsJoined references) (λ a b k. (are.exact a b).1 k) n h.0 n h.1),
 )
 
 pub least_as : (s references : List Triple) → AreReferences s references → (n : Term) → IsLeastOnLoop references n → IsLeastRecursive s n
@@ -69,8 +69,8 @@ counted_as R S f (suc n) a h = (h.0, f a h.0 h.1, counted_as R S f n h.0 h.2)
 
 pub long_as : (s references : List Triple) → AreReferences s references → (n : Term) → HasChain (IsJoined references) chain_limit n ↔ HasLongChain s n
 long_as s references are n = (
-  counted_as (IsJoined references) (Refers s) (λ a b j. (are.exact a b).0 j) chain_limit n,
-  counted_as (Refers s) (IsJoined references) (λ a b k. (are.exact a b).1 k) chain_limit n,
+  counted_as (IsJoined references) (NamesShape s) (λ a b j. (are.exact a b).0 j) chain_limit n,
+  counted_as (NamesShape s) (IsJoined references) (λ a b k. (are.exact a b).1 k) chain_limit n,
 )
 
 pub found_long_as : (s references : List Triple) → AreReferences s references → (found : Option Term) → MatchOption found ((n : Term) → HasChain (IsJoined references) chain_limit n → ⊥) (λ n. IsLeastWithChain references chain_limit n)

@@ -4,3 +4,4 @@ pub mod Sizes
 pub mod Counted
 pub mod PathLooks
 pub mod Surveys
+pub mod Laws

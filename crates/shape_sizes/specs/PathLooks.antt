@@ -64,8 +64,8 @@ abbrev pub IsStepOf : Place → Triple → Type 0
 IsStepOf p t = Gives (IsStep p.node) p.to t
 
 -- the steps of all the places
-abbrev pub AreSteps : List Place → List Triple → Type 0
-AreSteps places steps = (t : Triple) → Contains steps t ↔ Gives IsStepOf places t
+abbrev pub ArePlaceSteps : List Place → List Triple → Type 0
+ArePlaceSteps places steps = (t : Triple) → Contains steps t ↔ Gives IsStepOf places t
 
 -- the own looks of a shape, as far as they are counted
 abbrev pub IsCappedLook : List Triple → Term → ℕ → Type 0

@@ -13,12 +13,12 @@ use Rattle.shape_properties.specs.Syntax.{SomeValue, Takes}
 
 -- b is a value of a shape-expecting parameter of a, a member of a list that is a value of a list-taking one, or a
 -- sibling of a (SHACL 4.7.3); whether a is deactivated doesn't matter
-abbrev pub Refers : List Triple → Term → Term → Type 0
-Refers s a b = SomeValue s a (λ p v. Takes s (role p) v b) ⊎ Sibling s a b
+abbrev pub NamesShape : List Triple → Term → Term → Type 0
+NamesShape s a b = SomeValue s a (λ p v. Takes s (role p) v b) ⊎ Sibling s a b
 
 -- a chain of references leads from the shape to itself
 abbrev pub IsRecursive : List Triple → Term → Type 0
-IsRecursive s n = IsOnLoop (Refers s) n
+IsRecursive s n = IsOnLoop (NamesShape s) n
 
 -- no recursive shape comes before it
 abbrev pub IsLeastRecursive : List Triple → Term → Type 0
@@ -30,7 +30,7 @@ chain_limit = 257
 
 -- a chain of so many leads from the shape
 abbrev pub HasLongChain : List Triple → Term → Type 0
-HasLongChain s n = HasChain (Refers s) chain_limit n
+HasLongChain s n = HasChain (NamesShape s) chain_limit n
 
 -- no such shape comes before it
 abbrev pub IsLeastWithLongChain : List Triple → Term → Type 0
@@ -39,4 +39,4 @@ IsLeastWithLongChain s n = HasLongChain s n × ((m : Term) → HasLongChain s m 
 -- a graph of which each triple is a reference, from its subject to its object
 pub record AreReferences (s references : List Triple) : Type 0 where
   pub ascending : IsAscending triple_cmp references
-  pub exact : (a b : Term) → IsJoined references a b ↔ Refers s a b
+  pub exact : (a b : Term) → IsJoined references a b ↔ NamesShape s a b

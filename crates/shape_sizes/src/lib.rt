@@ -6,6 +6,7 @@
 #![tactic(auto)]
 
 mod counted;
+pub mod laws;
 pub mod looks;
 pub mod path_looks;
 pub mod path_steps;

@@ -2,7 +2,7 @@
 //! paths: a node that stands in a path many times, or in many paths, is asked once.
 ghost use Rattle.std.specs.Prelude.{◌<◌, ◌+◌, ◌^◌, IfOk, OnOk};
 ghost use Rattle.shape_syntax.specs.Gathering.{HasGathered};
-ghost use Rattle.shape_sizes.specs.PathLooks.{AreDeepPaths, ArePathPlaces, AreSteps, IsStep};
+ghost use Rattle.shape_sizes.specs.PathLooks.{AreDeepPaths, ArePathPlaces, ArePlaceSteps, IsStep};
 
 use collections::Sequence;
 use rdf_model::{Term, Triple};
@@ -32,7 +32,7 @@ fn push_steps(from: &Term, nodes: &[Term], steps: &mut Sequence<Triple>) -> Resu
 }
 
 fn path_steps(alloc: Global, places: &[Place]) -> Result<Sequence<Triple>, AllocError>
-    ensures { IfOk result (λ steps. AreSteps places.now steps) }
+    ensures { IfOk result (λ steps. ArePlaceSteps places.now steps) }
 {
     let mut steps = Sequence::new(alloc);
     for place in places {

@@ -7,8 +7,9 @@ use Rattle.shape_model.specs.Triples.{Has}
 use Rattle.shape_references.specs.Chains.{Chain}
 use Rattle.shape_rules.specs.declared.rule_row.RuleRow.{RuleRow}
 use Rattle.shape_rules.specs.Broken.{IsBroken, IsWellFormed}
-use Rattle.shape_sizes.specs.References.{HasLongChain, Refers, chain_limit}
+use Rattle.shape_sizes.specs.References.{HasLongChain, NamesShape, chain_limit}
 use Rattle.shape_properties.specs.Syntax.{IsShape as IsRuledShape}
+use Rattle.shape_ast.specs.Once.{AreOnce}
 use Rattle.shape_ast.specs.Standing.{AreCompiled, StandFor}
 
 nowhere : (x p y : Term) → Has [] x p y → ⊥
@@ -34,10 +35,10 @@ no_ruled_shape n = elim [
   | inr (inr (inr i)) ↦ nowhere _ _ _ i.1.2
 ]
 
-no_reference : (a b : Term) → Refers [] a b → ⊥
+no_reference : (a b : Term) → NamesShape [] a b → ⊥
 no_reference a b = elim [ inl i ↦ nowhere _ _ _ i.2 | inr i ↦ nowhere _ _ _ i.0.1 ]
 
-no_chain : (a : Term) (ms : List Term) (b : Term) → Chain (Refers []) a ms b → ⊥
+no_chain : (a : Term) (ms : List Term) (b : Term) → Chain (NamesShape []) a ms b → ⊥
 no_chain a [] b h = no_reference a b h
 no_chain a (m ∷ ms) b h = no_reference a m h.0
 
@@ -76,3 +77,6 @@ empty_compiled = record {
   built = λ k d lt. absurd (omega (arith, lt));
   within = λ k d lt. absurd (omega (arith, lt));
 }
+
+pub empty_once : AreOnce []
+empty_once c here = absurd (none_in c here)

@@ -1,4 +1,5 @@
 ghost use Rattle.std.specs.Prelude.{◌≡◌, [], IfOk};
+ghost use Rattle.shape_ast.specs.Once.{AreOnce};
 ghost use Rattle.shape_ast.specs.Standing.{AreCompiled};
 ghost use Rattle.shape_rules.specs.Broken.{IsWellFormed};
 
@@ -25,6 +26,7 @@ impl Model for ShapesGraph {
     ghost use Rattle.std.specs.Prelude.{List};
     ghost use Rattle.std.specs.Arc.{arc_value};
     ghost use Rattle.rdf_model.specs.declared.triple.Triple.{Triple};
+    ghost use Rattle.shape_ast.specs.Once.{AreOnce};
     ghost use Rattle.shape_ast.specs.Standing.{AreCompiled};
     ghost use Rattle.shape_rules.specs.Broken.{IsWellFormed};
     ghost use Rattle.shapes_graph.specs.declared.graph.Content.{Content};
@@ -33,11 +35,11 @@ impl Model for ShapesGraph {
 
     ghost view = { λ g. (arc_value g.content).triples };
 
-    ghost invariant = { λ g. IsWellFormed (arc_value g.content).triples × AreCompiled (arc_value g.content).shapes.shapes (arc_value g.content).triples };
+    ghost invariant = { λ g. IsWellFormed (arc_value g.content).triples × AreCompiled (arc_value g.content).shapes.shapes (arc_value g.content).triples × AreOnce (arc_value g.content).shapes.shapes };
 }
 
 impl ShapesGraph {
-    /// The graph of these triples, of which the shapes were compiled.
+    /// The graph of these triples, of which the shapes were compiled, each of their parts once.
     pub fn new(
         alloc: Global,
         triples: Sequence<Triple>,
@@ -45,6 +47,7 @@ impl ShapesGraph {
     ) -> Result<ShapesGraph, AllocError>
         requires well_formed { IsWellFormed triples }
         requires shapes { AreCompiled shapes.shapes triples }
+        requires once { AreOnce shapes.shapes }
         ensures { IfOk result (λ graph. graph ≡ triples) }
     {
         Ok(ShapesGraph {
@@ -72,10 +75,11 @@ impl ShapesGraph {
         self.content.triples.as_slice()
     }
 
-    /// The shapes that were compiled of the triples.
+    /// The shapes that were compiled of the triples. Each of their parts stands there once.
     pub fn shapes(&self) -> &Shapes
         ensures well_formed { IsWellFormed self.now }
         ensures shapes { AreCompiled result.now.shapes self.now }
+        ensures once { AreOnce result.now.shapes }
     {
         &self.content.shapes
     }

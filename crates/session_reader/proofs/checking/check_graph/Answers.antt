@@ -9,6 +9,9 @@ use Rattle.session_reader.proofs.checking.check_graph.Goals as goal
 pub new-requires-clause-well_formed : goal.new-requires-clause-well_formed
 new-requires-clause-well_formed g c = subst (λ (ts : List Triple). IsWellFormed ts) c.as_slice.ensures c.in-Ok.ensures.answer.0
 
+pub new-requires-clause-once : goal.new-requires-clause-once
+new-requires-clause-once g c = c.in-Ok.ensures.once
+
 pub returns-in-Ok-clause-command : goal.returns-in-Ok-clause-command
 returns-in-Ok-clause-command g c =
     inl (subst (λ (ts : List Triple). IsWellFormed ts) c.as_slice.ensures c.in-Ok.ensures.answer.0, ap commands.Shapes c.in_ok-new-in-Ok.ensures, c.in-Ok.ensures.refused)

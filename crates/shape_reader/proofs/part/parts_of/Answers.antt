@@ -6,8 +6,8 @@ use Rattle.shape_properties.specs.OfProperties.{OfTriple}
 use Rattle.shape_syntax.proofs.Loops.{from_none, gathered_none, gathered_next, gathered_all}
 use Rattle.shape_syntax.proofs.Scans.{read_in}
 use Rattle.shape_properties.proofs.SomeValues.{some_value}
-use Rattle.shape_reader.specs.Once.{MayAdd}
-use Rattle.shape_reader.proofs.Turns.{some_all, some_ascending, some_next, some_none}
+use Rattle.shape_properties.specs.Adding.{MayAdd}
+use Rattle.shape_properties.proofs.Turns.{some_all, some_ascending, some_next, some_none}
 use Rattle.shape_reader.proofs.part.parts_of.Goals as goal
 
 pub loop-triple-init : goal.loop-triple-init

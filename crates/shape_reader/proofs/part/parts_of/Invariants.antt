@@ -2,7 +2,7 @@ use Rattle.std.proofs.Common.{[], map, take}
 use Rattle.rdf_model.specs.declared.triple.Triple.{Triple}
 use Rattle.shape_syntax.specs.Gathering.{HasGathered}
 use Rattle.shape_properties.specs.OfProperties.{OfTriple}
-use Rattle.shape_reader.proofs.Turns.{SomeOf}
+use Rattle.shape_properties.proofs.Turns.{SomeOf}
 use Rattle.shape_reader.proofs.part.parts_of.Given as goal
 
 abbrev pub invariant-loop-triple : goal.invariant-loop-triple

@@ -4,7 +4,7 @@ use Rattle.shape_properties.specs.declared.property.ShapeProperty.{ShapeProperty
 use Rattle.shape_properties.specs.OfProperties.{OfTriple}
 use Rattle.shape_syntax.proofs.Loops.{gave_as}
 use Rattle.shape_properties.proofs.Names.{one_property}
-use Rattle.shape_reader.specs.Once.{MayAdd, value_triple}
+use Rattle.shape_properties.specs.Adding.{MayAdd, value_triple}
 use Rattle.shape_reader.proofs.part.push_part.Goals as goal
 
 pub returns-in_ok-push_read-in-Some-clause-said : goal.returns-in_ok-push_read-in-Some-clause-said

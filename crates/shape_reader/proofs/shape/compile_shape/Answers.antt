@@ -1,5 +1,7 @@
 use Rattle.std.proofs.Common.{refl}
+use Rattle.std.proofs.lemmas.Result.{err_from_is_err_and}
 use Rattle.shape_properties.specs.declared.property.ShapeProperty.TheVariants as vocabulary
+use Rattle.shape_reader.proofs.Requests.{any_maybe}
 use Rattle.shape_reader.proofs.WellFormed.{flags_texts, one_value, pattern_texts}
 use Rattle.shape_reader.proofs.shape.compile_shape.Goals as goal
 
@@ -11,3 +13,8 @@ made_of-requires-clause-flags g c = flags_texts c.args.graph.now c.requires.well
 
 pub parts_at-requires-clause-one : goal.parts_at-requires-clause-one
 parts_at-requires-clause-one g c = one_value c.args.graph.now c.requires.well_formed c.args.node.now c.requires.shape vocabulary.IgnoredProperties refl
+
+pub returns-in_err-parts-clause-asked : goal.returns-in_err-parts-clause-asked
+returns-in_err-parts-clause-asked g c =
+    let p = err_from_is_err_and c.from_residual-in_err-parts.result c.from_residual-in_err-parts.ensures.1 in
+    rw (p.1, p.2) (any_maybe c.args.graph.now c.args.node.now _ _ c.in_ok-path.ensures.asked)

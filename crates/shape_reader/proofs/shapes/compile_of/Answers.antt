@@ -1,4 +1,5 @@
 use Rattle.std.proofs.Common.{List, subst, sym}
+use Rattle.std.proofs.lemmas.Result.{err_from_is_err_and}
 use Rattle.collections.specs.Listings.{IsListing}
 use Rattle.rdf_model.specs.declared.term.Term.{Term}
 use Rattle.rdf_model.specs.Terms.{term_cmp}
@@ -6,7 +7,8 @@ use Rattle.shape_model.proofs.Listings.{listing_same}
 use Rattle.shape_model.specs.ShapeSyntax.{IsShape}
 use Rattle.shape_properties.specs.Syntax.{IsShape as IsRuleShape}
 use Rattle.shape_reader.proofs.Collected.{as_many, stand_for}
-use Rattle.shape_reader.proofs.Names.{shape_same}
+use Rattle.shape_properties.proofs.Defined.{shape_same}
+use Rattle.shape_reader.proofs.Requests.{asks_nothing}
 use Rattle.shape_reader.proofs.shapes.compile_of.Goals as goal
 
 pub compile_nodes-requires-clause-nodes : goal.compile_nodes-requires-clause-nodes
@@ -21,8 +23,16 @@ returns-clause-answer g c =
     let nodes = c.as_slice-2.result.now in
     let listing = subst (λ (ns : List Term). IsListing term_cmp (IsShape s) ns) (sym c.as_slice-2.ensures.value)
     (listing_same term_cmp (IsRuleShape s) (IsShape s) (shape_same s) c.args.survey.now.shapes.items c.requires.survey.shapes) in
-    let done = c.in_ok-shapes.ensures.0 in
+    let done = c.in_ok-shapes.ensures.answer.0 in
     record { stand = stand_for s nodes c.requires.well_formed listing c.in_ok-shapes.shapes done; built = done.built; within = as_many s nodes c.in_ok-shapes.shapes done }
 
 pub returns-clause-once : goal.returns-clause-once
-returns-clause-once g c = c.in_ok-shapes.ensures.0.once
+returns-clause-once g c = c.in_ok-shapes.ensures.answer.0.once
+
+pub returns-in_err-turned-clause-asked : goal.returns-in_err-turned-clause-asked
+returns-in_err-turned-clause-asked g c =
+    let p = err_from_is_err_and c.from_residual.result c.from_residual.ensures.1 in rw (p.1, p.2) (asks_nothing c.args.graph.now (g.M.Maker.asked c.args.maker.now))
+
+pub returns-in_err-have_room-clause-asked : goal.returns-in_err-have_room-clause-asked
+returns-in_err-have_room-clause-asked g c =
+    let p = err_from_is_err_and c.from_residual-in_err-have_room.result c.from_residual-in_err-have_room.ensures.1 in rw (p.1, p.2) (asks_nothing c.args.graph.now (g.M.Maker.asked c.args.maker.now))

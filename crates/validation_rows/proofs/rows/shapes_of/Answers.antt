@@ -6,5 +6,8 @@ use Rattle.validation_rows.proofs.rows.shapes_of.Goals as goal
 pub new-requires-clause-well_formed : goal.new-requires-clause-well_formed
 new-requires-clause-well_formed g c = subst (λ (s : List Triple). IsWellFormed s) c.as_slice.ensures c.in_ok-shapes.ensures.answer.0
 
+pub new-requires-clause-once : goal.new-requires-clause-once
+new-requires-clause-once g c = c.in_ok-shapes.ensures.once
+
 pub returns-clause-answer : goal.returns-clause-answer
 returns-clause-answer g c = (subst (λ (s : List Triple). IsWellFormed s) c.as_slice.ensures c.in_ok-shapes.ensures.answer.0, c.in_ok-new.ensures)

@@ -4,7 +4,7 @@ use Rattle.std.specs.Prelude.{◌⊎◌}
 use Rattle.std.specs.declared.cmp.Ordering.{Ordering}
 use Rattle.std.proofs.lemmas.List.{take_all, take_more}
 use Rattle.collections.specs.Ordered.{AllAbove, IsAscending}
-use Rattle.shape_reader.specs.Once.{MayAdd}
+use Rattle.shape_properties.specs.Adding.{MayAdd}
 
 abbrev pub SomeOf : {X : Type 0} → List X → List X → Type 0
 SomeOf [] ys = ys ≡ []
