@@ -1,4 +1,5 @@
 ghost use Rattle.std.specs.Prelude.{◌≡◌, []};
+ghost use Rattle.outside.specs.Counts.{is_listed};
 
 use crate::request::Request;
 use crate::{MakeFault, Maker};
@@ -49,6 +50,12 @@ impl<M> FakeMaker<M> {
     }
 }
 
+fn is_among(numbers: &[u64], number: u64) -> bool
+    ensures { result ≡ is_listed numbers.now number }
+{
+    numbers.contains(&number)
+}
+
 impl<M: Maker> Maker for FakeMaker<M> {
     ghost use Rattle.outside.specs.Counts.{counted};
     ghost use Rattle.outside.specs.Memory.{BuildsOver};
@@ -62,15 +69,14 @@ impl<M: Maker> Maker for FakeMaker<M> {
         × BuildsOver M.refused M.build_gives old pattern flags result new };
 
     fn build(&mut self, alloc: Global, pattern: &str, flags: &str) -> Result<Regex, MakeFault> {
-        let number = self.calls.saturating_add(1);
-        let is_listed = self.refuse.contains(&number);
-        self.calls = number;
+        self.calls = self.calls.saturating_add(1);
+        let refuses = is_among(&self.refuse, self.calls);
         let asked = Request::new(alloc, pattern, flags)?;
         let request = Request::new(alloc, pattern, flags)?;
         self.asked.reserve(1)?;
         self.refused.reserve(1)?;
         self.asked.push_reserved(asked);
-        if is_listed {
+        if refuses {
             self.refused.push_reserved(request);
             return Err(MakeFault::Refused);
         }
