@@ -6,8 +6,6 @@ mod case;
 #[cfg(test)]
 mod checks;
 #[cfg(test)]
-mod evaluations;
-#[cfg(test)]
 mod graphs;
 #[cfg(test)]
 mod properties;
