@@ -2,6 +2,7 @@ ghost use Rattle.std.specs.Prelude.{◌≡◌, ◌≤◌, ◌<◌, ◌^◌, leng
 ghost use Rattle.collections.specs.Ordered.{IsAscending};
 ghost use Rattle.rdf_lexical.specs.Refusals.{Refuses};
 ghost use Rattle.rdf_model.specs.Terms.{triple_cmp};
+ghost use Rattle.shape_reader.specs.Asked.{AsksAll, AsksBeforeFault};
 ghost use Rattle.shape_reader.specs.Faults as reader;
 ghost use Rattle.shape_rules.specs.Broken.{IsWellFormed};
 ghost use Rattle.turtle_reader.specs.Document.{reads};
@@ -43,6 +44,8 @@ pub(crate) fn shapes_of<M: Maker>(
         (λ graph. IsWellFormed triples × (graph ≡ triples))
         (λ fault. reader.IsCause triples fault (M.refused maker.old) (M.refused maker.new)) }
     ensures refused { IfOk result (λ _. M.refused maker.new ≡ M.refused maker.old) }
+    ensures asked { MatchResult result (λ _. AsksAll triples (M.asked maker.old) (M.asked maker.new))
+        (λ fault. AsksBeforeFault triples fault (M.asked maker.old) (M.asked maker.new)) }
 {
     let shapes = read_shapes(alloc, maker, triples.as_slice())?;
     Ok(ShapesGraph::new(alloc, triples, shapes)?)

@@ -1,4 +1,5 @@
 ghost use Rattle.std.specs.Prelude.{◌≡◌, ◌<◌, ◌^◌, length, IfOk, MatchResult};
+ghost use Rattle.file_validation.specs.Asked.{AsksInVain, AsksOfText};
 ghost use Rattle.file_validation.specs.Validations.{IsCause, IsReported, IsValidation};
 
 use crate::InputFault;
@@ -42,7 +43,8 @@ fn validation_of(
 }
 
 /// Validates a data graph by a shapes graph (SHACL section 3.4), both Turtle texts, and writes the report. Blank nodes of
-/// the data belong to session 1 and those of the shapes to session 2, each numbered from 1. The maker builds the patterns.
+/// the data belong to session 1 and those of the shapes to session 2, each numbered from 1. The maker builds the patterns,
+/// shape by shape in the order of nodes, up to the first that it refuses.
 ///
 /// A fault tells its cause: the data is refused first, then the shapes, then a broken rule, then a pattern.
 pub fn validate<M: Maker>(
@@ -55,6 +57,8 @@ pub fn validate<M: Maker>(
     requires shapes { length shapes_text.now < 2 ^ 31 }
     ensures answer { MatchResult result (IsValidation data_text.now shapes_text.now) (IsCause data_text.now shapes_text.now (M.refused maker.old) (M.refused maker.new)) }
     ensures refused { IfOk result (λ _. M.refused maker.new ≡ M.refused maker.old) }
+    ensures asked { MatchResult result (λ _. AsksOfText shapes_text.now (M.asked maker.old) (M.asked maker.new))
+        (λ fault. AsksInVain shapes_text.now fault (M.asked maker.old) (M.asked maker.new)) }
 {
     let graph = match triples_of(alloc, DATA_SESSION, data_text) {
         Ok(triples) => triples,

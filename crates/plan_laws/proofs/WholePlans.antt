@@ -6,6 +6,7 @@ use Rattle.std.proofs.lemmas.List.{length-append, length-map}
 use Rattle.std.proofs.lemmas.List.Elements.{All-contains}
 use Rattle.rdf_model.specs.declared.term.Term.{Term}
 use Rattle.rdf_model.specs.declared.triple.Triple.{Triple}
+use Rattle.shape_model.specs.Limits.{levels_limit, looks_limit}
 use Rattle.shape_model.specs.Paths.{Path}
 use Rattle.shape_model.specs.Readings.{IsShallow, References, reading}
 use Rattle.shape_rules.specs.Broken.{IsWellFormed}
@@ -21,8 +22,7 @@ use Rattle.shape_ast.specs.Standing.{AreCompiled, IsAt, StandFor, StandsIn}
 use Rattle.shape_ast.specs.Once.{IsOnce}
 use Rattle.shape_properties.proofs.Defined.{shape_same}
 use Rattle.read_plans.specs.declared.fault.PlanFault.TheVariants.{Memory, TooWide}
-use Rattle.read_plans.specs.Rows.{looks_limit}
-use Rattle.read_plans.specs.ShapeRows.{all_target_rows, levels_limit, own_rows, referred_places, rows_with, shape_rows, target_rows, value_way}
+use Rattle.read_plans.specs.ShapeRows.{all_target_rows, own_rows, referred_places, rows_with, shape_rows, target_rows, value_way}
 use Rattle.read_plans.proofs.Lists.{mapped_from}
 use Rattle.read_plans.proofs.Plans.{all_within, of_place}
 use Rattle.plan_laws.specs.Numbers.{NoneTooWide, OnlyMemory, PlanNumber, plan_number}
@@ -86,10 +86,6 @@ levels_are : levels_limit ≡ chain_limit
 unfolding levels_limit chain_limit
 levels_are = refl
 
-limits_are : looks_limit ≡ rules.looks_limit
-unfolding looks_limit rules.looks_limit
-limits_are = refl
-
 -- the places that compiled shapes name are there
 inside_read : (shapes : List (Shape Term)) (s : List Triple) → AreCompiled shapes s → (c : ReadShape) → Contains (read_shapes shapes) c → IsInside (length (read_shapes shapes)) c
 inside_read shapes s compiled c i =
@@ -121,15 +117,15 @@ at_most k n h = elim (le_or_lt k n) [ inl l ↦ l | inr l ↦ absurd (h l) ]
     le_or_lt (suc i) (suc j) = elim (le_or_lt i j) [ inl h ↦ inl (omega (arith, h)) | inr h ↦ inr (omega (arith, h)) ]
 
 -- no rule is broken, so rule 40 isn't
-few_looks : (s : List Triple) → IsWellFormed s → (n : Term) (k : ℕ) → IsShape s n → rules.HasLooks s n k → k ≤ rules.looks_limit
-few_looks s well n k shape h = at_most k rules.looks_limit (λ l. well (row n 40 None) (inr (λ r b. well r (inl b), inr (inr ((shape, (k, h, l)), refl)))))
+few_looks : (s : List Triple) → IsWellFormed s → (n : Term) (k : ℕ) → IsShape s n → rules.HasLooks s n k → k ≤ looks_limit
+few_looks s well n k shape h = at_most k looks_limit (λ l. well (row n 40 None) (inr (λ r b. well r (inl b), inr (inr ((shape, (k, h, l)), refl)))))
 
 pub none_wide : NoneTooWide
 none_wide s shapes read place = elim (slice_get (read_shapes shapes) place) as (λ (o : Option ReadShape). slice_get (read_shapes shapes) place ≡ o → plan_number shapes place ≤ looks_limit) [
   | None ↦ λ e. let none : plan_number shapes place ≡ 0 = no_place (read_shapes shapes) levels_limit place e in omega (arith, none)
   | Some c ↦ λ e.
       let shape = (shape_same s c.node).1 (read.compiled.stand.are_shapes c (of_place (read_shapes shapes) place c e)) in
-      subst (λ (n : ℕ). plan_number shapes place ≤ n) (sym limits_are) (few_looks s read.well_formed c.node (plan_number shapes place) shape (plan_numbers s shapes read place c e))
+      few_looks s read.well_formed c.node (plan_number shapes place) shape (plan_numbers s shapes read place c e)
 ] refl
 
 pub only_memory : OnlyMemory

@@ -12,7 +12,8 @@ use Rattle.shape_ast.specs.Once.{AreOnce}
 use Rattle.read_plans.specs.declared.fault.PlanFault.{PlanFault}
 use Rattle.read_plans.specs.declared.fault.PlanFault.TheVariants.{Memory}
 use Rattle.read_plans.specs.PathRows.{path_rows}
-use Rattle.read_plans.specs.Rows.{IsStopped, looks_limit}
+use Rattle.shape_model.specs.Limits.{looks_limit}
+use Rattle.read_plans.specs.Rows.{IsStopped}
 use Rattle.read_plans.specs.ShapeRows.{plan_rows}
 
 -- as many rows of a path, walked forwards or backwards after any way, as it has looks

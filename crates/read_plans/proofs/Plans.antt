@@ -22,7 +22,8 @@ use Rattle.shape_ast.specs.declared.target.Target.TheVariants as targets
 use Rattle.shape_ast.specs.Readings.{HoldsOfConstraint, HoldsOfShape, ReadShape, read_constraint, read_shape, read_shapes}
 use Rattle.shape_ast.specs.Standing.{AreCompiled, IsAt, IsLinked, StandFor, StandsIn, shape_reading}
 use Rattle.read_plans.specs.Laws.{ListLooks}
-use Rattle.read_plans.specs.ShapeRows.{all_target_rows, constraint_rows, levels_limit, optional_rows, own_rows, plan_rows, referred_places, rows_with, shape_rows, target_rows, value_way}
+use Rattle.shape_model.specs.Limits.{levels_limit}
+use Rattle.read_plans.specs.ShapeRows.{all_target_rows, constraint_rows, optional_rows, own_rows, plan_rows, referred_places, rows_with, shape_rows, target_rows, value_way}
 use Rattle.read_plans.proofs.Depths.{look_depth}
 use Rattle.read_plans.proofs.Lists.{flat_from, flat_to, listed_both, listed_one, mapped_from, none_in}
 use Rattle.read_plans.proofs.OwnLooks.{IsOwn, constraints_from, constraints_to, is_way, optional_listed, way_is}

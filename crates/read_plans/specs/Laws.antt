@@ -9,7 +9,7 @@ use Rattle.shape_model.specs.ShapeLooks.{Looks}
 use Rattle.shape_ast.specs.declared.shape.Shape.{Shape}
 use Rattle.shape_ast.specs.Readings.{ReadShape, read_shapes}
 use Rattle.shape_ast.specs.Standing.{AreCompiled}
-use Rattle.read_plans.specs.ShapeRows.{levels_limit}
+use Rattle.shape_model.specs.Limits.{levels_limit}
 
 -- Just the rows of the shape at the place are listed, for each shapes graph of which the shapes were compiled, in which no
 -- shape refers to itself and no chain of references is longer than 256.

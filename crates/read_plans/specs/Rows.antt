@@ -1,6 +1,7 @@
 -- Planned looks as rows of looks, and when rows have been added to a plan.
 use Rattle.std.specs.Prelude.{◌≡◌, ◌<◌, ◌+◌, ℕ, List, ◌++◌, length, map, Result, MatchResult}
 use Rattle.shape_model.specs.Looks.{LookRow, ByOut, ByIn, ByOutAny}
+use Rattle.shape_model.specs.Limits.{looks_limit}
 use Rattle.shape_model.specs.Looks as defined
 use Rattle.compiled_paths.specs.PathReadings.{defined_path}
 use Rattle.read_plans.specs.declared.fault.PlanFault.{PlanFault}
@@ -20,10 +21,6 @@ read_look look = record { way = map defined_path look.way; kind = read_kind look
 
 abbrev pub read_looks : List PlannedLook → List LookRow
 read_looks looks = map read_look looks
-
--- A shape has no more looks. It is unfoldable, so that no proof counts so far.
-unfoldable pub looks_limit : ℕ
-looks_limit = 4096
 
 -- A plan of so many looks was given up: they are more than the limit, and no more than one over it were counted; or there
 -- was too little memory.

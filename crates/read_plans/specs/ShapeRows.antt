@@ -5,6 +5,7 @@ use Rattle.std.specs.Ordering.{nat_cmp}
 use Rattle.collections.specs.Ordered.{with_item}
 use Rattle.rdf_model.specs.declared.term.Term.{Term}
 use Rattle.rdf_model.specs.Matching.{same_term}
+use Rattle.shape_model.specs.Limits.{levels_limit}
 use Rattle.shape_model.specs.Instances.{class_path}
 use Rattle.shape_model.specs.Looks.{LookRow, ByIn, ByOut, ByOutAny}
 use Rattle.shape_model.specs.Paths.{Path}
@@ -112,10 +113,6 @@ target_rows (targets.ObjectsOf p) = record { way = []; kind = ByIn p } ∷ []
 abbrev pub all_target_rows : Option ReadShape → List LookRow
 all_target_rows None = []
 all_target_rows (Some c) = flat_map target_rows c.targets
-
--- One more than the most references that a chain may have. It is unfoldable, so that no proof counts so far.
-unfoldable pub levels_limit : ℕ
-levels_limit = 257
 
 -- the rows of the shape at the place, with those of its targets
 abbrev pub plan_rows : List ReadShape → ℕ → List LookRow

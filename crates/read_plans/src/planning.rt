@@ -1,10 +1,11 @@
 ghost use Rattle.std.specs.Prelude.{◌≡◌, ◌≤◌, ◌<◌, ◌+◌, ◌++◌, IfErr, IfOk, MatchResult, length, map, slice_get};
 ghost use Rattle.std.specs.List.{flat_map};
 ghost use Rattle.compiled_paths.specs.PathReadings.{defined_path};
+ghost use Rattle.shape_model.specs.Limits.{levels_limit, looks_limit};
 ghost use Rattle.shape_ast.specs.Readings.{read_shape, read_shapes};
 ghost use Rattle.read_plans.specs.Laws.{ListLooks};
-ghost use Rattle.read_plans.specs.Rows.{Adds, IsStopped, looks_limit, read_looks};
-ghost use Rattle.read_plans.specs.ShapeRows.{levels_limit, plan_rows, shape_rows};
+ghost use Rattle.read_plans.specs.Rows.{Adds, IsStopped, read_looks};
+ghost use Rattle.read_plans.specs.ShapeRows.{plan_rows, shape_rows};
 
 use crate::constraint_looks::{push_own_rows, push_targets, way_to_values};
 use crate::references::referred_places;
@@ -58,7 +59,7 @@ fn push_shape(
 }
 
 // One more than the most references that a chain may have.
-#[tactic(auto, unfolding(crate::specs::ShapeRows::levels_limit))]
+#[tactic(auto, unfolding(shape_model::specs::Limits::levels_limit))]
 fn most_levels() -> usize
     ensures { result ≡ levels_limit }
 {

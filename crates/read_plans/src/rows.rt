@@ -1,6 +1,7 @@
 ghost use Rattle.std.specs.Prelude.{◌≡◌, ◌≤◌, ◌<◌, ◌+◌, ◌^◌, ◌∷◌, [], ◌++◌, MatchResult, length, map};
 ghost use Rattle.compiled_paths.specs.PathReadings.{defined_path};
-ghost use Rattle.read_plans.specs.Rows.{Adds, IsStopped, looks_limit, read_kind};
+ghost use Rattle.shape_model.specs.Limits.{looks_limit};
+ghost use Rattle.read_plans.specs.Rows.{Adds, IsStopped, read_kind};
 
 use crate::ways::copied_way;
 use crate::{LookKind, PlanFault, PlannedLook};
@@ -9,7 +10,7 @@ use rdf_model::Term;
 use std::alloc::Global;
 use std::marker::Model;
 
-#[tactic(auto, unfolding(crate::specs::Rows::looks_limit))]
+#[tactic(auto, unfolding(shape_model::specs::Limits::looks_limit))]
 fn most_looks() -> usize
     ensures limit { result ≡ looks_limit }
     ensures small { result + 1 < 2 ^ 64 }
@@ -26,7 +27,7 @@ pub(crate) struct Rows {
 impl Model for Rows {
     ghost use Rattle.std.specs.Prelude.{◌≤◌, List, length};
     ghost use Rattle.read_plans.specs.declared.look.PlannedLook.{PlannedLook};
-    ghost use Rattle.read_plans.specs.Rows.{looks_limit};
+    ghost use Rattle.shape_model.specs.Limits.{looks_limit};
 
     ghost Value = { List PlannedLook };
 

@@ -9,6 +9,7 @@ use Rattle.rdf_model.specs.declared.triple.Triple.{Triple}
 use Rattle.rdf_model.specs.NTriples.{term_text}
 use Rattle.shape_ast.specs.Readings.{ReadShape}
 use Rattle.shape_ast.specs.Standing.{StandFor}
+use Rattle.shape_model.specs.Limits.{levels_limit}
 use Rattle.shape_model.specs.declared.result_row.ResultRow.{ResultRow}
 use Rattle.shape_model.specs.Paths.{Path}
 use Rattle.shape_model.specs.ShapeSyntax.{IsShape}
@@ -17,7 +18,7 @@ use Rattle.shape_model.specs.Vocabulary.{ShPath, property_iri, sh}
 use Rattle.shape_model.specs.Declarations.{messages_of, severity_of, values_of}
 use Rattle.shape_rules.specs.Broken.{IsWellFormed}
 use Rattle.report_writer.specs.CompiledReport.{compiled_report, compiled_text, lines_by, result_path}
-use Rattle.report_writer.specs.GraphPaths.{level_limit, path_text_at}
+use Rattle.report_writer.specs.GraphPaths.{path_text_at}
 use Rattle.report_writer.specs.PathTexts.{optional_text}
 use Rattle.report_writer.specs.Report.{first_of, listed, path_by, path_of, report_text, result_lines, result_text}
 use Rattle.report_writer.specs.Sources.{HaveSources}
@@ -29,16 +30,16 @@ use Rattle.report_writer.proofs.WellFormed.{one_value, shallow}
 
 -- the text of the first sh:path of a node
 abbrev pub own_texts : List Triple → Term → List (List ℕ)
-own_texts s n = map (path_text_at level_limit s) (first_of (values_of s n (property_iri ShPath)))
+own_texts s n = map (path_text_at levels_limit s) (first_of (values_of s n (property_iri ShPath)))
 
 -- the path that a compiled shape has is the one of its triples
 path_same : (s : List Triple) → IsWellFormed s → (n : Term) → IsShape s n → (path : Option Path) → ((p : Path) → ShapePath s n p ↔ (path ≡ Some p)) → IsNodeShape s n ↔ (path ≡ None) → optional_text path ≡ own_texts s n
-path_same s well n shape None paths none = sym (ap (λ (vs : List Term). map (path_text_at level_limit s) (first_of vs)) (no_values s n (property_iri ShPath) (none.1 refl)))
+path_same s well n shape None paths none = sym (ap (λ (vs : List Term). map (path_text_at levels_limit s) (first_of vs)) (no_values s n (property_iri ShPath) (none.1 refl)))
 path_same s well n shape (Some p) paths none =
     let k = (paths p).1 refl in
     sym (
-    ap (λ (vs : List Term). map (path_text_at level_limit s) (first_of vs)) (only_value s n (property_iri ShPath) k.0 (k.1, λ w h. one_value s well n shape k.0 w k.1 h))
-    ∙ ap (λ (t : List ℕ). t ∷ []) (path_law p level_limit s k.0 k.2 (shallow s well n shape k.0 p k.1 k.2))
+    ap (λ (vs : List Term). map (path_text_at levels_limit s) (first_of vs)) (only_value s n (property_iri ShPath) k.0 (k.1, λ w h. one_value s well n shape k.0 w k.1 h))
+    ∙ ap (λ (t : List ℕ). t ∷ []) (path_law p levels_limit s k.0 k.2 (shallow s well n shape k.0 p k.1 k.2))
     )
 
 module _ (shapes : List ReadShape) (s : List Triple) (stand : StandFor shapes s) (well : IsWellFormed s) (r : ResultRow) where

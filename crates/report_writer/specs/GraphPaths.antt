@@ -59,7 +59,3 @@ node_texts text s n =
 abbrev pub path_text_at : ℕ → List Triple → Term → List ℕ
 path_text_at zero s n = []
 path_text_at (suc levels) s n = first_text (node_texts (path_text_at levels s) s n)
-
--- more than the depth of any path of a well-formed shapes graph, which is 256 at most
-unfoldable pub level_limit : ℕ
-level_limit = 257

@@ -3,3 +3,4 @@ pub mod GraphPaths
 pub mod Report
 pub mod Sources
 pub mod CompiledReport
+pub mod Laws

@@ -5,12 +5,13 @@ use Rattle.std.specs.Fmt.{decimal}
 use Rattle.rdf_model.specs.declared.term.Term.{Term}
 use Rattle.rdf_model.specs.declared.triple.Triple.{Triple}
 use Rattle.rdf_model.specs.NTriples.{term_text}
+use Rattle.shape_model.specs.Limits.{levels_limit}
 use Rattle.shape_model.specs.declared.component.Component.{Component}
 use Rattle.shape_model.specs.declared.component.Component.TheVariants as components
 use Rattle.shape_model.specs.declared.result_row.ResultRow.{ResultRow}
 use Rattle.shape_model.specs.Declarations.{messages_of, severity_of, values_of}
 use Rattle.shape_model.specs.Vocabulary.{ShPath, property_iri}
-use Rattle.report_writer.specs.GraphPaths.{level_limit, path_text_at}
+use Rattle.report_writer.specs.GraphPaths.{path_text_at}
 
 abbrev pub first_of : List Term → List Term
 first_of [] = []
@@ -28,7 +29,7 @@ path_by c other own = own
 
 -- by the triples: the path of a property shape is that of its sh:path (SHACL 2.3.1)
 abbrev pub path_of : List Triple → ResultRow → List (List ℕ)
-path_of s r = path_by r.component (map term_text (listed r.other)) (map (path_text_at level_limit s) (first_of (values_of s r.source_shape (property_iri ShPath))))
+path_of s r = path_by r.component (map term_text (listed r.other)) (map (path_text_at levels_limit s) (first_of (values_of s r.source_shape (property_iri ShPath))))
 
 -- the local name of a component's IRI (SHACL 4), without `ConstraintComponent`
 abbrev pub component_name : Component → List ℕ

@@ -7,6 +7,7 @@
 #![tactic(auto)]
 
 mod component;
+pub mod laws;
 mod lines;
 mod paths;
 mod text;

@@ -1,7 +1,9 @@
-ghost use Rattle.std.specs.Prelude.{IfOk};
+ghost use Rattle.std.specs.Prelude.{◌≡◌, IfOk, MatchResult};
 ghost use Rattle.std.specs.List.{AllByRecursion};
 ghost use Rattle.collections.specs.Ordered.{IsAscending};
 ghost use Rattle.rdf_model.specs.Terms.{triple_cmp};
+ghost use Rattle.shape_reader.specs.Asked.{AsksSome};
+ghost use Rattle.session_reader.specs.Asked.{AsksFirst, AsksOf, AsksOfEach, AsksOfGraph, AsksPart};
 ghost use Rattle.session_reader.specs.Checking.{AreChecked, IsChecked, IsCheckedGraph, IsOrdered, OnlyGrows};
 
 use crate::read_command::ReadCommand;
@@ -22,6 +24,8 @@ fn check_graph<M: Maker>(
     requires { IsAscending triple_cmp triples }
     ensures command { IfOk result (λ command. IsCheckedGraph triples command (M.refused maker.old) (M.refused maker.new)) }
     ensures refused { OnlyGrows (M.refused maker.old) (M.refused maker.new) }
+    ensures asked { MatchResult result (λ command. AsksOfGraph triples command (M.asked maker.old) (M.asked maker.new))
+        (λ _. (M.refused maker.new ≡ M.refused maker.old) × AsksSome triples (M.asked maker.old) (M.asked maker.new)) }
 {
     match read_shapes(alloc, maker, triples.as_slice()) {
         Ok(shapes) => Ok(Command::Shapes(ShapesGraph::new(alloc, triples, shapes)?)),
@@ -43,6 +47,8 @@ fn check_command<M: Maker>(
     requires { IsOrdered read }
     ensures command { IfOk result (λ command. IsChecked read command (M.refused maker.old) (M.refused maker.new)) }
     ensures refused { OnlyGrows (M.refused maker.old) (M.refused maker.new) }
+    ensures asked { MatchResult result (λ command. AsksOf read command (M.asked maker.old) (M.asked maker.new))
+        (λ _. (M.refused maker.new ≡ M.refused maker.old) × AsksPart read (M.asked maker.old) (M.asked maker.new)) }
 {
     match read {
         ReadCommand::Begin => Ok(Command::Begin),
@@ -67,6 +73,8 @@ pub fn check_commands<M: Maker>(
     requires { AllByRecursion IsOrdered read }
     ensures commands { IfOk result (λ commands. AreChecked read commands (M.refused maker.old) (M.refused maker.new)) }
     ensures refused { OnlyGrows (M.refused maker.old) (M.refused maker.new) }
+    ensures asked { MatchResult result (λ commands. AsksOfEach read commands (M.asked maker.old) (M.asked maker.new))
+        (λ _. AsksFirst read (M.refused maker.old) (M.refused maker.new) (M.asked maker.old) (M.asked maker.new)) }
 {
     let mut commands = Sequence::new(alloc);
     for command in read.into_vec() {

@@ -6,6 +6,7 @@ ghost use Rattle.session_reader.specs.declared.read_command.ReadCommand.{ReadCom
 ghost use Rattle.session_reader.specs.SessionFile;
 ghost use Rattle.session_reader.specs.SessionFile.{IsSession, session_of, block_command, block_reading, new_reading, block_text, next_after, block_after, item_at, lines_of_block, with_command, with_item, commands_of, items_after};
 ghost use Rattle.session_reader.specs.Progress.{with_commands};
+ghost use Rattle.session_reader.specs.Asked.{AsksInVain, AsksOfSession};
 ghost use Rattle.session_reader.specs.Checking.{OnlyGrows};
 ghost use Rattle.session_reader.specs.Faults.{Fails, MakesNone};
 
@@ -300,7 +301,8 @@ fn read_session(
 /// numbers of blank nodes go on from block to block.
 ///
 /// The error is the number of the first line that is no command, or of the command of a block that
-/// doesn't end, or memory. No pattern is made before the whole file is read.
+/// doesn't end, or memory. No pattern is made before the whole file is read; then those of one block after another are asked
+/// of the maker, shape by shape in the order of nodes, up to the first of a block that it refuses.
 pub fn prepare<M: Maker>(
     alloc: Global,
     maker: &mut M,
@@ -312,6 +314,8 @@ pub fn prepare<M: Maker>(
     ensures answer { MatchResult result (λ commands. IsSession session bytes.now commands (M.refused maker.old) (M.refused maker.new))
         (λ fault. Fails fault (session_of session bytes.now) × MakesNone fault (M.refused maker.old) (M.refused maker.new)) }
     ensures refused { OnlyGrows (M.refused maker.old) (M.refused maker.new) }
+    ensures asked { MatchResult result (λ commands. AsksOfSession session bytes.now commands (M.asked maker.old) (M.asked maker.new))
+        (λ fault. AsksInVain session bytes.now fault (M.refused maker.old) (M.refused maker.new) (M.asked maker.old) (M.asked maker.new)) }
 {
     let read = read_session(alloc, session, bytes)?;
     let commands = check_commands(alloc, maker, read)?;

@@ -8,7 +8,8 @@ ghost use Rattle.shape_syntax.specs.Gathering.{HasGathered};
 ghost use Rattle.shape_rules.specs.declared.rule_row.RuleRow.{RuleRow as RowData};
 ghost use Rattle.shape_rules.specs.Broken.{LooksRow};
 ghost use Rattle.shape_sizes.specs.Counted.{AreWeights};
-ghost use Rattle.shape_sizes.specs.Sizes.{IsLookWeight, looks_limit};
+ghost use Rattle.shape_model.specs.Limits.{looks_limit};
+ghost use Rattle.shape_sizes.specs.Sizes.{IsLookWeight};
 ghost use Rattle.shape_sizes.specs.Surveys.{IsSurvey};
 ghost use Rattle.shape_properties.specs.Syntax.{IsShape};
 

@@ -14,7 +14,8 @@ use Rattle.shape_properties.specs.declared.property.ShapeProperty.TheVariants as
 use Rattle.shape_sizes.specs.Counted.{AreWeights}
 use Rattle.shape_sizes.specs.PathLooks.{IsCappedLook, MayBePath}
 use Rattle.shape_properties.specs.Properties.{property_iri}
-use Rattle.shape_sizes.specs.Sizes.{CountsIf, HasOwnLooks, HasPathLooks, HasTargetLooks, HasTooManyLooks, IsLookWeight, WeighsBy, looks_limit, looks_of, values}
+use Rattle.shape_model.specs.Limits.{looks_limit}
+use Rattle.shape_sizes.specs.Sizes.{CountsIf, HasOwnLooks, HasPathLooks, HasTargetLooks, HasTooManyLooks, IsLookWeight, WeighsBy, looks_of, values}
 use Rattle.shape_properties.specs.Syntax.{HasProperty, IsShape}
 use Rattle.shape_sizes.proofs.Weights.{OneWeight, one_weight}
 

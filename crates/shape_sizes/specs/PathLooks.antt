@@ -16,7 +16,8 @@ use Rattle.reference_totals.specs.declared.place.Place.{Place}
 use Rattle.reference_totals.specs.Totals.{capped, entry}
 use Rattle.shape_properties.specs.declared.property.ShapeProperty.TheVariants as properties
 use Rattle.shape_properties.specs.Properties.{property_iri}
-use Rattle.shape_sizes.specs.Sizes.{AreMembersAt, IsLookWeight, looks_limit, looks_of}
+use Rattle.shape_model.specs.Limits.{looks_limit}
+use Rattle.shape_sizes.specs.Sizes.{AreMembersAt, IsLookWeight, looks_of}
 
 -- values of sh:path, members of lists, and what a property turns into another path may stand for paths
 abbrev pub LeadsToPath : Term → Type 0

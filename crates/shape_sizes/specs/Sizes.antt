@@ -6,6 +6,7 @@ use Rattle.rdf_model.specs.declared.triple.Triple.{Triple}
 use Rattle.rdf_model.specs.Terms.{term_cmp}
 use Rattle.shape_model.specs.Vocabulary.{rdfs_class, true_literal}
 use Rattle.shape_model.specs.Instances.{Instance}
+use Rattle.shape_model.specs.Limits.{looks_limit}
 use Rattle.shape_model.specs.Declarations.{values_of}
 use Rattle.shape_model.specs.Paths.{Path, Predicate, Inverse, Sequence, Alternative, ZeroOrMore, OneOrMore, ZeroOrOne, Paths, Last, Also}
 use Rattle.shape_model.specs.Readings.{Sibling}
@@ -123,9 +124,6 @@ size_limit = 65536
 abbrev pub IsTooLarge : List Triple → Term → Type 0
 IsTooLarge s n = (k : ℕ) × IsSize s n k × (size_limit < k)
 
--- A shape with more looks has too many.
-unfoldable pub looks_limit : ℕ
-looks_limit = 4096
-
+-- A shape with more looks than the limit has too many.
 abbrev pub HasTooManyLooks : List Triple → Term → Type 0
 HasTooManyLooks s n = (k : ℕ) × HasLooks s n k × (looks_limit < k)

@@ -13,7 +13,8 @@ ghost use Rattle.reference_totals.specs.Totals.{capped};
 ghost use Rattle.shape_properties.specs.declared.property.ShapeProperty.TheVariants as property_data;
 ghost use Rattle.shape_properties.specs.Properties.{property_iri};
 ghost use Rattle.shape_sizes.specs.PathLooks.{ArePathLooks, ArePathPlaces, IsMadeBy, IsMadeOf, IsPathPlace, LeadsToPath, MayBePath};
-ghost use Rattle.shape_sizes.specs.Sizes.{HasPathLooks, looks_limit};
+ghost use Rattle.shape_model.specs.Limits.{looks_limit};
+ghost use Rattle.shape_sizes.specs.Sizes.{HasPathLooks};
 
 use crate::counted::members_at;
 use collections::{Sequence, sorted_once};
@@ -207,7 +208,7 @@ fn path_values(alloc: Global, graph: &[Triple]) -> Result<Vec<Term>, AllocError>
 }
 
 /// The limit of rule 40.
-#[tactic(auto, unfolding(crate::specs::Sizes::looks_limit))]
+#[tactic(auto, unfolding(shape_model::specs::Limits::looks_limit))]
 pub(crate) fn most_looks() -> u64
     ensures limit { result ≡ looks_limit }
     ensures small { result + 1 < 2 ^ 64 }

@@ -2,7 +2,7 @@ use Rattle.std.proofs.Common.{◌≡◌, ℕ, refl, arith, inl, inr}
 use Rattle.shape_model.specs.Vocabulary.{true_literal}
 use Rattle.reference_totals.specs.Totals.{capped}
 use Rattle.shape_properties.specs.declared.property.ShapeProperty.TheVariants as properties
-use Rattle.shape_sizes.specs.Sizes.{looks_limit}
+use Rattle.shape_model.specs.Limits.{looks_limit}
 use Rattle.shape_sizes.proofs.OwnTriples.{own_property}
 use Rattle.shape_sizes.proofs.looks.look_weight.Goals as goal
 

@@ -5,7 +5,7 @@ use Rattle.shape_syntax.proofs.Scans.{read_in}
 use Rattle.reference_totals.specs.Totals.{capped}
 use Rattle.shape_properties.specs.declared.property.ShapeProperty.{ShapeProperty}
 use Rattle.shape_properties.specs.declared.property.ShapeProperty.TheVariants as properties
-use Rattle.shape_sizes.specs.Sizes.{looks_limit}
+use Rattle.shape_model.specs.Limits.{looks_limit}
 use Rattle.shape_sizes.proofs.LookWeights.{paths_next, value_may_be}
 use Rattle.shape_sizes.proofs.OwnTriples.{own_values}
 use Rattle.shape_sizes.proofs.Referred.{is_value}

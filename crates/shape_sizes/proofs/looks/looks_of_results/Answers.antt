@@ -1,5 +1,5 @@
 use Rattle.shape_sizes.specs.PathLooks.{IsCappedLook}
-use Rattle.shape_sizes.specs.Sizes.{looks_limit}
+use Rattle.shape_model.specs.Limits.{looks_limit}
 use Rattle.shape_sizes.proofs.LookWeights.{looks_weights, one_capped}
 use Rattle.shape_sizes.proofs.Weights.{are_weights}
 use Rattle.shape_sizes.proofs.looks.looks_of_results.Goals as goal

@@ -4,7 +4,8 @@ use Rattle.shape_model.specs.Vocabulary.{true_literal}
 use Rattle.reference_totals.specs.Totals.{SumBy, capped}
 use Rattle.shape_properties.specs.declared.property.ShapeProperty.{ShapeProperty}
 use Rattle.shape_properties.specs.declared.property.ShapeProperty.TheVariants as properties
-use Rattle.shape_sizes.specs.Sizes.{HasPathLooks, looks_limit}
+use Rattle.shape_model.specs.Limits.{looks_limit}
+use Rattle.shape_sizes.specs.Sizes.{HasPathLooks}
 use Rattle.shape_sizes.proofs.OwnTriples.{own_counts, own_values}
 use Rattle.shape_sizes.proofs.looks.own_looks.Goals as goal
 

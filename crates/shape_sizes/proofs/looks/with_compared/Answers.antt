@@ -1,6 +1,6 @@
 use Rattle.std.proofs.Common.{◌≡◌, ◌+◌, ℕ, arith}
 use Rattle.reference_totals.specs.Totals.{capped}
-use Rattle.shape_sizes.specs.Sizes.{looks_limit}
+use Rattle.shape_model.specs.Limits.{looks_limit}
 use Rattle.shape_sizes.proofs.looks.with_compared.Goals as goal
 
 four_each : (m s e d l k a b c z : ℕ) → a ≡ capped m (s + e) → b ≡ capped m (a + d) → c ≡ capped m (b + l) → z ≡ capped m (c + k) → z ≡ capped m (s + e + d + l + k)

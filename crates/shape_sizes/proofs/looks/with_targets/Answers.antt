@@ -3,7 +3,7 @@ use Rattle.rdf_model.specs.declared.term.Term.{Term}
 use Rattle.reference_totals.specs.Totals.{capped}
 use Rattle.shape_properties.specs.declared.property.ShapeProperty.{ShapeProperty}
 use Rattle.shape_properties.specs.declared.property.ShapeProperty.TheVariants as properties
-use Rattle.shape_sizes.specs.Sizes.{looks_limit}
+use Rattle.shape_model.specs.Limits.{looks_limit}
 use Rattle.shape_sizes.proofs.OwnTriples.{own_values}
 use Rattle.shape_sizes.proofs.looks.with_targets.Goals as goal
 

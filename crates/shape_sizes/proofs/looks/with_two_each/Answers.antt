@@ -1,6 +1,6 @@
 use Rattle.std.proofs.Common.{◌+◌, ◌*◌, ◌∙◌, ℕ, ap}
 use Rattle.reference_totals.specs.Totals.{capped}
-use Rattle.shape_sizes.specs.Sizes.{looks_limit}
+use Rattle.shape_model.specs.Limits.{looks_limit}
 use Rattle.shape_sizes.proofs.LookWeights.{two_each}
 use Rattle.shape_sizes.proofs.looks.with_two_each.Goals as goal
 

@@ -1,6 +1,7 @@
 use Rattle.std.proofs.Common.{◌≡◌, ◌∙◌, ℕ, refl, sym, arith, Some, None, inl, inr}
 use Rattle.std.specs.Prelude.{Option}
-use Rattle.shape_sizes.specs.Sizes.{looks_limit, looks_of}
+use Rattle.shape_model.specs.Limits.{looks_limit}
+use Rattle.shape_sizes.specs.Sizes.{looks_of}
 use Rattle.reference_totals.specs.Totals.{capped}
 use Rattle.shape_sizes.proofs.path_looks.path_looks_at.Goals as goal
 
