@@ -3,7 +3,7 @@ ghost use Rattle.std.specs.List.{Contains};
 ghost use Rattle.component_rows.specs.Conformance.{AreTold};
 
 use crate::case::{assert_found, read_case, site_of};
-use crate::checks::{are_told, have_names};
+use crate::checks::{are_named_at, are_told};
 use component_rows::Site;
 use logic_constraints::{and, node, not, or, xone};
 use qualified_shapes::{qualified_max_count, qualified_min_count};
@@ -141,9 +141,10 @@ fn assert_list(rt: &impl Abort, alloc: Global, line: &str) -> Result<(), Fail> {
     let case = read_case(rt, alloc, "", line)?;
     let answers = answers_of(alloc, line)?;
     let members = case.others.as_slice();
-    assert!(rt; have_names(members, &case.names));
+    let site = site_of(alloc, &case);
+    assert!(rt; are_named_at(members, &case.names, &site));
     assert!(rt; are_told(members, &case.values, &answers));
-    let rows = list_rows(case.component, &site_of(alloc, &case), members, &answers)?;
+    let rows = list_rows(case.component, &site, members, &answers)?;
     assert_found(rt, alloc, &case, &rows, line)
 }
 
@@ -170,15 +171,10 @@ fn assert_qualified(rt: &impl Abort, alloc: Global, line: &str) -> Result<(), Fa
     let shapes = case.others.as_slice();
     assert!(rt; are_told(shapes, &case.values, &answers));
     if let [shape, siblings @ ..] = shapes {
+        let site = site_of(alloc, &case);
         assert!(rt; *shape < case.names.count());
-        assert!(rt; have_names(siblings, &case.names));
-        let rows = qualified_rows(
-            case.component,
-            &site_of(alloc, &case),
-            *shape,
-            siblings,
-            &answers,
-        )?;
+        assert!(rt; are_named_at(siblings, &case.names, &site));
+        let rows = qualified_rows(case.component, &site, *shape, siblings, &answers)?;
         assert_found(rt, alloc, &case, &rows, line)?;
     }
     Ok(())

@@ -3,7 +3,7 @@ ghost use Rattle.rdf_model.specs.Numbers.{IsNumbering};
 ghost use Rattle.component_rows.specs.Nodes.{AreNodes};
 
 use crate::case::{Case, assert_found, read_case, site_of};
-use crate::checks::have_names;
+use crate::checks::are_named_at;
 use component_rows::Site;
 use outside::{MakeFault, Maker, RegexMaker};
 use rdf_model::{ListNames, Names};
@@ -84,8 +84,9 @@ fn assert_length(rt: &impl Abort, alloc: Global, line: &str) -> Result<(), Fail>
 fn assert_languages(rt: &impl Abort, alloc: Global, line: &str) -> Result<(), Fail> {
     let case = read_case(rt, alloc, "", line)?;
     let ranges = case.others.as_slice();
-    assert!(rt; have_names(ranges, &case.names));
-    let rows = language_in(&site_of(alloc, &case), ranges)?;
+    let site = site_of(alloc, &case);
+    assert!(rt; are_named_at(ranges, &case.names, &site));
+    let rows = language_in(&site, ranges)?;
     assert_found(rt, alloc, &case, &rows, line)
 }
 
