@@ -209,7 +209,7 @@ impl Core {
     ) -> Result<bool, AllocError>
         ensures { IfOk result (λ taken. MatchBool taken (TakesStep self.old self.new event) (IsWrongNext self.old event)) }
     {
-        self.is_consistent();
+        self.recall_consistent();
         if !self.may_ask(event.session, &event.action) {
             return Ok(false);
         }
@@ -239,7 +239,7 @@ impl Core {
                 return Err(ReplayFault::At(place));
             }
         }
-        core.is_consistent();
+        core.recall_consistent();
         Ok(core)
     }
 }

@@ -80,7 +80,7 @@ impl Snap {
     }
 
     /// What every snapshot is, for a caller that rests on it. It does nothing.
-    pub fn is_sound(&self)
+    pub fn recall_sound(&self)
         ensures { IsSound self.now }
     {
         let _ = &self.number;

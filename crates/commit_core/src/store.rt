@@ -149,7 +149,7 @@ impl Core {
     }
 
     /// What every core keeps, for a caller that rests on it. It does nothing.
-    pub fn is_consistent(&self)
+    pub fn recall_consistent(&self)
         ensures { IsConsistent self.now }
     {
         let _ = &self.opened;

@@ -30,7 +30,7 @@ fn asked_number(names: &Dict, given: &Option<Term>) -> Option<Option<u32>>
     match given {
         None => Some(None),
         Some(term) => {
-            names.is_numbering();
+            names.recall_numbering();
             match names.id(term) {
                 Some(number) => Some(Some(number)),
                 None => None,

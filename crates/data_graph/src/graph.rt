@@ -150,7 +150,7 @@ impl DataGraph {
         requires { AreNamedChanges self.now.terms net.now }
         ensures { IfOk result (λ numbers. IsIndexed self.now.terms numbers (after self.now.triples net.now)) }
     {
-        self.triples.ascends();
+        self.triples.recall_ascending();
         match &self.numbers {
             Some(numbers) => Ok(Some(index_after(self.alloc, &self.names, numbers, net)?)),
             None => Ok(None),
@@ -181,7 +181,7 @@ impl DataGraph {
     ) -> Result<Option<Vec<Triple>>, AllocError>
         ensures { IfOk result (λ matching. MatchOption matching (Unit {0}) (λ v. v.items ≡ found self.now.triples pattern.now)) }
     {
-        self.triples.ascends();
+        self.triples.recall_ascending();
         match &self.numbers {
             Some(numbers) if wants_numbers(pattern) => Ok(Some(found_by_number(
                 alloc,
@@ -204,7 +204,7 @@ impl DataGraph {
     ) -> Result<Vec<Triple>, AllocError>
         ensures { IfOk result (λ v. v.items ≡ found (after self.now.triples net.now) pattern.now) }
     {
-        self.triples.ascends();
+        self.triples.recall_ascending();
         match self.matching_by_number(alloc, pattern)? {
             Some(matching) => Ok(list_after_asked(alloc, matching, net, pattern)?),
             None => {

@@ -148,7 +148,7 @@ pub fn graph_differing(
     requires { other.now ≡ after graph.now net.now }
     ensures { IfOk result (λ v. v.items ≡ differing graph.now other.now) }
 {
-    graph.ascends();
+    graph.recall_ascending();
     if graph.len() == 0 {
         return other.keys();
     }

@@ -85,8 +85,8 @@ pub fn index_after(
     requires { AreNamedChanges names.now.terms net.now }
     ensures { IfOk result (KeepsIndex names.now.terms index.now net.now) }
 {
-    names.is_numbering();
-    index.ascends();
+    names.recall_numbering();
+    index.recall_ascending();
     let changes = number_changes(alloc, names, net)?;
     let mut next = index.share()?;
     next.apply(&changes)?;
@@ -108,6 +108,6 @@ pub fn listing_by<L: Ledger>(
     ensures steps { OnOk result (GrowsByCount (IsTargetPair (graph_of names.now.terms index.now) shapes.now) steps.old steps.new) }
     ensures counted { steps.old ≤ steps.new }
 {
-    names.is_numbering();
+    names.recall_numbering();
     Ok(listing_over(alloc, index, names, CLASS_WORDS, shapes, steps)?)
 }

@@ -49,7 +49,7 @@ fn add_run(
 ) -> Result<(), AllocError>
     ensures { OnOk result (into.new.items ≡ into.old.items ++ found (start.now ∷ keys_above triple_cmp (Some start.now) graph.now) pattern.now) }
 {
-    graph.ascends();
+    graph.recall_ascending();
     add_asked(start, pattern, into)?;
     for triple in graph.iter_above(start) {
         if place(pattern, triple).is_gt() {
@@ -69,7 +69,7 @@ pub(crate) fn graph_matching(
 ) -> Result<Vec<Triple>, AllocError>
     ensures { IfOk result (λ v. v.items ≡ found graph.now pattern.now) }
 {
-    graph.ascends();
+    graph.recall_ascending();
     let mut matching = Vec::new(alloc);
     match graph.seek(|triple| place(pattern, triple)) {
         None => Ok(matching),

@@ -39,7 +39,7 @@ fn listing_in<L: Ledger>(
 {
     let mut steps = Steps::<L>::begin(blank);
     let names = &graph.names;
-    names.is_numbering();
+    names.recall_numbering();
     let rows = listing_over(
         alloc,
         &graph.triples,

@@ -55,7 +55,7 @@ impl Shared {
         ensures replays { Replays self.limits empty_store self.history self.state }
     {
         let Shared { core } = self;
-        core.is_consistent();
+        core.recall_consistent();
         core
     }
 }

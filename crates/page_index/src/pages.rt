@@ -83,7 +83,7 @@ impl<K: Ord> Pages<K> {
     }
 
     /// The keys ascend strictly. It does nothing: its contract is what the type keeps.
-    pub fn ascends(&self)
+    pub fn recall_ascending(&self)
         ensures { IsAscending K.cmp self.now }
     {
         let _ = &self.len;
@@ -225,7 +225,7 @@ fn add_until<K: Ord + ExactClone + Drop>(
 fn first_from<'a, K: Ord>(pages: &'a Pages<K>, from: &K) -> Option<&'a K>
     ensures { MatchOption result (first_reached (λ k. K.cmp k from.now) pages.now ≡ None) (λ key. first_reached (λ k. K.cmp k from.now) pages.now ≡ Some key.now) }
 {
-    pages.ascends();
+    pages.recall_ascending();
     pages.seek(|key| key.cmp(from))
 }
 
@@ -241,7 +241,7 @@ fn add_from<K: Ord + ExactClone + Drop>(
     if first.cmp(to).is_ge() {
         return Ok(());
     }
-    pages.ascends();
+    pages.recall_ascending();
     into.push(first.clone()?)?;
     add_until(pages.iter_above(first), to, into)
 }

@@ -46,3 +46,16 @@ AddsReads terms ids turned path x old new = AddsLooks terms (PathReads (graph_of
 -- in whatever way the graph, the path and the node are numbered
 abbrev pub Numbered : List Ids → Path ℕ → ℕ → (List Term → Type 0) → Type 0
 Numbered ids path x P = (terms : List Term) → IsNumbering terms → AreNumbered terms ids → IsBoundPath (length terms) path → x < length terms → P terms
+
+-- in whatever way the graph, the path and some nodes are numbered
+abbrev pub NumberedEach : List Ids → Path ℕ → List ℕ → (List Term → Type 0) → Type 0
+NumberedEach ids path xs P = (terms : List Term) → IsNumbering terms → AreNumbered terms ids → IsBoundPath (length terms) path → ((x : ℕ) → Contains xs x → x < length terms) → P terms
+
+-- the values are the numbers of just the nodes to which one of the nodes walks: each once, ascending; each such node has a number
+pub record AreValuesOfSome (terms : List Term) (ids : List Ids) (turned : Bool) (path : Path ℕ) (xs values : List ℕ) : Type 0 where
+  pub listed : IsListing nat_cmp (λ n. (n < length terms) × ((x : ℕ) × Contains xs x × Walk (graph_of terms ids) (turn turned (path_of terms path)) (term_at terms x) (term_at terms n))) values
+  pub every : (x : ℕ) (v : Term) → Contains xs x → Walk (graph_of terms ids) (turn turned (path_of terms path)) (term_at terms x) v → Contains (map (term_at terms) values) v
+
+-- just the looks of walking so from one of the nodes have been added
+abbrev pub AddsReadsOfSome : List Term → List Ids → Bool → Path ℕ → List ℕ → List (Look ℕ) → List (Look ℕ) → Type 0
+AddsReadsOfSome terms ids turned path xs old new = AddsLooks terms (λ l. (x : ℕ) × Contains xs x × PathReads (graph_of terms ids) turned (path_of terms path) (term_at terms x) l) old new

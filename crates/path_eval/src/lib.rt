@@ -15,4 +15,4 @@ mod walk;
 mod walker;
 
 pub use instances::{ClassWords, class_instances, is_instance};
-pub use queries::{back, values};
+pub use queries::{back, back_from, values};

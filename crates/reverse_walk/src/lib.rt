@@ -1,13 +1,14 @@
 //! Walks along a property path, read from their end.
 //!
 //! `back` ensures exactly the nodes from which a walk leads to a node, each once, ascending, and exactly
-//! the looks of the way back, by which a changed triple's focus nodes are found.
+//! the looks of the way back, by which a changed triple's focus nodes are found. `back_from` does so for
+//! many nodes in one walk.
 #![tactic(auto)]
 
 ghost use Rattle.std.specs.Prelude.{IfOk, OnOk};
-ghost use Rattle.path_eval.specs.Naming.{Numbered};
+ghost use Rattle.path_eval.specs.Naming.{Numbered, NumberedEach};
 ghost use Rattle.collections.specs.Listings.{Keeps};
-ghost use Rattle.reverse_walk.specs.Walkers.{AddsBackReads, AreWalkers};
+ghost use Rattle.reverse_walk.specs.Walkers.{AddsBackReads, AddsBackReadsOfSome, AreWalkers, AreWalkersToSome};
 
 use compiled_paths::Path;
 use rdf_model::{Footprint, Triples};
@@ -27,4 +28,21 @@ pub fn back<R: Triples>(
     ensures kept { Keeps footprint.old footprint.new }
 {
     Ok(path_eval::back(alloc, graph, path, node, footprint)?)
+}
+
+/// The nodes with a walk to one of the nodes along the path, each once, ascending by number. One walk
+/// finds them all. The looks of the way back are added to the footprint, which keeps what it had after
+/// an error too.
+pub fn back_from<R: Triples>(
+    alloc: Global,
+    graph: &R,
+    path: &Path<u32>,
+    nodes: &[u32],
+    footprint: &mut Footprint,
+) -> Result<Vec<u32>, AllocError>
+    ensures walkers { IfOk result (λ walkers. NumberedEach (R.triples graph.now) path.now nodes.now (λ terms. AreWalkersToSome terms (R.triples graph.now) path.now nodes.now walkers.items)) }
+    ensures looks { OnOk result (NumberedEach (R.triples graph.now) path.now nodes.now (λ terms. AddsBackReadsOfSome terms (R.triples graph.now) path.now nodes.now footprint.old footprint.new)) }
+    ensures kept { Keeps footprint.old footprint.new }
+{
+    Ok(path_eval::back_from(alloc, graph, path, nodes, footprint)?)
 }

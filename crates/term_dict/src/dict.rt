@@ -172,10 +172,10 @@ impl Dict {
     }
 
     /// No term has two numbers. It does nothing: its contract is what the type keeps.
-    pub fn is_numbering(&self)
+    pub fn recall_numbering(&self)
         ensures { IsNumbering self.now.terms }
     {
-        self.table.is_numbering();
+        self.table.recall_numbering();
     }
 }
 

@@ -72,7 +72,7 @@ impl Table {
     }
 
     // No term has two numbers.
-    pub(crate) fn is_numbering(&self)
+    pub(crate) fn recall_numbering(&self)
         ensures { IsNumbering self.now }
     {
         let _ = &self.alloc;

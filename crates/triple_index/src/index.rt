@@ -55,7 +55,7 @@ impl Index {
     }
 
     /// The triples ascend strictly. It does nothing: its contract is what the type keeps.
-    pub fn ascends(&self)
+    pub fn recall_ascending(&self)
         ensures { IsAscending ids_cmp self.now }
     {
         let _ = &self.alloc;

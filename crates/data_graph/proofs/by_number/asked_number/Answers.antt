@@ -8,7 +8,7 @@ use Rattle.data_graph.proofs.by_number.asked_number.Goals as goal
 pub returns-in-Some-id : goal.returns-in-Some-id
 returns-in-Some-id c =
     let terms = c.args.names.now.terms in
-    subst (λ (given : Option Term). AsksAlike terms given (Some c.in-Some-id.number)) (sym c.in-Some.is) (one_alike terms c.is_numbering.ensures c.in-Some.term c.in-Some-id.number c.in-Some-id.ensures.0 c.in-Some-id.ensures.1)
+    subst (λ (given : Option Term). AsksAlike terms given (Some c.in-Some-id.number)) (sym c.in-Some.is) (one_alike terms c.recall_numbering.ensures c.in-Some.term c.in-Some-id.number c.in-Some-id.ensures.0 c.in-Some-id.ensures.1)
 
 pub returns-in-None-id : goal.returns-in-None-id
 returns-in-None-id c =

@@ -12,4 +12,4 @@ returns-then-len-eq0 c =
     (λ v e. none_before c.args.graph.now c.args.other.now v.items none c.keys.ensures.ascending e) c.keys.ensures.keys
 
 pub returns : goal.returns
-returns c = net_differing c.args.graph.now c.args.other.now c.args.net.now _ _ c.ascends.ensures c.requires c.in_ok-triples.ensures c.in_ok-sorted_once.ensures
+returns c = net_differing c.args.graph.now c.args.other.now c.args.net.now _ _ c.recall_ascending.ensures c.requires c.in_ok-triples.ensures c.in_ok-sorted_once.ensures

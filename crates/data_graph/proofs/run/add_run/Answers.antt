@@ -18,7 +18,7 @@ loop-triple-init c =
     record {
       rest = subst (λ (ts : List Triple). c.add_asked.new.into.items ++ found ts p ≡ all) items
           (found_next p c.args.into.now.items c.add_asked.new.into.items all c.args.start.now (keys_above triple_cmp (Some c.args.start.now) c.args.graph.now) c.in_ok-add_asked.ensures refl);
-      ascending = subst (λ (ts : List Triple). IsAscending triple_cmp ts) items (ascending_above c.args.start.now c.args.graph.now c.ascends.ensures);
+      ascending = subst (λ (ts : List Triple). IsAscending triple_cmp ts) items (ascending_above c.args.start.now c.args.graph.now c.recall_ascending.ensures);
     }
 
 pub returns-then-is_gt : goal.returns-then-is_gt

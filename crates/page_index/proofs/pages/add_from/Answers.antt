@@ -15,7 +15,7 @@ returns-then-is_ge g c =
 
 pub add_until-requires : goal.add_until-requires
 add_until-requires g c =
-    subst (λ (ks : List g.row.K.Denot). IsAscending g.K.Ord.cmp ks) (sym c.iter_above.ensures) (filter-ascends g.K.Ord.cmp g.met.K.Ord.total (λ k. is_gt (g.K.Ord.cmp k c.args.first.now)) c.args.pages.now c.ascends.ensures)
+    subst (λ (ks : List g.row.K.Denot). IsAscending g.K.Ord.cmp ks) (sym c.iter_above.ensures) (filter-ascends g.K.Ord.cmp g.met.K.Ord.total (λ k. is_gt (g.K.Ord.cmp k c.args.first.now)) c.args.pages.now c.recall_ascending.ensures)
 
 pub returns : goal.returns
 returns g c =

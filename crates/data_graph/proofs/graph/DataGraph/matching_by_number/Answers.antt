@@ -9,5 +9,5 @@ pub returns-in_ok-found_by_number-in-Some : goal.returns-in_ok-found_by_number-i
 returns-in_ok-found_by_number-in-Some c =
     let terms = c.self.inside.names.terms in
     let index = subst (λ (numbers : Option (List Ids)). IsIndexed terms numbers c.self.inside.triples) c.in-Some.is c.self.invariant.1 in
-    found_indexed c.args.pattern.now terms c.in-Some.numbers c.self.inside.triples c.in_ok-found_by_number-in-Some.field-0.items c.ascends.ensures index c.in_ok-found_by_number-in-Some.ensures
+    found_indexed c.args.pattern.now terms c.in-Some.numbers c.self.inside.triples c.in_ok-found_by_number-in-Some.field-0.items c.recall_ascending.ensures index c.in_ok-found_by_number-in-Some.ensures
     ∙ ap (λ (d : NamedGraph). found d.triples c.args.pattern.now) c.self.view_is
