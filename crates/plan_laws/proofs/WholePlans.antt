@@ -55,7 +55,7 @@ module _ (s : List Triple) (well : IsWellFormed s) (shapes : List ReadShape) (st
           length (own_rows c q),
           all.0,
           total below (referred_places c),
-          inr (on, own_looks s well shapes stand c i (once c i) (inside c i) q),
+          inr (on, own_looks s well shapes stand c i (once c i) (inside c i) on q),
           inr (on, all.1),
           all.2,
           omega (arith, split, sum),
