@@ -9,6 +9,7 @@ use Rattle.rdf_model.specs.declared.term.Term.{Term}
 use Rattle.rdf_model.specs.declared.triple.Triple.{Triple}
 use Rattle.rdf_model.specs.declared.ids.Ids.{Ids}
 use Rattle.rdf_model.specs.Numbers.{term_at, graph_of}
+use Rattle.shape_model.specs.Limits.{levels_limit}
 use Rattle.shape_model.specs.declared.result_row.ResultRow.{ResultRow}
 use Rattle.shape_model.specs.Readings.{reading}
 use Rattle.shape_model.specs.Rows.{result_row_cmp}
@@ -25,7 +26,7 @@ use Rattle.shape_ast.specs.Readings.{ReadShape, named_shapes, read_shape}
 use Rattle.shape_ast.proofs.Agreeing.{same_on}
 use Rattle.shape_ast.specs.Standing.{StandFor, shape_reading}
 use Rattle.shape_eval.specs.Around.{around}
-use Rattle.shape_eval.specs.Results.{CollectsAt, ListsResults, depth_limit}
+use Rattle.shape_eval.specs.Results.{CollectsAt, ListsResults}
 use Rattle.shape_eval.specs.ShapeRows.{FromSome, OwnRow, PropertyAt, ShapeRow}
 use Rattle.shape_eval.specs.ValueNodes.{AreValueNodes, IsValueNode}
 use Rattle.shape_eval.proofs.Constraints.{opened}
@@ -98,9 +99,9 @@ module _ (terms : List Term) (ids : List Ids) (shapes : List (Shape ℕ)) (place
       n values f are.each active own more (h s stand) (k s stand))))
 
 -- a listing of the rows is one of the results
-pub lists_results : (terms : List Term) (ids : List Ids) (shapes : List (Shape ℕ)) (place f : ℕ) (rows sorted : List ResultRow) → CollectsAt terms ids shapes depth_limit place f rows
+pub lists_results : (terms : List Term) (ids : List Ids) (shapes : List (Shape ℕ)) (place f : ℕ) (rows sorted : List ResultRow) → CollectsAt terms ids shapes levels_limit place f rows
     → IsListing result_row_cmp (Contains rows) sorted → ListsResults terms ids shapes place f sorted
 lists_results terms ids shapes place f rows sorted h listing s c stand at acyclic shallow =
     let g = graph_of terms ids in
     listing_same result_row_cmp (Contains rows) (At g s c.node (term_at terms f))
-    (λ r. let k = depth_law g s acyclic depth_limit shallow c.node (term_at terms f) r in let j = h s c stand at r in ((λ d. k.1 (j.0 d)), (λ a. j.1 (k.0 a)))) sorted listing
+    (λ r. let k = depth_law g s acyclic levels_limit shallow c.node (term_at terms f) r in let j = h s c stand at r in ((λ d. k.1 (j.0 d)), (λ a. j.1 (k.0 a)))) sorted listing
