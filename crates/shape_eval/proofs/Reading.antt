@@ -128,11 +128,11 @@ module _ (terms : List Term) (ids : List Ids) (shapes : List (Shape ℕ)) (bound
   agreed = stand.each c stands
 
   -- its reading with the path that it was compiled with
-  abbrev own : Reading
-  own = with_path (reading s c.node) (shape_reading named c)
+  abbrev kept : Reading
+  kept = with_path (reading s c.node) (shape_reading named c)
 
-  same_own : SameReading own (shape_reading named c)
-  same_own = same_but_path (reading s c.node) (shape_reading named c) agreed
+  same_kept : SameReading kept (shape_reading named c)
+  same_kept = same_but_path (reading s c.node) (shape_reading named c) agreed
 
   -- those of the shapes at the places that its constraints ask, and at those of its property shapes
   abbrev Referred : ℕ → List ℕ → Look Term → Type 0
@@ -144,13 +144,13 @@ module _ (terms : List Term) (ids : List Ids) (shapes : List (Shape ℕ)) (bound
       let constraints = (bound_at terms shapes bound place x taken).constraints in
       let linked = stand.linked c stands in (
         λ h.
-            let p = place_asked terms shapes x (length terms) constraints linked h.0 (refers_same own (shape_reading named c) same_own h.0 h.2) in
+            let p = place_asked terms shapes x (length terms) constraints linked h.0 (refers_same kept (shape_reading named c) same_kept h.0 h.2) in
             elim p.1 [
               | inl a ↦ inl (p.0, (are p.0).1 a, (h.0, p.2, (h.1, h.3, h.4)))
               | inr a ↦ inr (p.0, a, (h.0, p.2, (h.1, h.3, h.4)))
             ],
         λ h.
-            let back = refers_same (shape_reading named c) own (reading_back own (shape_reading named c) same_own) in
+            let back = refers_same (shape_reading named c) kept (reading_back kept (shape_reading named c) same_kept) in
             elim h [
               | inl k ↦ (k.2.0, k.2.2.0, back k.2.0 (asked_refers terms shapes x (length terms) constraints linked k.0 k.2.0 (inl ((are k.0).0 k.1)) k.2.1), k.2.2.1, k.2.2.2)
               | inr k ↦ (k.2.0, k.2.2.0, back k.2.0 (asked_refers terms shapes x (length terms) constraints linked k.0 k.2.0 (inr k.1) k.2.1), k.2.2.1, k.2.2.2)
