@@ -45,7 +45,7 @@ _guard() {
   fi
   case ${COMP_WORDS[1]} in
     run | replay)
-      case $before in --max-terms | --max-triples) return ;; esac
+      case $before in --max-terms | --max-triples | =) return ;; esac
       if [[ $current == -* ]]; then
         _guard_words --max-terms --max-triples
       elif [ "${COMP_WORDS[1]}" = replay ] && [ "$(_guard_count)" -eq 0 ]; then
