@@ -1,0 +1,4 @@
+mod Standing
+mod Numbering
+mod Counted
+pub mod Longer
