@@ -8,8 +8,8 @@ use Rattle.rdf_model.specs.declared.term.Term.{Term}
 use Rattle.rdf_model.specs.Numbers.{term_at}
 use Rattle.shape_model.specs.Looks.{LookKind, LookRow}
 use Rattle.shape_model.specs.Paths as defined
-use Rattle.compiled_paths.specs.declared.path.Path.{Path, Sequence}
-use Rattle.compiled_paths.specs.PathReadings.{HasEach, HoldsOfEach, IsBoundOptional, IsBoundPath, defined_path, members, path_of}
+use Rattle.compiled_paths.specs.declared.path.Path.{Path, Sequence, Predicate, Inverse', Sequence', Alternative', ZeroOrMore', OneOrMore', ZeroOrOne'}
+use Rattle.compiled_paths.specs.PathReadings.{HasEach, HoldsOfEach, IsBoundOptional, IsBoundPath, defined_path, members, path_of, read_row}
 use Rattle.compiled_paths.proofs.Names.{each_named}
 use Rattle.compiled_paths.proofs.Rows.{sequence_each, sequence_read}
 use Rattle.read_plans.specs.declared.look.PlannedLook.{PlannedLook}
@@ -43,6 +43,19 @@ module _ (terms : List Term) (first : Box (Path ℕ) Global) (others : Vec (Path
   pub way_bound : IsBoundPath (length terms) first.value → All (IsBoundPath (length terms)) others.items → IsBoundOptional (length terms) (Some (Sequence first others))
   way_bound b bs = (sequence_each first others (λ p. p < length terms)).1 (b, bs)
 
+pub way_is : (terms : List Term) (p : Path ℕ) → way_of terms (Some p) ≡ parts (path_of terms p)
+way_is terms (Sequence' b p c ps) = sym (listed_members (path_of terms p) (read_row (term_at terms) ps))
+way_is terms (Predicate p) = refl
+way_is terms (Inverse' b p) = refl
+way_is terms (Alternative' b p c ps) = refl
+way_is terms (ZeroOrMore' b p) = refl
+way_is terms (OneOrMore' b p) = refl
+way_is terms (ZeroOrOne' b p) = refl
+
+-- paths that read the same are the same way
+pub ways_same : (p q : Path ℕ) → ((terms : List Term) → path_of terms p ≡ path_of terms q) → (terms : List Term) → way_of terms (Some p) ≡ way_of terms (Some q)
+ways_same p q e terms = way_is terms p ∙ (ap parts (e terms) ∙ sym (way_is terms q))
+
 -- the terms of a way that is read
 pub ways_named : (Q : Term → Type 0) (ps : List (Path Term)) → AllByRecursion (HoldsOfEach Q) (map defined_path ps) → All (HasEach Q) ps
 ways_named Q [] h = All-nil (HasEach Q)
@@ -64,6 +77,11 @@ pushed_rows old new look e terms row =
       λ c. Contains-push_cases (map f old) (f look) row (subst (λ (rows : List LookRow). Contains rows row) all c),
       λ h. subst (λ (rows : List LookRow). Contains rows row) (sym all) (elim h [ inl c ↦ Contains-append_left (map f old) (f look ∷ []) row c | inr q ↦ subst (λ (r : LookRow). Contains (map f old ++ f look ∷ []) r) q (Contains-push (map f old) (f look)) ]),
     )
+
+-- a row that is there already
+pub found_rows : (looks : List NumberedLook) (look : NumberedLook) → ((terms : List Term) → Contains (map (row_of terms) looks) (row_of terms look))
+    → (terms : List Term) (row : LookRow) → Contains (map (row_of terms) looks) row ↔ (Contains (map (row_of terms) looks) row ⊎ (row_of terms look ≡ row))
+found_rows looks look there terms row = (λ c. inl c, elim [ inl c ↦ c | inr q ↦ subst (λ (r : LookRow). Contains (map (row_of terms) looks) r) q (there terms) ])
 
 pub pushed_bound : (old new : List NumberedLook) (look : NumberedLook) → new ≡ old ++ look ∷ [] → (n : ℕ) → IsBoundLookRow n look → AreBoundRows n old → AreBoundRows n new
 pushed_bound old new look e n bound before =

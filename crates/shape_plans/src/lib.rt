@@ -5,6 +5,7 @@
 //! focus node.
 #![tactic(auto)]
 
+mod alike;
 mod looks;
 mod planned;
 mod plans;

@@ -8,6 +8,7 @@ ghost use Rattle.read_plans.specs.NamedRows.{HoldsOfKind, HoldsOfRow};
 ghost use Rattle.read_plans.specs.Rows.{read_kind, read_look, read_looks};
 ghost use Rattle.focus_affected.specs.Plans.{AreBoundRows, IsBoundKind, IsBoundLookRow, kind_of, row_of, way_of};
 
+use crate::alike::has_look;
 use collections::Sequence;
 use compiled_paths::{Path, bind_path};
 use focus_affected::{NumberedKind, NumberedLook};
@@ -87,11 +88,14 @@ fn number_look<N: Names>(
     })
 }
 
-// Adds the row.
+// Adds the row, unless it is there: an equal one would find the same.
 fn push_look(looks: &mut Sequence<NumberedLook>, look: NumberedLook) -> Result<(), AllocError>
     ensures rows { OnOk result ((terms : List TermData) (row : _) → Contains (map (row_of terms) looks.new) row ↔ (Contains (map (row_of terms) looks.old) row ⊎ (row_of terms look ≡ row))) }
     ensures bound { OnOk result ((n : _) → IsBoundLookRow n look → AreBoundRows n looks.old → AreBoundRows n looks.new) }
 {
+    if has_look(looks.as_slice(), &look) {
+        return Ok(());
+    }
     looks.push(look)?;
     Ok(())
 }
