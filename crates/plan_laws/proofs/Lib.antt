@@ -6,4 +6,4 @@ mod Places
 mod NamedPlaces
 mod Aims
 mod PlanNumbers
-mod WholePlans
+pub mod WholePlans

@@ -88,7 +88,7 @@ inside_read shapes s compiled c i =
     let many : length shapes ≡ length (read_shapes shapes) = sym (length-map shapes (read_shape (λ t. t))) in
     let holds = subst (λ (n : ℕ). HoldsOfShape (StandsIn s) n x.0) many (All-contains (HoldsOfShape (StandsIn s) (length shapes)) shapes x.0 compiled.within x.1) in
     subst (IsInside (length (read_shapes shapes))) x.2 (record {
-      constraints = λ k d. all_within shapes s compiled c i k (subst (λ (r : ReadShape). Contains r.constraints k) x.2 d);
+      constraints = λ k d. all_within (StandsIn s) shapes compiled.within c i k (subst (λ (r : ReadShape). Contains r.constraints k) x.2 d);
       properties = holds.properties;
       qualified = holds.qualified;
       siblings = holds.siblings;

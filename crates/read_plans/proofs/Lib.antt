@@ -8,3 +8,4 @@ pub mod ShapeSteps
 pub mod Referred
 pub mod Depths
 pub mod Plans
+mod NamedRows

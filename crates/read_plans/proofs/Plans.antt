@@ -1,7 +1,7 @@
 -- The rows of a compiled shape are those of its node in the shapes graph.
 use Rattle.std.proofs.Common.{◌≡◌, ◌∙◌, ℕ, zero, suc, Bool, true, false, List, [], ◌∷◌, ◌++◌, length, refl, sym, ap, subst, inl, inr}
 use Rattle.std.specs.Prelude.{◌↔◌, Option, Some, None, slice_get, if◌then◌else◌}
-use Rattle.std.specs.List.{Contains, flat_map}
+use Rattle.std.specs.List.{All, Contains, flat_map}
 use Rattle.std.proofs.lemmas.List.{length-map}
 use Rattle.std.proofs.lemmas.List.Elements.{All-contains, Contains-append_cases, Contains-append_left, Contains-append_right}
 use Rattle.collections.proofs.Members.{has_equal, has_tail}
@@ -183,12 +183,12 @@ module _ (shapes : List ReadShape) where
           λ k. subst (λ (o : Option ReadShape). Contains (all_target_rows o) row) (sym at) (aims.1 (target_same y (shape_reading shapes c) e row k)),
         )
 
--- the places that a constraint of a compiled shape names are there
-module _ (shapes : List (Shape Term)) (s : List Triple) (compiled : AreCompiled shapes s) where
+-- the places that a constraint of a compiled shape names are there, whatever holds of its terms beside
+module _ (Q : Term → Type 0) (shapes : List (Shape Term)) (held : All (HoldsOfShape Q (length shapes)) shapes) where
   as_many : length (read_shapes shapes) ≡ length shapes
   as_many = length-map shapes (read_shape (λ t. t))
 
-  read_within : (k : Constraint Term) → HoldsOfConstraint (StandsIn s) (length shapes) k → IsWithin (length shapes) (read_constraint (λ t. t) k)
+  read_within : (k : Constraint Term) → HoldsOfConstraint Q (length shapes) k → IsWithin (length shapes) (read_constraint (λ t. t) k)
   read_within (ByTerm component p) h = tt
   read_within (ByList component p members) h = tt
   read_within (ByShape component p shape) h = tt
@@ -199,10 +199,10 @@ module _ (shapes : List (Shape Term)) (s : List Triple) (compiled : AreCompiled 
       let x = mapped_from (read_shape (λ t. t)) shapes c i in
       let d' = subst (λ (r : ReadShape). Contains r.constraints k) (sym x.2) d in
       let j = mapped_from (read_constraint (λ t. t)) x.0.constraints k d' in
-      let holds = All-contains (HoldsOfShape (StandsIn s) (length shapes)) shapes x.0 compiled.within x.1 in
-      let h = All-contains (HoldsOfConstraint (StandsIn s) (length shapes)) x.0.constraints j.0 holds.constraints j.1 in
+      let holds = All-contains (HoldsOfShape Q (length shapes)) shapes x.0 held x.1 in
+      let h = All-contains (HoldsOfConstraint Q (length shapes)) x.0.constraints j.0 holds.constraints j.1 in
       subst (λ (n : ℕ). IsWithin n k) (sym as_many) (subst (λ (l : Constraint Term). IsWithin (length shapes) l) j.2 (read_within j.0 h))
 
 pub plan_lists : (shapes : List (Shape Term)) (place : ℕ) → ListLooks shapes place (plan_rows (read_shapes shapes) place)
 plan_lists shapes place s compiled acyclic shallow c at row =
-    plan_listed (read_shapes shapes) s compiled.stand (all_within shapes s compiled) acyclic shallow place c at row
+    plan_listed (read_shapes shapes) s compiled.stand (all_within (StandsIn s) shapes compiled.within) acyclic shallow place c at row

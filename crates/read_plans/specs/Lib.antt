@@ -3,3 +3,4 @@ pub mod PathRows
 pub mod MemberRows
 pub mod ShapeRows
 pub mod Laws
+pub mod NamedRows

@@ -4,6 +4,7 @@ ghost use Rattle.compiled_paths.specs.PathReadings.{defined_path};
 ghost use Rattle.shape_model.specs.Limits.{levels_limit, looks_limit};
 ghost use Rattle.shape_ast.specs.Readings.{read_shape, read_shapes};
 ghost use Rattle.read_plans.specs.Laws.{ListLooks};
+ghost use Rattle.read_plans.specs.NamedRows.{AreNamedWith};
 ghost use Rattle.read_plans.specs.Rows.{Adds, IsStopped, read_looks};
 ghost use Rattle.read_plans.specs.ShapeRows.{plan_rows, shape_rows};
 
@@ -81,10 +82,12 @@ fn push_plan(
 }
 
 /// The rows of looks of the shape at the place among the shapes, with those of its targets, each as often as it is counted.
+/// They have no other terms than the shapes, rdf:type and rdfs:subClassOf.
 pub fn plan(alloc: Global, shapes: &Shapes, shape: usize) -> Result<Vec<PlannedLook>, PlanFault>
     requires { shape < length shapes.now.shapes }
     ensures rows { IfOk result (λ rows. read_looks rows.items ≡ plan_rows (read_shapes shapes.now.shapes) shape) }
     ensures looks { IfOk result (λ rows. ListLooks shapes.now.shapes shape (read_looks rows.items)) }
+    ensures named { IfOk result (λ rows. AreNamedWith shapes.now.shapes (read_looks rows.items)) }
     ensures few { IfOk result (λ rows. length rows.items ≤ looks_limit) }
     ensures wide { IfErr result (λ fault. IsStopped (length (plan_rows (read_shapes shapes.now.shapes) shape)) fault) }
 {

@@ -1,0 +1,4 @@
+mod PairParts
+mod PairsParts
+mod Counts
+mod Verdict

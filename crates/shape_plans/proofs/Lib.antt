@@ -1,0 +1,5 @@
+mod Standing
+mod Numbering
+mod Counted
+mod Comparing
+pub mod Longer
