@@ -1,17 +1,17 @@
 //! The calls of a session that are events.
 ghost use Rattle.std.specs.Prelude.{MatchResult};
 ghost use Rattle.session_model.specs.Sessions.{additions, removals};
-ghost use Rattle.guard_store.specs.Transactions;
-ghost use Rattle.guard_store.specs.Transactions.{changes_of};
+ghost use Rattle.session_transaction.specs.Transactions;
+ghost use Rattle.session_transaction.specs.Transactions.{changes_of};
 ghost use Rattle.guard_store.specs.Callers.{HasWork, IsSession};
 ghost use Rattle.guard_store.specs.Answers.{Begins, BeginsNot, Commits, CommitsNot, Heads, HeadsNot, NamesFor, Stages, StagesNot};
 
-use crate::faults::{BeginFault, CommitFault, Committed, HeadFault, StageFault};
+use crate::faults::{BeginFault, CommitFault, HeadFault, StageFault};
 use crate::session::Session;
 use crate::store::Store;
-use crate::transaction::{ChangeKind, OpenTransaction};
 use commit_core::NameFault;
 use rdf_model::Triple;
+use session_transaction::{ChangeKind, Committed, OpenTransaction};
 use shape_eval::Steps;
 use shapes_graph::ShapesGraph;
 use std::sync::Wait;

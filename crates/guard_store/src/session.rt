@@ -1,16 +1,16 @@
 ghost use Rattle.std.specs.Prelude.{◌≡◌, ◌≢◌, None, Some, MatchBool, MatchResult};
-ghost use Rattle.guard_store.specs.declared.transaction.OpenTransaction.{OpenTransaction};
-ghost use Rattle.guard_store.specs.Transactions;
-ghost use Rattle.guard_store.specs.Transactions.{changes_of};
+ghost use Rattle.session_transaction.specs.declared.transaction.OpenTransaction.{OpenTransaction};
+ghost use Rattle.session_transaction.specs.Transactions;
+ghost use Rattle.session_transaction.specs.Transactions.{changes_of};
 ghost use Rattle.guard_store.specs.Callers.{HasWork, OnlyReads};
 ghost use Rattle.guard_store.specs.Answers.{EndsReading};
 
-use crate::faults::{CommitFault, Committed, StageFault};
+use crate::faults::{CommitFault, StageFault};
 use crate::shared::Shared;
-use crate::transaction::{ChangeKind, OpenTransaction};
 use collections::let_go;
 use commit_core::Snap;
 use rdf_model::Triple;
+use session_transaction::{ChangeKind, Committed, OpenTransaction};
 use shapes_graph::ShapesGraph;
 use std::alloc::Global;
 use turn_lock::Pass;

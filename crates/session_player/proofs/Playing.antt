@@ -1,37 +1,38 @@
 -- What each command does to a session.
-use Rattle.std.proofs.Common.{◌≡◌, ◌≢◌, ℕ, ◌+◌, ◌<◌, ◌≤◌, Bool, true, false, nat_lt, List, [], ◌∷◌, ◌++◌, length, Option, Some, None, refl, sym, ap, ◌∙◌, subst, arith, suc, get_or, drop, add-one, drop-cons, append_assoc}
+use Rattle.std.proofs.Common.{◌≡◌, ℕ, ◌+◌, ◌<◌, ◌≤◌, Bool, true, false, nat_lt, List, [], ◌∷◌, ◌++◌, length, Option, Some, None, refl, sym, ap, ◌∙◌, subst, arith, suc, get_or, drop, add-one, drop-cons, append_assoc}
 use Rattle.std.proofs.lemmas.List.{map-append, append-nil}
 use Rattle.store_model.specs.declared.event.Event.{Event}
-use Rattle.std.specs.Prelude.{IfOk, MatchBool, MatchOption, Result, Ok, Err}
+use Rattle.std.specs.Prelude.{IfOk, MatchBool, Result, Ok, Err}
 use Rattle.std.specs.declared.alloc.AllocError.{AllocError}
-use Rattle.rdf_model.specs.declared.term.Term.{Term}
 use Rattle.std.proofs.lemmas.Bool.Decides.{nat_tests}
-use Rattle.store_model.specs.declared.commit.Overtaker.{Overtaker}
-use Rattle.store_model.specs.declared.event.Limits.{Limits}
-use Rattle.shape_model.specs.declared.result_row.ResultRow.{ResultRow}
 use Rattle.rdf_model.specs.Graphs.{after}
 use Rattle.rdf_model.specs.declared.change.Change.{Change}
 use Rattle.rdf_model.specs.declared.triple.Triple.{Triple}
 use Rattle.store_model.specs.declared.event.Action.TheVariants as actions
 use Rattle.store_model.specs.declared.event.Reply.{Reply}
 use Rattle.store_model.specs.declared.event.Reply.TheVariants.{Session, SessionsFull, Version, Named, Full, Conflict, FullTriples, Refused}
-use Rattle.store_model.specs.declared.commit.Again.{Again}
-use Rattle.report_writer.specs.Report.{report_text}
 use Rattle.store_model.specs.declared.commit.Transaction.{Transaction}
 use Rattle.session_model.specs.declared.command.Command.{Command}
-use Rattle.session_model.specs.declared.command.Command.TheVariants.{Begin, Shapes, BadShapes, BrokenShapes, RefusedPattern, Commit}
+use Rattle.session_model.specs.declared.command.Command.TheVariants.{Begin, Shapes, Commit}
 use Rattle.session_model.specs.declared.reply.SessionReply.{SessionReply}
-use Rattle.session_model.specs.declared.reply.SessionReply.TheVariants.{Begun, ShapesStaged, ShapesRefused, ShapesBroken, PatternRefused, FullTerms, ReadOnly, Refused as RefusedBy}
-use Rattle.store_model.specs.Store.{State, RecordedStore, OpensNext, OpensNothing, Replies, CommitsByListing, CommitsWithinLimit, CommitsByRows, overtaker, TakesStep, IsOpened, HasChange, NetNamed, StagedNamed, named_with, shapes_under, version}
+use Rattle.session_model.specs.declared.reply.SessionReply.TheVariants.{Begun, ShapesStaged, FullTerms, ReadOnly}
+use Rattle.store_model.specs.Store.{State, RecordedStore, OpensNext, OpensNothing, TakesStep, IsOpened, HasChange, IsCommittable, version}
 use Rattle.session_model.specs.Sessions.{OpenTransaction, LocalAnswer, answers, local_answer, local_commit, up_to_event, begun, with_changes, with_shapes, parts_of, action_of, commit_action, after_reply, GoesOn, SessionState}
-use Rattle.session_player.specs.declared.transaction.ChangeKind.{ChangeKind}
-use Rattle.session_player.specs.declared.transaction.ChangeKind.TheVariants.{Addition, Removal}
-use Rattle.session_player.specs.Changes.{changes_of, command_of, reply_of, bad_command_of, refusal_of}
+use Rattle.session_transaction.specs.declared.transaction.ChangeKind.{ChangeKind}
+use Rattle.session_transaction.specs.declared.transaction.ChangeKind.TheVariants.{Addition, Removal}
+use Rattle.session_transaction.specs.Transactions.{FitsState, changes_of, reply_of}
+use Rattle.session_transaction.specs.declared.committing.Committed.{Committed}
+use Rattle.session_transaction.specs.declared.committing.Committed.TheVariants as committeds
+use Rattle.session_transaction.specs.Commits.{IsAnswer, IsCommitted}
+use Rattle.session_transaction.specs.Replies.{IsCommitReply, IsRefused, answer_in}
+use Rattle.session_transaction.proofs.Fitting.{after_full, after_named, committable, fits_changes, fits_shapes}
+use Rattle.session_transaction.proofs.Refusing.{refused_by}
+use Rattle.thread_model.proofs.Placing.{within}
+use Rattle.session_player.specs.Changes.{command_of}
 use Rattle.session_player.specs.Progress.{Advances, order_of}
 use Rattle.session_player.proofs.Advancing.{Advances-then, Advances-local, Advances-event}
 use Rattle.session_model.proofs.Walking.{up_to_event-event}
-use Rattle.session_player.specs.Ready.{CommitsWith, IsReady, Performs, answer_in, is_commit, places_with, places_of}
-use Rattle.session_player.proofs.Naming.{NetNamed-changes, NetNamed-naming, StagedNamed-naming, StagedNamed-shapes}
+use Rattle.session_player.specs.Ready.{CommitsWith, IsReady, Performs, TakesHead, is_commit, places_with, places_of}
 
 -- a step is one place more
 pub one_place : (s n : RecordedStore) (e : Event) → TakesStep s n e → order_of n.history ≡ order_of s.history ++ e.session ∷ []
@@ -54,7 +55,7 @@ performs_begin i s n replies more v graph g a eg em =
     record {
       ready = record {
         opened = subst (λ (x : State). IsOpened x i) (sym same) g;
-        current = record { base = subst (λ (x : State). v ≤ version x) (sym same) (omega (arith, count)); net = tt; staged = tt; verdict = refl; head_taken = refl };
+        current = record { fits = record { base = subst (λ (x : State). v ≤ version x) (sym same) (omega (arith, count)); net = tt; staged = tt; verdict = refl }; head_taken = refl };
       };
       order = one_place s n (record { session = i; action = actions.Begin; reply = Version v }) a;
       advances = λ cs.
@@ -62,10 +63,6 @@ performs_begin i s n replies more v graph g a eg em =
           (subst (λ (g : List Triple). Advances i s n (up_to_event None (Begin ∷ cs) replies) (up_to_event (Some (begun v g)) cs (replies ++ Begun v ∷ []))) (sym eg)
           (Advances-event i s n None Begin cs replies actions.Begin (Version v) _ g (record { event = refl; next = refl }) a));
     }
-
-names_named : (s t : State) (p q : Reply) (m : State) (b : Bool) → p ≢ q → MatchBool b ((q ≡ p) × (t ≡ s)) ((q ≡ q) × (t ≡ m)) → t ≡ m
-names_named s t p q m true ne h = absurd (ne (sym h.0))
-names_named s t p q m false ne h = h.1
 
 change_places : (k : ChangeKind) (i : ℕ) (w : OpenTransaction) (ts : List Triple) → places_of i (Some w) (command_of k ts) ≡ i ∷ []
 change_places Addition i w ts = refl
@@ -104,17 +101,11 @@ change_advances i s n k w ts r cs replies q g a after =
 pub performs_change : (i : ℕ) (s n : RecordedStore) (k : ChangeKind) (w : OpenTransaction) (ts : List Triple) (replies more : List SessionReply) → IsReady s i (Some w) → TakesStep s n (record { session = i; action = actions.Name (parts_of ts); reply = Named }) → more ≡ replies ++ reply_of k (length ts) ∷ []
     → Performs i s n (Some w) (Some (with_changes w (changes_of k ts))) (command_of k ts) replies more
 performs_change i s n k w ts replies more r a em =
-    let state : n.state ≡ record s.state { named = named_with s.state.named (parts_of ts) } = names_named s.state n.state (Full _) Named _ _ (λ e. cc) a.step.1 in
+    let state = after_named s.limits s.state n.state i ts a.step in
     record {
       ready = record {
         opened = subst (λ (x : State). IsOpened x i) (sym state) r.opened;
-        current = record {
-          base = subst (λ (x : State). w.transaction.base ≤ version x) (sym state) r.current.base;
-          net = subst (λ (x : State). NetNamed x.named (w.transaction.net ++ changes_of k ts)) (sym state) (NetNamed-changes s.state.named w.transaction.net k ts r.current.net);
-          staged = subst (λ (x : State). StagedNamed x.named w.transaction.staged) (sym state) (StagedNamed-naming s.state.named w.transaction.staged (parts_of ts) r.current.staged);
-          verdict = r.current.verdict;
-          head_taken = r.current.head_taken;
-        };
+        current = record { fits = fits_changes w.transaction s.state n.state k ts state r.current.fits; head_taken = r.current.head_taken };
       };
       order = change_order k i s n w ts Named a;
       advances = λ cs. subst (λ (x : List SessionReply). Advances i s n (up_to_event (Some w) (command_of k ts ∷ cs) replies) (up_to_event (Some (with_changes w (changes_of k ts))) cs x)) (sym em)
@@ -123,39 +114,23 @@ performs_change i s n k w ts replies more r a em =
 
 pub performs_stage : (i : ℕ) (s n : RecordedStore) (w : OpenTransaction) (ts : List Triple) (replies more : List SessionReply) → IsReady s i (Some w) → TakesStep s n (record { session = i; action = actions.Name (parts_of ts); reply = Named }) → more ≡ replies ++ ShapesStaged (length ts) ∷ [] → Performs i s n (Some w) (Some (with_shapes w ts)) (Shapes ts) replies more
 performs_stage i s n w ts replies more r a em =
-    let state : n.state ≡ record s.state { named = named_with s.state.named (parts_of ts) } = names_named s.state n.state (Full _) Named _ _ (λ e. cc) a.step.1 in
+    let state = after_named s.limits s.state n.state i ts a.step in
     record {
       ready = record {
         opened = subst (λ (x : State). IsOpened x i) (sym state) r.opened;
-        current = record {
-          base = subst (λ (x : State). w.transaction.base ≤ version x) (sym state) r.current.base;
-          net = subst (λ (x : State). NetNamed x.named w.transaction.net) (sym state) (NetNamed-naming s.state.named w.transaction.net (parts_of ts) r.current.net);
-          staged = subst (λ (x : State). StagedNamed x.named (Some ts)) (sym state) (StagedNamed-shapes s.state.named ts);
-          verdict = r.current.verdict;
-          head_taken = r.current.head_taken;
-        };
+        current = record { fits = fits_shapes w.transaction s.state n.state ts state r.current.fits; head_taken = r.current.head_taken };
       };
       order = one_place s n (record { session = i; action = actions.Name (parts_of ts); reply = Named }) a;
       advances = λ cs. subst (λ (x : List SessionReply). Advances i s n (up_to_event (Some w) (Shapes ts ∷ cs) replies) (up_to_event (Some (with_shapes w ts)) cs x)) (sym em) (Advances-event i s n (Some w) (Shapes ts) cs replies (actions.Name (parts_of ts)) Named _ r.opened (record { event = refl; next = refl }) a);
     }
 
-names_full : (s t : State) (p q : Reply) (m : State) (b : Bool) → q ≢ Named → MatchBool b ((q ≡ p) × (t ≡ s)) ((q ≡ Named) × (t ≡ m)) → t ≡ s
-names_full s t p q m true ne h = h.1
-names_full s t p q m false ne h = absurd (ne h.0)
-
 -- too many terms change nothing
 still_ready : (i : ℕ) (s n : RecordedStore) (w : OpenTransaction) (ts : List Triple) (k : ℕ) → IsReady s i (Some w) → TakesStep s n (record { session = i; action = actions.Name (parts_of ts); reply = Full k }) → IsReady n i (Some w)
 still_ready i s n w ts k r a =
-    let state : n.state ≡ s.state = names_full s.state n.state _ (Full k) _ _ (λ e. cc) a.step.1 in
+    let state : n.state ≡ s.state = after_full s.limits s.state n.state i k ts a.step in
     record {
       opened = subst (λ (x : State). IsOpened x i) (sym state) r.opened;
-      current = record {
-        base = subst (λ (x : State). w.transaction.base ≤ version x) (sym state) r.current.base;
-        net = subst (λ (x : State). NetNamed x.named w.transaction.net) (sym state) r.current.net;
-        staged = subst (λ (x : State). StagedNamed x.named w.transaction.staged) (sym state) r.current.staged;
-        verdict = r.current.verdict;
-        head_taken = r.current.head_taken;
-      };
+      current = record { fits = subst (FitsState w.transaction) (sym state) r.current.fits; head_taken = r.current.head_taken };
     }
 
 pub performs_full : (i : ℕ) (s n : RecordedStore) (k : ChangeKind) (w : OpenTransaction) (ts : List Triple) (count : ℕ) (replies more : List SessionReply) → IsReady s i (Some w) → TakesStep s n (record { session = i; action = actions.Name (parts_of ts); reply = Full count }) → more ≡ replies ++ FullTerms ∷ []
@@ -174,30 +149,9 @@ performs_full_shapes i s n w ts k replies more r a em = record {
   advances = λ cs. subst (λ (x : List SessionReply). Advances i s n (up_to_event (Some w) (Shapes ts ∷ cs) replies) (up_to_event (Some w) cs x)) (sym em) (Advances-event i s n (Some w) (Shapes ts) cs replies (actions.Name (parts_of ts)) (Full k) _ r.opened (record { event = refl; next = refl }) a);
 }
 
--- a command that changes nothing
-pub performs_answer : (i : ℕ) (s : RecordedStore) (w : Option OpenTransaction) (c : Command) (reply : SessionReply) (replies more : List SessionReply) (r : Result (Option OpenTransaction) AllocError) → ((u : Option OpenTransaction) → local_answer u c ≡ answers (answer_in u reply) u) → IsReady s i w
-    → IfOk r (λ v. (v ≡ w) × (more ≡ replies ++ answer_in w reply ∷ [])) → IfOk r (λ v. Performs i s s w v c replies more)
-performs_answer i s w c reply replies more (Ok v) l ready h =
-    subst (λ (u : Option OpenTransaction). Performs i s s w u c replies more) (sym h.0) (obeys_local i s w w c replies more (answer_in w reply) (l w) h.1 ready)
-performs_answer i s w c reply replies more (Err e) l ready h = tt
-
-pub local-refuse_change : (c : ChangeKind) (n k : ℕ) (u : Option OpenTransaction) → local_answer u (bad_command_of c n k) ≡ answers (answer_in u (refusal_of c n k)) u
-local-refuse_change Addition n k None = refl
-local-refuse_change Addition n k (Some w) = refl
-local-refuse_change Removal n k None = refl
-local-refuse_change Removal n k (Some w) = refl
-
-pub local-refuse_shapes : (n k : ℕ) (u : Option OpenTransaction) → local_answer u (BadShapes n k) ≡ answers (answer_in u (ShapesRefused n k)) u
-local-refuse_shapes n k None = refl
-local-refuse_shapes n k (Some w) = refl
-
-pub local-refuse_broken : (rule : ℕ) (node : Term) (u : Option OpenTransaction) → local_answer u (BrokenShapes rule node) ≡ answers (answer_in u (ShapesBroken rule node)) u
-local-refuse_broken rule node None = refl
-local-refuse_broken rule node (Some w) = refl
-
-pub local-refuse_pattern : (node : Term) (u : Option OpenTransaction) → local_answer u (RefusedPattern node) ≡ answers (answer_in u (PatternRefused node)) u
-local-refuse_pattern node None = refl
-local-refuse_pattern node (Some w) = refl
+-- a command whose block is refused
+pub performs_refused : (i : ℕ) (s : RecordedStore) (w : Option OpenTransaction) (c : Command) (reply : SessionReply) (replies more : List SessionReply) → IsRefused c reply → IsReady s i w → more ≡ replies ++ answer_in w reply ∷ [] → Performs i s s w w c replies more
+performs_refused i s w c reply replies more h ready e = obeys_local i s w w c replies more (answer_in w reply) (refused_by c reply w h) e ready
 
 -- a commit that changes something or stages shapes is an event
 pub local-change : (w : OpenTransaction) (net : List Change) (staged : Option (List Triple)) → HasChange net staged → local_commit w net staged ≡ None
@@ -220,22 +174,10 @@ no_items (x ∷ xs) h = absurd (omega (arith, h))
 pub local-none : (w : OpenTransaction) (net : List Change) (staged : Option (List Triple)) → net ≡ [] → staged ≡ None → local_commit w net staged ≡ answers (ReadOnly w.transaction.base) None
 local-none w net staged en es = ap (λ (cs : List Change). local_commit w cs staged) en ∙ ap (local_commit w []) es
 
-rows_given : (s t : State) (x : Transaction) (r : Reply) (rows : List ResultRow) → CommitsByRows s x rows r t → t.opened ≡ s.opened
-rows_given s t x r [] h = ap (λ (y : State). y.opened) h.1
-rows_given s t x r (row ∷ rows) h = ap (λ (y : State). y.opened) h.1
-
-weighed_given : (s t : State) (x : Transaction) (p r : Reply) (b : Bool) → MatchBool b (Replies p s r t) (CommitsByListing s x r t) → t.opened ≡ s.opened
-weighed_given s t x p r true h = ap (λ (y : State). y.opened) h.1
-weighed_given s t x p r false h = rows_given s t x r h.0 h.2
-
-commit_given : (l : Limits) (s t : State) (x : Transaction) (r : Reply) (o : Option Overtaker) → MatchOption o (CommitsWithinLimit l s x r t) (λ h. Replies (Conflict h.commit h.triple) s r t) → t.opened ≡ s.opened
-commit_given l s t x r None h = weighed_given s t x (FullTriples (length (after s.graph x.net))) r (nat_lt l.triples (length (after s.graph x.net))) h
-commit_given l s t x r (Some y) h = ap (λ (z : State). z.opened) h.1
-
 given_n : (i : ℕ) (s m n : RecordedStore) (w : OpenTransaction) (v : ℕ) (r : Reply) → IsOpened s.state i → TakesStep s m (record { session = i; action = actions.Head; reply = Version v }) → TakesStep m n (record { session = i; action = actions.Commit w.transaction; reply = r }) → IsOpened n.state i
 given_n i s m n w v r g h a =
     let one : m.state.opened ≡ s.state.opened = ap (λ (y : State). y.opened) h.step.1.1 in
-    let two = commit_given m.limits m.state n.state w.transaction r (overtaker m.state.commits w.transaction.base w.transaction.finds) a.step.2 in
+    let two = (within m.limits m.state n.state i (actions.Commit w.transaction) r refl a.step).same in
     (g.0, subst (λ (k : ℕ). i ≤ k) (sym (two ∙ one)) g.1)
 
 commit_order : (i : ℕ) (s m n : RecordedStore) (w : OpenTransaction) (v : ℕ) (r : Reply) → HasChange w.transaction.net w.transaction.staged → TakesStep s m (record { session = i; action = actions.Head; reply = Version v })
@@ -267,16 +209,22 @@ performs_commit i s m n w replies more v r t ready some h a by em = record {
       (subst (λ (p : SessionState). Advances i s n p last) (sym start) both);
 }
 
--- the store refused the commit, and the session tells its report
-pub refused_with : (i : ℕ) (s n : RecordedStore) (x : Transaction) (rows : List ResultRow) (why : Again) (shapes : List Triple) (r : Result SessionReply AllocError)
-    → TakesStep s n (record { session = i; action = actions.Commit x; reply = Refused rows why }) → shapes ≡ shapes_under s.state.shapes x.staged
-    → IfOk r (λ reply. reply ≡ RefusedBy (length rows) (report_text shapes rows)) → IfOk r (CommitsWith i s n x)
-refused_with i s n x rows why shapes (Ok reply) step e h = record {
-  answer = Refused rows why;
-  step = step;
-  told = λ graph cs replies. ap (λ (t : SessionReply). Some (up_to_event None cs (replies ++ t ∷ []))) (sym (h ∙ ap (λ (ts : List Triple). RefusedBy (length rows) (report_text ts rows)) e));
-}
-refused_with i s n x rows why shapes (Err error) step e h = tt
+-- after its head the transaction may be committed
+pub committable_after : (i : ℕ) (s m : RecordedStore) (w : OpenTransaction) → IsReady s i (Some w) → HasChange w.transaction.net w.transaction.staged → TakesHead i s m → IsCommittable m.state w.transaction
+committable_after i s m w ready some h = subst (λ (x : State). IsCommittable x w.transaction) (sym h.step.step.1.1) (committable w.transaction s.state ready.current.fits some)
+
+-- what the session tells of a commit's answer
+told_commit : (s : State) (x : Transaction) (r : Reply) (a : Committed) (reply : SessionReply) (graph : List Triple) (cs : List Command) (replies : List SessionReply) → IsAnswer s x r a → IsCommitReply a reply
+    → after_reply s (Some (record { transaction = x; graph = graph; head_taken = true })) Commit cs replies r ≡ Some (up_to_event None cs (replies ++ reply ∷ []))
+told_commit s x r (committeds.ReadOnly v) reply graph cs replies h k = absurd h
+told_commit s x r (committeds.Done n why) reply graph cs replies h k = rw (h, k) refl
+told_commit s x r (committeds.Conflict n t) reply graph cs replies h k = rw (h, k) refl
+told_commit s x r (committeds.FullTriples n) reply graph cs replies h k = rw (h, k) refl
+told_commit s x r (committeds.Refused rows why shapes) reply graph cs replies h k = rw (h.0, k, h.1) refl
+
+pub commits_with : (i : ℕ) (s n : RecordedStore) (x : Transaction) (a : Committed) (r : Result SessionReply AllocError) → IsCommitted s n i x a → IfOk r (IsCommitReply a) → IfOk r (CommitsWith i s n x)
+commits_with i s n x a (Ok reply) c k = record { answer = c.reply; step = c.step; told = λ graph cs replies. told_commit s.state x c.reply a reply graph cs replies c.told k }
+commits_with i s n x a (Err error) c k = tt
 
 -- below 64 sessions, one more is given out
 opens_one : (s t : State) (b : Bool) → nat_lt s.opened 64 ≡ b → s.opened < 64 → MatchBool b (OpensNext s 0 SessionsFull t) (OpensNothing s 0 SessionsFull t) → ⊥

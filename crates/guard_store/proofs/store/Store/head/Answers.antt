@@ -1,7 +1,7 @@
 use Rattle.std.proofs.Common.{◌≡◌, Bool, Some, None, refl, subst}
 use Rattle.std.specs.Prelude.{MatchBool}
 use Rattle.guard_store.specs.declared.faults.HeadFault.TheVariants as faults
-use Rattle.guard_store.specs.declared.transaction.OpenTransaction.{OpenTransaction}
+use Rattle.session_transaction.specs.declared.transaction.OpenTransaction.{OpenTransaction}
 use Rattle.guard_store.proofs.Cases.{at_ok, at_err}
 use Rattle.guard_store.proofs.Calling.{heads_now}
 use Rattle.guard_store.proofs.Fitting.{heads_session, heads_not_session}

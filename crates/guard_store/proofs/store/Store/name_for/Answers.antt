@@ -1,6 +1,6 @@
 use Rattle.std.proofs.Common.{◌≡◌, Bool, Some, None, inl, refl, subst}
 use Rattle.std.specs.Prelude.{MatchBool}
-use Rattle.guard_store.specs.declared.transaction.OpenTransaction.{OpenTransaction}
+use Rattle.session_transaction.specs.declared.transaction.OpenTransaction.{OpenTransaction}
 use Rattle.guard_store.proofs.Cases.{at_ok, at_err}
 use Rattle.guard_store.proofs.Calling.{names_full, names_failed}
 use Rattle.guard_store.proofs.store.Store.name_for.Goals as goal

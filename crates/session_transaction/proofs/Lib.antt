@@ -1,0 +1,4 @@
+pub mod Growing
+pub mod Fitting
+pub mod Refusing
+pub mod Committing
