@@ -32,21 +32,14 @@ impl Store {
         match answer {
             Ok(snap) => {
                 let version = snap.number();
-                let session = Session {
-                    pass,
-                    number,
-                    current: Some(OpenTransaction::new(self.alloc, snap)),
-                    head: None,
-                };
-                (session, Ok(version))
+                let open = OpenTransaction::new(self.alloc, snap);
+                (
+                    Session::from_parts(pass, number, Some(open), None),
+                    Ok(version),
+                )
             }
             Err(_) => {
-                let session = Session {
-                    pass,
-                    number,
-                    current,
-                    head,
-                };
+                let session = Session::from_parts(pass, number, current, head);
                 (session, Err(BeginFault::Memory))
             }
         }
@@ -69,12 +62,7 @@ impl Store {
         }
         let (pass, number, current, head) = session.into_parts();
         let (pass, answer) = self.name_parts(rt, pass, number, triples);
-        let session = Session {
-            pass,
-            number,
-            current,
-            head,
-        };
+        let session = Session::from_parts(pass, number, current, head);
         match answer {
             Ok(()) => (session, Ok(())),
             Err(NameFault::Full { count }) => (session, Err(StageFault::Full { count })),
@@ -171,23 +159,13 @@ impl Store {
         match answer {
             Ok(snap) => {
                 let newest = snap.number();
-                let session = Session {
-                    pass,
-                    number,
-                    current,
-                    head: Some(snap),
-                };
+                let session = Session::from_parts(pass, number, current, Some(snap));
                 (session, Ok(newest))
             }
-            Err(_) => {
-                let session = Session {
-                    pass,
-                    number,
-                    current,
-                    head,
-                };
-                (session, Err(HeadFault::Memory))
-            }
+            Err(_) => (
+                Session::from_parts(pass, number, current, head),
+                Err(HeadFault::Memory),
+            ),
         }
     }
 
@@ -208,23 +186,10 @@ impl Store {
         let (transaction, snap) = open.into_parts();
         let (pass, answer) = self.take_commit(rt, pass, number, transaction, steps);
         match answer {
-            Ok(committed) => {
-                let session = Session {
-                    pass,
-                    number,
-                    current: None,
-                    head: None,
-                };
-                (session, Ok(committed))
-            }
+            Ok(committed) => (Session::from_parts(pass, number, None, None), Ok(committed)),
             Err(transaction) => {
                 let open = OpenTransaction::from_parts(transaction, snap);
-                let session = Session {
-                    pass,
-                    number,
-                    current: Some(open),
-                    head,
-                };
+                let session = Session::from_parts(pass, number, Some(open), head);
                 (session, Err(CommitFault::Memory))
             }
         }

@@ -13,22 +13,24 @@ use Rattle.store_model.specs.declared.event.Reply.{Reply}
 use Rattle.store_model.specs.declared.event.Reply.TheVariants.{Session, SessionsFull, Version, Named, Full, Conflict, FullTriples, Refused}
 use Rattle.store_model.specs.declared.commit.Transaction.{Transaction}
 use Rattle.session_model.specs.declared.command.Command.{Command}
-use Rattle.session_model.specs.declared.command.Command.TheVariants.{Begin, Shapes, Commit}
+use Rattle.session_model.specs.declared.command.Command.TheVariants.{Begin, Commit}
 use Rattle.session_model.specs.declared.reply.SessionReply.{SessionReply}
-use Rattle.session_model.specs.declared.reply.SessionReply.TheVariants.{Begun, ShapesStaged, FullTerms, ReadOnly}
+use Rattle.session_model.specs.declared.reply.SessionReply.TheVariants.{Begun, FullTerms, ReadOnly}
 use Rattle.store_model.specs.Store.{State, RecordedStore, OpensNext, OpensNothing, TakesStep, IsOpened, HasChange, IsCommittable, version}
-use Rattle.session_model.specs.Sessions.{OpenTransaction, LocalAnswer, answers, local_answer, local_commit, up_to_event, begun, with_changes, with_shapes, parts_of, action_of, commit_action, after_reply, GoesOn, SessionState}
+use Rattle.session_model.specs.Sessions as Sessions
+use Rattle.session_model.specs.Sessions.{LocalAnswer, answers, local_answer, local_commit, up_to_event, begun, parts_of, action_of, commit_action, after_reply, GoesOn, SessionState}
 use Rattle.session_transaction.specs.declared.transaction.ChangeKind.{ChangeKind}
 use Rattle.session_transaction.specs.declared.transaction.ChangeKind.TheVariants.{Addition, Removal}
-use Rattle.session_transaction.specs.Transactions.{FitsState, changes_of, reply_of}
+use Rattle.session_transaction.specs.declared.transaction.OpenTransaction.{OpenTransaction}
+use Rattle.session_transaction.specs.Transactions.{FitsState, command_of, plain}
 use Rattle.session_transaction.specs.declared.committing.Committed.{Committed}
 use Rattle.session_transaction.specs.declared.committing.Committed.TheVariants as committeds
 use Rattle.session_transaction.specs.Commits.{IsAnswer, IsCommitted}
 use Rattle.session_transaction.specs.Replies.{IsCommitReply, IsRefused, answer_in}
-use Rattle.session_transaction.proofs.Fitting.{after_full, after_named, committable, fits_changes, fits_shapes}
+use Rattle.session_transaction.proofs.Fitting.{after_full, after_named, committable}
+use Rattle.session_transaction.proofs.Blocks.{IsBlock}
 use Rattle.session_transaction.proofs.Refusing.{refused_by}
 use Rattle.thread_model.proofs.Placing.{within}
-use Rattle.session_player.specs.Changes.{command_of}
 use Rattle.session_player.specs.Progress.{Advances, order_of}
 use Rattle.session_player.proofs.Advancing.{Advances-then, Advances-local, Advances-event}
 use Rattle.session_model.proofs.Walking.{up_to_event-event}
@@ -38,10 +40,10 @@ use Rattle.session_player.specs.Ready.{CommitsWith, IsReady, Performs, TakesHead
 pub one_place : (s n : RecordedStore) (e : Event) → TakesStep s n e → order_of n.history ≡ order_of s.history ++ e.session ∷ []
 one_place s n e a = ap order_of a.history ∙ map-append (λ (x : Event). x.session) s.history (e ∷ [])
 
-local_places : (i : ℕ) (s : RecordedStore) (w v : Option OpenTransaction) (c : Command) (t : SessionReply) → local_answer w c ≡ answers t v → order_of s.history ≡ order_of s.history ++ places_of i w c
+local_places : (i : ℕ) (s : RecordedStore) (w v : Option Sessions.OpenTransaction) (c : Command) (t : SessionReply) → local_answer w c ≡ answers t v → order_of s.history ≡ order_of s.history ++ places_of i w c
 local_places i s w v c t l = sym (append-nil (order_of s.history)) ∙ sym (ap (λ (a : Option LocalAnswer). order_of s.history ++ places_with i (is_commit c) a) l)
 
-pub obeys_local : (i : ℕ) (s : RecordedStore) (w v : Option OpenTransaction) (c : Command) (replies more : List SessionReply) (t : SessionReply) → local_answer w c ≡ answers t v → more ≡ replies ++ t ∷ [] → IsReady s i v → Performs i s s w v c replies more
+pub obeys_local : (i : ℕ) (s : RecordedStore) (w v : Option Sessions.OpenTransaction) (c : Command) (replies more : List SessionReply) (t : SessionReply) → local_answer w c ≡ answers t v → more ≡ replies ++ t ∷ [] → IsReady s i v → Performs i s s w v c replies more
 obeys_local i s w v c replies more t l e r = record {
   ready = r;
   order = local_places i s w v c t l;
@@ -64,97 +66,59 @@ performs_begin i s n replies more v graph g a eg em =
           (Advances-event i s n None Begin cs replies actions.Begin (Version v) _ g (record { event = refl; next = refl }) a));
     }
 
-change_places : (k : ChangeKind) (i : ℕ) (w : OpenTransaction) (ts : List Triple) → places_of i (Some w) (command_of k ts) ≡ i ∷ []
-change_places Addition i w ts = refl
-change_places Removal i w ts = refl
+block_order : (i : ℕ) (s n : RecordedStore) (c : Command) (ts : List Triple) (staged : OpenTransaction → OpenTransaction) (done : SessionReply) (w : OpenTransaction) (r : Reply) → IsBlock c ts staged done → is_commit c ≡ false
+    → TakesStep s n (record { session = i; action = actions.Name (parts_of ts); reply = r }) → order_of n.history ≡ order_of s.history ++ places_of i (Some (plain w)) c
+block_order i s n c ts staged done w r k other a =
+    let one : places_of i (Some (plain w)) c ≡ i ∷ [] = ap (λ (b : Bool). places_with i b (local_answer (Some (plain w)) c)) other ∙ ap (places_with i false) (k.event (plain w)) in
+    one_place s n (record { session = i; action = actions.Name (parts_of ts); reply = r }) a ∙ sym (ap (λ (is : List ℕ). order_of s.history ++ is) one)
 
-change_order : (k : ChangeKind) (i : ℕ) (s n : RecordedStore) (w : OpenTransaction) (ts : List Triple) (r : Reply) → TakesStep s n (record { session = i; action = actions.Name (parts_of ts); reply = r }) → order_of n.history ≡ order_of s.history ++ places_of i (Some w) (command_of k ts)
-change_order k i s n w ts r a = one_place s n (record { session = i; action = actions.Name (parts_of ts); reply = r }) a ∙ sym (ap (λ (is : List ℕ). order_of s.history ++ is) (change_places k i w ts))
+block_advances : (i : ℕ) (s n : RecordedStore) (c : Command) (ts : List Triple) (staged : OpenTransaction → OpenTransaction) (done : SessionReply) (w : OpenTransaction) (r : Reply) (cs : List Command) (replies : List SessionReply) (q : SessionState) → IsBlock c ts staged done → IsOpened s.state i
+    → TakesStep s n (record { session = i; action = actions.Name (parts_of ts); reply = r }) → after_reply s.state (Some (plain w)) c cs replies r ≡ Some q → Advances i s n (up_to_event (Some (plain w)) (c ∷ cs) replies) q
+block_advances i s n c ts staged done w r cs replies q k g a after =
+    let on : GoesOn s.state (Some (plain w)) c cs replies (actions.Name (parts_of ts)) r q = record { event = k.action (plain w); next = after } in
+    subst (λ (p : SessionState). Advances i s n p q) (sym (up_to_event-event (Some (plain w)) c cs replies (k.event (plain w))))
+    (Advances-event i s n (Some (plain w)) c cs replies (actions.Name (parts_of ts)) r q g on a)
 
--- the event of a block of changes, and the session afterwards
-event_of_change : (k : ChangeKind) (w : OpenTransaction) (ts : List Triple) → action_of (Some w) (command_of k ts) ≡ Some (actions.Name (parts_of ts))
-event_of_change Addition w ts = refl
-event_of_change Removal w ts = refl
-
-local-change_event : (k : ChangeKind) (w : OpenTransaction) (ts : List Triple) → local_answer (Some w) (command_of k ts) ≡ None
-local-change_event Addition w ts = refl
-local-change_event Removal w ts = refl
-
-after_change : (k : ChangeKind) (s : State) (w : OpenTransaction) (ts : List Triple) (cs : List Command) (replies : List SessionReply)
-    → after_reply s (Some w) (command_of k ts) cs replies Named ≡ Some (up_to_event (Some (with_changes w (changes_of k ts))) cs (replies ++ reply_of k (length ts) ∷ []))
-after_change Addition s w ts cs replies = refl
-after_change Removal s w ts cs replies = refl
-
-after_full : (k : ChangeKind) (s : State) (w : OpenTransaction) (ts : List Triple) (n : ℕ) (cs : List Command) (replies : List SessionReply)
-    → after_reply s (Some w) (command_of k ts) cs replies (Full n) ≡ Some (up_to_event (Some w) cs (replies ++ FullTerms ∷ []))
-after_full Addition s w ts n cs replies = refl
-after_full Removal s w ts n cs replies = refl
-
-change_advances : (i : ℕ) (s n : RecordedStore) (k : ChangeKind) (w : OpenTransaction) (ts : List Triple) (r : Reply) (cs : List Command) (replies : List SessionReply) (q : SessionState) → IsOpened s.state i
-    → TakesStep s n (record { session = i; action = actions.Name (parts_of ts); reply = r }) → after_reply s.state (Some w) (command_of k ts) cs replies r ≡ Some q → Advances i s n (up_to_event (Some w) (command_of k ts ∷ cs) replies) q
-change_advances i s n k w ts r cs replies q g a after =
-    let c = command_of k ts in
-    let on : GoesOn s.state (Some w) c cs replies (actions.Name (parts_of ts)) r q = record { event = event_of_change k w ts; next = after } in
-    subst (λ (p : SessionState). Advances i s n p q) (sym (up_to_event-event (Some w) c cs replies (local-change_event k w ts)))
-    (Advances-event i s n (Some w) c cs replies (actions.Name (parts_of ts)) r q g on a)
-
-pub performs_change : (i : ℕ) (s n : RecordedStore) (k : ChangeKind) (w : OpenTransaction) (ts : List Triple) (replies more : List SessionReply) → IsReady s i (Some w) → TakesStep s n (record { session = i; action = actions.Name (parts_of ts); reply = Named }) → more ≡ replies ++ reply_of k (length ts) ∷ []
-    → Performs i s n (Some w) (Some (with_changes w (changes_of k ts))) (command_of k ts) replies more
-performs_change i s n k w ts replies more r a em =
+-- a block whose terms were named
+pub performs_block : (i : ℕ) (s n : RecordedStore) (c : Command) (ts : List Triple) (staged : OpenTransaction → OpenTransaction) (done : SessionReply) (w : OpenTransaction) (replies more : List SessionReply) → IsBlock c ts staged done → is_commit c ≡ false → IsReady s i (Some (plain w))
+    → TakesStep s n (record { session = i; action = actions.Name (parts_of ts); reply = Named }) → more ≡ replies ++ done ∷ [] → Performs i s n (Some (plain w)) (Some (plain (staged w))) c replies more
+performs_block i s n c ts staged done w replies more k other r a em =
     let state = after_named s.limits s.state n.state i ts a.step in
     record {
       ready = record {
         opened = subst (λ (x : State). IsOpened x i) (sym state) r.opened;
-        current = record { fits = fits_changes w.transaction s.state n.state k ts state r.current.fits; head_taken = r.current.head_taken };
+        current = record { fits = k.fits w s.state n.state state r.current.fits; head_taken = refl };
       };
-      order = change_order k i s n w ts Named a;
-      advances = λ cs. subst (λ (x : List SessionReply). Advances i s n (up_to_event (Some w) (command_of k ts ∷ cs) replies) (up_to_event (Some (with_changes w (changes_of k ts))) cs x)) (sym em)
-          (change_advances i s n k w ts Named cs replies _ r.opened a (after_change k s.state w ts cs replies));
+      order = block_order i s n c ts staged done w Named k other a;
+      advances = λ cs. subst (λ (x : List SessionReply). Advances i s n (up_to_event (Some (plain w)) (c ∷ cs) replies) (up_to_event (Some (plain (staged w))) cs x)) (sym em)
+          (block_advances i s n c ts staged done w Named cs replies _ k r.opened a (k.named s.state w cs replies));
     }
 
-pub performs_stage : (i : ℕ) (s n : RecordedStore) (w : OpenTransaction) (ts : List Triple) (replies more : List SessionReply) → IsReady s i (Some w) → TakesStep s n (record { session = i; action = actions.Name (parts_of ts); reply = Named }) → more ≡ replies ++ ShapesStaged (length ts) ∷ [] → Performs i s n (Some w) (Some (with_shapes w ts)) (Shapes ts) replies more
-performs_stage i s n w ts replies more r a em =
-    let state = after_named s.limits s.state n.state i ts a.step in
+-- and one with too many, which changes nothing
+pub performs_full : (i : ℕ) (s n : RecordedStore) (c : Command) (ts : List Triple) (staged : OpenTransaction → OpenTransaction) (done : SessionReply) (w : OpenTransaction) (count : ℕ) (replies more : List SessionReply) → IsBlock c ts staged done → is_commit c ≡ false → IsReady s i (Some (plain w))
+    → TakesStep s n (record { session = i; action = actions.Name (parts_of ts); reply = Full count }) → more ≡ replies ++ FullTerms ∷ [] → Performs i s n (Some (plain w)) (Some (plain w)) c replies more
+performs_full i s n c ts staged done w count replies more k other r a em =
+    let state : n.state ≡ s.state = after_full s.limits s.state n.state i count ts a.step in
     record {
       ready = record {
         opened = subst (λ (x : State). IsOpened x i) (sym state) r.opened;
-        current = record { fits = fits_shapes w.transaction s.state n.state ts state r.current.fits; head_taken = r.current.head_taken };
+        current = record { fits = subst (FitsState w.transaction) (sym state) r.current.fits; head_taken = refl };
       };
-      order = one_place s n (record { session = i; action = actions.Name (parts_of ts); reply = Named }) a;
-      advances = λ cs. subst (λ (x : List SessionReply). Advances i s n (up_to_event (Some w) (Shapes ts ∷ cs) replies) (up_to_event (Some (with_shapes w ts)) cs x)) (sym em) (Advances-event i s n (Some w) (Shapes ts) cs replies (actions.Name (parts_of ts)) Named _ r.opened (record { event = refl; next = refl }) a);
+      order = block_order i s n c ts staged done w (Full count) k other a;
+      advances = λ cs. subst (λ (x : List SessionReply). Advances i s n (up_to_event (Some (plain w)) (c ∷ cs) replies) (up_to_event (Some (plain w)) cs x)) (sym em)
+          (block_advances i s n c ts staged done w (Full count) cs replies _ k r.opened a (k.full s.state w count cs replies));
     }
 
--- too many terms change nothing
-still_ready : (i : ℕ) (s n : RecordedStore) (w : OpenTransaction) (ts : List Triple) (k : ℕ) → IsReady s i (Some w) → TakesStep s n (record { session = i; action = actions.Name (parts_of ts); reply = Full k }) → IsReady n i (Some w)
-still_ready i s n w ts k r a =
-    let state : n.state ≡ s.state = after_full s.limits s.state n.state i k ts a.step in
-    record {
-      opened = subst (λ (x : State). IsOpened x i) (sym state) r.opened;
-      current = record { fits = subst (FitsState w.transaction) (sym state) r.current.fits; head_taken = r.current.head_taken };
-    }
-
-pub performs_full : (i : ℕ) (s n : RecordedStore) (k : ChangeKind) (w : OpenTransaction) (ts : List Triple) (count : ℕ) (replies more : List SessionReply) → IsReady s i (Some w) → TakesStep s n (record { session = i; action = actions.Name (parts_of ts); reply = Full count }) → more ≡ replies ++ FullTerms ∷ []
-    → Performs i s n (Some w) (Some w) (command_of k ts) replies more
-performs_full i s n k w ts count replies more r a em = record {
-  ready = still_ready i s n w ts count r a;
-  order = change_order k i s n w ts (Full count) a;
-  advances = λ cs. subst (λ (x : List SessionReply). Advances i s n (up_to_event (Some w) (command_of k ts ∷ cs) replies) (up_to_event (Some w) cs x)) (sym em)
-      (change_advances i s n k w ts (Full count) cs replies _ r.opened a (after_full k s.state w ts count cs replies));
-}
-
-pub performs_full_shapes : (i : ℕ) (s n : RecordedStore) (w : OpenTransaction) (ts : List Triple) (k : ℕ) (replies more : List SessionReply) → IsReady s i (Some w) → TakesStep s n (record { session = i; action = actions.Name (parts_of ts); reply = Full k }) → more ≡ replies ++ FullTerms ∷ [] → Performs i s n (Some w) (Some w) (Shapes ts) replies more
-performs_full_shapes i s n w ts k replies more r a em = record {
-  ready = still_ready i s n w ts k r a;
-  order = one_place s n (record { session = i; action = actions.Name (parts_of ts); reply = Full k }) a;
-  advances = λ cs. subst (λ (x : List SessionReply). Advances i s n (up_to_event (Some w) (Shapes ts ∷ cs) replies) (up_to_event (Some w) cs x)) (sym em) (Advances-event i s n (Some w) (Shapes ts) cs replies (actions.Name (parts_of ts)) (Full k) _ r.opened (record { event = refl; next = refl }) a);
-}
+pub no_commit : (k : ChangeKind) (ts : List Triple) → is_commit (command_of k ts) ≡ false
+no_commit Addition ts = refl
+no_commit Removal ts = refl
 
 -- a command whose block is refused
-pub performs_refused : (i : ℕ) (s : RecordedStore) (w : Option OpenTransaction) (c : Command) (reply : SessionReply) (replies more : List SessionReply) → IsRefused c reply → IsReady s i w → more ≡ replies ++ answer_in w reply ∷ [] → Performs i s s w w c replies more
+pub performs_refused : (i : ℕ) (s : RecordedStore) (w : Option Sessions.OpenTransaction) (c : Command) (reply : SessionReply) (replies more : List SessionReply) → IsRefused c reply → IsReady s i w → more ≡ replies ++ answer_in w reply ∷ [] → Performs i s s w w c replies more
 performs_refused i s w c reply replies more h ready e = obeys_local i s w w c replies more (answer_in w reply) (refused_by c reply w h) e ready
 
 -- a commit that changes something or stages shapes is an event
-pub local-change : (w : OpenTransaction) (net : List Change) (staged : Option (List Triple)) → HasChange net staged → local_commit w net staged ≡ None
+pub local-change : (w : Sessions.OpenTransaction) (net : List Change) (staged : Option (List Triple)) → HasChange net staged → local_commit w net staged ≡ None
 local-change w [] None h = absurd h
 local-change w [] (Some ts) h = refl
 local-change w (c ∷ cs) staged h = refl
@@ -171,23 +135,23 @@ pub no_items : {X : Type 0} (xs : List X) → length xs ≡ 0 → xs ≡ []
 no_items [] h = refl
 no_items (x ∷ xs) h = absurd (omega (arith, h))
 
-pub local-none : (w : OpenTransaction) (net : List Change) (staged : Option (List Triple)) → net ≡ [] → staged ≡ None → local_commit w net staged ≡ answers (ReadOnly w.transaction.base) None
+pub local-none : (w : Sessions.OpenTransaction) (net : List Change) (staged : Option (List Triple)) → net ≡ [] → staged ≡ None → local_commit w net staged ≡ answers (ReadOnly w.transaction.base) None
 local-none w net staged en es = ap (λ (cs : List Change). local_commit w cs staged) en ∙ ap (local_commit w []) es
 
-given_n : (i : ℕ) (s m n : RecordedStore) (w : OpenTransaction) (v : ℕ) (r : Reply) → IsOpened s.state i → TakesStep s m (record { session = i; action = actions.Head; reply = Version v }) → TakesStep m n (record { session = i; action = actions.Commit w.transaction; reply = r }) → IsOpened n.state i
+given_n : (i : ℕ) (s m n : RecordedStore) (w : Sessions.OpenTransaction) (v : ℕ) (r : Reply) → IsOpened s.state i → TakesStep s m (record { session = i; action = actions.Head; reply = Version v }) → TakesStep m n (record { session = i; action = actions.Commit w.transaction; reply = r }) → IsOpened n.state i
 given_n i s m n w v r g h a =
     let one : m.state.opened ≡ s.state.opened = ap (λ (y : State). y.opened) h.step.1.1 in
     let two = (within m.limits m.state n.state i (actions.Commit w.transaction) r refl a.step).same in
     (g.0, subst (λ (k : ℕ). i ≤ k) (sym (two ∙ one)) g.1)
 
-commit_order : (i : ℕ) (s m n : RecordedStore) (w : OpenTransaction) (v : ℕ) (r : Reply) → HasChange w.transaction.net w.transaction.staged → TakesStep s m (record { session = i; action = actions.Head; reply = Version v })
+commit_order : (i : ℕ) (s m n : RecordedStore) (w : Sessions.OpenTransaction) (v : ℕ) (r : Reply) → HasChange w.transaction.net w.transaction.staged → TakesStep s m (record { session = i; action = actions.Head; reply = Version v })
     → TakesStep m n (record { session = i; action = actions.Commit w.transaction; reply = r }) → order_of n.history ≡ order_of s.history ++ places_of i (Some w) Commit
 commit_order i s m n w v r some h a =
     let both : order_of n.history ≡ (order_of s.history ++ i ∷ []) ++ i ∷ [] = one_place m n _ a ∙ ap (λ (is : List ℕ). is ++ i ∷ []) (one_place s m _ h) in
     both ∙ (append_assoc (order_of s.history) (i ∷ []) (i ∷ []) ∙ sym (ap (λ (x : Option LocalAnswer). order_of s.history ++ places_with i true x) (local-change w w.transaction.net w.transaction.staged some)))
 
 -- the store answered the commit, after its head
-pub performs_commit : (i : ℕ) (s m n : RecordedStore) (w : OpenTransaction) (replies more : List SessionReply) (v : ℕ) (r : Reply) (t : SessionReply) → IsReady s i (Some w) → HasChange w.transaction.net w.transaction.staged
+pub performs_commit : (i : ℕ) (s m n : RecordedStore) (w : Sessions.OpenTransaction) (replies more : List SessionReply) (v : ℕ) (r : Reply) (t : SessionReply) → IsReady s i (Some w) → HasChange w.transaction.net w.transaction.staged
     → TakesStep s m (record { session = i; action = actions.Head; reply = Version v }) → TakesStep m n (record { session = i; action = actions.Commit w.transaction; reply = r })
     → ((cs : List Command) → after_reply m.state (Some (record w { head_taken = true })) Commit cs replies r ≡ Some (up_to_event None cs (replies ++ t ∷ []))) → more ≡ replies ++ t ∷ []
     → Performs i s n (Some w) None Commit replies more
@@ -195,7 +159,7 @@ performs_commit i s m n w replies more v r t ready some h a by em = record {
   ready = record { opened = given_n i s m n w v r ready.opened h a; current = tt };
   order = commit_order i s m n w v r some h a;
   advances = λ cs.
-      let u : OpenTransaction = record w { head_taken = true } in
+      let u : Sessions.OpenTransaction = record w { head_taken = true } in
       let head : action_of (Some w) Commit ≡ Some actions.Head = ap (λ b. Some (commit_action b w.transaction)) ready.current.head_taken in
       let start : up_to_event (Some w) (Commit ∷ cs) replies ≡ record { current = Some w; commands = Commit ∷ cs; replies = replies } = up_to_event-event (Some w) Commit cs replies (local-change w w.transaction.net w.transaction.staged some) in
       let mid : SessionState = record { current = Some u; commands = Commit ∷ cs; replies = replies } in
@@ -210,7 +174,7 @@ performs_commit i s m n w replies more v r t ready some h a by em = record {
 }
 
 -- after its head the transaction may be committed
-pub committable_after : (i : ℕ) (s m : RecordedStore) (w : OpenTransaction) → IsReady s i (Some w) → HasChange w.transaction.net w.transaction.staged → TakesHead i s m → IsCommittable m.state w.transaction
+pub committable_after : (i : ℕ) (s m : RecordedStore) (w : Sessions.OpenTransaction) → IsReady s i (Some w) → HasChange w.transaction.net w.transaction.staged → TakesHead i s m → IsCommittable m.state w.transaction
 committable_after i s m w ready some h = subst (λ (x : State). IsCommittable x w.transaction) (sym h.step.step.1.1) (committable w.transaction s.state ready.current.fits some)
 
 -- what the session tells of a commit's answer
@@ -235,10 +199,10 @@ pub never_full : (s n : RecordedStore) → s.state.opened < 64 → TakesStep s n
 never_full s n lt a = opens_one s.state n.state (nat_lt s.state.opened 64) refl lt a.step
 
 -- so far, and the next command
-pub performs_then : (i : ℕ) (s m n : RecordedStore) (p : SessionState) (w v : Option OpenTransaction) (c : Command) (cs : List Command) (replies more : List SessionReply) → Advances i s m p (up_to_event w (c ∷ cs) replies) → Performs i m n w v c replies more → Advances i s n p (up_to_event v cs more)
+pub performs_then : (i : ℕ) (s m n : RecordedStore) (p : SessionState) (w v : Option Sessions.OpenTransaction) (c : Command) (cs : List Command) (replies more : List SessionReply) → Advances i s m p (up_to_event w (c ∷ cs) replies) → Performs i m n w v c replies more → Advances i s n p (up_to_event v cs more)
 performs_then i s m n p w v c cs replies more g o = Advances-then i s m n p (up_to_event w (c ∷ cs) replies) (up_to_event v cs more) g (o.advances cs)
 
-pub perform_step : (i : ℕ) (s m n : RecordedStore) (p : SessionState) (w v : Option OpenTransaction) (c : Command) (cs : List Command) (k : ℕ) (replies more : List SessionReply) → k < length cs → c ≡ get_or cs k c → Advances i s m p (up_to_event w (drop k cs) replies) → Performs i m n w v c replies more → Advances i s n p (up_to_event v (drop (k + 1) cs) more)
+pub perform_step : (i : ℕ) (s m n : RecordedStore) (p : SessionState) (w v : Option Sessions.OpenTransaction) (c : Command) (cs : List Command) (k : ℕ) (replies more : List SessionReply) → k < length cs → c ≡ get_or cs k c → Advances i s m p (up_to_event w (drop k cs) replies) → Performs i m n w v c replies more → Advances i s n p (up_to_event v (drop (k + 1) cs) more)
 perform_step i s m n p w v c cs k replies more lt is g o =
     let e : drop k cs ≡ c ∷ drop (k + 1) cs = rw add-one (drop-cons cs k c lt ∙ ap (λ z. z ∷ drop (suc k) cs) (sym is)) in
     performs_then i s m n p w v c (drop (k + 1) cs) replies more (subst (λ (ds : List Command). Advances i s m p (up_to_event w ds replies)) e g) o

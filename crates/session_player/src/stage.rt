@@ -2,8 +2,7 @@
 ghost use Rattle.std.specs.Prelude.{◌≡◌, [], ◌∷◌, ◌++◌, IfOk, OnOk};
 ghost use Rattle.store_model.specs.Store.{IsOpened};
 ghost use Rattle.session_transaction.specs.Replies.{IsRefusedBlock, answer_in};
-ghost use Rattle.session_transaction.specs.Transactions.{plain_in};
-ghost use Rattle.session_player.specs.Changes.{command_of};
+ghost use Rattle.session_transaction.specs.Transactions.{command_of, plain_in};
 ghost use Rattle.session_player.specs.Ready.{IsReady, NamesAll, Performs};
 
 use collections::Sequence;
@@ -81,7 +80,8 @@ pub fn stage(
         replies.push(SessionReply::FullTerms)?;
         return Ok(Some(open));
     }
-    let open = open.with_shapes(shapes.share()?);
+    let copy = shapes.share()?;
+    let open = open.with_shapes(copy);
     replies.push(SessionReply::ShapesStaged(shapes.triples().len()))?;
     Ok(Some(open))
 }

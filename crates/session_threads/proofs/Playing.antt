@@ -14,11 +14,11 @@ use Rattle.store_model.specs.declared.event.Reply.TheVariants as replies
 use Rattle.store_model.specs.Snapshots.{snapshot_of}
 use Rattle.store_model.specs.Store.{version, HasChange}
 use Rattle.session_model.specs.declared.command.Command.{Command}
-use Rattle.session_model.specs.declared.command.Command.TheVariants.{Begin, Add, Remove, Shapes, Commit, Find, Abort}
+use Rattle.session_model.specs.declared.command.Command.TheVariants.{Begin, Commit, Find, Abort}
 use Rattle.session_model.specs.declared.reply.SessionReply.{SessionReply}
 use Rattle.session_model.specs.declared.reply.SessionReply.TheVariants as said
 use Rattle.session_model.specs.Sessions as Sessions
-use Rattle.session_model.specs.Sessions.{SessionState, local_answer, answers, action_of, after_reply, GoesOn, up_to_event, begun, additions, removals, parts_of, found_by}
+use Rattle.session_model.specs.Sessions.{SessionState, local_answer, answers, action_of, after_reply, GoesOn, up_to_event, begun, parts_of, found_by}
 use Rattle.session_model.proofs.Walking.{up_to_event-local, up_to_event-event}
 use Rattle.report_writer.specs.Report.{report_text}
 use Rattle.session_player.proofs.Playing.{local-none, local-change}
@@ -38,11 +38,12 @@ use Rattle.session_transaction.specs.declared.transaction.OpenTransaction.{OpenT
 use Rattle.guard_store.specs.declared.session.Session.{Session}
 use Rattle.guard_store.specs.Fronts.{SharedStore, Turn}
 use Rattle.guard_store.specs.Callers.{IsCaller, IsSession, FitsIn, HasWork, OnlyReads}
-use Rattle.session_transaction.specs.Transactions.{plain, plain_in, begun_at, with_changes, with_shapes, with_find}
+use Rattle.session_transaction.specs.Transactions.{plain, plain_in, begun_at, with_find}
 use Rattle.guard_store.specs.Answers.{Begins, BeginsNot, Stages, StagesNot, Heads, HeadsNot, Commits, CommitsNot, AnswersCommit, FindsNot, IsOpen, event_of}
 use Rattle.guard_store.proofs.Turning.{front_is}
 use Rattle.guard_store.proofs.Fitting.{session_ended}
 use Rattle.session_transaction.specs.Replies.{IsCommitReply, IsListed, IsRefused, answer_in}
+use Rattle.session_transaction.proofs.Blocks.{IsBlock}
 use Rattle.session_transaction.proofs.Refusing.{refused_by}
 use Rattle.session_threads.specs.Replies.{IsBeginReply, IsStageReply, IsFindRefusal, IsAbortReply}
 use Rattle.session_threads.specs.Playing.{HasPlayed, Plays, PlaysAll}
@@ -110,23 +111,6 @@ plays_begin store old new (Err begins.AlreadyOpen) r rs more was is b told em =
     plays_local store old new (Some (plain b.0.0)) (Some (plain b.0.0)) Begin rs more said.AlreadyOpen is (ap (λ s. s.number) b.1) (ap (λ s. s.pass) b.1) (plain_open old b.0.0 b.0.1) (plain_open new b.0.0 (ap (λ s. s.current) b.1 ∙ b.0.1)) refl
     (em ∙ ap (λ x. rs ++ x ∷ []) told)
 plays_begin store old new (Err begins.Memory) r rs more was is b told em = absurd told
-
--- what a block of the file is to the store: its action, its reply, and what it makes of the transaction
-pub record IsBlock (c : Command) (ts : List Triple) (staged : OpenTransaction → OpenTransaction) (done : SessionReply) : Type 0 where
-  pub free : local_answer None c ≡ answers said.NoTransaction None
-  pub event : (w : Sessions.OpenTransaction) → local_answer (Some w) c ≡ None
-  pub action : (w : Sessions.OpenTransaction) → action_of (Some w) c ≡ Some (actions.Name (parts_of ts))
-  pub named : (s : _) (w : OpenTransaction) (cs : List Command) (rs : List SessionReply) → after_reply s (Some (plain w)) c cs rs replies.Named ≡ Some (up_to_event (Some (plain (staged w))) cs (rs ++ done ∷ []))
-  pub full : (s : _) (w : OpenTransaction) (n : ℕ) (cs : List Command) (rs : List SessionReply) → after_reply s (Some (plain w)) c cs rs (replies.Full n) ≡ Some (up_to_event (Some (plain w)) cs (rs ++ said.FullTerms ∷ []))
-
-pub block_add : (ts : List Triple) → IsBlock (Add ts) ts (λ w. with_changes w (additions ts)) (said.Added (length ts))
-block_add ts = record { free = refl; event = λ w. refl; action = λ w. refl; named = λ s w cs rs. refl; full = λ s w n cs rs. refl }
-
-pub block_remove : (ts : List Triple) → IsBlock (Remove ts) ts (λ w. with_changes w (removals ts)) (said.Removed (length ts))
-block_remove ts = record { free = refl; event = λ w. refl; action = λ w. refl; named = λ s w cs rs. refl; full = λ s w n cs rs. refl }
-
-pub block_shapes : (ts : List Triple) → IsBlock (Shapes ts) ts (λ w. with_shapes w ts) (said.ShapesStaged (length ts))
-block_shapes ts = record { free = refl; event = λ w. refl; action = λ w. refl; named = λ s w cs rs. refl; full = λ s w n cs rs. refl }
 
 pub plays_stage : {U : Type 0} (store : SharedStore) (old new : Session) (c : Command) (ts : List Triple) (staged : OpenTransaction → OpenTransaction) (done : SessionReply) → IsBlock c ts staged done
     → (a : Result U StageFault) (r : SessionReply) (rs more : List SessionReply) → IsSession store old → IsSession store new

@@ -7,6 +7,8 @@ use Rattle.rdf_model.specs.declared.change.Change.TheVariants as changes
 use Rattle.store_model.specs.declared.commit.Transaction.{Transaction}
 use Rattle.store_model.specs.Snapshots.{Snapshot}
 use Rattle.store_model.specs.Store.{State, NetNamed, StagedNamed, version}
+use Rattle.session_model.specs.declared.command.Command.{Command}
+use Rattle.session_model.specs.declared.command.Command.TheVariants.{Add, Remove}
 use Rattle.session_model.specs.declared.reply.SessionReply.{SessionReply}
 use Rattle.session_model.specs.declared.reply.SessionReply.TheVariants.{Added, Removed}
 use Rattle.session_model.specs.Sessions as Sessions
@@ -23,7 +25,11 @@ abbrev pub changes_of : ChangeKind → List Triple → List Change
 changes_of Addition ts = additions ts
 changes_of Removal ts = removals ts
 
--- the reply to a block of so many triples
+-- the command of a block of triples, and the reply to one of so many
+abbrev pub command_of : ChangeKind → List Triple → Command
+command_of Addition ts = Add ts
+command_of Removal ts = Remove ts
+
 abbrev pub reply_of : ChangeKind → ℕ → SessionReply
 reply_of Addition count = Added count
 reply_of Removal count = Removed count
