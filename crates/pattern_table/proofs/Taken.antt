@@ -10,7 +10,7 @@ use Rattle.rdf_model.specs.declared.term.Term.{Term}
 use Rattle.rdf_model.specs.declared.triple.Triple.{Triple}
 use Rattle.regex.specs.declared.string.regex.Regex.{Regex}
 use Rattle.shape_model.specs.Patterns.{IsPatternOf}
-use Rattle.shape_model.specs.Readings.{HasFlags, SameReading, reading}
+use Rattle.shape_model.specs.Readings.{HasFlags, reading}
 use Rattle.shape_model.specs.ShapeSyntax.{HasProperty, IsShape}
 use Rattle.shape_model.specs.Vocabulary.{ShFlags, ShPattern}
 use Rattle.shape_ast.specs.Readings.{ReadShape, read_optional, read_pattern, read_shape, read_shapes}
@@ -104,8 +104,8 @@ module _ (s : List Triple) (shapes : List (Shape Term)) (patterns : List BuiltPa
     compiled : (c : ReadShape) × Contains (read_shapes shapes) c × (c.node ≡ shape)
     compiled = are.stand.all shape is_shape
 
-    same : SameReading (reading s shape) (shape_reading (read_shapes shapes) compiled.0)
-    same = subst (λ (n : Term). SameReading (reading s n) (shape_reading (read_shapes shapes) compiled.0)) compiled.2 (are.stand.each compiled.0 compiled.1)
+    same : SameShape (reading s shape) (shape_reading (read_shapes shapes) compiled.0)
+    same = subst (λ (n : Term). SameShape (reading s n) (shape_reading (read_shapes shapes) compiled.0)) compiled.2 (are.stand.each compiled.0 compiled.1)
 
     read : (d : Shape Term) × Contains shapes d × (read_shape (λ (t : Term). t) d ≡ compiled.0)
     read = was_read shapes compiled.0 compiled.1

@@ -16,7 +16,7 @@ use Rattle.rdf_model.specs.Terms.{term_cmp}
 use Rattle.shape_model.specs.Declarations.{values_of}
 use Rattle.shape_model.specs.Instances.{Instance}
 use Rattle.shape_model.specs.Paths.{Path}
-use Rattle.shape_model.specs.Readings.{Refers, SameReading, Sibling, reading}
+use Rattle.shape_model.specs.Readings.{Reading, Refers, SameReading, Sibling, reading}
 use Rattle.shape_model.specs.ShapeSyntax.{HasProperty, ListOf, TakesMembers}
 use Rattle.shape_model.specs.Vocabulary.{ShAnd, ShClass, ShClosed, ShDeactivated, ShDisjoint, ShEquals, ShLessThan, ShLessThanOrEquals, ShNode, ShNot, ShOr, ShProperty, ShQualifiedMaxCount, ShQualifiedMinCount, ShQualifiedValueShape, ShTargetClass, ShTargetObjectsOf, ShTargetSubjectsOf, ShXone, ShapeProperty, property_iri, rdfs_class, true_literal}
 use Rattle.shape_model.proofs.Declarations.{values_law}
@@ -29,6 +29,7 @@ use Rattle.shape_ast.specs.declared.constraint.Constraint.{Constraint}
 use Rattle.shape_ast.specs.declared.constraint.Constraint.TheVariants.{ByList, ByShape, ByShapes, ByTerm}
 use Rattle.shape_ast.specs.declared.target.Target.TheVariants.{Class, ImplicitClass, ObjectsOf, SubjectsOf}
 use Rattle.shape_ast.specs.Readings.{ReadShape, parameter}
+use Rattle.shape_ast.proofs.Agreeing.{same_active, same_but_path, with_path}
 use Rattle.shape_ast.specs.Standing.{AreAt, HasMembers, IsAt, IsFor, IsLinked, StandFor, shape_reading}
 use Rattle.shape_ast.specs.Once.{IsOnce}
 use Rattle.shape_properties.proofs.Defined.{shape_same}
@@ -62,8 +63,11 @@ module _ (s : List Triple) (well : IsWellFormed s) (shapes : List ReadShape) (st
   abbrev ks : List (Constraint Term)
   ks = c.constraints
 
-  same : SameReading (reading s c.node) (shape_reading shapes c)
-  same = stand.each c i
+  abbrev own : Reading
+  own = with_path (reading s c.node) (shape_reading shapes c)
+
+  same : SameReading own (shape_reading shapes c)
+  same = same_but_path (reading s c.node) (shape_reading shapes c) (stand.each c i)
 
   linked : (k : Constraint Term) → Contains ks k → IsLinked shapes k
   linked k d = All-contains (IsLinked shapes) ks k (stand.linked c i) d
@@ -106,8 +110,9 @@ module _ (s : List Triple) (well : IsWellFormed s) (shapes : List ReadShape) (st
   of_xone = told ShXone (omega arith) (λ v. same.has ShXone v tt)
 
   -- the looks of its own
-  pub own_looks : (q : List Path) → HasOwnLooks s c.node (length (own_rows c q))
-  own_looks q =
+  pub own_looks : (IsDeactivated s c.node → ⊥) → (q : List Path) → HasOwnLooks s c.node (length (own_rows c q))
+  own_looks on q =
+      let active = same_active (reading s c.node) (shape_reading shapes c) (stand.each c i) on in
       let split = length-append (optional_rows c.path q) (flat_map (constraint_rows q (value_way c.path q)) ks) in
       let all = constraint_numbers q (value_way c.path q) ks in
       let d : length (params ShClass ks) ≡ length (values s c.node properties.Class) = ap length of_class in
@@ -120,8 +125,8 @@ module _ (s : List Triple) (well : IsWellFormed s) (shapes : List ReadShape) (st
         length (optional_rows c.path q),
         count true_literal (values s c.node properties.Closed),
         path_looks s c.node c.path q (one_value s well c.node ((shape_same s c.node).1 (stand.are_shapes c i)) properties.Path refl)
-            (λ none. same.is_node_shape.1 none)
-            (λ p some. (same.path p).1 some),
+            (λ none. active.is_node_shape.1 none)
+            (λ p some. (active.path p).1 some),
         counts_as (Contains (values s c.node properties.Closed) true_literal) (HasProperty s c.node ShClosed true_literal) 1 (count true_literal (values s c.node properties.Closed)) (closed.members true_literal)
             (count_if true_literal (values s c.node properties.Closed) closed.ascending),
         omega (arith, split, all, d, e, f, g, h, n),
@@ -274,4 +279,4 @@ module _ (s : List Triple) (well : IsWellFormed s) (shapes : List ReadShape) (st
 
   -- a chain from a shape that it refers to is one from it
   pub refers_to : (n : ℕ) (t : Term) → Contains (referred_places c) n → IsAt shapes n t → Refers (reading s c.node) t
-  refers_to n t d at = refers_same (shape_reading shapes c) (reading s c.node) (reading_back (reading s c.node) (shape_reading shapes c) same) t (named_refers shapes c linked inside.constraints n t d at)
+  refers_to n t d at = refers_same (shape_reading shapes c) own (reading_back own (shape_reading shapes c) same) t (named_refers shapes c linked inside.constraints n t d at)

@@ -10,7 +10,6 @@ use Rattle.shape_model.specs.Limits.{levels_limit, looks_limit}
 use Rattle.shape_model.specs.Paths.{Path}
 use Rattle.shape_model.specs.Readings.{IsShallow, References, reading}
 use Rattle.shape_rules.specs.Broken.{IsWellFormed}
-use Rattle.shape_sizes.specs.References.{chain_limit}
 use Rattle.shape_rules.specs.Rows.{row}
 use Rattle.shape_sizes.specs.Sizes.{AreReferred, IsLookWeight, WeighsBy}
 use Rattle.shape_sizes.specs.Sizes as rules
@@ -55,7 +54,7 @@ module _ (s : List Triple) (well : IsWellFormed s) (shapes : List ReadShape) (st
           length (own_rows c q),
           all.0,
           total below (referred_places c),
-          inr (on, own_looks s well shapes stand c i (once c i) (inside c i) q),
+          inr (on, own_looks s well shapes stand c i (once c i) (inside c i) on q),
           inr (on, all.1),
           all.2,
           omega (arith, split, sum),
@@ -82,10 +81,6 @@ module _ (s : List Triple) (well : IsWellFormed s) (shapes : List ReadShape) (st
         omega (arith, aims, split),
       )
 
-levels_are : levels_limit ≡ chain_limit
-unfolding levels_limit chain_limit
-levels_are = refl
-
 -- the places that compiled shapes name are there
 inside_read : (shapes : List (Shape Term)) (s : List Triple) → AreCompiled shapes s → (c : ReadShape) → Contains (read_shapes shapes) c → IsInside (length (read_shapes shapes)) c
 inside_read shapes s compiled c i =
@@ -102,7 +97,7 @@ inside_read shapes s compiled c i =
 pub plan_numbers : PlanNumber
 plan_numbers s shapes read place c at =
     looks s read.well_formed (read_shapes shapes) read.compiled.stand read.once (inside_read shapes s read.compiled) levels_limit place c
-    (subst (λ (n : ℕ). IsShallow n s) (sym levels_are) (shallow s read.well_formed)) at
+    (shallow s read.well_formed) at
 
 no_place : (shapes : List ReadShape) (depth place : ℕ) → slice_get shapes place ≡ None → length (shape_rows shapes depth place [] ++ all_target_rows (slice_get shapes place)) ≡ 0
 no_place shapes zero place e = ap (λ (o : Option ReadShape). length (all_target_rows o)) e

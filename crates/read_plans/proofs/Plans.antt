@@ -20,7 +20,8 @@ use Rattle.shape_ast.specs.declared.shape.Shape.{Shape}
 use Rattle.shape_ast.specs.declared.target.Target.{Target}
 use Rattle.shape_ast.specs.declared.target.Target.TheVariants as targets
 use Rattle.shape_ast.specs.Readings.{HoldsOfConstraint, HoldsOfShape, ReadShape, read_constraint, read_shape, read_shapes}
-use Rattle.shape_ast.specs.Standing.{AreCompiled, IsAt, IsLinked, StandFor, StandsIn, shape_reading}
+use Rattle.shape_ast.proofs.Agreeing.{same_active, same_but_path, with_path}
+use Rattle.shape_ast.specs.Standing.{AreCompiled, IsAt, IsLinked, SameShape, StandFor, StandsIn, shape_reading}
 use Rattle.read_plans.specs.Laws.{ListLooks}
 use Rattle.shape_model.specs.Limits.{levels_limit}
 use Rattle.read_plans.specs.ShapeRows.{all_target_rows, constraint_rows, optional_rows, own_rows, plan_rows, referred_places, rows_with, shape_rows, target_rows, value_way}
@@ -54,6 +55,14 @@ module _ (y z : Reading) (e : SameReading y z) where
     | inr (inr (inl i)) ↦ inr (inr (inl (i.0, (e.has ShTargetSubjectsOf i.0 tt).0 i.1, i.2)))
     | inr (inr (inr i)) ↦ inr (inr (inr (i.0, (e.has ShTargetObjectsOf i.0 tt).0 i.1, i.2)))
   ]
+
+-- so have two readings of a shape that agree as a validation asks, since a deactivated shape has none of its results
+module _ (y z : Reading) (e : SameShape y z) (look : Term → List Path → LookRow → Type 0) (q : List Path) (row : LookRow) where
+  with_to : ShapeLookWith look y q row → ShapeLookWith look z q row
+  with_to h = with_same y z (same_active y z e h.0) look q row h
+
+  with_from : ShapeLookWith look z q row → ShapeLookWith look y q row
+  with_from h = with_same z y (reading_back y z (same_active y z e (λ d. h.0 ((e.has ShDeactivated true_literal refl).0 d)))) look q row h
 
 pub of_place : {X : Type 0} → (xs : List X) (n : ℕ) (x : X) → slice_get xs n ≡ Some x → Contains xs x
 of_place [] n x e = cc
@@ -155,23 +164,23 @@ module _ (shapes : List ReadShape) where
         let each : (k : Constraint Term) → Contains c.constraints k → IsLinked shapes k = (λ k d. All-contains (IsLinked shapes) c.constraints k (stand.linked c i) d) in
         let here = with_listed c each (within c i) (shape_rows shapes n) look (there n)
         (λ k m at_m w r. subst (λ (t : Term). Contains (shape_rows shapes n k w) r ↔ look t w r) at_m.2 (rows_listed n k at_m.0 at_m.1 w r)) q row in
-        let e = stand.each c i in
-        let back = reading_back (reading s c.node) (shape_reading shapes c) e in (
-          λ k. with_same (shape_reading shapes c) (reading s c.node) back look q row (here.0 (subst (λ (o : Option ReadShape). Contains (rows_with (shape_rows shapes n) o q) row) at k)),
-          λ k. subst (λ (o : Option ReadShape). Contains (rows_with (shape_rows shapes n) o q) row) (sym at) (here.1 (with_same (reading s c.node) (shape_reading shapes c) e look q row k)),
+        let e = stand.each c i in (
+          λ k. with_from (reading s c.node) (shape_reading shapes c) e look q row (here.0 (subst (λ (o : Option ReadShape). Contains (rows_with (shape_rows shapes n) o q) row) at k)),
+          λ k. subst (λ (o : Option ReadShape). Contains (rows_with (shape_rows shapes n) o q) row) (sym at) (here.1 (with_to (reading s c.node) (shape_reading shapes c) e look q row k)),
         )
 
     pub plan_listed : IsAcyclic s → IsShallow levels_limit s → (place : ℕ) (c : ReadShape) → slice_get shapes place ≡ Some c → (row : LookRow) → Contains (plan_rows shapes place) row ↔ Looks s c.node row
     plan_listed acyclic shallow place c at row =
         let i = of_place shapes place c at in
-        let e = stand.each c i in
+        let y = with_path (reading s c.node) (shape_reading shapes c) in
+        let e = same_but_path (reading s c.node) (shape_reading shapes c) (stand.each c i) in
         let results = rows_listed levels_limit place c at [] row in
         let deep = look_depth s acyclic levels_limit shallow c.node [] row in
         let aims = targets_listed c row in
         listed_both (shape_rows shapes levels_limit place []) (all_target_rows (slice_get shapes place)) row
         (λ k. deep.0 (results.0 k), λ k. results.1 (deep.1 k)) (
-          λ k. target_same (shape_reading shapes c) (reading s c.node) (reading_back (reading s c.node) (shape_reading shapes c) e) row (aims.0 (subst (λ (o : Option ReadShape). Contains (all_target_rows o) row) at k)),
-          λ k. subst (λ (o : Option ReadShape). Contains (all_target_rows o) row) (sym at) (aims.1 (target_same (reading s c.node) (shape_reading shapes c) e row k)),
+          λ k. target_same (shape_reading shapes c) y (reading_back y (shape_reading shapes c) e) row (aims.0 (subst (λ (o : Option ReadShape). Contains (all_target_rows o) row) at k)),
+          λ k. subst (λ (o : Option ReadShape). Contains (all_target_rows o) row) (sym at) (aims.1 (target_same y (shape_reading shapes c) e row k)),
         )
 
 -- the places that a constraint of a compiled shape names are there

@@ -1,17 +1,14 @@
 -- The shape of a node is found among the shapes, where it is one of them.
-use Rattle.std.proofs.Common.{◌||◌, Bor, ◌≡◌, ◌∙◌, Bool, true, false, List, [], ◌∷◌, cond, refl, sym, ap, subst, arith, inl, inr}
-use Rattle.std.specs.Prelude.{Option, Some, None, slice_index_or}
-use Rattle.std.specs.List.{Contains, find, list_all, list_any}
+use Rattle.std.proofs.Common.{Bor, ◌≡◌, ◌∙◌, Bool, true, false, List, [], ◌∷◌, cond, refl, sym, ap, subst, arith, inl, inr}
+use Rattle.std.specs.Prelude.{Option, Some, None}
+use Rattle.std.specs.List.{Contains, find}
 use Rattle.std.specs.Option.{IsSome, option_copied}
-use Rattle.std.proofs.lemmas.List.Sums.{AllPass-from_list_all}
 use Rattle.collections.proofs.Members.{has_cases, has_equal, has_head, has_tail}
 use Rattle.rdf_model.specs.declared.term.Term.{Term}
 use Rattle.rdf_model.specs.Matching.{same_term}
 use Rattle.rdf_model.proofs.SameTerms.{equal_same, same_equal}
 use Rattle.shape_ast.specs.declared.shape.Shape.{Shape}
 use Rattle.shape_ast.specs.Readings.{ReadShape, read_shape, read_shapes}
-use Rattle.shape_model.specs.declared.result_row.ResultRow.{ResultRow}
-use Rattle.report_writer.specs.Sources.{HaveSources}
 
 abbrev pub as_read : Shape Term → ReadShape
 as_read c = read_shape (λ t. t) c
@@ -73,15 +70,3 @@ is_there shapes n c i e =
 pub is_found : (o : Option (Bor (Shape Term))) → IsSome (option_copied o) → IsSome o
 is_found None h = cc
 is_found (Some c) h = refl
-
-with_node : (shapes : List (Shape Term)) (n : Term) → list_any (has_node n) shapes ≡ true → (c : ReadShape) × Contains (read_shapes shapes) c × (c.node ≡ n)
-with_node [] n e = cc
-with_node (c ∷ shapes) n e =
-    elim (has_node n c) as (λ b. has_node n c ≡ b → (b || list_any (has_node n) shapes) ≡ true → (d : ReadShape) × Contains (read_shapes (c ∷ shapes)) d × (d.node ≡ n)) [
-      | true ↦ λ k m. (as_read c, has_head (as_read c) (read_shapes shapes), same_equal c.node n k)
-      | false ↦ λ k m. let rest = with_node shapes n m in (rest.0, has_tail (as_read c) (read_shapes shapes) rest.0 rest.1, rest.2)
-    ] refl e
-
--- the test of a list of results
-pub have_sources : (shapes : List (Shape Term)) (rows : List ResultRow) → list_all (λ r. list_any (has_node r.source_shape) shapes) rows ≡ true → HaveSources (read_shapes shapes) rows
-have_sources shapes rows e k d less = with_node shapes (slice_index_or rows k d).source_shape (AllPass-from_list_all (λ (r : ResultRow). list_any (has_node r.source_shape) shapes) rows e k d less)

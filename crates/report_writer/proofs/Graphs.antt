@@ -1,6 +1,6 @@
 -- The report by compiled shapes is that by the triples of a well-formed shapes graph that they stand for.
-use Rattle.std.proofs.Common.{◌≡◌, ◌∙◌, ℕ, List, map, [], ◌∷◌, refl, sym, ap}
-use Rattle.std.specs.Prelude.{◌↔◌, Option, Some, None, codes}
+use Rattle.std.proofs.Common.{◌≡◌, ◌∙◌, ℕ, List, map, [], ◌∷◌, refl, sym, ap, subst}
+use Rattle.std.specs.Prelude.{◌↔◌, IsTrue, Option, Some, None, codes}
 use Rattle.std.specs.List.{Contains}
 use Rattle.std.specs.Option.{unwrap_or}
 use Rattle.std.proofs.lemmas.List.Elements.{All-contains}
@@ -8,13 +8,14 @@ use Rattle.rdf_model.specs.declared.term.Term.{Term}
 use Rattle.rdf_model.specs.declared.triple.Triple.{Triple}
 use Rattle.rdf_model.specs.NTriples.{term_text}
 use Rattle.shape_ast.specs.Readings.{ReadShape}
-use Rattle.shape_ast.specs.Standing.{StandFor}
+use Rattle.shape_ast.proofs.Agreeing.{same_active}
+use Rattle.shape_ast.specs.Standing.{StandFor, shape_reading}
 use Rattle.shape_model.specs.Limits.{levels_limit}
 use Rattle.shape_model.specs.declared.result_row.ResultRow.{ResultRow}
 use Rattle.shape_model.specs.Paths.{Path}
 use Rattle.shape_model.specs.ShapeSyntax.{IsShape}
-use Rattle.shape_model.specs.Readings.{IsNodeShape, ShapePath}
-use Rattle.shape_model.specs.Vocabulary.{ShPath, property_iri, sh}
+use Rattle.shape_model.specs.Readings.{IsDeactivated, IsNodeShape, ShapePath, reading}
+use Rattle.shape_model.specs.Vocabulary.{ShDeactivated, ShPath, property_iri, sh, true_literal}
 use Rattle.shape_model.specs.Declarations.{messages_of, severity_of, values_of}
 use Rattle.shape_rules.specs.Broken.{IsWellFormed}
 use Rattle.report_writer.specs.CompiledReport.{compiled_report, compiled_text, lines_by, result_path}
@@ -42,12 +43,13 @@ path_same s well n shape (Some p) paths none =
     ∙ ap (λ (t : List ℕ). t ∷ []) (path_law p levels_limit s k.0 k.2 (shallow s well n shape k.0 p k.1 k.2))
     )
 
-module _ (shapes : List ReadShape) (s : List Triple) (stand : StandFor shapes s) (well : IsWellFormed s) (r : ResultRow) where
+module _ (shapes : List ReadShape) (s : List Triple) (stand : StandFor shapes s) (well : IsWellFormed s) (r : ResultRow) (active : IsDeactivated (reading s r.source_shape) → ⊥) where
   -- what the shape says of a result is what the graph says
   module _ (c : ReadShape) (i : Contains shapes c) (e : c.node ≡ r.source_shape) where
     path : result_path c.path r ≡ path_of s r
     path =
-        let same = stand.each c i in
+        let on : (IsDeactivated (reading s c.node) → ⊥) = subst (λ (n : Term). IsDeactivated (reading s n) → ⊥) (sym e) active in
+        let same = same_active (reading s c.node) (shape_reading shapes c) (stand.each c i) on in
         ap (path_by r.component (map term_text (listed r.other))) (path_same s well c.node (stand.are_shapes c i) c.path same.path same.is_node_shape ∙ ap (own_texts s) e)
 
     severity : unwrap_or c.severity (sh (codes "Violation")) ≡ severity_of s r.source_shape
@@ -65,5 +67,7 @@ module _ (shapes : List ReadShape) (s : List Triple) (stand : StandFor shapes s)
 
 pub by_graph : (shapes : List ReadShape) (s : List Triple) → StandFor shapes s → IsWellFormed s → (rows : List ResultRow) → HaveSources shapes rows → compiled_report shapes rows ≡ report_text s rows
 by_graph shapes s stand well rows sources = report_same (compiled_text shapes) (result_text s) rows (λ r i label.
-    let c = All-contains (λ (q : ResultRow). (d : ReadShape) × Contains shapes d × (d.node ≡ q.source_shape)) rows r sources i in
-    lines_same shapes s stand well r c.0 c.1 c.2 label)
+    let c = All-contains (λ (q : ResultRow). (d : ReadShape) × Contains shapes d × (d.node ≡ q.source_shape) × (IsTrue d.is_deactivated → ⊥)) rows r sources i in
+    let active : (IsDeactivated (reading s r.source_shape) → ⊥)
+    = (λ off. c.3 (((stand.each c.0 c.1).has ShDeactivated true_literal refl).0 (subst (λ (n : Term). IsDeactivated (reading s n)) (sym c.2) off)).0) in
+    lines_same shapes s stand well r active c.0 c.1 c.2 label)

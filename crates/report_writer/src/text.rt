@@ -62,9 +62,8 @@ fn written(alloc: Global, rows: &[ResultRow], shapes: &[Shape<Term>]) -> Result<
     Ok(out)
 }
 
-/// The report of these results, whose source shapes are among the shapes: byte for byte the one by
-/// the shapes, and so by each well-formed shapes graph that they stand for. It fails only for want
-/// of memory.
+/// The report of these results, whose source shapes are among the shapes and aren't deactivated: byte for byte the one by
+/// the shapes, and so by each well-formed shapes graph that they stand for. It fails only for want of memory.
 pub fn report(alloc: Global, rows: &[ResultRow], shapes: &Shapes) -> Result<String, AllocError>
     requires { HaveSources (read_shapes shapes.now.shapes) rows.now }
     ensures shapes { IfOk result (λ text. string_bytes text ≡ compiled_report (read_shapes shapes.now.shapes) rows.now) }

@@ -1,5 +1,5 @@
 -- When compiled shapes stand for a shapes graph: for a validation they say of each shape what its triples say.
-use Rattle.std.specs.Prelude.{◌≡◌, ◌⊎◌, ℕ, List, [], ◌∷◌, length, Option, Some, None, MatchOption, IsTrue, codes, slice_get}
+use Rattle.std.specs.Prelude.{◌≡◌, ◌⊎◌, ◌↔◌, ℕ, List, [], ◌∷◌, length, Option, Some, None, MatchOption, IsTrue, codes, slice_get}
 use Rattle.std.specs.Option.{unwrap_or}
 use Rattle.std.specs.List.{All, Contains}
 use Rattle.std.specs.Arc.{arc_value}
@@ -11,10 +11,10 @@ use Rattle.rdf_model.specs.declared.triple.Triple.{Triple}
 use Rattle.rdf_model.specs.Terms.{term_cmp}
 use Rattle.shape_model.specs.Components.{parameter_of}
 use Rattle.shape_model.specs.Declarations.{messages_of, severity_of}
-use Rattle.shape_model.specs.Paths.{Predicate}
+use Rattle.shape_model.specs.Paths.{Path, Predicate}
 use Rattle.shape_model.specs.Patterns.{IsPatternOf}
-use Rattle.shape_model.specs.Readings.{Reading, SameReading, reading}
-use Rattle.shape_model.specs.ShapeSyntax.{IsShape}
+use Rattle.shape_model.specs.Readings.{IsAsked, IsDeactivated, Reading, reading}
+use Rattle.shape_model.specs.ShapeSyntax.{IsShape, TakesMembers}
 use Rattle.shape_model.specs.Vocabulary.{sh, true_literal, ShapeProperty, ShPattern, ShFlags, ShProperty, ShQualifiedValueShape, ShDeactivated, ShTargetNode, ShTargetClass, ShTargetSubjectsOf, ShTargetObjectsOf}
 use Rattle.shape_ast.specs.declared.constraint.Constraint.{Constraint}
 use Rattle.shape_ast.specs.declared.constraint.Constraint.TheVariants.{ByTerm, ByList, ByShape, ByShapes}
@@ -91,13 +91,29 @@ shape_reading shapes s = record {
   is_class = Contains s.targets ImplicitClass;
 }
 
+-- the path is a single predicate
+abbrev pub IsPredicate : Path → Type 0
+IsPredicate path = (p : Term) × (path ≡ Predicate p)
+
+-- Two readings of a shape that a validation can't tell apart. They are the same, but for the path of a deactivated shape
+-- (SHACL 2.1.6): it has no value nodes that are asked for, so they agree only in whether it is a predicate, and in which. That
+-- is what a closed shape asks of its property shapes (SHACL 4.8.1), deactivated ones among them.
+pub record SameShape (y z : Reading) : Type 0 where
+  pub path : (p : Path) → (IsDeactivated y → IsPredicate p) → y.path p ↔ z.path p
+  pub is_node_shape : (IsDeactivated y → ⊥) → y.is_node_shape ↔ z.is_node_shape
+  pub has : (p : ShapeProperty) (v : Term) → IsAsked p v → y.has p v ↔ z.has p v
+  pub has_list : (p : ShapeProperty) → TakesMembers p → (head : Term) (members : List Term) → y.has_list p head members ↔ z.has_list p head members
+  pub sibling : (t : Term) → y.sibling t ↔ z.sibling t
+  pub allowed : (p : Term) → y.allowed p ↔ z.allowed p
+  pub is_class : y.is_class ↔ z.is_class
+
 -- the order of shapes is that of their nodes
 abbrev pub shape_cmp : ReadShape → ReadShape → Ordering
 shape_cmp a b = term_cmp a.node b.node
 
 pub record StandFor (shapes : List ReadShape) (s : List Triple) : Type 0 where
   -- each says what the graph says of its node, which is a shape
-  pub each : (c : ReadShape) → Contains shapes c → SameReading (reading s c.node) (shape_reading shapes c)
+  pub each : (c : ReadShape) → Contains shapes c → SameShape (reading s c.node) (shape_reading shapes c)
   pub are_shapes : (c : ReadShape) → Contains shapes c → IsShape s c.node
   -- each shape is compiled, once
   pub all : (n : Term) → IsShape s n → (c : ReadShape) × Contains shapes c × (c.node ≡ n)

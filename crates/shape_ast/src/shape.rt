@@ -9,7 +9,8 @@ use rdf_model::Term;
 pub struct Shape<T> {
     /// The node of the shapes graph that is the shape.
     pub node: T,
-    /// The path of a property shape; a node shape has none.
+    /// The path of a property shape; a node shape has none. Of a deactivated shape's path only a predicate is kept, for which
+    /// closed shapes ask (section 4.8.1).
     pub path: Option<Path<T>>,
     /// Whether its sh:deactivated is true (section 2.1.6).
     pub is_deactivated: bool,

@@ -9,6 +9,7 @@ use Rattle.rdf_model.specs.declared.term.Term.{Term}
 use Rattle.rdf_model.specs.declared.triple.Triple.{Triple}
 use Rattle.rdf_model.specs.declared.ids.Ids.{Ids}
 use Rattle.rdf_model.specs.Numbers.{term_at, graph_of}
+use Rattle.shape_model.specs.Limits.{levels_limit}
 use Rattle.shape_model.specs.declared.result_row.ResultRow.{ResultRow}
 use Rattle.shape_model.specs.Readings.{reading}
 use Rattle.shape_model.specs.Rows.{result_row_cmp}
@@ -22,9 +23,10 @@ use Rattle.component_rows.specs.Nodes.{HasNode}
 use Rattle.component_rows.proofs.Collecting.{collects_none, collects_same}
 use Rattle.shape_ast.specs.declared.shape.Shape.{Shape}
 use Rattle.shape_ast.specs.Readings.{ReadShape, named_shapes, read_shape}
+use Rattle.shape_ast.proofs.Agreeing.{same_on}
 use Rattle.shape_ast.specs.Standing.{StandFor, shape_reading}
 use Rattle.shape_eval.specs.Around.{around}
-use Rattle.shape_eval.specs.Results.{CollectsAt, ListsResults, depth_limit}
+use Rattle.shape_eval.specs.Results.{CollectsAt, ListsResults}
 use Rattle.shape_eval.specs.ShapeRows.{FromSome, OwnRow, PropertyAt, ShapeRow}
 use Rattle.shape_eval.specs.ValueNodes.{AreValueNodes, IsValueNode}
 use Rattle.shape_eval.proofs.Constraints.{opened}
@@ -49,11 +51,11 @@ module _ (terms : List Term) (ids : List Ids) (shapes : List (Shape ℕ)) (s : L
   deactivated (suc n) f r d h = h.0 (((stand.each c i).has ShDeactivated true_literal refl).1 (d, refl))
 
   -- one step
-  depth_rows : (n : ℕ) (values : List ℕ) (f : ℕ) → ((v : Term) → HasNode terms values v ↔ IsValueNode (graph_of terms ids) c.path (term_at terms f) v) → (r : ResultRow)
+  depth_rows : (IsTrue c.is_deactivated → ⊥) → (n : ℕ) (values : List ℕ) (f : ℕ) → ((v : Term) → HasNode terms values v ↔ IsValueNode (graph_of terms ids) c.path (term_at terms f) v) → (r : ResultRow)
       → AtDepth (suc n) (graph_of terms ids) (reading s) c.node (term_at terms f) r ↔ ShapeRow (around terms ids s n values f) (named_shapes terms shapes) c (term_at terms f) r
-  depth_rows n values f each r =
+  depth_rows active n values f each r =
       let g = graph_of terms ids in
-      let e = stand.each c i in
+      let e = same_on (named_shapes terms shapes) c (reading s c.node) (stand.each c i) active in
       let same = at_same c.node (term_at terms f) (reading s c.node) (shape_reading (named_shapes terms shapes) c) e
       (surroundings (AtDepth n g (reading s)) g (reading s c.node) (term_at terms f)) (around terms ids s n values f) (record {
         value_node = λ v. (let a = values_same (named_shapes terms shapes) g c (reading s c.node) e (term_at terms f) v in let b = each v in ((λ k. b.1 (a.0 k)), (λ k. a.1 (b.0 k))));
@@ -75,7 +77,7 @@ module _ (terms : List Term) (ids : List Ids) (shapes : List (Shape ℕ)) (s : L
       let Own : ResultRow → Type 0 = OwnRow t named c (term_at terms f) in
       let More : ResultRow → Type 0 = FromSome c.properties (PropertyAt t named) in
       collects_same (λ r. Own r ⊎ More r) (AtDepth (suc n) (graph_of terms ids) (reading s) c.node (term_at terms f)) (own ++ more)
-      (λ r. let both = depth_rows n values f each r in ((λ j. both.1 (active, j)), (λ a. (both.0 a).1)))
+      (λ r. let both = depth_rows active n values f each r in ((λ j. both.1 (active, j)), (λ a. (both.0 a).1)))
       (collects_both Own More own more h k)
 
 module _ (terms : List Term) (ids : List Ids) (shapes : List (Shape ℕ)) (place : ℕ) (x : Shape ℕ) (taken : slice_get shapes place ≡ Some x) (f : ℕ) where
@@ -97,9 +99,9 @@ module _ (terms : List Term) (ids : List Ids) (shapes : List (Shape ℕ)) (place
       n values f are.each active own more (h s stand) (k s stand))))
 
 -- a listing of the rows is one of the results
-pub lists_results : (terms : List Term) (ids : List Ids) (shapes : List (Shape ℕ)) (place f : ℕ) (rows sorted : List ResultRow) → CollectsAt terms ids shapes depth_limit place f rows
+pub lists_results : (terms : List Term) (ids : List Ids) (shapes : List (Shape ℕ)) (place f : ℕ) (rows sorted : List ResultRow) → CollectsAt terms ids shapes levels_limit place f rows
     → IsListing result_row_cmp (Contains rows) sorted → ListsResults terms ids shapes place f sorted
 lists_results terms ids shapes place f rows sorted h listing s c stand at acyclic shallow =
     let g = graph_of terms ids in
     listing_same result_row_cmp (Contains rows) (At g s c.node (term_at terms f))
-    (λ r. let k = depth_law g s acyclic depth_limit shallow c.node (term_at terms f) r in let j = h s c stand at r in ((λ d. k.1 (j.0 d)), (λ a. j.1 (k.0 a)))) sorted listing
+    (λ r. let k = depth_law g s acyclic levels_limit shallow c.node (term_at terms f) r in let j = h s c stand at r in ((λ d. k.1 (j.0 d)), (λ a. j.1 (k.0 a)))) sorted listing

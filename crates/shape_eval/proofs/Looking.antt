@@ -10,6 +10,7 @@ use Rattle.rdf_model.specs.declared.look.Look.{Look}
 use Rattle.rdf_model.specs.declared.look.Look.TheVariants.{OutAny}
 use Rattle.rdf_model.specs.declared.look.Look.TheVariants as looks
 use Rattle.rdf_model.specs.Numbers.{IsNumbering, graph_of, term_at}
+use Rattle.shape_model.specs.Limits.{levels_limit}
 use Rattle.shape_model.specs.NodeLooks.{IsLook, ShapeReads}
 use Rattle.shape_model.specs.Readings.{reading}
 use Rattle.shape_model.specs.ShapeLooks.{ResultLook}
@@ -22,7 +23,7 @@ use Rattle.path_eval.proofs.Footprints.{looks_none, looks_one, looks_same, next_
 use Rattle.shape_ast.specs.declared.shape.Shape.{Shape}
 use Rattle.shape_ast.specs.Readings.{named_shapes, read_shape}
 use Rattle.shape_eval.specs.Looks.{AddsAt, AddsAtEach, AddsAtPlaces, AddsShapeLooks, PlaceReads, ReadsAtEach, ReadsOfSome}
-use Rattle.shape_eval.specs.Results.{AtPlace, depth_limit}
+use Rattle.shape_eval.specs.Results.{AtPlace}
 use Rattle.shape_eval.proofs.LookDepths.{look_depth}
 use Rattle.shape_eval.proofs.Lookups.{at_place, named_place, one_at}
 
@@ -107,9 +108,9 @@ subjects_more terms numbering nodes are i lt old mid new before e =
     (looks_one terms numbering (looks.OutAny n) (are.named n (Contains-get_or nodes i 0 lt)) (OutAny (term_at terms n)) refl mid new e)
 
 -- looks of so much depth are those of the shape
-pub shape_looks : (terms : List Term) (ids : List Ids) (shapes : List (Shape ℕ)) (place f : ℕ) (old new : List (Look ℕ)) → AddsAt terms ids shapes depth_limit place f old new → AddsShapeLooks terms ids shapes place f old new
+pub shape_looks : (terms : List Term) (ids : List Ids) (shapes : List (Shape ℕ)) (place f : ℕ) (old new : List (Look ℕ)) → AddsAt terms ids shapes levels_limit place f old new → AddsShapeLooks terms ids shapes place f old new
 shape_looks terms ids shapes place f old new h s c stand at acyclic shallow =
     let g = graph_of terms ids in
-    looks_same terms (ShapeReads depth_limit g (reading s) c.node (term_at terms f)) (IsLook g (ResultLook s c.node) (term_at terms f)) (λ l.
-    let k = look_depth g s acyclic depth_limit shallow c.node (term_at terms f) l in
+    looks_same terms (ShapeReads levels_limit g (reading s) c.node (term_at terms f)) (IsLook g (ResultLook s c.node) (term_at terms f)) (λ l.
+    let k = look_depth g s acyclic levels_limit shallow c.node (term_at terms f) l in
     let j = reads_law g s c.node (term_at terms f) l in ((λ d. j.0 (k.1 d)), (λ a. k.0 (j.1 a)))) old new (h s c stand at)

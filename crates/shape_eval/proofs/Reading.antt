@@ -30,7 +30,8 @@ use Rattle.shape_ast.specs.declared.constraint.Constraint.{Constraint}
 use Rattle.shape_ast.specs.Components.{list_component, shape_component, shapes_component}
 use Rattle.shape_ast.specs.declared.shape.Shape.{Shape}
 use Rattle.shape_ast.specs.Readings.{AreBound, ReadShape, component_of, named_shapes, parameter, read_optional_path, read_shape}
-use Rattle.shape_ast.specs.Standing.{IsFor, StandFor, shape_reading}
+use Rattle.shape_ast.proofs.Agreeing.{same_but_path, same_on, with_path}
+use Rattle.shape_ast.specs.Standing.{IsFor, SameShape, StandFor, shape_reading}
 use Rattle.shape_eval.specs.Looks.{AddsAt, AddsAtPlaces, ComponentReads, ConstraintReads, OptionalReads, PlaceReads, ReadsOfSome}
 use Rattle.shape_eval.specs.Told.{AsksSome}
 use Rattle.shape_eval.specs.ValueNodes.{AreValueNodes, IsValueNode}
@@ -123,8 +124,15 @@ module _ (terms : List Term) (ids : List Ids) (shapes : List (Shape ℕ)) (bound
   stands : Contains named c
   stands = of_place named place c (named_place terms shapes place x taken)
 
-  same : SameReading (reading s c.node) (shape_reading named c)
-  same = stand.each c stands
+  agreed : SameShape (reading s c.node) (shape_reading named c)
+  agreed = stand.each c stands
+
+  -- its reading with the path that it was compiled with
+  abbrev kept : Reading
+  kept = with_path (reading s c.node) (shape_reading named c)
+
+  same_kept : SameReading kept (shape_reading named c)
+  same_kept = same_but_path (reading s c.node) (shape_reading named c) agreed
 
   -- those of the shapes at the places that its constraints ask, and at those of its property shapes
   abbrev Referred : ℕ → List ℕ → Look Term → Type 0
@@ -136,13 +144,13 @@ module _ (terms : List Term) (ids : List Ids) (shapes : List (Shape ℕ)) (bound
       let constraints = (bound_at terms shapes bound place x taken).constraints in
       let linked = stand.linked c stands in (
         λ h.
-            let p = place_asked terms shapes x (length terms) constraints linked h.0 (refers_same (reading s c.node) (shape_reading named c) same h.0 h.2) in
+            let p = place_asked terms shapes x (length terms) constraints linked h.0 (refers_same kept (shape_reading named c) same_kept h.0 h.2) in
             elim p.1 [
               | inl a ↦ inl (p.0, (are p.0).1 a, (h.0, p.2, (h.1, h.3, h.4)))
               | inr a ↦ inr (p.0, a, (h.0, p.2, (h.1, h.3, h.4)))
             ],
         λ h.
-            let back = refers_same (shape_reading named c) (reading s c.node) (reading_back (reading s c.node) (shape_reading named c) same) in
+            let back = refers_same (shape_reading named c) kept (reading_back kept (shape_reading named c) same_kept) in
             elim h [
               | inl k ↦ (k.2.0, k.2.2.0, back k.2.0 (asked_refers terms shapes x (length terms) constraints linked k.0 k.2.0 (inl ((are k.0).0 k.1)) k.2.1), k.2.2.1, k.2.2.2)
               | inr k ↦ (k.2.0, k.2.2.0, back k.2.0 (asked_refers terms shapes x (length terms) constraints linked k.0 k.2.0 (inr k.1) k.2.1), k.2.2.1, k.2.2.2)
@@ -154,6 +162,9 @@ module _ (terms : List Term) (ids : List Ids) (shapes : List (Shape ℕ)) (bound
       (active : IsTrue x.is_deactivated → ⊥) (asked : List ℕ) (are : (p : ℕ) → Contains asked p ↔ AsksSome x x.constraints p) (look : Look Term) where
     abbrev g : List Triple
     g = graph_of terms ids
+
+    same : SameReading (reading s c.node) (shape_reading named c)
+    same = same_on named c (reading s c.node) agreed active
 
     abbrev Made : Type 0
     Made =
@@ -203,7 +214,7 @@ module _ (terms : List Term) (ids : List Ids) (shapes : List (Shape ℕ)) (bound
     reads_made = (unmade, made)
 
 -- a deactivated shape has none
-deactivated : (g s : List Triple) (read : List ReadShape) (d : ReadShape) → SameReading (reading s d.node) (shape_reading read d) → (n : ℕ) (f : Term) (look : Look Term) → IsTrue d.is_deactivated → ShapeReads n g (reading s) d.node f look → ⊥
+deactivated : (g s : List Triple) (read : List ReadShape) (d : ReadShape) → SameShape (reading s d.node) (shape_reading read d) → (n : ℕ) (f : Term) (look : Look Term) → IsTrue d.is_deactivated → ShapeReads n g (reading s) d.node f look → ⊥
 deactivated g s read d e zero f look off h = h
 deactivated g s read d e (suc n) f look off h = h.0 ((e.has ShDeactivated true_literal refl).1 (off, refl))
 

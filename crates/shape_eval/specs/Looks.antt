@@ -7,6 +7,7 @@ use Rattle.rdf_model.specs.declared.ids.Ids.{Ids}
 use Rattle.rdf_model.specs.declared.look.Look.{Look}
 use Rattle.rdf_model.specs.declared.look.Look.TheVariants.{Out, OutAny}
 use Rattle.rdf_model.specs.Numbers.{graph_of, term_at}
+use Rattle.shape_model.specs.Limits.{levels_limit}
 use Rattle.shape_model.specs.declared.component.Component.{Component}
 use Rattle.shape_model.specs.declared.component.Component.TheVariants as components
 use Rattle.shape_model.specs.Instances.{Instance, class_path}
@@ -22,7 +23,7 @@ use Rattle.shape_ast.specs.declared.constraint.Constraint.{Constraint}
 use Rattle.shape_ast.specs.declared.shape.Shape.{Shape}
 use Rattle.shape_ast.specs.Readings.{component_of, named_shapes, parameter}
 use Rattle.shape_ast.specs.Standing.{IsAt, StandFor}
-use Rattle.shape_eval.specs.Results.{AtPlace, depth_limit}
+use Rattle.shape_eval.specs.Results.{AtPlace}
 
 -- What a component looks at by itself, at the value q of its parameter and the focus node f: the class path at each value
 -- node for sh:class (SHACL 4.1.1), the values at f of the property with which the value nodes are compared (SHACL 4.5), all
@@ -79,4 +80,4 @@ AddsAtPlaces terms ids shapes depth places values old new =
 -- shapes graph that the shapes stand for, in which no shape refers to itself and no chain of references is longer than
 -- the limit.
 abbrev pub AddsShapeLooks : List Term → List Ids → List (Shape ℕ) → ℕ → ℕ → List (Look ℕ) → List (Look ℕ) → Type 0
-AddsShapeLooks terms ids shapes n f old new = AtPlace terms shapes n (λ s c. IsAcyclic s → IsShallow depth_limit s → AddsLooks terms (IsLook (graph_of terms ids) (ResultLook s c.node) (term_at terms f)) old new)
+AddsShapeLooks terms ids shapes n f old new = AtPlace terms shapes n (λ s c. IsAcyclic s → IsShallow levels_limit s → AddsLooks terms (IsLook (graph_of terms ids) (ResultLook s c.node) (term_at terms f)) old new)

@@ -10,7 +10,8 @@ ghost use Rattle.shape_ast.specs.Readings.{AreBound, named_shapes};
 ghost use Rattle.shape_ast.specs.Standing.{AreBuilt, StandFor};
 ghost use Rattle.shape_eval.specs.Around.{around};
 ghost use Rattle.shape_eval.specs.Looks.{AddsAt, AddsAtEach, AddsAtPlaces, AddsShapeLooks};
-ghost use Rattle.shape_eval.specs.Results.{AtPlace, CollectsAt, CollectsAtEach, ListsResults, depth_limit};
+ghost use Rattle.shape_model.specs.Limits.{levels_limit};
+ghost use Rattle.shape_eval.specs.Results.{AtPlace, CollectsAt, CollectsAtEach, ListsResults};
 ghost use Rattle.shape_eval.specs.ShapeRows.{FromSome, PropertyAt};
 ghost use Rattle.shape_eval.specs.Told.{AreRight, ConformsAt, HaveAnswers};
 
@@ -217,9 +218,9 @@ fn rows_at<R: Triples, N: Names>(
 }
 
 // One more than the most references that a chain may have.
-#[tactic(auto, unfolding(crate::specs::Results::depth_limit))]
+#[tactic(auto, unfolding(shape_model::specs::Limits::levels_limit))]
 fn most_levels() -> usize
-    ensures { result ≡ depth_limit }
+    ensures { result ≡ levels_limit }
 {
     257
 }

@@ -6,10 +6,9 @@ use Rattle.rdf_model.specs.declared.term.Term.{Term}
 use Rattle.rdf_model.specs.declared.triple.Triple.{Triple}
 use Rattle.rdf_model.specs.Terms.{triple_cmp}
 use Rattle.compiled_paths.specs.declared.path.Path.{Path}
-use Rattle.shape_model.specs.Vocabulary.{true_literal}
 use Rattle.shape_properties.specs.declared.property.ShapeProperty.TheVariants as vocabulary
 use Rattle.shape_rules.specs.Broken.{IsWellFormed}
-use Rattle.shape_properties.specs.Syntax.{HasProperty, IsShape}
+use Rattle.shape_properties.specs.Syntax.{IsShape}
 use Rattle.shape_ast.specs.declared.constraint.Constraint.{Constraint}
 use Rattle.shape_ast.specs.declared.pattern.Pattern.{Pattern}
 use Rattle.shape_ast.specs.declared.shape.Shape.{Shape}
@@ -17,7 +16,7 @@ use Rattle.shape_ast.specs.declared.target.Target.{Target}
 use Rattle.shape_ast.specs.Readings.{read_optional_path, read_shape}
 use Rattle.shape_ast.specs.Standing.{StandsIn}
 use Rattle.shape_ast.specs.Once.{constraint_triple}
-use Rattle.shape_reader.specs.Parts.{ArePartsOf, HasPlace, IsCompiled, IsOptionalPath, IsOptionalPattern, IsShapeOf}
+use Rattle.shape_reader.specs.Parts.{ArePartsOf, HasPlace, IsCompiled, IsKeptPath, IsOff, IsOptionalPattern, IsShapeOf}
 use Rattle.shape_reader.proofs.Naming.{constraints_named, constraints_same, ignored_named, map_same, optional_same, path_named, pattern_built, pattern_named, pattern_value, place_named, places_named, shape_stands, siblings_named, targets_named, targets_same, value_named, values_named}
 use Rattle.shape_reader.proofs.WellFormed.{one_value}
 
@@ -40,10 +39,10 @@ module _ (s : List Triple) (well : IsWellFormed s) (nodes : List Term) (n : Term
   }
 
   pub assembles : (path : Option (Path Term)) (pattern : Option (Pattern Term)) (own : Term) (targets : List (Target Term)) (constraints : List (Constraint Term)) (properties siblings : List ℕ) (severity flags : Option Term) (messages ignored : List Term) (off : Bool) (qualified : Option ℕ)
-      → IsOptionalPath s n (read_optional_path (λ t. t) path)
+      → IsKeptPath s n (read_optional_path (λ t. t) path)
       → IsOptionalPattern s n pattern
       → ArePartsOf s nodes n own targets constraints properties siblings severity flags messages ignored
-      → IsTrue off ↔ HasProperty s n vocabulary.Deactivated true_literal
+      → IsTrue off ↔ IsOff s n
       → ((k : ℕ) → (qualified ≡ Some k) ↔ HasPlace s nodes n vocabulary.QualifiedValueShape k)
       → IsShapeOf s nodes n (made path pattern own targets constraints properties siblings severity flags messages ignored off qualified)
   assembles path pattern own targets constraints properties siblings severity flags messages ignored off qualified is_path is_pattern parts is_off is_qualified = record {
@@ -70,7 +69,7 @@ module _ (s : List Triple) (well : IsWellFormed s) (nodes : List Term) (n : Term
     built = pattern_built s nodes n pattern flags is_pattern parts.flags_said (one_value s well n shape vocabulary.Flags refl);
     named = record {
       node = subst (StandsIn s) (sym parts.node) (shape_stands s nodes n shape);
-      path = path_named s nodes n path is_path;
+      path = path_named s nodes n path off is_off is_path;
       severity = value_named s nodes n vocabulary.Severity severity parts.severity_said;
       messages = values_named s nodes n vocabulary.Message messages parts.messages_said;
       targets = targets_named s nodes n targets parts.targets_said.said;

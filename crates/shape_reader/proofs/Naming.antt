@@ -1,5 +1,5 @@
 -- The terms of a compiled shape stand in the graph, and the shapes that it names are among the nodes.
-use Rattle.std.proofs.Common.{◌≡◌, ℕ, ◌<◌, List, [], ◌∷◌, length, map, get_or, Option, Some, None, refl, sym, ap, subst, arith, inl, inr}
+use Rattle.std.proofs.Common.{◌≡◌, ℕ, ◌<◌, Bool, true, false, IsTrue, List, [], ◌∷◌, length, map, get_or, Option, Some, None, refl, sym, ap, subst, arith, inl, inr}
 use Rattle.std.specs.Prelude.{◌↔◌, MatchOption}
 use Rattle.std.specs.List.{All, Contains}
 use Rattle.std.specs.Arc.{arc_value}
@@ -36,7 +36,7 @@ use Rattle.shape_ast.specs.Standing.{HasFlagsText, StandsIn}
 use Rattle.shape_reader.specs.declared.kind.Kind.{Kind}
 use Rattle.shape_reader.specs.declared.kind.Kind.TheVariants as kinds
 use Rattle.shape_reader.specs.Kinds.{kind}
-use Rattle.shape_reader.specs.Parts.{ArePlaces, HasOne, HasPlace, HasSibling, IsConstraint, IsFlagsText, IsIgnored, IsOptionalPath, IsOptionalPattern, IsPatternAt, IsTarget, IsValue, SaysConstraint}
+use Rattle.shape_reader.specs.Parts.{ArePlaces, HasOne, HasPlace, HasSibling, IsConstraint, IsFlagsText, IsIgnored, IsKeptPath, IsOff, IsOptionalPattern, IsPathAt, IsPatternAt, IsTarget, IsValue, SaysConstraint}
 use Rattle.shape_reader.proofs.Told.{Declares, declared}
 
 abbrev same : Term → Term
@@ -130,9 +130,16 @@ module _ (s : List Triple) (nodes : List Term) where
     paths_stand v (defined.Also p ps) is = (path_stands is.0 p (object_stands v rdf_first is.0 is.2.0.0) is.3, paths_stand is.1 ps is.4)
 
   module _ (n : Term) where
-    pub path_named : (found : Option (Path Term)) → IsOptionalPath s n (read_optional_path same found) → MatchOption found (Unit {0}) (HasEach Stands)
-    path_named None h = tt
-    path_named (Some path) h = each_named Stands path (path_stands h.0 (defined_path path) (value_stands n properties.Path h.0 h.1) h.2)
+    -- a path that is kept is one of the node
+    kept_at : (path : defined.Path) (off : Bool) → IsTrue off ↔ IsOff s n → IsKeptPath s n (Some path) → IsPathAt s n path
+    kept_at path true is h = (h.deactivated (is.0 refl)).2
+    kept_at path false is h = h.active (λ o. let t = is.1 o in cc)
+
+    pub path_named : (found : Option (Path Term)) (off : Bool) → IsTrue off ↔ IsOff s n → IsKeptPath s n (read_optional_path same found) → MatchOption found (Unit {0}) (HasEach Stands)
+    path_named None off is h = tt
+    path_named (Some path) off is h =
+        let k = kept_at (defined_path path) off is h in
+        each_named Stands path (path_stands k.0 (defined_path path) (value_stands n properties.Path k.0 k.1) k.2)
 
     pub value_named : (p : ShapeProperty) (found : Option Term) → IsValue s n p found → MatchOption found (Unit {0}) Stands
     value_named p None h = tt

@@ -1,5 +1,5 @@
 -- Shapes whose parts are what the triples say of their nodes stand for the graph.
-use Rattle.std.proofs.Common.{◌≡◌, ◌∙◌, ℕ, List, [], ◌∷◌, map, get_or, Option, Some, None, IsTrue, refl, sym, ap, subst, arith, inl, inr}
+use Rattle.std.proofs.Common.{◌≡◌, ◌∙◌, ℕ, List, [], ◌∷◌, map, get_or, Bool, true, false, Option, Some, None, IsTrue, refl, sym, ap, subst, arith, inl, inr}
 use Rattle.std.specs.Prelude.{◌↔◌, ◌⊎◌, codes, slice_get}
 use Rattle.std.specs.List.{Contains}
 use Rattle.std.specs.Option.{unwrap_or}
@@ -14,7 +14,7 @@ use Rattle.shape_model.proofs.Declarations.{values_law}
 use Rattle.shape_model.proofs.Listings.{one_listing}
 use Rattle.shape_model.specs.Declarations.{first_or, messages_of, values_of}
 use Rattle.shape_model.specs.Paths.{Path, Predicate}
-use Rattle.shape_model.specs.Readings.{IsAllowed, IsAsked, IsNodeShape, SameReading, ShapePath, Sibling, reading}
+use Rattle.shape_model.specs.Readings.{IsAllowed, IsAsked, IsNodeShape, ShapePath, Sibling, reading}
 use Rattle.shape_model.specs.ShapeSyntax.{HasProperty, IsShape, ListOf, PathOf, TakesMembers}
 use Rattle.shape_model.specs.Triples.{Has}
 use Rattle.shape_model.specs.Vocabulary.{ShapeProperty, sh, ShClass, ShDatatype, ShNodeKind, ShMinCount, ShMaxCount, ShMinExclusive, ShMinInclusive, ShMaxExclusive, ShMaxInclusive, ShMinLength, ShMaxLength, ShPattern, ShFlags, ShLanguageIn, ShUniqueLang, ShEquals, ShDisjoint, ShLessThan, ShLessThanOrEquals, ShNot, ShAnd, ShOr, ShXone, ShNode, ShProperty, ShQualifiedValueShape, ShQualifiedMinCount, ShQualifiedMaxCount, ShQualifiedValueShapesDisjoint, ShClosed, ShIgnoredProperties, ShHasValue, ShIn, ShDeactivated, ShPath, ShTargetNode, ShTargetClass, ShTargetSubjectsOf, ShTargetObjectsOf}
@@ -35,11 +35,11 @@ use Rattle.shape_ast.specs.declared.constraint.Constraint.TheVariants.{ByTerm, B
 use Rattle.shape_ast.specs.declared.target.Target.{Target}
 use Rattle.shape_ast.specs.declared.target.Target.TheVariants.{Node, Class, ImplicitClass, SubjectsOf, ObjectsOf}
 use Rattle.shape_ast.specs.Readings.{ReadShape}
-use Rattle.shape_ast.specs.Standing.{AreAt, HasMembers, IsAt, IsFor, IsLinked, ShapeAllows, ShapeHas, StandFor, shape_cmp, shape_reading}
+use Rattle.shape_ast.specs.Standing.{AreAt, HasMembers, IsAt, IsFor, IsLinked, IsPredicate, SameShape, ShapeAllows, ShapeHas, StandFor, shape_cmp, shape_reading}
 use Rattle.shape_reader.specs.declared.kind.Kind.{Kind}
 use Rattle.shape_reader.specs.declared.kind.Kind.TheVariants as kinds
 use Rattle.shape_reader.specs.Kinds.{kind}
-use Rattle.shape_reader.specs.Parts.{ArePlaces, HasOne, HasPlace, IsCompiled, IsConstraint, IsOptionalPath, IsPlace, IsValue, SaysConstraint}
+use Rattle.shape_reader.specs.Parts.{ArePlaces, HasOne, HasPlace, IsCompiled, IsConstraint, IsKeptPath, IsOff, IsOptionalPath, IsOptionalPredicate, IsPlace, IsValue, SaysConstraint}
 use Rattle.shape_properties.proofs.Defined.{has_same, rule_property, shape_same, taken_same}
 use Rattle.shape_reader.proofs.Places.{all_places}
 use Rattle.shape_reader.proofs.Told.{Declares, declared, same_parameter, same_property}
@@ -74,6 +74,21 @@ path_some s n (Some q) one h p = (
   λ k. ap Some (one_path s h.0 p q (subst (λ (v : Term). PathOf s v p) (one k.0 h.0 k.1 h.1) k.2) h.2),
   λ e. let d : q ≡ p = cc in (h.0, h.1, subst (λ (r : Path). PathOf s h.0 r) d h.2),
 )
+
+-- what the path of a deactivated shape says
+predicate_some : (s : List Triple) (n : Term) (found : Option Path) → HasOne s n properties.Path → IsOptionalPredicate s n found → (p : Term) → ShapePath s n (Predicate p) ↔ (found ≡ Some (Predicate p))
+predicate_some s n None one h p = (λ k. absurd (h p k), λ e. cc)
+predicate_some s n (Some q) one h p = (
+  λ k. ap Some (one_path s h.2.0 (Predicate p) q (subst (λ (v : Term). PathOf s v (Predicate p)) (one k.0 h.2.0 k.1 h.2.1) k.2) h.2.2),
+  λ e. let d : q ≡ Predicate p = cc in (h.2.0, h.2.1, subst (λ (r : Path). PathOf s h.2.0 r) d h.2.2),
+)
+
+-- what is kept of a path says
+path_kept : (s : List Triple) (n : Term) (found : Option Path) → HasOne s n properties.Path → IsKeptPath s n found → (off : Bool) → IsTrue off ↔ IsOff s n → (p : Path) → (IsOff s n → IsPredicate p) → ShapePath s n p ↔ (found ≡ Some p)
+path_kept s n found one kept true is p may =
+    let q = may (is.0 refl) in
+    subst (λ (r : Path). ShapePath s n r ↔ (found ≡ Some r)) (sym q.1) (predicate_some s n found one (kept.deactivated (is.0 refl)) q.0)
+path_kept s n found one kept false is p may = path_some s n found one (kept.active (λ o. let t = is.1 o in cc)) p
 
 path_none : (s : List Triple) (n : Term) (found : Option Path) → IsOptionalPath s n found → IsNodeShape s n ↔ (found ≡ None)
 path_none s n None h = (λ i. refl, λ e. h)
@@ -287,8 +302,8 @@ module _ (s : List Triple) (well : IsWellFormed s) (shapes : List ReadShape) (no
       | inr (inr (inr (inr e))) ↦ terms_made p v ms h l (inr e)
     ]
 
-    path_same : (p : Path) → ShapePath s n p ↔ (c.path ≡ Some p)
-    path_same p = path_some s n c.path (one properties.Path refl) (compiled c i).path p
+    path_same : (p : Path) → (IsOff s n → IsPredicate p) → ShapePath s n p ↔ (c.path ≡ Some p)
+    path_same p may = path_kept s n c.path (one properties.Path refl) (compiled c i).path c.is_deactivated (compiled c i).is_deactivated p may
 
     sibling_same : (t : Term) → Sibling s n t ↔ ((k : ℕ) × Contains c.siblings k × IsAt shapes k t)
     sibling_same t = (
@@ -307,19 +322,19 @@ module _ (s : List Triple) (well : IsWellFormed s) (shapes : List ReadShape) (no
           let k = (has_same_at c i ShProperty a.0 tt).0 a.1 in
           let m = k.2.0 in
           let there = get_in shapes k.0 m k.2.1 in
-          inl (k.0, m, k.1, k.2.1, (path_same m there (Predicate p)).0 (subst (λ (u : Term). ShapePath s u (Predicate p)) (sym k.2.2) a.2))
+          inl (k.0, m, k.1, k.2.1, (path_same m there (Predicate p) (λ off. (p, refl))).0 (subst (λ (u : Term). ShapePath s u (Predicate p)) (sym k.2.2) a.2))
       | inr a ↦ inr (((compiled c i).ignored p).1 (a.0, a.2, (a.1, a.3, a.4)))
     ],
     λ h. elim h [
-      | inl a ↦ inl (a.1.node, (has_same_at c i ShProperty a.1.node tt).1 (a.0, a.2, (a.1, a.3, refl)), (path_same a.1 (get_in shapes a.0 a.1 a.3) (Predicate p)).1 a.4)
+      | inl a ↦ inl (a.1.node, (has_same_at c i ShProperty a.1.node tt).1 (a.0, a.2, (a.1, a.3, refl)), (path_same a.1 (get_in shapes a.0 a.1 a.3) (Predicate p) (λ off. (p, refl))).1 a.4)
       | inr d ↦ let k = ((compiled c i).ignored p).0 d in inr (k.0, k.2.0, k.1, k.2.1, k.2.2)
     ],
   )
 
-  says_alike : (c : ReadShape) → Contains shapes c → SameReading (reading s c.node) (shape_reading shapes c)
+  says_alike : (c : ReadShape) → Contains shapes c → SameShape (reading s c.node) (shape_reading shapes c)
   says_alike c i = record {
     path = path_same c i;
-    is_node_shape = path_none s c.node c.path (compiled c i).path;
+    is_node_shape = λ active. path_none s c.node c.path ((compiled c i).path.active active);
     has = has_same_at c i;
     has_list = λ p takes head ms. list_same c i p head ms (made c i p takes head ms);
     sibling = sibling_same c i;

@@ -9,7 +9,7 @@ use Rattle.rdf_model.specs.declared.term.Term.{Term}
 use Rattle.rdf_model.specs.declared.triple.Triple.{Triple}
 use Rattle.rdf_model.specs.Terms.{term_cmp, triple_cmp}
 use Rattle.shape_model.specs.Instances.{Instance}
-use Rattle.shape_model.specs.Paths.{Path}
+use Rattle.shape_model.specs.Paths.{Path, Predicate}
 use Rattle.shape_model.specs.Readings.{Sibling}
 use Rattle.shape_model.specs.ShapeSyntax.{ListOf, PathOf}
 use Rattle.shape_model.specs.Vocabulary.{rdfs_class, true_literal}
@@ -105,10 +105,24 @@ IsPathAt s n p = (v : Term) × HasProperty s n vocabulary.Path v × PathOf s v p
 abbrev pub IsOptionalPath : List Triple → Term → Option Path → Type 0
 IsOptionalPath s n found = MatchOption found ((v : Term) → HasProperty s n vocabulary.Path v → ⊥) (IsPathAt s n)
 
+-- its path where that is a predicate
+abbrev pub IsOptionalPredicate : List Triple → Term → Option Path → Type 0
+IsOptionalPredicate s n found = MatchOption found ((p : Term) → IsPathAt s n (Predicate p) → ⊥) (λ path. (p : Term) × (path ≡ Predicate p) × IsPathAt s n path)
+
+-- sh:deactivated is true at it (SHACL 2.1.6)
+abbrev pub IsOff : List Triple → Term → Type 0
+IsOff s n = HasProperty s n vocabulary.Deactivated true_literal
+
+-- What is kept of its path. A deactivated shape has no value nodes that are asked for, and a closed shape allows of its property
+-- shapes' paths only those that are predicates (SHACL 4.8.1): so only such a path of it is kept.
+pub record IsKeptPath (s : List Triple) (n : Term) (found : Option Path) : Type 0 where
+  pub active : (IsOff s n → ⊥) → IsOptionalPath s n found
+  pub deactivated : IsOff s n → IsOptionalPredicate s n found
+
 -- the shape's parts are what the triples say of its node, where shapes are named by their places among the nodes
 pub record IsCompiled (s : List Triple) (nodes : List Term) (c : ReadShape) : Type 0 where
-  pub path : IsOptionalPath s c.node c.path
-  pub is_deactivated : IsTrue c.is_deactivated ↔ HasProperty s c.node vocabulary.Deactivated true_literal
+  pub path : IsKeptPath s c.node c.path
+  pub is_deactivated : IsTrue c.is_deactivated ↔ IsOff s c.node
   pub severity : IsValue s c.node vocabulary.Severity c.severity
   pub messages : IsListing term_cmp (HasProperty s c.node vocabulary.Message) c.messages
   pub targets : (x : Target Term) → Contains c.targets x ↔ IsTarget s nodes c.node x

@@ -11,7 +11,6 @@ mod fault;
 mod kind;
 mod part;
 mod path;
-mod path_sizes;
 mod pattern;
 mod place;
 mod read;

@@ -1,5 +1,5 @@
 //! The path of a shape (SHACL section 2.3.1).
-ghost use Rattle.std.specs.Prelude.{◌≡◌, IfOk};
+ghost use Rattle.std.specs.Prelude.{◌≡◌, ◌↔◌, IfOk, IsTrue};
 ghost use Rattle.collections.specs.Ordered.{IsAscending};
 ghost use Rattle.rdf_model.specs.Terms.{triple_cmp};
 ghost use Rattle.shape_syntax.specs.PathNodes.{ArePathNodes};
@@ -7,12 +7,14 @@ ghost use Rattle.shape_syntax.specs.declared.reading.PathFault.TheVariants as pa
 ghost use Rattle.shape_ast.specs.Readings.{read_optional_path};
 ghost use Rattle.shape_rules.specs.Broken.{IsWellFormed};
 ghost use Rattle.shape_properties.specs.Syntax.{IsShape};
-ghost use Rattle.shape_reader.specs.Parts.{IsOptionalPath};
+ghost use Rattle.shape_properties.specs.declared.property.ShapeProperty.TheVariants as properties;
+ghost use Rattle.shape_reader.specs.Parts.{HasOne, IsKeptPath, IsOff, IsOptionalPath, IsOptionalPredicate};
 
 use crate::values::value_of;
 use compiled_paths::Path;
 use rdf_model::{Term, Triple};
 use shape_properties::ShapeProperty;
+use shape_syntax::terms::is_iri;
 use shape_syntax::{PathFault, read_path};
 use std::alloc::{AllocError, Global};
 use std::collections::BTreeSet;
@@ -29,9 +31,9 @@ fn want_of_memory(fault: PathFault) -> AllocError
     }
 }
 
-/// The path of the shape at the node, if it has one. The nodes are the graph's `path_nodes`. In a well-formed graph each
-/// value of sh:path stands for a path that isn't too deep.
-pub(crate) fn path_of(
+// The path of the shape at the node, if it has one. The nodes are the graph's `path_nodes`. In a well-formed graph each
+// value of sh:path stands for a path that isn't too deep.
+fn path_of(
     alloc: Global,
     graph: &[Triple],
     paths: &BTreeSet<Term>,
@@ -49,5 +51,45 @@ pub(crate) fn path_of(
     match read_path(alloc, graph, paths, value) {
         Ok(path) => Ok(Some(path)),
         Err(fault) => Err(want_of_memory(fault)),
+    }
+}
+
+// The path of the shape at the node, if it is a predicate.
+fn predicate_of(graph: &[Triple], node: &Term) -> Result<Option<Path<Term>>, AllocError>
+    requires graph { IsAscending triple_cmp graph.now }
+    requires one { HasOne graph.now node.now properties.Path }
+    ensures { IfOk result (λ found. IsOptionalPredicate graph.now node.now (read_optional_path (λ t. t) found)) }
+{
+    let Some(value) = value_of(graph, node, ShapeProperty::Path) else {
+        return Ok(None);
+    };
+    if is_iri(value) {
+        Ok(Some(Path::Predicate(value.clone()?)))
+    } else {
+        Ok(None)
+    }
+}
+
+/// What is kept of the path of the shape at the node: the whole of it, but only a predicate where the shape is deactivated.
+/// No rule bounds a path of which nothing is looked at, and a small graph may say one that no memory holds, since paths in a
+/// graph share their nodes. The nodes are the graph's `path_nodes`.
+pub(crate) fn kept_path(
+    alloc: Global,
+    graph: &[Triple],
+    paths: &BTreeSet<Term>,
+    node: &Term,
+    is_deactivated: bool,
+) -> Result<Option<Path<Term>>, AllocError>
+    requires graph { IsAscending triple_cmp graph.now }
+    requires well_formed { IsWellFormed graph.now }
+    requires paths { ArePathNodes graph.now paths.now.keys }
+    requires shape { IsShape graph.now node.now }
+    requires off { IsTrue is_deactivated ↔ IsOff graph.now node.now }
+    ensures { IfOk result (λ found. IsKeptPath graph.now node.now (read_optional_path (λ t. t) found)) }
+{
+    if is_deactivated {
+        Ok(predicate_of(graph, node)?)
+    } else {
+        Ok(path_of(alloc, graph, paths, node)?)
     }
 }

@@ -1,5 +1,5 @@
 //! One shape, compiled (SHACL section 2).
-ghost use Rattle.std.specs.Prelude.{◌≡◌, ◌↔◌, ℕ, IfOk, MatchResult};
+ghost use Rattle.std.specs.Prelude.{◌≡◌, ◌↔◌, ℕ, IfOk, IsTrue, MatchResult};
 ghost use Rattle.std.specs.List.{Contains};
 ghost use Rattle.collections.specs.Listings.{IsListing};
 ghost use Rattle.collections.specs.Ordered.{IsAscending};
@@ -13,11 +13,11 @@ ghost use Rattle.shape_syntax.specs.PathNodes.{ArePathNodes};
 ghost use Rattle.shape_ast.specs.Readings.{read_optional_path};
 ghost use Rattle.shape_reader.specs.Asked.{AsksAt, AsksIfAny};
 ghost use Rattle.shape_reader.specs.Faults.{IsCompileCause};
-ghost use Rattle.shape_reader.specs.Parts.{AreConstraints, ArePartsOf, AreProperties, AreTargetsOf, HasOne, HasSibling, HasTexts, IsIgnored, IsOptionalPath, IsOptionalPattern, IsPatternFault, IsShapeOf, IsValue};
+ghost use Rattle.shape_reader.specs.Parts.{AreConstraints, ArePartsOf, AreProperties, AreTargetsOf, HasOne, HasSibling, HasTexts, IsIgnored, IsKeptPath, IsOff, IsOptionalPattern, IsPatternFault, IsShapeOf, IsValue};
 
 use crate::CompileFault;
 use crate::constraint::constraints_of;
-use crate::path::path_of;
+use crate::path::kept_path;
 use crate::pattern::pattern_of;
 use crate::target::targets_of;
 use crate::values::{
@@ -121,27 +121,29 @@ fn pattern_at<M: Maker>(
     }
 }
 
-// The path and the pattern.
+// What is kept of the path, and the pattern.
 fn made_of<M: Maker>(
     alloc: Global,
     maker: &mut M,
     graph: &[Triple],
     paths: &BTreeSet<Term>,
     node: &Term,
+    is_deactivated: bool,
 ) -> Result<(Option<Path<Term>>, Option<Pattern<Term>>), CompileFault>
     requires graph { IsAscending triple_cmp graph.now }
     requires well_formed { IsWellFormed graph.now }
     requires paths { ArePathNodes graph.now paths.now.keys }
     requires shape { IsShape graph.now node.now }
+    requires off { IsTrue is_deactivated ↔ IsOff graph.now node.now }
     requires patterns { HasTexts graph.now node.now properties.Pattern }
     requires flags { HasTexts graph.now node.now properties.Flags }
     ensures answer { MatchResult result
-        (λ made. IsOptionalPath graph.now node.now (read_optional_path (λ t. t) made.0) × (IsOptionalPattern graph.now node.now made.1 × (M.refused maker.new ≡ M.refused maker.old)))
+        (λ made. IsKeptPath graph.now node.now (read_optional_path (λ t. t) made.0) × (IsOptionalPattern graph.now node.now made.1 × (M.refused maker.new ≡ M.refused maker.old)))
         (λ fault. IsCompileCause graph.now fault (M.refused maker.old) (M.refused maker.new)) }
     ensures asked { MatchResult result (λ _. AsksIfAny graph.now node.now (M.asked maker.old) (M.asked maker.new))
         (λ fault. AsksAt graph.now node.now fault (M.asked maker.old) (M.asked maker.new)) }
 {
-    let path = path_of(alloc, graph, paths, node)?;
+    let path = kept_path(alloc, graph, paths, node, is_deactivated)?;
     let pattern = pattern_at(alloc, maker, graph, node)?;
     Ok((path, pattern))
 }
@@ -173,6 +175,7 @@ fn assembled(
     graph: &[Triple],
     nodes: &[Term],
     node: &Term,
+    is_deactivated: bool,
     path: Option<Path<Term>>,
     pattern: Option<Pattern<Term>>,
     parts: Parts,
@@ -181,7 +184,8 @@ fn assembled(
     requires well_formed { IsWellFormed graph.now }
     requires nodes { IsAscending term_cmp nodes.now }
     requires shape { IsShape graph.now node.now }
-    requires path { IsOptionalPath graph.now node.now (read_optional_path (λ t. t) path) }
+    requires off { IsTrue is_deactivated ↔ IsOff graph.now node.now }
+    requires path { IsKeptPath graph.now node.now (read_optional_path (λ t. t) path) }
     requires pattern { IsOptionalPattern graph.now node.now pattern }
     requires parts { ArePartsOf graph.now nodes.now node.now parts.0.0 parts.0.1.0.0 parts.0.1.0.1
         parts.0.1.1.0 parts.0.1.1.1 parts.1.0.0 parts.1.0.1 parts.1.1.0 parts.1.1.1 }
@@ -193,7 +197,7 @@ fn assembled(
     Shape {
         node: own,
         path,
-        is_deactivated: is_deactivated(graph, node),
+        is_deactivated,
         severity,
         messages,
         targets,
@@ -229,7 +233,8 @@ pub(crate) fn compile_shape<M: Maker>(
     ensures asked { MatchResult result (λ _. AsksIfAny graph.now node.now (M.asked maker.old) (M.asked maker.new))
         (λ fault. AsksAt graph.now node.now fault (M.asked maker.old) (M.asked maker.new)) }
 {
-    let (path, pattern) = made_of(alloc, maker, graph, paths, node)?;
+    let off = is_deactivated(graph, node);
+    let (path, pattern) = made_of(alloc, maker, graph, paths, node, off)?;
     let parts = parts_at(alloc, graph, turned, nodes, node)?;
-    Ok(assembled(graph, nodes, node, path, pattern, parts))
+    Ok(assembled(graph, nodes, node, off, path, pattern, parts))
 }

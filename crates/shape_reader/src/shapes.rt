@@ -14,7 +14,6 @@ ghost use Rattle.shape_ast.specs.Once.{AreOnce};
 ghost use Rattle.shape_reader.specs.Parts.{AreShapes};
 
 use crate::CompileFault;
-use crate::path_sizes::have_room;
 use crate::shape::compile_shape;
 use collections::Sequence;
 use outside::Maker;
@@ -72,7 +71,6 @@ pub(crate) fn compile_of<M: Maker>(
         (λ fault. AsksBefore graph.now fault (M.asked maker.old) (M.asked maker.new)) }
 {
     let turned = turned_properties(alloc, graph)?;
-    have_room(alloc, graph, survey)?;
     let shapes = compile_nodes(
         alloc,
         maker,

@@ -10,7 +10,7 @@ ghost use Rattle.shape_references.specs.Siblings.{IsTurned};
 ghost use Rattle.shape_properties.specs.declared.property.ShapeProperty.TheVariants as properties;
 ghost use Rattle.shape_properties.specs.Syntax.{HasProperty};
 ghost use Rattle.shape_syntax.specs.Gathering.{Gives};
-ghost use Rattle.shape_reader.specs.Parts.{AreProperties, HasOne, HasPlace, HasSibling, IsIgnored, IsValue};
+ghost use Rattle.shape_reader.specs.Parts.{AreProperties, HasOne, HasPlace, HasSibling, IsIgnored, IsOff, IsValue};
 
 use crate::place::{place_of, places_among};
 use collections::{Sequence, sorted_once};
@@ -193,7 +193,7 @@ fn is_true(term: &Term) -> bool
 pub(crate) fn is_deactivated(graph: &[Triple], node: &Term) -> bool
     requires graph { IsAscending triple_cmp graph.now }
     requires one { HasOne graph.now node.now properties.Deactivated }
-    ensures { IsTrue result ↔ HasProperty graph.now node.now properties.Deactivated true_literal }
+    ensures { IsTrue result ↔ IsOff graph.now node.now }
 {
     match value_of(graph, node, ShapeProperty::Deactivated) {
         Some(value) => is_true(value),

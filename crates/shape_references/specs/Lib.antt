@@ -3,3 +3,4 @@ pub mod Asking
 pub mod Steps
 pub mod Ranks
 pub mod Siblings
+pub mod Laws

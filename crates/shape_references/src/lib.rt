@@ -9,6 +9,7 @@
 
 mod below;
 mod chains;
+pub mod laws;
 mod leading;
 mod loops;
 mod marks;

@@ -12,7 +12,8 @@ use Rattle.shape_syntax.specs.Gathering.{Gives}
 use Rattle.shape_references.specs.Chains.{Chain, HasChain, HasLoopAt, IsJoined, IsLeastOnLoop, IsLeastWithChain}
 use Rattle.shape_properties.specs.declared.property.ShapeProperty.TheVariants as properties
 use Rattle.shape_properties.specs.Properties.{property_iri}
-use Rattle.shape_sizes.specs.References.{AreReferences, HasLongChain, IsLeastRecursive, IsLeastWithLongChain, IsRecursive, NamesShape, chain_limit}
+use Rattle.shape_model.specs.Limits.{levels_limit}
+use Rattle.shape_sizes.specs.References.{AreReferences, HasLongChain, IsLeastRecursive, IsLeastWithLongChain, IsRecursive, NamesShape}
 use Rattle.shape_sizes.specs.Referring.{IsReferenceBy, IsReferredBy}
 
 referred : (s : List Triple) (t : Triple) (n : Term) → Contains s t → IsReferredBy s t n → NamesShape s t.subject n
@@ -67,13 +68,13 @@ counted_as : (R S : Term → Term → Type 0) → ((a b : Term) → R a b → S 
 counted_as R S f zero a h = tt
 counted_as R S f (suc n) a h = (h.0, f a h.0 h.1, counted_as R S f n h.0 h.2)
 
-pub long_as : (s references : List Triple) → AreReferences s references → (n : Term) → HasChain (IsJoined references) chain_limit n ↔ HasLongChain s n
+pub long_as : (s references : List Triple) → AreReferences s references → (n : Term) → HasChain (IsJoined references) levels_limit n ↔ HasLongChain s n
 long_as s references are n = (
-  counted_as (IsJoined references) (NamesShape s) (λ a b j. (are.exact a b).0 j) chain_limit n,
-  counted_as (NamesShape s) (IsJoined references) (λ a b k. (are.exact a b).1 k) chain_limit n,
+  counted_as (IsJoined references) (NamesShape s) (λ a b j. (are.exact a b).0 j) levels_limit n,
+  counted_as (NamesShape s) (IsJoined references) (λ a b k. (are.exact a b).1 k) levels_limit n,
 )
 
-pub found_long_as : (s references : List Triple) → AreReferences s references → (found : Option Term) → MatchOption found ((n : Term) → HasChain (IsJoined references) chain_limit n → ⊥) (λ n. IsLeastWithChain references chain_limit n)
+pub found_long_as : (s references : List Triple) → AreReferences s references → (found : Option Term) → MatchOption found ((n : Term) → HasChain (IsJoined references) levels_limit n → ⊥) (λ n. IsLeastWithChain references levels_limit n)
     → MatchOption found ((n : Term) → HasLongChain s n → ⊥) (λ n. IsLeastWithLongChain s n)
 found_long_as s references are None h = λ n k. h n ((long_as s references are n).1 k)
 found_long_as s references are (Some n) h = ((long_as s references are n).0 h.0, λ m k. h.1 m ((long_as s references are m).1 k))

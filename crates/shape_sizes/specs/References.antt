@@ -1,11 +1,12 @@
 -- References between shapes, which lead from no shape to itself (SHACL 3.4.3; rule 38), and how many may follow one another
 -- (rule 41).
-use Rattle.std.specs.Prelude.{◌≢◌, ◌⊎◌, ◌↔◌, ℕ, List}
+use Rattle.std.specs.Prelude.{◌≢◌, ◌⊎◌, ◌↔◌, List}
 use Rattle.std.specs.declared.cmp.Ordering.TheVariants.{Greater}
 use Rattle.collections.specs.Ordered.{IsAscending}
 use Rattle.rdf_model.specs.declared.term.Term.{Term}
 use Rattle.rdf_model.specs.declared.triple.Triple.{Triple}
 use Rattle.rdf_model.specs.Terms.{term_cmp, triple_cmp}
+use Rattle.shape_model.specs.Limits.{levels_limit}
 use Rattle.shape_model.specs.Readings.{Sibling}
 use Rattle.shape_references.specs.Chains.{HasChain, IsJoined, IsOnLoop}
 use Rattle.shape_properties.specs.Table.{role}
@@ -24,13 +25,9 @@ IsRecursive s n = IsOnLoop (NamesShape s) n
 abbrev pub IsLeastRecursive : List Triple → Term → Type 0
 IsLeastRecursive s n = IsRecursive s n × ((m : Term) → IsRecursive s m → term_cmp n m ≢ Greater)
 
--- From no shape may a chain of so many references lead: one more than 256. It is unfoldable, so that no proof counts so far.
-unfoldable pub chain_limit : ℕ
-chain_limit = 257
-
--- a chain of so many leads from the shape
+-- a chain of more references than may follow one another leads from the shape
 abbrev pub HasLongChain : List Triple → Term → Type 0
-HasLongChain s n = HasChain (NamesShape s) chain_limit n
+HasLongChain s n = HasChain (NamesShape s) levels_limit n
 
 -- no such shape comes before it
 abbrev pub IsLeastWithLongChain : List Triple → Term → Type 0

@@ -12,7 +12,8 @@ ghost use Rattle.shape_syntax.specs.Gathering.{Gives, HasGathered};
 ghost use Rattle.shape_references.specs.Siblings.{IsTurned};
 ghost use Rattle.shape_properties.specs.declared.property.ShapeProperty.TheVariants as property_data;
 ghost use Rattle.shape_properties.specs.Properties.{property_iri};
-ghost use Rattle.shape_sizes.specs.References.{AreReferences, HasLongChain, IsLeastRecursive, IsLeastWithLongChain, IsRecursive, chain_limit};
+ghost use Rattle.shape_model.specs.Limits.{levels_limit};
+ghost use Rattle.shape_sizes.specs.References.{AreReferences, HasLongChain, IsLeastRecursive, IsLeastWithLongChain, IsRecursive};
 ghost use Rattle.shape_sizes.specs.Referring.{IsReferenceBy, IsReferenceTo, IsReferredBy};
 
 use collections::{Sequence, sorted_once};
@@ -148,9 +149,9 @@ pub fn least_recursive(
 }
 
 // So many references in a row are too many.
-#[tactic(auto, unfolding(crate::specs::References::chain_limit))]
+#[tactic(auto, unfolding(shape_model::specs::Limits::levels_limit))]
 fn too_many() -> usize
-    ensures limit { result ≡ chain_limit }
+    ensures limit { result ≡ levels_limit }
     ensures some { 0 < result }
 {
     257

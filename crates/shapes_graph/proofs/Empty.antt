@@ -7,7 +7,8 @@ use Rattle.shape_model.specs.Triples.{Has}
 use Rattle.shape_references.specs.Chains.{Chain}
 use Rattle.shape_rules.specs.declared.rule_row.RuleRow.{RuleRow}
 use Rattle.shape_rules.specs.Broken.{IsBroken, IsWellFormed}
-use Rattle.shape_sizes.specs.References.{HasLongChain, NamesShape, chain_limit}
+use Rattle.shape_model.specs.Limits.{levels_limit}
+use Rattle.shape_sizes.specs.References.{HasLongChain, NamesShape}
 use Rattle.shape_properties.specs.Syntax.{IsShape as IsRuledShape}
 use Rattle.shape_ast.specs.Once.{AreOnce}
 use Rattle.shape_ast.specs.Standing.{AreCompiled, StandFor}
@@ -43,7 +44,7 @@ no_chain a [] b h = no_reference a b h
 no_chain a (m ∷ ms) b h = no_reference a m h.0
 
 no_long_chain : (n : Term) → HasLongChain [] n → ⊥
-unfolding chain_limit
+unfolding levels_limit
 no_long_chain n h = no_reference n h.0 h.1
 
 unbroken : (r : RuleRow) → IsBroken [] r → ⊥

@@ -7,7 +7,7 @@ use Rattle.rdf_model.specs.declared.term.Term.{Term}
 use Rattle.rdf_model.specs.declared.triple.Triple.{Triple}
 use Rattle.rdf_model.specs.Numbers.{term_at}
 use Rattle.shape_model.specs.Looks.{LookRow}
-use Rattle.shape_model.specs.Readings.{Reading, SameReading}
+use Rattle.shape_model.specs.Readings.{Reading}
 use Rattle.shape_model.specs.ShapeLooks.{TargetLook}
 use Rattle.shape_model.specs.Targets.{TargetOf}
 use Rattle.shape_model.specs.Vocabulary.{ShTargetNode, ShTargetClass, ShTargetSubjectsOf, ShTargetObjectsOf}
@@ -16,7 +16,7 @@ use Rattle.shape_ast.specs.declared.shape.Shape.{Shape}
 use Rattle.shape_ast.specs.declared.target.Target.{Target as Declaration}
 use Rattle.shape_ast.specs.declared.target.Target.TheVariants.{Node, Class, ImplicitClass, SubjectsOf, ObjectsOf}
 use Rattle.shape_ast.specs.Readings.{ReadShape, read_shape, read_target}
-use Rattle.shape_ast.specs.Standing.{shape_reading}
+use Rattle.shape_ast.specs.Standing.{SameShape, shape_reading}
 use Rattle.target_nodes.specs.Declarations.{declared_reading}
 
 -- two readings declare the same targets
@@ -36,8 +36,8 @@ same_back y z e = record {
   objects = λ v. ((e.objects v).1, (e.objects v).0);
 }
 
--- what is read the same, and then declares the same
-pub same_then : (x y z : Reading) → SameReading x y → DeclareSame y z → DeclareSame x z
+-- what agrees as a validation asks, and then declares the same
+pub same_then : (x y z : Reading) → SameShape x y → DeclareSame y z → DeclareSame x z
 same_then x y z e d = record {
   nodes = λ v. (λ h. (d.nodes v).0 ((e.has ShTargetNode v tt).0 h), λ h. (e.has ShTargetNode v tt).1 ((d.nodes v).1 h));
   classes = λ v. (λ h. (d.classes v).0 ((e.has ShTargetClass v tt).0 h), λ h. (e.has ShTargetClass v tt).1 ((d.classes v).1 h));

@@ -11,12 +11,12 @@ use Rattle.rdf_model.specs.declared.ids.Ids.{Ids}
 use Rattle.rdf_model.specs.declared.look.Look.{Look}
 use Rattle.rdf_model.specs.Numbers.{graph_of, term_at}
 use Rattle.shape_model.specs.NodeLooks.{IsLook}
-use Rattle.shape_model.specs.Readings.{SameReading, reading}
+use Rattle.shape_model.specs.Readings.{reading}
 use Rattle.shape_model.specs.ShapeLooks.{TargetLook}
 use Rattle.shape_model.specs.Targets.{Target, TargetOf}
 use Rattle.shape_ast.specs.declared.shape.Shape.{Shape}
 use Rattle.shape_ast.specs.Readings.{ReadShape, named_shapes, read_shape}
-use Rattle.shape_ast.specs.Standing.{StandFor, shape_reading}
+use Rattle.shape_ast.specs.Standing.{SameShape, StandFor, shape_reading}
 use Rattle.path_eval.proofs.Footprints.{looks_same}
 use Rattle.path_eval.proofs.Growing.{listing_same}
 use Rattle.target_nodes.specs.Declarations.{declared_reading}
@@ -46,7 +46,7 @@ module _ (terms : List Term) (ids : List Ids) (shapes : List (Shape ℕ)) (k : �
       let named = named_shapes terms shapes in
       let there = read_there terms shapes k sh c lt at in
       let read : read_shape (term_at terms) sh ≡ c = subst (λ (x : Shape ℕ). read_shape (term_at terms) x ≡ c) (sym is) there.0 in
-      let same = subst (λ (d : ReadShape). SameReading (reading s c.node) (shape_reading named d)) (sym read) (stand.each c there.1) in (
+      let same = subst (λ (d : ReadShape). SameShape (reading s c.node) (shape_reading named d)) (sym read) (stand.each c there.1) in (
         ap (λ (d : ReadShape). d.node) read,
         same_then (reading s c.node) (shape_reading named (read_shape (term_at terms) sh)) (declared_reading terms sh.targets) same (declares terms named sh),
       )

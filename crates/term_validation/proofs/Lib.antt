@@ -1,4 +1,4 @@
 pub mod Members
 pub mod Naming
 pub mod NoShapes
-mod Bounded
+pub mod Bounded

@@ -18,7 +18,7 @@ use Rattle.shape_ast.specs.Standing.{StandsIn}
 use Rattle.term_validation.specs.Named.{AreNamedTriples, IsNamedTriple}
 
 -- what holds of each item holds of them too where it follows
-all_more : {X : Type 0} → (A B : X → Type 0) → ((x : X) → A x → B x) → (xs : List X) → All A xs → All B xs
+pub all_more : {X : Type 0} → (A B : X → Type 0) → ((x : X) → A x → B x) → (xs : List X) → All A xs → All B xs
 all_more A B f xs all k d lt = f (get_or xs k d) (all k d lt)
 
 optional_more : {X : Type 0} → (A B : X → Type 0) → ((x : X) → A x → B x) → (o : Option X) → MatchOption o (Unit {0}) A → MatchOption o (Unit {0}) B
@@ -26,9 +26,9 @@ optional_more A B f None h = tt
 optional_more A B f (Some x) h = f x h
 
 -- where Q follows from P, what has P of each of its terms has Q of each
-module _ (P Q : Term → Type 0) (more : (t : Term) → P t → Q t) where
+module _ {T : Type 0} (P Q : T → Type 0) (more : (t : T) → P t → Q t) where
   mutual
-    path_more : (p : Path Term) → HasEach P p → HasEach Q p
+    pub path_more : (p : Path T) → HasEach P p → HasEach Q p
     path_more (Predicate p) h = more p h
     path_more (Inverse' _ p) h = path_more p h
     path_more (Sequence' _ p _ ps) h = (path_more p h.0, row_more ps h.1)
@@ -37,24 +37,24 @@ module _ (P Q : Term → Type 0) (more : (t : Term) → P t → Q t) where
     path_more (OneOrMore' _ p) h = path_more p h
     path_more (ZeroOrOne' _ p) h = path_more p h
 
-    row_more : {m : _} → (ps : Row_of-Path Term m) → RowHasEach P ps → RowHasEach Q ps
+    row_more : {m : _} → (ps : Row_of-Path T m) → RowHasEach P ps → RowHasEach Q ps
     row_more end_of-Path h = tt
     row_more (more_of-Path p ps) h = (path_more p h.0, row_more ps h.1)
 
-  target_more : (t : Target Term) → HoldsOfTarget P t → HoldsOfTarget Q t
+  target_more : (t : Target T) → HoldsOfTarget P t → HoldsOfTarget Q t
   target_more (Node t) h = more t h
   target_more (Class t) h = more t h
   target_more ImplicitClass h = tt
   target_more (SubjectsOf t) h = more t h
   target_more (ObjectsOf t) h = more t h
 
-  constraint_more : (count : ℕ) (k : Constraint Term) → HoldsOfConstraint P count k → HoldsOfConstraint Q count k
+  constraint_more : (count : ℕ) (k : Constraint T) → HoldsOfConstraint P count k → HoldsOfConstraint Q count k
   constraint_more count (ByTerm component q) h = more q h
   constraint_more count (ByList component q members) h = (more q h.0, all_more P Q more members h.1)
   constraint_more count (ByShape component q shape) h = (more q h.0, h.1)
   constraint_more count (ByShapes component q shapes) h = (more q h.0, h.1)
 
-  shape_more : (count : ℕ) (s : Shape Term) → HoldsOfShape P count s → HoldsOfShape Q count s
+  pub shape_more : (count : ℕ) (s : Shape T) → HoldsOfShape P count s → HoldsOfShape Q count s
   shape_more count s h = record {
     node = more s.node h.node;
     path = optional_more (HasEach P) (HasEach Q) path_more s.path h.path;
@@ -62,7 +62,7 @@ module _ (P Q : Term → Type 0) (more : (t : Term) → P t → Q t) where
     messages = all_more P Q more s.messages h.messages;
     targets = all_more (HoldsOfTarget P) (HoldsOfTarget Q) target_more s.targets h.targets;
     constraints = all_more (HoldsOfConstraint P count) (HoldsOfConstraint Q count) (constraint_more count) s.constraints h.constraints;
-    pattern = optional_more (λ (p : Pattern Term). P p.parameter) (λ p. Q p.parameter) (λ p. more p.parameter) s.pattern h.pattern;
+    pattern = optional_more (λ (p : Pattern T). P p.parameter) (λ p. Q p.parameter) (λ p. more p.parameter) s.pattern h.pattern;
     flags = optional_more P Q more s.flags h.flags;
     properties = h.properties;
     qualified = h.qualified;

@@ -5,6 +5,9 @@ use Rattle.shape_reader.proofs.Requests.{any_maybe}
 use Rattle.shape_reader.proofs.WellFormed.{flags_texts, one_value, pattern_texts}
 use Rattle.shape_reader.proofs.shape.compile_shape.Goals as goal
 
+pub is_deactivated-off-requires-clause-one : goal.is_deactivated-off-requires-clause-one
+is_deactivated-off-requires-clause-one g c = one_value c.args.graph.now c.requires.well_formed c.args.node.now c.requires.shape vocabulary.Deactivated refl
+
 pub made_of-requires-clause-patterns : goal.made_of-requires-clause-patterns
 made_of-requires-clause-patterns g c = pattern_texts c.args.graph.now c.requires.well_formed c.args.node.now c.requires.shape
 

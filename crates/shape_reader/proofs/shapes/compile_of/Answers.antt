@@ -32,7 +32,3 @@ returns-clause-once g c = c.in_ok-shapes.ensures.answer.0.once
 pub returns-in_err-turned-clause-asked : goal.returns-in_err-turned-clause-asked
 returns-in_err-turned-clause-asked g c =
     let p = err_from_is_err_and c.from_residual.result c.from_residual.ensures.1 in rw (p.1, p.2) (asks_nothing c.args.graph.now (g.M.Maker.asked c.args.maker.now))
-
-pub returns-in_err-have_room-clause-asked : goal.returns-in_err-have_room-clause-asked
-returns-in_err-have_room-clause-asked g c =
-    let p = err_from_is_err_and c.from_residual-in_err-have_room.result c.from_residual-in_err-have_room.ensures.1 in rw (p.1, p.2) (asks_nothing c.args.graph.now (g.M.Maker.asked c.args.maker.now))
