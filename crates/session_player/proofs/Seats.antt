@@ -15,7 +15,7 @@ use Rattle.store_model.specs.declared.event.Action.TheVariants as actions
 use Rattle.store_model.specs.declared.event.Event.{Event}
 use Rattle.store_model.specs.declared.event.Limits.{Limits}
 use Rattle.store_model.specs.declared.event.Reply.TheVariants.{Session, Version}
-use Rattle.store_model.specs.Store.{State, RecordedStore, empty_store, TakesStep, IsOpened, HasChange, OpensNext, OpensNothing, version}
+use Rattle.store_model.specs.Store.{State, RecordedStore, empty_store, TakesStep, IsOpened, HasChange, IsCommittable, OpensNext, OpensNothing, version}
 use Rattle.session_model.specs.declared.command.Command.{Command}
 use Rattle.session_model.specs.declared.command.Command.TheVariants.{Commit}
 use Rattle.session_model.specs.declared.reply.SessionReply.{SessionReply}
@@ -26,7 +26,7 @@ use Rattle.session_player.specs.Ready.{IsCurrent, IsCurrentIn, Performs, TakesHe
 use Rattle.session_player.specs.Players.{Player, Finishes, state_of, held, IsHeld, IsCommitNext, MayGoOn, TakesEvent, Plays, PlaysAll, AreReady, StopsAt, EndsAll, states_of, new_player}
 use Rattle.session_player.proofs.Advancing.{Advances-event, OpensNext-runs, all-append}
 use Rattle.session_transaction.proofs.Growing.{More, more_same, more_step, more_then}
-use Rattle.session_transaction.proofs.Fitting.{state_more}
+use Rattle.session_transaction.proofs.Fitting.{committable, state_more}
 use Rattle.session_player.proofs.Playing.{one_place, local-change}
 
 more_event : (l : Limits) (m n : World) (i : ℕ) (w : Option OpenTransaction) (cs : List Command) (replies : List SessionReply) → RunsEvent l m i w cs replies n → More m.state n.state
@@ -170,6 +170,14 @@ takes_commit i s n cs rest current w b replies reply o ew eb next hold h =
     subst (λ (ds : List Command). TakesEvent i s n (player ds current b replies) (player rest None false (replies ++ reply ∷ []))) (sym next.1)
     (subst (λ (x : Option OpenTransaction). TakesEvent i s n (player (next.0 ∷ rest) x b replies) (player rest None false (replies ++ reply ∷ []))) (sym ew)
     (subst (λ (x : Bool). TakesEvent i s n (player (next.0 ∷ rest) (Some w) x replies) (player rest None false (replies ++ reply ∷ []))) (sym eb) done))
+
+-- what its commit hands in may be committed
+pub committable_held : (s : RecordedStore) (p v : Player) (rest : List Command) (w : OpenTransaction) → v ≡ p → MayGoOn s p → p.head_taken ≡ true → ((c : Command) × (p.commands ≡ c ∷ rest)) → v.current ≡ Some w → IsCommittable s.state w.transaction × (w.transaction.verdict ≡ None)
+committable_held s p v rest w e ready hold next ew =
+    let ep : p.current ≡ Some w = sym (ap (λ (x : Player). x.current) e) ∙ ew in
+    let now : IsCurrent s w = subst (IsCurrentIn s) ep ready.current in
+    let waits : IsHeld true (Some w) (next.0 ∷ rest) = subst (λ (b : Bool). IsHeld b (Some w) (next.0 ∷ rest)) hold (subst (λ (x : Option OpenTransaction). IsHeld p.head_taken x (next.0 ∷ rest)) ep (subst (λ (cs : List Command). IsHeld p.head_taken p.current cs) next.1 ready.held)) in
+    (committable w.transaction s.state now.fits waits.1, now.fits.verdict)
 
 -- a list with an item is its first one and the others
 abbrev pub others : {X : Type 0} → List X → List X

@@ -14,6 +14,11 @@ commit_reply-requires-clause-committable g c =
     let some : HasChange x.net x.staged = subst (λ (b : Bool). MatchBool b ((x.net ≡ []) × (x.staged ≡ None)) (HasChange x.net x.staged)) c.if-only_reads.false c.only_reads.ensures in
     rw c.into_transaction.ensures (committable_after _ _ _ (plain c.in-Some.open) ready some c.in_ok-take_head.ensures)
 
+pub commit_reply-requires-clause-unchecked : goal.commit_reply-requires-clause-unchecked
+commit_reply-requires-clause-unchecked g c =
+    let ready : IsReady c.args.core.now c.args.session (Some (plain c.in-Some.open)) = subst (λ (t : Option OpenTransaction). IsReady c.args.core.now c.args.session (plain_in t)) c.in-Some.is c.requires in
+    rw c.into_transaction.ensures ready.current.fits.verdict
+
 pub returns : goal.returns
 returns g c =
     let ready : IsReady c.args.core.now c.args.session (Some (plain c.in-Some.open)) = subst (λ (t : Option OpenTransaction). IsReady c.args.core.now c.args.session (plain_in t)) c.in-Some.is c.requires in
