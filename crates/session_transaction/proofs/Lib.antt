@@ -2,4 +2,4 @@ pub mod Growing
 pub mod Fitting
 pub mod Blocks
 pub mod Refusing
-pub mod Committing
+pub mod Listed

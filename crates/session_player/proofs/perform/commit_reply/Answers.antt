@@ -1,4 +1,4 @@
-use Rattle.session_transaction.proofs.Committing.{listed_answer}
+use Rattle.session_transaction.proofs.Listed.{listed_answer}
 use Rattle.session_player.proofs.Playing.{commits_with}
 use Rattle.session_player.proofs.perform.commit_reply.Goals as goal
 
