@@ -16,4 +16,4 @@ returns-in-Ok-clause-session g c = begins_session c.args.self.now c.args.session
 pub returns-in-Err-clause-session : goal.returns-in-Err-clause-session
 returns-in-Err-clause-session g c =
     let none : c.args.session.current ≡ None = search rules in
-    begins_not_session c.args.self.now c.args.session _ faults.Memory c.requires (none, at_err _ _ _ _ c.in-Err.is (rw c.into_parts-pass.ensures at c.take_begin-pass.ensures), rw (c.from_parts-session.ensures, c.into_parts-pass.ensures) refl)
+    rw c.from_parts-session.ensures (begins_not_session c.args.self.now c.args.session _ faults.Memory c.requires (none, at_err _ _ _ _ c.in-Err.is (rw c.into_parts-pass.ensures at c.take_begin-pass.ensures), rw c.into_parts-pass.ensures refl))

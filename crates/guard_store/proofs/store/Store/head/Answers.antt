@@ -18,4 +18,4 @@ returns-in-Ok-clause-session g c = heads_session c.args.self.now c.args.session 
 pub returns-in-Err-clause-session : goal.returns-in-Err-clause-session
 returns-in-Err-clause-session g c =
     let is = subst (λ (b : Bool). MatchBool b ((w : OpenTransaction) × (c.args.session.current ≡ Some w)) (c.args.session.current ≡ None)) c.if-not-is_open.false c.is_open.ensures in
-    heads_not_session c.args.self.now c.args.session _ faults.Memory c.requires (is, at_err _ _ _ _ c.in-Err.is (rw c.into_parts-pass.ensures at c.take_head-pass.ensures), rw (c.from_parts.ensures, c.into_parts-pass.ensures) refl)
+    rw c.from_parts.ensures (heads_not_session c.args.self.now c.args.session _ faults.Memory c.requires (is, at_err _ _ _ _ c.in-Err.is (rw c.into_parts-pass.ensures at c.take_head-pass.ensures), rw c.into_parts-pass.ensures refl))
