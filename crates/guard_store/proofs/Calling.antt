@@ -3,25 +3,30 @@ use Rattle.std.proofs.Common.{◌≡◌, ◌≢◌, ℕ, Result, Ok, Err, MatchR
 use Rattle.turn_lock.specs.Callers.{Caller}
 use Rattle.rdf_model.specs.declared.term.Term.{Term}
 use Rattle.rdf_model.specs.declared.triple.Triple.{Triple}
+use Rattle.rdf_model.specs.Graphs.{after}
+use Rattle.shape_model.specs.Validation.{Listing}
 use Rattle.store_model.specs.declared.event.Limits.{Limits}
 use Rattle.store_model.specs.declared.event.Event.{Event}
 use Rattle.store_model.specs.declared.event.Action.TheVariants as actions
+use Rattle.store_model.specs.declared.event.Reply.{Reply}
 use Rattle.store_model.specs.declared.event.Reply.TheVariants as replies
+use Rattle.store_model.specs.declared.commit.Transaction.{Transaction}
 use Rattle.store_model.specs.Snapshots.{Snapshot, snapshot_of}
-use Rattle.store_model.specs.Store.{HasChange}
+use Rattle.store_model.specs.Store.{HasChange, shapes_under}
 use Rattle.session_model.specs.Sessions.{parts_of}
 use Rattle.commit_core.specs.declared.store.NameFault.{NameFault}
 use Rattle.commit_core.specs.declared.store.NameFault.TheVariants as names
 use Rattle.guard_store.specs.declared.faults.StageFault.{StageFault}
 use Rattle.guard_store.specs.declared.faults.StageFault.TheVariants as stages
-use Rattle.guard_store.specs.declared.faults.Committed.{Committed}
-use Rattle.guard_store.specs.declared.faults.Committed.TheVariants.{ReadOnly, Done, Conflict, FullTriples, Refused}
-use Rattle.guard_store.specs.declared.transaction.OpenTransaction.{OpenTransaction}
+use Rattle.session_transaction.specs.declared.committing.Committed.{Committed}
+use Rattle.session_transaction.specs.declared.committing.Committed.TheVariants.{ReadOnly, Done, Conflict, FullTriples, Refused}
+use Rattle.session_transaction.specs.declared.transaction.OpenTransaction.{OpenTransaction}
 use Rattle.guard_store.specs.declared.session.Session.{Session}
-use Rattle.guard_store.specs.declared.transaction.ChangeKind.{ChangeKind}
+use Rattle.session_transaction.specs.declared.transaction.ChangeKind.{ChangeKind}
+use Rattle.session_transaction.specs.Commits.{IsAnswer}
 use Rattle.guard_store.specs.Fronts.{SharedStore, Turn, Fails}
 use Rattle.guard_store.specs.Callers.{IsSession}
-use Rattle.guard_store.specs.Transactions.{begun_at, changes_of, with_changes}
+use Rattle.session_transaction.specs.Transactions.{begun_at, changes_of, with_changes}
 use Rattle.guard_store.proofs.Fitting.{stages_session, stages_not_session}
 use Rattle.guard_store.specs.Answers.{Begins, Heads, NamesFor, NamesNot, Stages, StagesNot, IsOpen, AnswersCommit, Commits, TurnCommits, event_of}
 
@@ -38,6 +43,15 @@ heads_now l old pass snap v new is t ev en =
     let now : Session = record old { pass = pass; head = Some snap } in
     let same : now ≡ record old { pass = pass; head = Some (snapshot_of t.0.before) } = ap (λ (n : Snapshot). let s : Session = record old { pass = pass; head = Some n } in s) t.1 in
     subst (λ (s : Session). Heads l old s v) (sym en) (subst (λ (k : ℕ). Heads l old now k) (sym ev) (is, (t.0, same)))
+
+-- the turn of a commit, by what the core answered
+pub turn_commits : (l : Limits) (old new : Caller Event Limits) (i : ℕ) (x : Transaction) (r : Reply) (a : Committed) (t : Turn l old new (event_of i (actions.Commit x) r)) → IsAnswer t.before x r a → TurnCommits l old new i x a
+turn_commits l old new i x r (ReadOnly v) t h = absurd h
+turn_commits l old new i x r (Done n why) t h = subst (λ (s : Reply). Turn l old new (event_of i (actions.Commit x) s)) h t
+turn_commits l old new i x r (Conflict n y) t h = subst (λ (s : Reply). Turn l old new (event_of i (actions.Commit x) s)) h t
+turn_commits l old new i x r (FullTriples n) t h = subst (λ (s : Reply). Turn l old new (event_of i (actions.Commit x) s)) h t
+turn_commits l old new i x r (Refused rows why shapes) t h =
+    subst (λ (s : Reply). (u : Turn l old new (event_of i (actions.Commit x) s)) × (shapes ≡ shapes_under u.before.shapes x.staged) × Listing (after u.before.graph x.net) shapes rows) h.0 (t, h.1, h.2)
 
 answers_now : (l : Limits) (old : Session) (pass : Caller Event Limits) (w : OpenTransaction) (a : Committed) (new : Session) → new.pass ≡ pass → HasChange w.transaction.net w.transaction.staged → TurnCommits l old.pass pass old.number w.transaction a → AnswersCommit l old new w a
 answers_now l old pass w (ReadOnly v) new e h t = absurd t

@@ -1,20 +1,16 @@
 -- A session stays one of its store: its transaction fits each state to which what it has seen leads.
-use Rattle.std.proofs.Common.{◌≡◌, ◌≢◌, ℕ, ◌≤◌, Bool, true, false, List, [], ◌∷◌, ◌++◌, Option, Some, None, refl, sym, ap, subst, ⊎_elim, arith}
-use Rattle.std.specs.Prelude.{MatchBool}
+use Rattle.std.proofs.Common.{◌≡◌, ℕ, ◌≤◌, List, ◌∷◌, [], ◌++◌, Option, Some, None, refl, sym, ap, subst, ⊎_elim, arith}
 use Rattle.turn_lock.specs.Callers.{Caller}
 use Rattle.rdf_model.specs.declared.triple.Triple.{Triple}
-use Rattle.rdf_model.specs.declared.change.Change.{Change}
 use Rattle.store_model.specs.declared.event.Limits.{Limits}
 use Rattle.store_model.specs.declared.event.Event.{Event}
 use Rattle.store_model.specs.declared.event.Action.TheVariants as actions
-use Rattle.store_model.specs.declared.event.Reply.{Reply}
 use Rattle.store_model.specs.declared.event.Reply.TheVariants as replies
 use Rattle.store_model.specs.declared.commit.Transaction.{Transaction}
 use Rattle.store_model.specs.Snapshots.{snapshot_of}
-use Rattle.store_model.specs.Store.{State, RecordedStore, version, empty_store, named_with, NetNamed, StagedNamed, HasChange, IsCommittable, VerdictFits}
+use Rattle.store_model.specs.Store.{State, RecordedStore, version, empty_store, HasChange, IsCommittable}
 use Rattle.store_model.proofs.Histories.{Replays-push}
 use Rattle.session_model.specs.Sessions.{parts_of}
-use Rattle.session_model.proofs.Naming.{NetNamed-more, NetNamed-additions, NetNamed-removals, NetNamed-naming, StagedNamed-more, StagedNamed-naming, StagedNamed-shapes}
 use Rattle.guard_store.specs.declared.faults.BeginFault.{BeginFault}
 use Rattle.guard_store.specs.declared.faults.BeginFault.TheVariants as begins
 use Rattle.guard_store.specs.declared.faults.StageFault.{StageFault}
@@ -23,26 +19,19 @@ use Rattle.guard_store.specs.declared.faults.HeadFault.{HeadFault}
 use Rattle.guard_store.specs.declared.faults.HeadFault.TheVariants as heads
 use Rattle.guard_store.specs.declared.faults.CommitFault.{CommitFault}
 use Rattle.guard_store.specs.declared.faults.CommitFault.TheVariants as commits
-use Rattle.guard_store.specs.declared.faults.Committed.{Committed}
-use Rattle.guard_store.specs.declared.faults.Committed.TheVariants.{ReadOnly, Done, Conflict, FullTriples, Refused}
-use Rattle.guard_store.specs.declared.transaction.OpenTransaction.{OpenTransaction}
-use Rattle.guard_store.specs.declared.transaction.ChangeKind.{ChangeKind}
-use Rattle.guard_store.specs.declared.transaction.ChangeKind.TheVariants.{Addition, Removal}
+use Rattle.session_transaction.specs.declared.committing.Committed.{Committed}
+use Rattle.session_transaction.specs.declared.committing.Committed.TheVariants.{ReadOnly, Done, Conflict, FullTriples, Refused}
+use Rattle.session_transaction.specs.declared.transaction.OpenTransaction.{OpenTransaction}
+use Rattle.session_transaction.specs.declared.transaction.ChangeKind.{ChangeKind}
+use Rattle.session_transaction.specs.Transactions.{FitsState, begun_at, changes_of, with_changes, with_shapes}
+use Rattle.session_transaction.proofs.Growing.{More}
+use Rattle.session_transaction.proofs.Fitting.{after_named, committable, fits_changes, fits_shapes, naming, state_more}
 use Rattle.guard_store.specs.declared.session.Session.{Session}
 use Rattle.guard_store.specs.Fronts.{SharedStore, Turn, Fails, At, Entered, void_of}
-use Rattle.guard_store.specs.Callers.{IsCaller, IsSession, FitsState, FitsIn}
-use Rattle.guard_store.specs.Transactions.{begun_at, changes_of, with_changes, with_shapes}
+use Rattle.guard_store.specs.Callers.{IsCaller, IsSession, FitsIn}
 use Rattle.guard_store.specs.Answers.{Begins, BeginsNot, Stages, StagesNot, Heads, HeadsNot, Commits, CommitsNot, AnswersCommit, event_of}
-use Rattle.guard_store.proofs.Growing.{More, at_this, still_at}
+use Rattle.guard_store.proofs.Growing.{at_this, still_at}
 use Rattle.guard_store.proofs.Turning.{front_is, turned_at, caller_turned, now_at}
-
-pub state_more : (x : Transaction) (s t : State) → More s t → FitsState x s → FitsState x t
-state_more x s t m f = record {
-  base = omega (arith, f.base, m.version);
-  net = NetNamed-more s.named t.named x.net m.named f.net;
-  staged = StagedNamed-more s.named t.named x.staged m.named f.staged;
-  verdict = f.verdict;
-}
 
 pub fits_more : (w : Option OpenTransaction) (s t : State) → More s t → FitsIn w s → FitsIn w t
 fits_more None s t m f = tt
@@ -50,9 +39,7 @@ fits_more (Some w) s t m f = state_more w.transaction s t m f
 
 -- in its turn the transaction may be committed
 pub committable_now : (l : Limits) (pass held : Caller Event Limits) (core : RecordedStore) (x : Transaction) → Entered l pass held core → At l pass.known.front (FitsState x) → HasChange x.net x.staged → IsCommittable core.state x
-committable_now l pass held core x n f change =
-    let y : FitsState x core.state = now_at l pass held core (FitsState x) (state_more x) n f in
-    record { base = y.base; change = change; net = y.net; staged = y.staged; verdict = subst (VerdictFits core.state) (sym y.verdict) tt }
+committable_now l pass held core x n f change = committable x core.state (now_at l pass held core (FitsState x) (state_more x) n f) change
 
 pub unchecked_now : (l : Limits) (pass held : Caller Event Limits) (core : RecordedStore) (x : Transaction) → Entered l pass held core → At l pass.known.front (FitsState x) → x.verdict ≡ None
 unchecked_now l pass held core x n f = let y : FitsState x core.state = now_at l pass held core (FitsState x) (state_more x) n f in y.verdict
@@ -116,54 +103,26 @@ pub begins_not_session : (store : SharedStore) (old new : Session) (f : BeginFau
 begins_not_session store old new begins.AlreadyOpen is b = subst (IsSession store) (sym b.1) is
 begins_not_session store old new begins.Memory is b = session_failed store old new is b.1 (ap (λ s. s.number) b.2) (ap (λ s. s.current) b.2)
 
-names_named : (s t : State) (p q : Reply) (m : State) (b : Bool) → p ≢ q → MatchBool b ((q ≡ p) × (t ≡ s)) ((q ≡ q) × (t ≡ m)) → t ≡ m
-names_named s t p q m true ne h = absurd (ne (sym h.0))
-names_named s t p q m false ne h = h.1
-
--- once the terms of a block were named
-named_after : (store : SharedStore) (old new : Session) (ts : List Triple) (t : Turn store.limits old.pass new.pass (event_of old.number (actions.Name (parts_of ts)) replies.Named)) → t.after ≡ record t.before { named = named_with t.before.named (parts_of ts) }
-named_after store old new ts t = names_named t.before t.after (replies.Full _) replies.Named _ _ (λ e. cc) t.step.1
-
-net_named : (named : List _) (net : List Change) (k : ChangeKind) (ts : List Triple) → NetNamed named net → NetNamed (named_with named (parts_of ts)) (net ++ changes_of k ts)
-net_named named net Addition ts h = NetNamed-additions named net ts h
-net_named named net Removal ts h = NetNamed-removals named net ts h
-
 open_fits : (store : SharedStore) (s : Session) (w : OpenTransaction) → IsSession store s → s.current ≡ Some w → At store.limits s.pass.known.front (FitsIn (Some w))
 open_fits store s w is o = subst (λ (x : Option OpenTransaction). At store.limits s.pass.known.front (FitsIn x)) o is.fits
 
-pub stages_session : (store : SharedStore) (old new : Session) (k : ChangeKind) (ts : List Triple) → IsSession store old → Stages store.limits old new ts (λ w. with_changes w (changes_of k ts)) → IsSession store new
-stages_session store old new k ts is b =
+-- a session whose block was staged
+staged_session : (store : SharedStore) (old new : Session) (ts : List Triple) (f : OpenTransaction → OpenTransaction) → IsSession store old → Stages store.limits old new ts f
+    → ((w : OpenTransaction) (s t : State) → t ≡ naming s ts → FitsState w.transaction s → FitsState (f w).transaction t) → IsSession store new
+staged_session store old new ts f is b keeps =
     let w = b.0 in
     let t = b.2 in
     let h = b.3 in
     let e : Event = event_of old.number (actions.Name (parts_of ts)) replies.Named in
-    let state : t.after ≡ record t.before { named = named_with t.before.named (parts_of ts) } = named_after store old new ts t in
-    let f : FitsState w.transaction t.before = fits_before store.limits old.pass new.pass e (Some w) t (open_fits store old w is b.1) in
-    let v : OpenTransaction = with_changes w (changes_of k ts) in
-    let fits : FitsState v.transaction t.after = record {
-      base = subst (λ (x : State). w.transaction.base ≤ version x) (sym state) f.base;
-      net = subst (λ (x : State). NetNamed x.named (w.transaction.net ++ changes_of k ts)) (sym state) (net_named t.before.named w.transaction.net k ts f.net);
-      staged = subst (λ (x : State). StagedNamed x.named w.transaction.staged) (sym state) (StagedNamed-naming t.before.named w.transaction.staged (parts_of ts) f.staged);
-      verdict = f.verdict;
-    } in
-    session_with store old new e (Some v) is t (ap (λ s. s.number) h) (ap (λ s. s.current) h) (fits_after store.limits old.pass new.pass e (Some v) t fits)
+    let fits : FitsState w.transaction t.before = fits_before store.limits old.pass new.pass e (Some w) t (open_fits store old w is b.1) in
+    session_with store old new e (Some (f w)) is t (ap (λ s. s.number) h) (ap (λ s. s.current) h)
+    (fits_after store.limits old.pass new.pass e (Some (f w)) t (keeps w t.before t.after (after_named store.limits t.before t.after old.number ts t.step) fits))
+
+pub stages_session : (store : SharedStore) (old new : Session) (k : ChangeKind) (ts : List Triple) → IsSession store old → Stages store.limits old new ts (λ w. with_changes w (changes_of k ts)) → IsSession store new
+stages_session store old new k ts is b = staged_session store old new ts (λ w. with_changes w (changes_of k ts)) is b (λ w s t e f. fits_changes w.transaction s t k ts e f)
 
 pub stages_shapes_session : (store : SharedStore) (old new : Session) (ts : List Triple) → IsSession store old → Stages store.limits old new ts (λ w. with_shapes w ts) → IsSession store new
-stages_shapes_session store old new ts is b =
-    let w = b.0 in
-    let t = b.2 in
-    let h = b.3 in
-    let e : Event = event_of old.number (actions.Name (parts_of ts)) replies.Named in
-    let state : t.after ≡ record t.before { named = named_with t.before.named (parts_of ts) } = named_after store old new ts t in
-    let f : FitsState w.transaction t.before = fits_before store.limits old.pass new.pass e (Some w) t (open_fits store old w is b.1) in
-    let v : OpenTransaction = with_shapes w ts in
-    let fits : FitsState v.transaction t.after = record {
-      base = subst (λ (x : State). w.transaction.base ≤ version x) (sym state) f.base;
-      net = subst (λ (x : State). NetNamed x.named w.transaction.net) (sym state) (NetNamed-naming t.before.named w.transaction.net (parts_of ts) f.net);
-      staged = subst (λ (x : State). StagedNamed x.named (Some ts)) (sym state) (StagedNamed-shapes t.before.named ts);
-      verdict = f.verdict;
-    } in
-    session_with store old new e (Some v) is t (ap (λ s. s.number) h) (ap (λ s. s.current) h) (fits_after store.limits old.pass new.pass e (Some v) t fits)
+stages_shapes_session store old new ts is b = staged_session store old new ts (λ w. with_shapes w ts) is b (λ w s t e f. fits_shapes w.transaction s t ts e f)
 
 pub stages_not_session : (store : SharedStore) (old new : Session) (ts : List Triple) (f : StageFault) → IsSession store old → StagesNot f store.limits old new ts → IsSession store new
 stages_not_session store old new ts stages.NoTransaction is b = subst (IsSession store) (sym b.1) is

@@ -21,9 +21,10 @@ use Rattle.store_model.specs.Store.{State, RecordedStore, Step, Replays, TakesSt
 use Rattle.store_model.proofs.Histories.{Replays-push}
 use Rattle.thread_model.specs.Following.{is_opening}
 use Rattle.thread_model.proofs.Placing.{within, opening, grows, grows_all}
+use Rattle.session_transaction.proofs.Growing.{More}
 use Rattle.guard_store.specs.Fronts.{SharedStore, session_of, turned_pass, Turn, At, Entered, MayLeave}
 use Rattle.guard_store.specs.Callers.{IsCaller}
-use Rattle.guard_store.proofs.Growing.{More, still_at}
+use Rattle.guard_store.proofs.Growing.{still_at}
 
 -- a session that wasn't opened has no event
 pub fresh : (l : Limits) (s t : State) (es : List Event) (j : ℕ) → Replays l s es t → t.opened < j → under session_of j es ≡ []

@@ -29,13 +29,13 @@ use Rattle.guard_store.specs.declared.faults.CommitFault.{CommitFault}
 use Rattle.guard_store.specs.declared.faults.CommitFault.TheVariants as commits
 use Rattle.guard_store.specs.declared.faults.FindFault.{FindFault}
 use Rattle.guard_store.specs.declared.faults.FindFault.TheVariants as finds
-use Rattle.guard_store.specs.declared.faults.Committed.{Committed}
-use Rattle.guard_store.specs.declared.faults.Committed.TheVariants.{ReadOnly, Done, Conflict, FullTriples, Refused}
-use Rattle.guard_store.specs.declared.transaction.OpenTransaction.{OpenTransaction}
+use Rattle.session_transaction.specs.declared.committing.Committed.{Committed}
+use Rattle.session_transaction.specs.declared.committing.Committed.TheVariants.{ReadOnly, Done, Conflict, FullTriples, Refused}
+use Rattle.session_transaction.specs.declared.transaction.OpenTransaction.{OpenTransaction}
 use Rattle.guard_store.specs.declared.session.Session.{Session}
 use Rattle.guard_store.specs.declared.session.Keeper.{Keeper}
 use Rattle.guard_store.specs.Fronts.{SharedStore, Turn, Fails}
-use Rattle.guard_store.specs.Transactions.{begun_at}
+use Rattle.session_transaction.specs.Transactions.{begun_at}
 use Rattle.guard_store.specs.Callers.{IsKeeper, IsSession, OnlyReads}
 
 abbrev pub event_of : ℕ → Action → Reply → Event

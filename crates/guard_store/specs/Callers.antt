@@ -4,9 +4,9 @@ use Rattle.turn_lock.specs.History.{has_number}
 use Rattle.turn_lock.specs.Callers.{Caller}
 use Rattle.store_model.specs.declared.event.Limits.{Limits}
 use Rattle.store_model.specs.declared.event.Event.{Event}
-use Rattle.store_model.specs.declared.commit.Transaction.{Transaction}
-use Rattle.store_model.specs.Store.{State, IsOpened, NetNamed, StagedNamed, HasChange, version}
-use Rattle.guard_store.specs.declared.transaction.OpenTransaction.{OpenTransaction}
+use Rattle.store_model.specs.Store.{State, IsOpened, HasChange}
+use Rattle.session_transaction.specs.declared.transaction.OpenTransaction.{OpenTransaction}
+use Rattle.session_transaction.specs.Transactions.{FitsState}
 use Rattle.guard_store.specs.declared.session.Keeper.{Keeper}
 use Rattle.guard_store.specs.declared.session.Session.{Session}
 use Rattle.guard_store.specs.Fronts.{SharedStore, At}
@@ -18,13 +18,7 @@ pub record IsCaller (store : SharedStore) (i : ℕ) (c : Caller Event Limits) : 
   pub own : has_number c.known.numbers i ≡ true
   pub opened : At store.limits c.known.front (λ s. IsOpened s i)
 
--- the transaction began at a version of this store, its terms are named, and it has no verdict
-pub record FitsState (x : Transaction) (s : State) : Type 0 where
-  pub base : x.base ≤ version s
-  pub net : NetNamed s.named x.net
-  pub staged : StagedNamed s.named x.staged
-  pub verdict : x.verdict ≡ None
-
+-- the open transaction, if there is one, is one of this store
 abbrev pub FitsIn : Option OpenTransaction → State → Type 0
 FitsIn None s = Unit {0}
 FitsIn (Some w) s = FitsState w.transaction s

@@ -1,4 +1,3 @@
-pub mod Transactions
 pub mod Fronts
 pub mod Callers
 pub mod Answers

@@ -1,17 +1,17 @@
 //! The calls of a session that are events.
 ghost use Rattle.std.specs.Prelude.{MatchResult};
 ghost use Rattle.session_model.specs.Sessions.{additions, removals};
-ghost use Rattle.guard_store.specs.Transactions;
-ghost use Rattle.guard_store.specs.Transactions.{changes_of};
+ghost use Rattle.session_transaction.specs.Transactions;
+ghost use Rattle.session_transaction.specs.Transactions.{changes_of};
 ghost use Rattle.guard_store.specs.Callers.{HasWork, IsSession};
 ghost use Rattle.guard_store.specs.Answers.{Begins, BeginsNot, Commits, CommitsNot, Heads, HeadsNot, NamesFor, Stages, StagesNot};
 
-use crate::faults::{BeginFault, CommitFault, Committed, HeadFault, StageFault};
+use crate::faults::{BeginFault, CommitFault, HeadFault, StageFault};
 use crate::session::Session;
 use crate::store::Store;
-use crate::transaction::{ChangeKind, OpenTransaction};
 use commit_core::NameFault;
 use rdf_model::Triple;
+use session_transaction::{ChangeKind, Committed, OpenTransaction};
 use shape_eval::Steps;
 use shapes_graph::ShapesGraph;
 use std::sync::Wait;
@@ -32,21 +32,14 @@ impl Store {
         match answer {
             Ok(snap) => {
                 let version = snap.number();
-                let session = Session {
-                    pass,
-                    number,
-                    current: Some(OpenTransaction::new(self.alloc, snap)),
-                    head: None,
-                };
-                (session, Ok(version))
+                let open = OpenTransaction::new(self.alloc, snap);
+                (
+                    Session::from_parts(pass, number, Some(open), None),
+                    Ok(version),
+                )
             }
             Err(_) => {
-                let session = Session {
-                    pass,
-                    number,
-                    current,
-                    head,
-                };
+                let session = Session::from_parts(pass, number, current, head);
                 (session, Err(BeginFault::Memory))
             }
         }
@@ -69,12 +62,7 @@ impl Store {
         }
         let (pass, number, current, head) = session.into_parts();
         let (pass, answer) = self.name_parts(rt, pass, number, triples);
-        let session = Session {
-            pass,
-            number,
-            current,
-            head,
-        };
+        let session = Session::from_parts(pass, number, current, head);
         match answer {
             Ok(()) => (session, Ok(())),
             Err(NameFault::Full { count }) => (session, Err(StageFault::Full { count })),
@@ -171,23 +159,13 @@ impl Store {
         match answer {
             Ok(snap) => {
                 let newest = snap.number();
-                let session = Session {
-                    pass,
-                    number,
-                    current,
-                    head: Some(snap),
-                };
+                let session = Session::from_parts(pass, number, current, Some(snap));
                 (session, Ok(newest))
             }
-            Err(_) => {
-                let session = Session {
-                    pass,
-                    number,
-                    current,
-                    head,
-                };
-                (session, Err(HeadFault::Memory))
-            }
+            Err(_) => (
+                Session::from_parts(pass, number, current, head),
+                Err(HeadFault::Memory),
+            ),
         }
     }
 
@@ -208,23 +186,10 @@ impl Store {
         let (transaction, snap) = open.into_parts();
         let (pass, answer) = self.take_commit(rt, pass, number, transaction, steps);
         match answer {
-            Ok(committed) => {
-                let session = Session {
-                    pass,
-                    number,
-                    current: None,
-                    head: None,
-                };
-                (session, Ok(committed))
-            }
+            Ok(committed) => (Session::from_parts(pass, number, None, None), Ok(committed)),
             Err(transaction) => {
                 let open = OpenTransaction::from_parts(transaction, snap);
-                let session = Session {
-                    pass,
-                    number,
-                    current: Some(open),
-                    head,
-                };
+                let session = Session::from_parts(pass, number, Some(open), head);
                 (session, Err(CommitFault::Memory))
             }
         }

@@ -1,9 +1,4 @@
-use collections::Sequence;
-use rdf_model::Triple;
-use shape_model::ResultRow;
-use shapes_graph::ShapesGraph;
 use std::alloc::AllocError;
-use store_model::Again;
 
 /// Why no session was opened.
 #[derive(Clone, Copy, Debug, PartialEq, Eq)]
@@ -60,33 +55,4 @@ impl From<AllocError> for FindFault {
     fn from(_error: AllocError) -> Self {
         FindFault::Memory
     }
-}
-
-/// What a commit is answered.
-#[derive(Drop)]
-pub enum Committed {
-    /// The transaction changes nothing; it stands at this version.
-    ReadOnly {
-        version: u64,
-    },
-    /// The commit's number, the version that it made, and why it was evaluated in its turn.
-    Done {
-        number: u64,
-        again: Again,
-    },
-    /// The overtaking commit, and the first triple of it that a find asked for.
-    Conflict {
-        commit: u64,
-        triple: Triple,
-    },
-    /// The graph would have so many triples, more than the limit.
-    FullTriples {
-        count: usize,
-    },
-    /// The graph would have these results, under these shapes.
-    Refused {
-        rows: Sequence<ResultRow>,
-        again: Again,
-        shapes: ShapesGraph,
-    },
 }

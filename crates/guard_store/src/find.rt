@@ -1,8 +1,8 @@
 //! What a session does by itself, with no turn.
 ghost use Rattle.std.specs.Prelude.{◌≡◌, None, Some, MatchBool, MatchResult};
 ghost use Rattle.session_model.specs.Sessions.{found_by};
-ghost use Rattle.guard_store.specs.Transactions;
-ghost use Rattle.guard_store.specs.Transactions.{plain};
+ghost use Rattle.session_transaction.specs.Transactions;
+ghost use Rattle.session_transaction.specs.Transactions.{plain};
 ghost use Rattle.guard_store.specs.Answers.{FindsNot, IsOpen};
 
 use crate::faults::FindFault;

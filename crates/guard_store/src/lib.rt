@@ -12,14 +12,13 @@ mod laws;
 mod session;
 mod shared;
 mod store;
-mod transaction;
 mod turn;
 
-pub use faults::{BeginFault, CommitFault, Committed, FindFault, HeadFault, OpenFault, StageFault};
+pub use faults::{BeginFault, CommitFault, FindFault, HeadFault, OpenFault, StageFault};
 pub use laws::{
     a_failed_opening_keeps_entries, a_meeting_keeps_both_fronts, a_meeting_keeps_entries,
     a_turn_adds_one_event, an_opening_adds_one_event, an_opening_keeps_entries,
 };
 pub use session::{Keeper, Session};
+pub use session_transaction::{Committed, OpenTransaction};
 pub use store::Store;
-pub use transaction::OpenTransaction;

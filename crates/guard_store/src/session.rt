@@ -1,16 +1,16 @@
 ghost use Rattle.std.specs.Prelude.{◌≡◌, ◌≢◌, None, Some, MatchBool, MatchResult};
-ghost use Rattle.guard_store.specs.declared.transaction.OpenTransaction.{OpenTransaction};
-ghost use Rattle.guard_store.specs.Transactions;
-ghost use Rattle.guard_store.specs.Transactions.{changes_of};
+ghost use Rattle.session_transaction.specs.declared.transaction.OpenTransaction.{OpenTransaction};
+ghost use Rattle.session_transaction.specs.Transactions;
+ghost use Rattle.session_transaction.specs.Transactions.{changes_of};
 ghost use Rattle.guard_store.specs.Callers.{HasWork, OnlyReads};
 ghost use Rattle.guard_store.specs.Answers.{EndsReading};
 
-use crate::faults::{CommitFault, Committed, StageFault};
+use crate::faults::{CommitFault, StageFault};
 use crate::shared::Shared;
-use crate::transaction::{ChangeKind, OpenTransaction};
 use collections::let_go;
 use commit_core::Snap;
 use rdf_model::Triple;
+use session_transaction::{ChangeKind, Committed, OpenTransaction};
 use shapes_graph::ShapesGraph;
 use std::alloc::Global;
 use turn_lock::Pass;
@@ -82,6 +82,23 @@ impl Session {
         (pass, number, current, head)
     }
 
+    // The session of these parts.
+    pub(crate) fn from_parts(
+        pass: Pass<Shared>,
+        number: u32,
+        current: Option<OpenTransaction>,
+        head: Option<Snap>,
+    ) -> Session
+        ensures { result ≡ record { pass = pass; number = number; current = current; head = head } }
+    {
+        Session {
+            pass,
+            number,
+            current,
+            head,
+        }
+    }
+
     // Its pass alone.
     pub(crate) fn into_pass(self) -> Pass<Shared>
         ensures { result ≡ self.pass }
@@ -107,29 +124,13 @@ impl Session {
             (λ _. (w : OpenTransaction) → self.current ≡ Some w → result.0 ≡ record self { current = Some (Transactions.with_changes w (changes_of kind triples.now)); head = None })
             (λ fault. (fault ≡ StageFault.Memory) × (result.0 ≡ self)) }
     {
-        let Session {
-            pass,
-            number,
-            current,
-            head,
-        } = self;
+        let (pass, number, current, head) = self.into_parts();
         let Some(open) = current else { unreachable!() };
         let (open, staged) = open.with_changes(alloc, kind, triples);
         if staged {
-            let session = Session {
-                pass,
-                number,
-                current: Some(open),
-                head: None,
-            };
-            return (session, Ok(()));
+            return (Session::from_parts(pass, number, Some(open), None), Ok(()));
         }
-        let session = Session {
-            pass,
-            number,
-            current: Some(open),
-            head,
-        };
+        let session = Session::from_parts(pass, number, Some(open), head);
         (session, Err(StageFault::Memory))
     }
 
@@ -138,19 +139,10 @@ impl Session {
         requires { self.current ≢ None }
         ensures { (w : OpenTransaction) → self.current ≡ Some w → result ≡ record self { current = Some (Transactions.with_shapes w shapes); head = None } }
     {
-        let Session {
-            pass,
-            number,
-            current,
-            head: _,
-        } = self;
+        let (pass, number, current, head) = self.into_parts();
+        let_go(head);
         let Some(open) = current else { unreachable!() };
-        Session {
-            pass,
-            number,
-            current: Some(open.with_shapes(shapes)),
-            head: None,
-        }
+        Session::from_parts(pass, number, Some(open.with_shapes(shapes)), None)
     }
 
     // Commits a transaction that changes nothing and stages no shapes, where one is open.
@@ -158,29 +150,17 @@ impl Session {
         requires { OnlyReads self.current }
         ensures { EndsReading self result.0 result.1 }
     {
-        let Session {
-            pass,
-            number,
-            current,
-            head,
-        } = self;
+        let (pass, number, current, head) = self.into_parts();
         let Some(open) = current else {
-            let session = Session {
-                pass,
-                number,
-                current: None,
-                head,
-            };
+            let session = Session::from_parts(pass, number, None, head);
             return (session, Err(CommitFault::NoTransaction));
         };
         let version = open.base();
         let_go(open);
-        let session = Session {
-            pass,
-            number,
-            current: None,
-            head: None,
-        };
-        (session, Ok(Committed::ReadOnly { version }))
+        let_go(head);
+        (
+            Session::from_parts(pass, number, None, None),
+            Ok(Committed::ReadOnly { version }),
+        )
     }
 }

@@ -114,17 +114,11 @@ impl Store {
         let Ok((pass, new)) = self.turns.split(pass, number) else {
             unreachable!()
         };
-        let session = Session {
-            pass: new,
-            number,
-            current: None,
-            head: None,
-        };
         let keeper = Keeper {
             pass,
             opened: number,
         };
-        (keeper, session)
+        (keeper, Session::from_parts(new, number, None, None))
     }
 
     /// Opens the next session. SessionsFull comes exactly where 64 were given out before. After a fault the keeper may go

@@ -1,44 +1,24 @@
 //! The events of a session, each a turn of its own.
-ghost use Rattle.std.specs.Prelude.{◌≡◌, ◌++◌, IfOk, OnOk, MatchResult};
-ghost use Rattle.store_model.specs.Store.{HasChange, terms_of};
+ghost use Rattle.std.specs.Prelude.{◌≡◌, MatchResult};
+ghost use Rattle.store_model.specs.Store.{HasChange};
 ghost use Rattle.store_model.specs.Snapshots.{snapshot_of};
 ghost use Rattle.session_model.specs.Sessions.{parts_of};
 ghost use Rattle.guard_store.specs.Fronts.{At, Fails, Turn};
-ghost use Rattle.guard_store.specs.Callers.{FitsState, IsCaller};
+ghost use Rattle.session_transaction.specs.Transactions.{FitsState};
+ghost use Rattle.guard_store.specs.Callers.{IsCaller};
 ghost use Rattle.guard_store.specs.Answers.{NamesNot, TurnCommits, event_of};
 
-use crate::faults::Committed;
 use crate::shared::Shared;
 use crate::store::Store;
-use commit_core::{CheckedTransaction, Commit, NameFault, Snap, slip};
+use commit_core::{NameFault, Snap, slip};
 use rdf_model::{Term, Triple};
+use session_transaction::{Committed, commit, terms_in};
 use shape_eval::Steps;
 use std::alloc::{AllocError, Global};
 use std::sync::Wait;
 use std::sync::ledger::Ledger;
 use store_model::{Action, Reply, Transaction};
 use turn_lock::Pass;
-
-// Adds subject, predicate and object of a triple.
-fn push_terms(terms: &mut Vec<Term>, triple: &Triple) -> Result<(), AllocError>
-    ensures { OnOk result (terms.new.items ≡ terms.old.items ++ terms_of triple.now) }
-{
-    terms.push(triple.subject.clone()?)?;
-    terms.push(triple.predicate.clone()?)?;
-    terms.push(triple.object.clone()?)?;
-    Ok(())
-}
-
-// Subject, predicate and object of each triple.
-fn terms_in(alloc: Global, triples: &[Triple]) -> Result<Vec<Term>, AllocError>
-    ensures { IfOk result (λ v. v.items ≡ parts_of triples.now) }
-{
-    let mut terms = Vec::new(alloc);
-    for triple in triples {
-        push_terms(&mut terms, triple)?;
-    }
-    Ok(terms)
-}
 
 impl Store {
     /// The newest snapshot, at which a transaction begins.
@@ -159,41 +139,11 @@ impl Store {
             return (pass, Err(transaction));
         };
         let (held, mut core) = self.start(rt, pass);
-        let checked = CheckedTransaction::unchecked(self.alloc, transaction);
-        match core.commit(number, checked, steps) {
-            Commit::Done { number, again } => {
-                (
-                    self.finish(held, core),
-                    Ok(Committed::Done { number, again }),
-                )
-            }
-            Commit::Conflict { commit, triple } => {
-                (
-                    self.finish(held, core),
-                    Ok(Committed::Conflict { commit, triple }),
-                )
-            }
-            Commit::FullTriples { count } => {
-                (
-                    self.finish(held, core),
-                    Ok(Committed::FullTriples { count }),
-                )
-            }
-            Commit::Refused {
-                rows,
-                again,
-                shapes,
-            } => (
-                self.finish(held, core),
-                Ok(Committed::Refused {
-                    rows,
-                    again,
-                    shapes,
-                }),
-            ),
-            Commit::Memory(checked) => {
+        match commit(self.alloc, &mut core, number, transaction, steps) {
+            Ok(committed) => (self.finish(held, core), Ok(committed)),
+            Err(transaction) => {
                 core.void(number, slip);
-                (self.finish(held, core), Err(checked.into_transaction()))
+                (self.finish(held, core), Err(transaction))
             }
         }
     }

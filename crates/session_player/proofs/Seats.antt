@@ -2,7 +2,7 @@
 use Rattle.std.proofs.Common.{◌≡◌, ◌≢◌, ℕ, zero, suc, ◌+◌, ◌-◌, ◌<◌, ◌≤◌, Bool, true, false, nat_eq, nat_lt, List, [], ◌∷◌, ◌++◌, length, map, set, get_or, Option, Some, None, refl, sym, ap, ◌∙◌, subst, arith, append_assoc, length-append, drop, take, add-one, drop-cons, take-append-drop}
 use Rattle.std.proofs.lemmas.List.{map-append, append-nil, append_cancel_left, take_all, length-map, drop_all}
 use Rattle.std.proofs.lemmas.Bool.Decides.{nat_tests}
-use Rattle.std.specs.Prelude.{MatchBool, MatchOption, IfOk, Result, Ok, Err}
+use Rattle.std.specs.Prelude.{MatchBool, IfOk, Result, Ok, Err}
 use Rattle.std.specs.declared.alloc.AllocError.{AllocError}
 use Rattle.session_player.specs.Histories.{MayTake, IsBadPlace, IsFirstBad, IsReplayed}
 use Rattle.session_player.specs.declared.replay.ReplayFault.{ReplayFault}
@@ -10,20 +10,12 @@ use Rattle.session_player.specs.declared.replay.ReplayFault.TheVariants.{Place, 
 use Rattle.session_player.specs.Refused.{RefusesFrom, RefusesHistory}
 use Rattle.std.proofs.Math.Seq.{take-suc}
 use Rattle.std.specs.List.{AllByRecursion}
-use Rattle.rdf_model.specs.declared.change.Change.{Change}
-use Rattle.rdf_model.specs.declared.term.Term.{Term}
-use Rattle.rdf_model.specs.declared.triple.Triple.{Triple}
 use Rattle.rdf_model.specs.Graphs.{after}
-use Rattle.shape_model.specs.declared.result_row.ResultRow.{ResultRow}
-use Rattle.store_model.specs.declared.commit.Overtaker.{Overtaker}
-use Rattle.store_model.specs.declared.commit.Transaction.{Transaction}
-use Rattle.store_model.specs.declared.event.Action.{Action}
 use Rattle.store_model.specs.declared.event.Action.TheVariants as actions
 use Rattle.store_model.specs.declared.event.Event.{Event}
 use Rattle.store_model.specs.declared.event.Limits.{Limits}
-use Rattle.store_model.specs.declared.event.Reply.{Reply}
-use Rattle.store_model.specs.declared.event.Reply.TheVariants.{Session, Version, Named, Full, Conflict, FullTriples}
-use Rattle.store_model.specs.Store.{State, RecordedStore, empty_store, StepOf, TakesStep, IsOpened, HasChange, NetNamed, StagedNamed, Replies, OpensNext, OpensNothing, CommitsByRows, CommitsByListing, CommitsWithinLimit, overtaker, named_with, version}
+use Rattle.store_model.specs.declared.event.Reply.TheVariants.{Session, Version}
+use Rattle.store_model.specs.Store.{State, RecordedStore, empty_store, TakesStep, IsOpened, HasChange, IsCommittable, OpensNext, OpensNothing, version}
 use Rattle.session_model.specs.declared.command.Command.{Command}
 use Rattle.session_model.specs.declared.command.Command.TheVariants.{Commit}
 use Rattle.session_model.specs.declared.reply.SessionReply.{SessionReply}
@@ -33,96 +25,31 @@ use Rattle.session_player.specs.Progress.{Advances, order_of}
 use Rattle.session_player.specs.Ready.{IsCurrent, IsCurrentIn, Performs, TakesHead, CommitsWith, is_commit, places_with, places_of}
 use Rattle.session_player.specs.Players.{Player, Finishes, state_of, held, IsHeld, IsCommitNext, MayGoOn, TakesEvent, Plays, PlaysAll, AreReady, StopsAt, EndsAll, states_of, new_player}
 use Rattle.session_player.proofs.Advancing.{Advances-event, OpensNext-runs, all-append}
-use Rattle.session_player.proofs.Naming.{NetNamed-naming, StagedNamed-naming}
+use Rattle.session_transaction.proofs.Growing.{More, more_same, more_step, more_then}
+use Rattle.session_transaction.proofs.Fitting.{committable, state_more}
 use Rattle.session_player.proofs.Playing.{one_place, local-change}
 
--- a store that has come further: what was named is named, and versions are versions
-pub record Grows (s t : State) : Type 0 where
-  pub base : version s ≤ version t
-  pub net : (net : List Change) → NetNamed s.named net → NetNamed t.named net
-  pub staged : (staged : Option (List Triple)) → StagedNamed s.named staged → StagedNamed t.named staged
+more_event : (l : Limits) (m n : World) (i : ℕ) (w : Option OpenTransaction) (cs : List Command) (replies : List SessionReply) → RunsEvent l m i w cs replies n → More m.state n.state
+more_event l m n i w [] replies h = absurd h
+more_event l m n i w (c ∷ cs) replies h = subst (λ (t : State). More m.state t) (sym (ap (λ (x : World). x.state) h.6)) (more_step l m.state h.2 i h.0 h.1 h.5)
 
-grows_same : (s t : State) → t.named ≡ s.named → version s ≤ version t → Grows s t
-grows_same s t e le = record {
-  base = le;
-  net = λ net h. subst (λ (ts : List Term). NetNamed ts net) (sym e) h;
-  staged = λ staged h. subst (λ (ts : List Term). StagedNamed ts staged) (sym e) h;
-}
+more_place : (l : Limits) (m n : World) (i : ℕ) (b : Bool) → MatchBool b (RunsOpening l m i n) (RunsEvent l m i (session_at m i).current (session_at m i).commands (session_at m i).replies n) → More m.state n.state
+more_place l m n i true h = subst (λ (t : State). More m.state t) (sym (ap (λ (x : World). x.state) h.1.3)) (more_step l m.state h.1.1 i actions.Open h.1.0 h.1.2)
+more_place l m n i false h = more_event l m n i (session_at m i).current (session_at m i).commands (session_at m i).replies h
 
-pub grows_none : (s t : State) → t ≡ s → Grows s t
-grows_none s t e = let count : version t ≡ version s = ap version e in grows_same s t (ap (λ (x : State). x.named) e) (omega (arith, count))
+pub more_run : (l : Limits) (m n : World) (order : List ℕ) → RunsInOrder l m order n → More m.state n.state
+more_run l m n [] h = more_same m.state n.state (ap (λ (x : World). x.state) h)
+more_run l m n (i ∷ order) h = more_then m.state h.0.state n.state (more_place l m h.0 i (nat_eq i (m.state.opened + 1)) h.1) (more_run l h.0 n order h.2)
 
-grows_then : (s t u : State) → Grows s t → Grows t u → Grows s u
-grows_then s t u g h = record {
-  base = omega (arith, g.base, h.base);
-  net = λ net x. h.net net (g.net net x);
-  staged = λ staged x. h.staged staged (g.staged staged x);
-}
-
-grows_rows : (s t : State) (x : Transaction) (r : Reply) (rows : List ResultRow) → CommitsByRows s x rows r t → Grows s t
-grows_rows s t x r [] h =
-    let count : version t ≡ version s + 1 = ap version h.1 ∙ simp length-append in
-    grows_same s t (ap (λ (y : State). y.named) h.1) (omega (arith, count))
-grows_rows s t x r (row ∷ rows) h = grows_none s t h.1
-
-grows_weighed : (s t : State) (x : Transaction) (p r : Reply) (b : Bool) → MatchBool b (Replies p s r t) (CommitsByListing s x r t) → Grows s t
-grows_weighed s t x p r true h = grows_none s t h.1
-grows_weighed s t x p r false h = grows_rows s t x r h.0 h.2
-
-grows_commit : (l : Limits) (s t : State) (x : Transaction) (r : Reply) (o : Option Overtaker) → MatchOption o (CommitsWithinLimit l s x r t) (λ h. Replies (Conflict h.commit h.triple) s r t) → Grows s t
-grows_commit l s t x r None h = grows_weighed s t x (FullTriples (length (after s.graph x.net))) r (nat_lt l.triples (length (after s.graph x.net))) h
-grows_commit l s t x r (Some y) h = grows_none s t h.1
-
-grows_names : (s t : State) (ts : List Term) (p r : Reply) (b : Bool) → MatchBool b (Replies p s r t) (Replies Named (record s { named = named_with s.named ts }) r t) → Grows s t
-grows_names s t ts p r true h = grows_none s t h.1
-grows_names s t ts p r false h =
-    let names : t.named ≡ named_with s.named ts = ap (λ (y : State). y.named) h.1 in
-    let count : version t ≡ version s = ap version h.1 in
-    record {
-      base = omega (arith, count);
-      net = λ net x. subst (λ (us : List Term). NetNamed us net) (sym names) (NetNamed-naming s.named net ts x);
-      staged = λ staged x. subst (λ (us : List Term). StagedNamed us staged) (sym names) (StagedNamed-naming s.named staged ts x);
-    }
-
-grows_open : (s t : State) (i : ℕ) (r : Reply) (b : Bool) → MatchBool b (OpensNext s i r t) (OpensNothing s i r t) → Grows s t
-grows_open s t i r true h = let count : version t ≡ version s = ap version h.1.1 in grows_same s t (ap (λ (y : State). y.named) h.1.1) (omega (arith, count))
-grows_open s t i r false h = grows_none s t h.1.1
-
-pub grows_step : (l : Limits) (s t : State) (i : ℕ) (a : Action) (r : Reply) → StepOf l s i a r t → Grows s t
-grows_step l s t i actions.Open r h = grows_open s t i r (nat_lt s.opened 64) h
-grows_step l s t i actions.Begin r h = grows_none s t h.1.1
-grows_step l s t i (actions.Name ts) r h = grows_names s t ts (Full (length (named_with s.named ts) - 2)) r (nat_lt (l.terms + 2) (length (named_with s.named ts))) h.1
-grows_step l s t i actions.Head r h = grows_none s t h.1.1
-grows_step l s t i (actions.Commit x) r h = grows_commit l s t x r (overtaker s.commits x.base x.finds) h.2
-grows_step l s t i actions.Void r h = grows_none s t h.1.1
-
-grows_event : (l : Limits) (m n : World) (i : ℕ) (w : Option OpenTransaction) (cs : List Command) (replies : List SessionReply) → RunsEvent l m i w cs replies n → Grows m.state n.state
-grows_event l m n i w [] replies h = absurd h
-grows_event l m n i w (c ∷ cs) replies h = subst (λ (t : State). Grows m.state t) (sym (ap (λ (x : World). x.state) h.6)) (grows_step l m.state h.2 i h.0 h.1 h.5)
-
-grows_place : (l : Limits) (m n : World) (i : ℕ) (b : Bool) → MatchBool b (RunsOpening l m i n) (RunsEvent l m i (session_at m i).current (session_at m i).commands (session_at m i).replies n) → Grows m.state n.state
-grows_place l m n i true h = subst (λ (t : State). Grows m.state t) (sym (ap (λ (x : World). x.state) h.1.3)) (grows_step l m.state h.1.1 i actions.Open h.1.0 h.1.2)
-grows_place l m n i false h = grows_event l m n i (session_at m i).current (session_at m i).commands (session_at m i).replies h
-
-pub grows_run : (l : Limits) (m n : World) (order : List ℕ) → RunsInOrder l m order n → Grows m.state n.state
-grows_run l m n [] h = grows_none m.state n.state (ap (λ (x : World). x.state) h)
-grows_run l m n (i ∷ order) h = grows_then m.state h.0.state n.state (grows_place l m h.0 i (nat_eq i (m.state.opened + 1)) h.1) (grows_run l h.0 n order h.2)
-
-current_later : (s t : RecordedStore) (w : Option OpenTransaction) → Grows s.state t.state → IsCurrentIn s w → IsCurrentIn t w
+current_later : (s t : RecordedStore) (w : Option OpenTransaction) → More s.state t.state → IsCurrentIn s w → IsCurrentIn t w
 current_later s t None g h = tt
-current_later s t (Some w) g h = record {
-  base = omega (arith, g.base, h.base);
-  net = g.net w.transaction.net h.net;
-  staged = g.staged w.transaction.staged h.staged;
-  verdict = h.verdict;
-  head_taken = h.head_taken;
-}
+current_later s t (Some w) g h = record { fits = state_more w.transaction s.state t.state g h.fits; head_taken = h.head_taken }
 
 -- players may go on, whatever the others did
-pub go_on_later : (s t : RecordedStore) (p : Player) → Grows s.state t.state → MayGoOn s p → MayGoOn t p
+pub go_on_later : (s t : RecordedStore) (p : Player) → More s.state t.state → MayGoOn s p → MayGoOn t p
 go_on_later s t p g h = record { current = current_later s t p.current g h.current; held = h.held }
 
-pub all_later : (s t : RecordedStore) (ps : List Player) → Grows s.state t.state → AllByRecursion (MayGoOn s) ps → AllByRecursion (MayGoOn t) ps
+pub all_later : (s t : RecordedStore) (ps : List Player) → More s.state t.state → AllByRecursion (MayGoOn s) ps → AllByRecursion (MayGoOn t) ps
 all_later s t [] g h = tt
 all_later s t (p ∷ ps) g h = (go_on_later s t p g h.0, all_later s t ps g h.1)
 
@@ -207,7 +134,7 @@ takes_head i s n w cs replies o now some h =
     let one : Advances i s n (record { current = Some w; commands = Commit ∷ cs; replies = replies }) (record { current = Some (headed w); commands = Commit ∷ cs; replies = replies }) =
     Advances-event i s n (Some w) Commit cs replies actions.Head (Version h.number) _ o (record { event = head; next = refl }) h.step in
     record {
-      ready = record { current = current_later s n (Some w) (grows_step s.limits s.state n.state i actions.Head (Version h.number) h.step.step) now; held = (refl, some) };
+      ready = record { current = current_later s n (Some w) (more_step s.limits s.state n.state i actions.Head (Version h.number) h.step.step) now; held = (refl, some) };
       advances = subst (λ (x : SessionState). Advances i s n x (up_to_event (Some (headed w)) (Commit ∷ cs) replies)) (sym from)
           (subst (λ (x : SessionState). Advances i s n (record { current = Some w; commands = Commit ∷ cs; replies = replies }) x) (sym to) one);
       order = one_place s n (record { session = i; action = actions.Head; reply = Version h.number }) h.step;
@@ -243,6 +170,14 @@ takes_commit i s n cs rest current w b replies reply o ew eb next hold h =
     subst (λ (ds : List Command). TakesEvent i s n (player ds current b replies) (player rest None false (replies ++ reply ∷ []))) (sym next.1)
     (subst (λ (x : Option OpenTransaction). TakesEvent i s n (player (next.0 ∷ rest) x b replies) (player rest None false (replies ++ reply ∷ []))) (sym ew)
     (subst (λ (x : Bool). TakesEvent i s n (player (next.0 ∷ rest) (Some w) x replies) (player rest None false (replies ++ reply ∷ []))) (sym eb) done))
+
+-- what its commit hands in may be committed
+pub committable_held : (s : RecordedStore) (p v : Player) (rest : List Command) (w : OpenTransaction) → v ≡ p → MayGoOn s p → p.head_taken ≡ true → ((c : Command) × (p.commands ≡ c ∷ rest)) → v.current ≡ Some w → IsCommittable s.state w.transaction × (w.transaction.verdict ≡ None)
+committable_held s p v rest w e ready hold next ew =
+    let ep : p.current ≡ Some w = sym (ap (λ (x : Player). x.current) e) ∙ ew in
+    let now : IsCurrent s w = subst (IsCurrentIn s) ep ready.current in
+    let waits : IsHeld true (Some w) (next.0 ∷ rest) = subst (λ (b : Bool). IsHeld b (Some w) (next.0 ∷ rest)) hold (subst (λ (x : Option OpenTransaction). IsHeld p.head_taken x (next.0 ∷ rest)) ep (subst (λ (cs : List Command). IsHeld p.head_taken p.current cs) next.1 ready.held)) in
+    (committable w.transaction s.state now.fits waits.1, now.fits.verdict)
 
 -- a list with an item is its first one and the others
 abbrev pub others : {X : Type 0} → List X → List X
@@ -296,7 +231,7 @@ plays_middle i s n before rest p q at ready h =
     let one : order_of h.advances.events ≡ i ∷ [] = places i s n _ _ h.advances (i ∷ []) h.order in
     let run : RunsInOrder s.limits (world s.state (front ++ state_of p ∷ back)) (i ∷ []) (world n.state (front ++ state_of q ∷ back)) =
     subst (λ (is : List ℕ). RunsInOrder s.limits (world s.state (front ++ state_of p ∷ back)) is (world n.state (front ++ state_of q ∷ back))) one (h.advances.runs front back here) in
-    let grows : Grows s.state n.state = grows_run s.limits (world s.state (front ++ state_of p ∷ back)) (world n.state (front ++ state_of q ∷ back)) (i ∷ []) run in
+    let grows : More s.state n.state = more_run s.limits (world s.state (front ++ state_of p ∷ back)) (world n.state (front ++ state_of q ∷ back)) (i ∷ []) run in
     record {
       ready = all_middle n before rest p q (all_later s n (before ++ p ∷ rest) grows ready) h.ready;
       count = let a : length (before ++ q ∷ rest) ≡ length before + suc (length rest) = length-append before (q ∷ rest) in
@@ -363,7 +298,7 @@ place_of_opening i k o s n ps a ek eo le h =
     let is : i ≡ k = let f = opened_next s n i h in omega (arith, f, ek, eo) in (
       (
         record {
-          ready = all_later s n ps (grows_step s.limits s.state n.state i actions.Open (Session i) h.step) a.ready;
+          ready = all_later s n ps (more_step s.limits s.state n.state i actions.Open (Session i) h.step) a.ready;
           count = refl;
           limits = h.limits;
           history = one_place s n (record { session = i; action = actions.Open; reply = Session i }) h ∙ ap (λ (x : ℕ). order_of s.history ++ x ∷ []) is;

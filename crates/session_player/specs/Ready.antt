@@ -1,5 +1,5 @@
 -- When a session may go on, and what a command does to it.
-use Rattle.std.specs.Prelude.{◌≡◌, ℕ, ◌≤◌, Bool, true, false, Option, Some, None, List, [], ◌∷◌, ◌++◌}
+use Rattle.std.specs.Prelude.{◌≡◌, ℕ, Bool, true, false, Option, Some, None, List, [], ◌∷◌, ◌++◌}
 use Rattle.rdf_model.specs.declared.triple.Triple.{Triple}
 use Rattle.store_model.specs.declared.event.Action.TheVariants as actions
 use Rattle.store_model.specs.declared.event.Reply.{Reply}
@@ -8,17 +8,14 @@ use Rattle.store_model.specs.declared.commit.Transaction.{Transaction}
 use Rattle.session_model.specs.declared.command.Command.{Command}
 use Rattle.session_model.specs.declared.command.Command.TheVariants.{Commit, Begin, Add, BadAdd, Remove, BadRemove, Shapes, BadShapes, BrokenShapes, RefusedPattern, Find, Abort}
 use Rattle.session_model.specs.declared.reply.SessionReply.{SessionReply}
-use Rattle.session_model.specs.declared.reply.SessionReply.TheVariants.{NoTransaction}
-use Rattle.store_model.specs.Store.{RecordedStore, TakesStep, IsOpened, NetNamed, StagedNamed, version}
+use Rattle.store_model.specs.Store.{RecordedStore, TakesStep, IsOpened, version}
 use Rattle.session_model.specs.Sessions.{OpenTransaction, LocalAnswer, local_answer, after_reply, parts_of, up_to_event}
+use Rattle.session_transaction.specs.Transactions.{FitsState}
 use Rattle.session_player.specs.Progress.{Advances, order_of}
 
--- the transaction began at a version of this store, its terms are named, and it has no verdict
+-- the transaction is one of this store, and its commit hasn't taken the newest version
 pub record IsCurrent (s : RecordedStore) (w : OpenTransaction) : Type 0 where
-  pub base : w.transaction.base ≤ version s.state
-  pub net : NetNamed s.state.named w.transaction.net
-  pub staged : StagedNamed s.state.named w.transaction.staged
-  pub verdict : w.transaction.verdict ≡ None
+  pub fits : FitsState w.transaction s.state
   pub head_taken : w.head_taken ≡ false
 
 abbrev pub IsCurrentIn : RecordedStore → Option OpenTransaction → Type 0
@@ -44,11 +41,6 @@ pub record CommitsWith (i : ℕ) (old new : RecordedStore) (x : Transaction) (re
   pub answer : Reply
   pub step : TakesStep old new (record { session = i; action = actions.Commit x; reply = answer })
   pub told : (graph : List Triple) (cs : List Command) (replies : List SessionReply) → after_reply old.state (Some (record { transaction = x; graph = graph; head_taken = true })) Commit cs replies answer ≡ Some (up_to_event None cs (replies ++ reply ∷ []))
-
--- what a command that changes nothing is answered
-abbrev pub answer_in : Option OpenTransaction → SessionReply → SessionReply
-answer_in None reply = NoTransaction
-answer_in (Some w) reply = reply
 
 -- a command that is an event is one, but for a commit, which takes the newest version first
 abbrev pub is_commit : Command → Bool

@@ -15,7 +15,6 @@ mod print;
 mod replay;
 mod run;
 mod stage;
-mod transaction;
 
 pub use laws::{a_run_has_no_bad_place, a_run_is_replayed};
 pub use print::text_of;

@@ -1,22 +1,16 @@
 // What one command does.
-ghost use Rattle.std.specs.Prelude.{◌≡◌, List, None, IfOk, OnOk, length};
-ghost use Rattle.rdf_model.specs.declared.triple.Triple.{Triple};
-ghost use Rattle.report_writer.specs.Report.{report_text};
-ghost use Rattle.shape_model.specs.Validation.{Listing};
+ghost use Rattle.std.specs.Prelude.{◌≡◌, None, IfOk, OnOk};
 ghost use Rattle.store_model.specs.Store.{IsCommittable, IsOpened};
+ghost use Rattle.session_transaction.specs.Transactions.{plain_in};
 ghost use Rattle.session_player.specs.Ready.{CommitsWith, IsReady, Performs, TakesHead};
 
 use crate::find::{abort, find};
-use crate::stage::{change, refuse_broken, refuse_change, refuse_pattern, refuse_shapes, stage};
-use crate::transaction::{ChangeKind, OpenTransaction};
+use crate::stage::{change, refuse, stage};
 use collections::{Sequence, let_go};
-use commit_core::{CheckedTransaction, Commit, Core, Transaction};
-use rdf_model::Text;
-use report_writer::report;
+use commit_core::{Core, Transaction};
 use session_model::{Command, SessionReply};
+use session_transaction::{ChangeKind, OpenTransaction, commit, reply_of_commit};
 use shape_eval::Steps;
-use shape_model::ResultRow;
-use shapes_graph::ShapesGraph;
 use std::alloc::{AllocError, Global};
 use std::sync::ledger::Ledger;
 
@@ -27,8 +21,8 @@ fn begin(
     current: Option<OpenTransaction>,
     replies: &mut Sequence<SessionReply>,
 ) -> Result<Option<OpenTransaction>, AllocError>
-    requires { IsReady core.old session current }
-    ensures { IfOk result (λ next. Performs session core.old core.new current next Command.Begin replies.old replies.new) }
+    requires { IsReady core.old session (plain_in current) }
+    ensures { IfOk result (λ next. Performs session core.old core.new (plain_in current) (plain_in next) Command.Begin replies.old replies.new) }
 {
     if let Some(open) = current {
         replies.push(SessionReply::AlreadyOpen)?;
@@ -37,22 +31,6 @@ fn begin(
     let snap = core.begin(session)?;
     replies.push(SessionReply::Begun(snap.number()))?;
     Ok(Some(OpenTransaction::new(alloc, snap)))
-}
-
-// The reply to a commit whose graph has these results under the shapes.
-fn refusal(
-    alloc: Global,
-    rows: &Sequence<ResultRow>,
-    shapes: &ShapesGraph,
-) -> Result<SessionReply, AllocError>
-    requires { (graph : List Triple) × Listing graph shapes.now rows.now }
-    ensures { IfOk result (λ reply. reply ≡ SessionReply.Refused (length rows.now) (report_text shapes.now rows.now)) }
-{
-    let text = report(alloc, rows.as_slice(), shapes.shapes())?;
-    Ok(SessionReply::Refused {
-        count: rows.len(),
-        report: Text::from_string(text)?,
-    })
 }
 
 // Commits the transaction, and gives the session's reply.
@@ -68,24 +46,10 @@ pub fn commit_reply<L: Ledger>(
     requires unchecked { transaction.verdict ≡ None }
     ensures { IfOk result (CommitsWith session core.old core.new transaction) }
 {
-    let checked = CheckedTransaction::unchecked(alloc, transaction);
-    match core.commit(session, checked, steps) {
-        Commit::Done { number, again } => {
-            let_go(again);
-            Ok(SessionReply::Committed(number))
-        }
-        Commit::Conflict { commit, triple } => Ok(SessionReply::Overtaken(commit, triple)),
-        Commit::FullTriples { count: _ } => Ok(SessionReply::FullGraph),
-        Commit::Refused {
-            rows,
-            again,
-            shapes,
-        } => {
-            let_go(again);
-            refusal(alloc, &rows, &shapes)
-        }
-        Commit::Memory(checked) => {
-            let_go(checked);
+    match commit(alloc, core, session, transaction, steps) {
+        Ok(committed) => reply_of_commit(alloc, committed),
+        Err(transaction) => {
+            let_go(transaction);
             Err(AllocError)
         }
     }
@@ -101,7 +65,7 @@ pub fn take_head(core: &mut Core, session: u32) -> Result<(), AllocError>
     Ok(())
 }
 
-fn commit<L: Ledger>(
+fn commit_open<L: Ledger>(
     alloc: Global,
     core: &mut Core,
     session: u32,
@@ -109,8 +73,8 @@ fn commit<L: Ledger>(
     replies: &mut Sequence<SessionReply>,
     steps: &mut Steps<L>,
 ) -> Result<(), AllocError>
-    requires { IsReady core.old session current }
-    ensures { OnOk result (Performs session core.old core.new current None Command.Commit replies.old replies.new) }
+    requires { IsReady core.old session (plain_in current) }
+    ensures { OnOk result (Performs session core.old core.new (plain_in current) None Command.Commit replies.old replies.new) }
 {
     let Some(open) = current else {
         return replies.push(SessionReply::NoTransaction);
@@ -134,8 +98,8 @@ pub fn perform<L: Ledger>(
     replies: &mut Sequence<SessionReply>,
     steps: &mut Steps<L>,
 ) -> Result<Option<OpenTransaction>, AllocError>
-    requires { IsReady core.old session current }
-    ensures { IfOk result (λ next. Performs session core.old core.new current next command.now replies.old replies.new) }
+    requires { IsReady core.old session (plain_in current) }
+    ensures { IfOk result (λ next. Performs session core.old core.new (plain_in current) (plain_in next) command.now replies.old replies.new) }
 {
     match command {
         Command::Begin => begin(alloc, core, session, current, replies),
@@ -143,28 +107,13 @@ pub fn perform<L: Ledger>(
             let kind = ChangeKind::Addition;
             change(alloc, core, session, current, kind, triples, replies)
         }
-        Command::BadAdd { line, kind } => {
-            let change = ChangeKind::Addition;
-            refuse_change(core, session, current, change, *line, *kind, replies)
-        }
         Command::Remove(triples) => {
             let kind = ChangeKind::Removal;
             change(alloc, core, session, current, kind, triples, replies)
         }
-        Command::BadRemove { line, kind } => {
-            let change = ChangeKind::Removal;
-            refuse_change(core, session, current, change, *line, *kind, replies)
-        }
         Command::Shapes(shapes) => stage(alloc, core, session, current, shapes, replies),
-        Command::BadShapes { line, kind } => {
-            refuse_shapes(core, session, current, *line, *kind, replies)
-        }
-        Command::BrokenShapes { rule, node } => {
-            refuse_broken(core, session, current, *rule, node, replies)
-        }
-        Command::RefusedPattern { node } => refuse_pattern(core, session, current, node, replies),
         Command::Commit => {
-            commit(alloc, core, session, current, replies, steps)?;
+            commit_open(alloc, core, session, current, replies, steps)?;
             Ok(None)
         }
         Command::Find(pattern) => find(alloc, core, session, current, pattern, replies),
@@ -172,5 +121,10 @@ pub fn perform<L: Ledger>(
             abort(core, session, current, replies)?;
             Ok(None)
         }
+        Command::BadAdd { line: _, kind: _ }
+        | Command::BadRemove { line: _, kind: _ }
+        | Command::BadShapes { line: _, kind: _ }
+        | Command::BrokenShapes { rule: _, node: _ }
+        | Command::RefusedPattern { node: _ } => refuse(core, session, current, command, replies),
     }
 }

@@ -2,16 +2,17 @@
 ghost use Rattle.std.specs.Prelude.{◌≡◌, ◌≢◌, ◌∷◌, ◌++◌, [], List, MatchBool, MatchOption, None, Some, true, false, IfOk, OnOk};
 ghost use Rattle.store_model.specs.Store.{HasChange, IsOpened};
 ghost use Rattle.session_model.specs.declared.command.Command.{Command};
+ghost use Rattle.session_transaction.specs.Transactions.{plain, plain_in};
 ghost use Rattle.session_player.specs.Players;
 ghost use Rattle.session_player.specs.Players.{IsAtEvent, IsEvent, MayGoOn, Settles, TakesEvent, new_player, state_of};
 ghost use Rattle.session_player.specs.Ready;
 ghost use Rattle.session_player.specs.Ready.{Performs};
 
 use crate::perform::{commit_reply, perform, take_head};
-use crate::transaction::OpenTransaction;
 use collections::Sequence;
 use commit_core::Core;
 use session_model::{Command, SessionReply};
+use session_transaction::OpenTransaction;
 use shape_eval::Steps;
 use std::alloc::{AllocError, Global};
 use std::marker::Model;
@@ -27,11 +28,12 @@ pub struct Player<'a> {
 }
 
 impl<'a> Model for Player<'a> {
+    ghost use Rattle.session_transaction.specs.Transactions.{plain_in};
     ghost use Rattle.session_player.specs.Players;
 
     ghost Value = { Players.Player };
 
-    ghost view = { λ p. record { commands = p.commands.now; current = p.current; head_taken = p.head_taken; replies = p.replies } };
+    ghost view = { λ p. record { commands = p.commands.now; current = plain_in p.current; head_taken = p.head_taken; replies = p.replies } };
 }
 
 // Written by hand, so that what owns one calls it in place of having it written out.
@@ -48,7 +50,7 @@ impl<'a> Drop for Player<'a> {
 
 // Whether a command of a session within a transaction is an event of the store.
 fn is_event_within(transaction: &OpenTransaction, command: &Command) -> bool
-    ensures { IsEvent result (Some transaction.now) command.now }
+    ensures { IsEvent result (Some (plain transaction.now)) command.now }
 {
     match command {
         Command::Add(_) | Command::Remove(_) | Command::Shapes(_) => true,
@@ -66,7 +68,7 @@ fn is_event_within(transaction: &OpenTransaction, command: &Command) -> bool
 
 // Whether a session's command is an event of the store.
 fn is_event(current: &Option<OpenTransaction>, command: &Command) -> bool
-    ensures { IsEvent result current.now command.now }
+    ensures { IsEvent result (plain_in current.now) command.now }
 {
     match current {
         Some(open) => is_event_within(open, command),

@@ -1,39 +1,17 @@
 // What the commands do that change a transaction.
 ghost use Rattle.std.specs.Prelude.{◌≡◌, [], ◌∷◌, ◌++◌, IfOk, OnOk};
-ghost use Rattle.store_model.specs.Store;
 ghost use Rattle.store_model.specs.Store.{IsOpened};
-ghost use Rattle.session_model.specs.Sessions.{parts_of};
-ghost use Rattle.session_player.specs.Changes.{bad_command_of, command_of};
-ghost use Rattle.session_player.specs.Ready.{IsReady, NamesAll, Performs, answer_in};
+ghost use Rattle.session_transaction.specs.Replies.{IsRefusedBlock, answer_in};
+ghost use Rattle.session_transaction.specs.Transactions.{command_of, plain_in};
+ghost use Rattle.session_player.specs.Ready.{IsReady, NamesAll, Performs};
 
-use crate::transaction::{ChangeKind, OpenTransaction};
 use collections::Sequence;
 use commit_core::{Core, NameFault};
-use rdf_model::{Term, Triple};
+use rdf_model::Triple;
 use session_model::{Command, SessionReply};
+use session_transaction::{ChangeKind, OpenTransaction, block_refusal, terms_in};
 use shapes_graph::ShapesGraph;
 use std::alloc::{AllocError, Global};
-
-// Adds subject, predicate and object of a triple.
-fn push_terms(terms: &mut Vec<Term>, triple: &Triple) -> Result<(), AllocError>
-    ensures { OnOk result (terms.new.items ≡ terms.old.items ++ Store.terms_of triple.now) }
-{
-    terms.push(triple.subject.clone()?)?;
-    terms.push(triple.predicate.clone()?)?;
-    terms.push(triple.object.clone()?)?;
-    Ok(())
-}
-
-// Subject, predicate and object of each triple.
-fn terms_of(alloc: Global, triples: &[Triple]) -> Result<Vec<Term>, AllocError>
-    ensures { IfOk result (λ v. v.items ≡ parts_of triples.now) }
-{
-    let mut terms = Vec::new(alloc);
-    for triple in triples {
-        push_terms(&mut terms, triple)?;
-    }
-    Ok(terms)
-}
 
 // Names the terms of the triples, unless they are too many.
 fn name_terms(
@@ -45,7 +23,7 @@ fn name_terms(
     requires { IsOpened core.old.state session }
     ensures { IfOk result (λ named. NamesAll named core.old core.new session triples.now) }
 {
-    let terms = terms_of(alloc, triples)?;
+    let terms = terms_in(alloc, triples)?;
     match core.name(session, &terms) {
         Ok(_) => Ok(true),
         Err(NameFault::Full { count: _ }) => Ok(false),
@@ -63,8 +41,8 @@ pub fn change(
     triples: &Sequence<Triple>,
     replies: &mut Sequence<SessionReply>,
 ) -> Result<Option<OpenTransaction>, AllocError>
-    requires { IsReady core.old session current }
-    ensures { IfOk result (λ next. Performs session core.old core.new current next (command_of kind triples.now) replies.old replies.new) }
+    requires { IsReady core.old session (plain_in current) }
+    ensures { IfOk result (λ next. Performs session core.old core.new (plain_in current) (plain_in next) (command_of kind triples.now) replies.old replies.new) }
 {
     let Some(open) = current else {
         replies.push(SessionReply::NoTransaction)?;
@@ -74,7 +52,10 @@ pub fn change(
         replies.push(SessionReply::FullTerms)?;
         return Ok(Some(open));
     }
-    let open = open.with_changes(kind, triples.as_slice())?;
+    let (open, staged) = open.with_changes(alloc, kind, triples.as_slice());
+    if !staged {
+        return Err(AllocError);
+    }
     replies.push(kind.reply(triples.len()))?;
     Ok(Some(open))
 }
@@ -88,8 +69,8 @@ pub fn stage(
     shapes: &ShapesGraph,
     replies: &mut Sequence<SessionReply>,
 ) -> Result<Option<OpenTransaction>, AllocError>
-    requires { IsReady core.old session current }
-    ensures { IfOk result (λ next. Performs session core.old core.new current next (Command.Shapes shapes.now) replies.old replies.new) }
+    requires { IsReady core.old session (plain_in current) }
+    ensures { IfOk result (λ next. Performs session core.old core.new (plain_in current) (plain_in next) (Command.Shapes shapes.now) replies.old replies.new) }
 {
     let Some(open) = current else {
         replies.push(SessionReply::NoTransaction)?;
@@ -99,89 +80,39 @@ pub fn stage(
         replies.push(SessionReply::FullTerms)?;
         return Ok(Some(open));
     }
-    let open = open.with_shapes(shapes)?;
+    let copy = shapes.share()?;
+    let open = open.with_shapes(copy);
     replies.push(SessionReply::ShapesStaged(shapes.triples().len()))?;
     Ok(Some(open))
 }
 
 // Answers a command that changes nothing: by this reply within a transaction.
 fn answer_only(
-    current: Option<OpenTransaction>,
+    current: &Option<OpenTransaction>,
     reply: SessionReply,
     replies: &mut Sequence<SessionReply>,
-) -> Result<Option<OpenTransaction>, AllocError>
-    ensures { IfOk result (λ next. (next ≡ current) × (replies.new ≡ replies.old ++ answer_in current reply ∷ [])) }
+) -> Result<(), AllocError>
+    ensures { OnOk result (replies.new ≡ replies.old ++ answer_in (plain_in current.now) reply ∷ []) }
 {
     match current {
-        Some(open) => {
-            replies.push(reply)?;
-            Ok(Some(open))
-        }
-        None => {
-            replies.push(SessionReply::NoTransaction)?;
-            Ok(None)
-        }
+        Some(_) => replies.push(reply),
+        None => replies.push(SessionReply::NoTransaction),
     }
 }
 
-/// An addition or a removal whose block can't be read changes nothing.
-pub fn refuse_change(
+/// Does a command whose block is refused: it changes nothing.
+pub fn refuse(
     core: &Core,
     session: u32,
     current: Option<OpenTransaction>,
-    change: ChangeKind,
-    line: u64,
-    kind: u8,
+    command: &Command,
     replies: &mut Sequence<SessionReply>,
 ) -> Result<Option<OpenTransaction>, AllocError>
-    requires { IsReady core.now session current }
-    ensures { IfOk result (λ next. Performs session core.now core.now current next (bad_command_of change line kind) replies.old replies.new) }
+    requires ready { IsReady core.now session (plain_in current) }
+    requires refused { IsRefusedBlock command.now }
+    ensures { IfOk result (λ next. Performs session core.now core.now (plain_in current) (plain_in next) command.now replies.old replies.new) }
 {
-    answer_only(current, change.refusal(line, kind), replies)
-}
-
-/// Shapes whose block can't be read change nothing.
-pub fn refuse_shapes(
-    core: &Core,
-    session: u32,
-    current: Option<OpenTransaction>,
-    line: u64,
-    kind: u8,
-    replies: &mut Sequence<SessionReply>,
-) -> Result<Option<OpenTransaction>, AllocError>
-    requires { IsReady core.now session current }
-    ensures { IfOk result (λ next. Performs session core.now core.now current next (Command.BadShapes line kind) replies.old replies.new) }
-{
-    answer_only(current, SessionReply::ShapesRefused { line, kind }, replies)
-}
-
-/// Shapes that break a rule change nothing.
-pub fn refuse_broken(
-    core: &Core,
-    session: u32,
-    current: Option<OpenTransaction>,
-    rule: u8,
-    node: &Term,
-    replies: &mut Sequence<SessionReply>,
-) -> Result<Option<OpenTransaction>, AllocError>
-    requires { IsReady core.now session current }
-    ensures { IfOk result (λ next. Performs session core.now core.now current next (Command.BrokenShapes rule node.now) replies.old replies.new) }
-{
-    let node = node.clone()?;
-    answer_only(current, SessionReply::ShapesBroken { rule, node }, replies)
-}
-
-/// Shapes with a pattern that was refused change nothing.
-pub fn refuse_pattern(
-    core: &Core,
-    session: u32,
-    current: Option<OpenTransaction>,
-    node: &Term,
-    replies: &mut Sequence<SessionReply>,
-) -> Result<Option<OpenTransaction>, AllocError>
-    requires { IsReady core.now session current }
-    ensures { IfOk result (λ next. Performs session core.now core.now current next (Command.RefusedPattern node.now) replies.old replies.new) }
-{
-    let node = node.clone()?;
-    answer_only(current, SessionReply::PatternRefused { node }, replies)
+    let reply = block_refusal(command)?;
+    answer_only(&current, reply, replies)?;
+    Ok(current)
 }

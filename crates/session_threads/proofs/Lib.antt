@@ -1,4 +1,3 @@
-pub mod Refusing
 pub mod Keeping
 pub mod Playing
 pub mod Closing

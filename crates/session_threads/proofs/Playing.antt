@@ -14,14 +14,13 @@ use Rattle.store_model.specs.declared.event.Reply.TheVariants as replies
 use Rattle.store_model.specs.Snapshots.{snapshot_of}
 use Rattle.store_model.specs.Store.{version, HasChange}
 use Rattle.session_model.specs.declared.command.Command.{Command}
-use Rattle.session_model.specs.declared.command.Command.TheVariants.{Begin, Add, Remove, Shapes, BadAdd, BadRemove, BadShapes, BrokenShapes, RefusedPattern, Commit, Find, Abort}
+use Rattle.session_model.specs.declared.command.Command.TheVariants.{Begin, Commit, Find, Abort}
 use Rattle.session_model.specs.declared.reply.SessionReply.{SessionReply}
 use Rattle.session_model.specs.declared.reply.SessionReply.TheVariants as said
 use Rattle.session_model.specs.Sessions as Sessions
-use Rattle.session_model.specs.Sessions.{SessionState, local_answer, local_commit, answers, action_of, after_reply, GoesOn, up_to_event, begun, additions, removals, parts_of, found_by}
+use Rattle.session_model.specs.Sessions.{SessionState, local_answer, answers, action_of, after_reply, GoesOn, up_to_event, begun, parts_of, found_by}
 use Rattle.session_model.proofs.Walking.{up_to_event-local, up_to_event-event}
 use Rattle.report_writer.specs.Report.{report_text}
-use Rattle.session_player.specs.Ready.{answer_in}
 use Rattle.session_player.proofs.Playing.{local-none, local-change}
 use Rattle.thread_model.specs.Following.{is_opening, first_state}
 use Rattle.guard_store.specs.declared.faults.BeginFault.{BeginFault}
@@ -33,17 +32,20 @@ use Rattle.guard_store.specs.declared.faults.FindFault.TheVariants as finds
 use Rattle.guard_store.specs.declared.faults.HeadFault.{HeadFault}
 use Rattle.guard_store.specs.declared.faults.CommitFault.{CommitFault}
 use Rattle.guard_store.specs.declared.faults.CommitFault.TheVariants as commits
-use Rattle.guard_store.specs.declared.faults.Committed.{Committed}
-use Rattle.guard_store.specs.declared.faults.Committed.TheVariants.{ReadOnly, Done, Conflict, FullTriples, Refused}
-use Rattle.guard_store.specs.declared.transaction.OpenTransaction.{OpenTransaction}
+use Rattle.session_transaction.specs.declared.committing.Committed.{Committed}
+use Rattle.session_transaction.specs.declared.committing.Committed.TheVariants.{ReadOnly, Done, Conflict, FullTriples, Refused}
+use Rattle.session_transaction.specs.declared.transaction.OpenTransaction.{OpenTransaction}
 use Rattle.guard_store.specs.declared.session.Session.{Session}
 use Rattle.guard_store.specs.Fronts.{SharedStore, Turn}
 use Rattle.guard_store.specs.Callers.{IsCaller, IsSession, FitsIn, HasWork, OnlyReads}
-use Rattle.guard_store.specs.Transactions.{plain, plain_in, begun_at, with_changes, with_shapes, with_find}
+use Rattle.session_transaction.specs.Transactions.{plain, plain_in, begun_at, with_find}
 use Rattle.guard_store.specs.Answers.{Begins, BeginsNot, Stages, StagesNot, Heads, HeadsNot, Commits, CommitsNot, AnswersCommit, FindsNot, IsOpen, event_of}
 use Rattle.guard_store.proofs.Turning.{front_is}
 use Rattle.guard_store.proofs.Fitting.{session_ended}
-use Rattle.session_threads.specs.Replies.{IsBeginReply, IsStageReply, IsFindRefusal, IsAbortReply, IsCommitReply, IsListed, IsRefused}
+use Rattle.session_transaction.specs.Replies.{IsCommitReply, IsListed, IsRefused, answer_in}
+use Rattle.session_transaction.proofs.Blocks.{IsBlock}
+use Rattle.session_transaction.proofs.Refusing.{refused_by}
+use Rattle.session_threads.specs.Replies.{IsBeginReply, IsStageReply, IsFindRefusal, IsAbortReply}
 use Rattle.session_threads.specs.Playing.{HasPlayed, Plays, PlaysAll}
 use Rattle.session_threads.proofs.Keeping.{played_still, played_on}
 
@@ -110,23 +112,6 @@ plays_begin store old new (Err begins.AlreadyOpen) r rs more was is b told em =
     (em ∙ ap (λ x. rs ++ x ∷ []) told)
 plays_begin store old new (Err begins.Memory) r rs more was is b told em = absurd told
 
--- what a block of the file is to the store: its action, its reply, and what it makes of the transaction
-pub record IsBlock (c : Command) (ts : List Triple) (staged : OpenTransaction → OpenTransaction) (done : SessionReply) : Type 0 where
-  pub free : local_answer None c ≡ answers said.NoTransaction None
-  pub event : (w : Sessions.OpenTransaction) → local_answer (Some w) c ≡ None
-  pub action : (w : Sessions.OpenTransaction) → action_of (Some w) c ≡ Some (actions.Name (parts_of ts))
-  pub named : (s : _) (w : OpenTransaction) (cs : List Command) (rs : List SessionReply) → after_reply s (Some (plain w)) c cs rs replies.Named ≡ Some (up_to_event (Some (plain (staged w))) cs (rs ++ done ∷ []))
-  pub full : (s : _) (w : OpenTransaction) (n : ℕ) (cs : List Command) (rs : List SessionReply) → after_reply s (Some (plain w)) c cs rs (replies.Full n) ≡ Some (up_to_event (Some (plain w)) cs (rs ++ said.FullTerms ∷ []))
-
-pub block_add : (ts : List Triple) → IsBlock (Add ts) ts (λ w. with_changes w (additions ts)) (said.Added (length ts))
-block_add ts = record { free = refl; event = λ w. refl; action = λ w. refl; named = λ s w cs rs. refl; full = λ s w n cs rs. refl }
-
-pub block_remove : (ts : List Triple) → IsBlock (Remove ts) ts (λ w. with_changes w (removals ts)) (said.Removed (length ts))
-block_remove ts = record { free = refl; event = λ w. refl; action = λ w. refl; named = λ s w cs rs. refl; full = λ s w n cs rs. refl }
-
-pub block_shapes : (ts : List Triple) → IsBlock (Shapes ts) ts (λ w. with_shapes w ts) (said.ShapesStaged (length ts))
-block_shapes ts = record { free = refl; event = λ w. refl; action = λ w. refl; named = λ s w cs rs. refl; full = λ s w n cs rs. refl }
-
 pub plays_stage : {U : Type 0} (store : SharedStore) (old new : Session) (c : Command) (ts : List Triple) (staged : OpenTransaction → OpenTransaction) (done : SessionReply) → IsBlock c ts staged done
     → (a : Result U StageFault) (r : SessionReply) (rs more : List SessionReply) → IsSession store old → IsSession store new
     → MatchResult a (λ _. Stages store.limits old new ts staged) (λ f. StagesNot f store.limits old new ts) → IsStageReply a done r → more ≡ rs ++ r ∷ [] → Plays store old new c rs more
@@ -142,39 +127,7 @@ plays_stage {U} store old new c ts staged done k (Err (stages.Full n)) r rs more
     b.1 (λ cs. k.full b.1.before w n cs rs) (em ∙ ap (λ x. rs ++ x ∷ []) told)
 plays_stage {U} store old new c ts staged done k (Err stages.Memory) r rs more was is b told em = absurd told
 
--- a command that changes nothing
-refused_none : (c : Command) (r : SessionReply) → IsRefused c r → local_answer None c ≡ answers said.NoTransaction None
-refused_none Begin r h = absurd h
-refused_none (Add ts) r h = absurd h
-refused_none (BadAdd n k) r h = refl
-refused_none (Remove ts) r h = absurd h
-refused_none (BadRemove n k) r h = refl
-refused_none (Shapes ts) r h = absurd h
-refused_none (BadShapes n k) r h = refl
-refused_none (BrokenShapes rule node) r h = refl
-refused_none (RefusedPattern node) r h = refl
-refused_none Commit r h = absurd h
-refused_none (Find p) r h = absurd h
-refused_none Abort r h = absurd h
-
-refused_some : (c : Command) (r : SessionReply) (w : Sessions.OpenTransaction) → IsRefused c r → local_answer (Some w) c ≡ answers r (Some w)
-refused_some Begin r w h = absurd h
-refused_some (Add ts) r w h = absurd h
-refused_some (BadAdd n k) r w h = ap (λ x. answers x (Some w)) (sym h)
-refused_some (Remove ts) r w h = absurd h
-refused_some (BadRemove n k) r w h = ap (λ x. answers x (Some w)) (sym h)
-refused_some (Shapes ts) r w h = absurd h
-refused_some (BadShapes n k) r w h = ap (λ x. answers x (Some w)) (sym h)
-refused_some (BrokenShapes rule node) r w h = ap (λ x. answers x (Some w)) (sym h)
-refused_some (RefusedPattern node) r w h = ap (λ x. answers x (Some w)) (sym h)
-refused_some Commit r w h = absurd h
-refused_some (Find p) r w h = absurd h
-refused_some Abort r w h = absurd h
-
-refused_by : (c : Command) (r : SessionReply) (u : Option Sessions.OpenTransaction) → IsRefused c r → local_answer u c ≡ answers (answer_in u r) u
-refused_by c r None h = refused_none c r h
-refused_by c r (Some w) h = refused_some c r w h
-
+-- a command whose block is refused
 pub plays_refused : (store : SharedStore) (s : Session) (c : Command) (r : SessionReply) (rs more : List SessionReply) → IsSession store s → IsRefused c r → more ≡ rs ++ answer_in (plain_in s.current) r ∷ [] → Plays store s s c rs more
 plays_refused store s c r rs more is h em = plays_local store s s (plain_in s.current) (plain_in s.current) c rs more (answer_in (plain_in s.current) r) is refl refl refl refl (refused_by c r (plain_in s.current) h) em
 

@@ -62,7 +62,7 @@ use Rattle.commit_core.specs.contracts.history.History as history
 use Rattle.commit_core.specs.contracts.snapshot.Snap as snap
 use Rattle.commit_core.specs.contracts.store.Core as core
 use Rattle.guard_store.specs.contracts.shared.Shared as shared
-use Rattle.guard_store.specs.contracts.transaction.OpenTransaction as open_transaction
+use Rattle.session_transaction.specs.contracts.transaction.OpenTransaction as open_transaction
 use Rattle.guard_store.specs.contracts.session.Session as session
 use Rattle.guard_store.specs.contracts.store.Store as store
 use Rattle.session_threads.specs.contracts.team.Player as player

@@ -1,5 +1,5 @@
 -- What a gate is told of a session's events.
-use Rattle.std.specs.Prelude.{List, Bool, true, false, Option, Some, None, Result, Ok, Err, option_map}
+use Rattle.std.specs.Prelude.{Bool, true, false, Option, Some, None, Result, Ok, Err, option_map}
 use Rattle.outside.specs.declared.gate.EventKind.{EventKind}
 use Rattle.outside.specs.declared.gate.EventKind.TheVariants as kinds
 use Rattle.store_model.specs.declared.commit.Again.{Again}
@@ -9,8 +9,8 @@ use Rattle.store_model.specs.declared.event.Action.TheVariants as actions
 use Rattle.session_model.specs.declared.command.Command.{Command}
 use Rattle.session_model.specs.Sessions.{LocalAnswer, OpenTransaction, action_of, local_answer}
 use Rattle.guard_store.specs.declared.faults.CommitFault.{CommitFault}
-use Rattle.guard_store.specs.declared.faults.Committed.{Committed}
-use Rattle.guard_store.specs.declared.faults.Committed.TheVariants.{ReadOnly, Done, Conflict, FullTriples, Refused}
+use Rattle.session_transaction.specs.declared.committing.Committed.{Committed}
+use Rattle.session_transaction.specs.declared.committing.Committed.TheVariants.{ReadOnly, Done, Conflict, FullTriples, Refused}
 
 abbrev pub kind_of : Action → EventKind
 kind_of actions.Open = kinds.Open

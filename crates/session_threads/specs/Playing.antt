@@ -10,7 +10,7 @@ use Rattle.thread_model.specs.Following.{Follows, first_state}
 use Rattle.guard_store.specs.declared.session.Session.{Session}
 use Rattle.guard_store.specs.Fronts.{SharedStore}
 use Rattle.guard_store.specs.Callers.{IsSession}
-use Rattle.guard_store.specs.Transactions.{plain_in}
+use Rattle.session_transaction.specs.Transactions.{plain_in}
 
 -- session i came from the beginning of its file to q
 abbrev pub HasPlayed : Limits → ℕ → List Event → List Command → SessionState → Type 0

@@ -1,10 +1,5 @@
 -- What a session is told of the store's answers. Want of memory is told to nobody.
-use Rattle.std.specs.Prelude.{◌≡◌, ℕ, List, length, Bool, true, false, Result, Ok, Err}
-use Rattle.rdf_model.specs.declared.triple.Triple.{Triple}
-use Rattle.report_writer.specs.Report.{report_text}
-use Rattle.shape_model.specs.Validation.{Listing}
-use Rattle.session_model.specs.declared.command.Command.{Command}
-use Rattle.session_model.specs.declared.command.Command.TheVariants.{Begin, Add, BadAdd, Remove, BadRemove, Shapes, BadShapes, BrokenShapes, RefusedPattern, Commit, Find, Abort}
+use Rattle.std.specs.Prelude.{◌≡◌, ℕ, Bool, true, false, Result, Ok, Err}
 use Rattle.session_model.specs.declared.reply.SessionReply.{SessionReply}
 use Rattle.session_model.specs.declared.reply.SessionReply.TheVariants as told
 use Rattle.guard_store.specs.declared.faults.BeginFault.{BeginFault}
@@ -13,8 +8,6 @@ use Rattle.guard_store.specs.declared.faults.StageFault.{StageFault}
 use Rattle.guard_store.specs.declared.faults.StageFault.TheVariants as stages
 use Rattle.guard_store.specs.declared.faults.FindFault.{FindFault}
 use Rattle.guard_store.specs.declared.faults.FindFault.TheVariants as finds
-use Rattle.guard_store.specs.declared.faults.Committed.{Committed}
-use Rattle.guard_store.specs.declared.faults.Committed.TheVariants.{ReadOnly, Done, Conflict, FullTriples, Refused}
 
 abbrev pub IsBeginReply : Result ℕ BeginFault → SessionReply → Type 0
 IsBeginReply (Ok version) r = r ≡ told.Begun version
@@ -34,38 +27,3 @@ IsFindRefusal finds.Memory r = ⊥
 abbrev pub IsAbortReply : Bool → SessionReply → Type 0
 IsAbortReply true r = r ≡ told.Aborted
 IsAbortReply false r = r ≡ told.NoTransaction
-
--- the results of a refusal are those of a graph under the shapes
-abbrev pub IsListed : Committed → Type 0
-IsListed (ReadOnly v) = Unit {0}
-IsListed (Done n why) = Unit {0}
-IsListed (Conflict n t) = Unit {0}
-IsListed (FullTriples n) = Unit {0}
-IsListed (Refused rows why shapes) = (graph : List Triple) × Listing graph shapes rows
-
-abbrev pub IsCommitReply : Committed → SessionReply → Type 0
-IsCommitReply (ReadOnly v) r = r ≡ told.ReadOnly v
-IsCommitReply (Done n why) r = r ≡ told.Committed n
-IsCommitReply (Conflict n t) r = r ≡ told.Overtaken n t
-IsCommitReply (FullTriples n) r = r ≡ told.FullGraph
-IsCommitReply (Refused rows why shapes) r = r ≡ told.Refused (length rows) (report_text shapes rows)
-
--- the reply to a command whose block can't be read, isn't well-formed, or has a pattern that was refused, within a
--- transaction
-abbrev pub IsRefused : Command → SessionReply → Type 0
-IsRefused Begin r = ⊥
-IsRefused (Add ts) r = ⊥
-IsRefused (BadAdd n kind) r = r ≡ told.AddRefused n kind
-IsRefused (Remove ts) r = ⊥
-IsRefused (BadRemove n kind) r = r ≡ told.RemoveRefused n kind
-IsRefused (Shapes ts) r = ⊥
-IsRefused (BadShapes n kind) r = r ≡ told.ShapesRefused n kind
-IsRefused (BrokenShapes rule node) r = r ≡ told.ShapesBroken rule node
-IsRefused (RefusedPattern node) r = r ≡ told.PatternRefused node
-IsRefused Commit r = ⊥
-IsRefused (Find p) r = ⊥
-IsRefused Abort r = ⊥
-
--- such a command
-abbrev pub IsRefusedBlock : Command → Type 0
-IsRefusedBlock c = (r : SessionReply) × IsRefused c r

@@ -1,20 +1,18 @@
 //! What one command does.
 ghost use Rattle.std.specs.Prelude.{◌≡◌, ◌∷◌, ◌++◌, [], IfOk, OnOk};
-ghost use Rattle.guard_store.specs.Transactions.{plain_in};
+ghost use Rattle.session_transaction.specs.Transactions.{plain_in};
 ghost use Rattle.guard_store.specs.Callers.{HasWork, IsSession, OnlyReads};
-ghost use Rattle.session_player.specs.Ready.{answer_in};
-ghost use Rattle.session_threads.specs.Replies.{IsRefusedBlock};
+ghost use Rattle.session_transaction.specs.Replies.{IsRefusedBlock, answer_in};
 ghost use Rattle.session_threads.specs.Playing.{Plays};
 
-use crate::replies::{
-    abort_reply, begin_reply, block_refusal, commit_reply, find_reply, stage_reply,
-};
+use crate::replies::{abort_reply, begin_reply, commit_reply, find_reply, stage_reply};
 use crate::watch::{Watch, is_ready, next_event};
 use collections::Sequence;
 use guard_store::{BeginFault, CommitFault, Session, StageFault, Store};
 use outside::{EventKind, Gate};
 use rdf_model::{Pattern, Triple};
 use session_model::{Command, SessionReply};
+use session_transaction::block_refusal;
 use shape_eval::Steps;
 use shapes_graph::ShapesGraph;
 use std::alloc::{AllocError, Global};

@@ -1,6 +1,6 @@
 //! What a gate is told of a session.
 ghost use Rattle.std.specs.Prelude.{◌≡◌};
-ghost use Rattle.guard_store.specs.Transactions.{plain_in};
+ghost use Rattle.session_transaction.specs.Transactions.{plain_in};
 ghost use Rattle.session_threads.specs.Places.{event_kind, is_ready};
 
 use guard_store::{CommitFault, Committed, Session};

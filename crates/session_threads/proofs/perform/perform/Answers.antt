@@ -1,4 +1,4 @@
-use Rattle.session_threads.proofs.Refusing.{refused_block}
+use Rattle.session_transaction.proofs.Refusing.{refused_block}
 use Rattle.session_threads.proofs.perform.perform.Goals as goal
 
 pub refuse-requires-clause-refused : goal.refuse-requires-clause-refused

@@ -1,4 +1,5 @@
-use Rattle.session_threads.proofs.Playing.{block_shapes, plays_stage}
+use Rattle.session_transaction.proofs.Blocks.{block_shapes}
+use Rattle.session_threads.proofs.Playing.{plays_stage}
 use Rattle.session_threads.proofs.perform.stage.Goals as goal
 
 pub returns : goal.returns

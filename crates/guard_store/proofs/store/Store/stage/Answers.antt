@@ -1,4 +1,4 @@
-use Rattle.guard_store.specs.Transactions.{changes_of, with_changes}
+use Rattle.session_transaction.specs.Transactions.{changes_of, with_changes}
 use Rattle.guard_store.proofs.Cases.{at_ok, at_err}
 use Rattle.guard_store.proofs.Calling.{named_open, stage_now, stage_session}
 use Rattle.guard_store.proofs.Fitting.{stages_not_session}

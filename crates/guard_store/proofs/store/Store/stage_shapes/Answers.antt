@@ -1,4 +1,4 @@
-use Rattle.guard_store.specs.Transactions.{with_shapes}
+use Rattle.session_transaction.specs.Transactions.{with_shapes}
 use Rattle.guard_store.proofs.Cases.{at_ok, at_err}
 use Rattle.guard_store.proofs.Calling.{stages_now}
 use Rattle.guard_store.proofs.Fitting.{stages_shapes_session, stages_not_session}

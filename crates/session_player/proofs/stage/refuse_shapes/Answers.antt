@@ -1,5 +1,0 @@
-use Rattle.session_player.proofs.Playing.{performs_answer, local-refuse_shapes}
-use Rattle.session_player.proofs.stage.refuse_shapes.Goals as goal
-
-pub returns : goal.returns
-returns c = performs_answer _ _ _ _ _ _ _ _ (local-refuse_shapes c.args.line c.args.kind) c.requires c.answer_only.ensures

@@ -1,0 +1,5 @@
+pub mod Growing
+pub mod Fitting
+pub mod Blocks
+pub mod Refusing
+pub mod Listed

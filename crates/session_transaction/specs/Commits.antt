@@ -1,0 +1,26 @@
+-- What the store's core answers a commit.
+use Rattle.std.specs.Prelude.{◌≡◌, ℕ}
+use Rattle.rdf_model.specs.Graphs.{after}
+use Rattle.shape_model.specs.Validation.{Listing}
+use Rattle.store_model.specs.declared.commit.Transaction.{Transaction}
+use Rattle.store_model.specs.declared.event.Action.TheVariants as actions
+use Rattle.store_model.specs.declared.event.Reply.{Reply}
+use Rattle.store_model.specs.declared.event.Reply.TheVariants as replies
+use Rattle.store_model.specs.Store.{State, RecordedStore, TakesStep, shapes_under}
+use Rattle.session_transaction.specs.declared.committing.Committed.{Committed}
+use Rattle.session_transaction.specs.declared.committing.Committed.TheVariants.{ReadOnly, Done, Conflict, FullTriples, Refused}
+
+-- The plain store's reply to the commit of x is told so; s is the state before it. The results of a refusal are the listing
+-- of the graph that would be, under the staged shapes or else the newest.
+abbrev pub IsAnswer : State → Transaction → Reply → Committed → Type 0
+IsAnswer s x r (ReadOnly v) = ⊥
+IsAnswer s x r (Done n why) = r ≡ replies.Done n why
+IsAnswer s x r (Conflict n t) = r ≡ replies.Conflict n t
+IsAnswer s x r (FullTriples n) = r ≡ replies.FullTriples n
+IsAnswer s x r (Refused rows why shapes) = (r ≡ replies.Refused rows why) × (shapes ≡ shapes_under s.shapes x.staged) × Listing (after s.graph x.net) shapes rows
+
+-- The commit of session i was one step of the store, with this answer.
+pub record IsCommitted (old new : RecordedStore) (i : ℕ) (x : Transaction) (answer : Committed) : Type 0 where
+  pub reply : Reply
+  pub step : TakesStep old new (record { session = i; action = actions.Commit x; reply = reply })
+  pub told : IsAnswer old.state x reply answer

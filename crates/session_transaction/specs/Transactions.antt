@@ -1,0 +1,65 @@
+-- A session's open transaction, as its caller keeps it.
+use Rattle.std.specs.Prelude.{◌≡◌, ℕ, ◌≤◌, List, [], ◌∷◌, ◌++◌, Option, Some, None, false}
+use Rattle.rdf_model.specs.declared.triple.Triple.{Triple}
+use Rattle.rdf_model.specs.declared.pattern.Pattern.{Pattern}
+use Rattle.rdf_model.specs.declared.change.Change.{Change}
+use Rattle.rdf_model.specs.declared.change.Change.TheVariants as changes
+use Rattle.store_model.specs.declared.commit.Transaction.{Transaction}
+use Rattle.store_model.specs.Snapshots.{Snapshot}
+use Rattle.store_model.specs.Store.{State, NetNamed, StagedNamed, version}
+use Rattle.session_model.specs.declared.command.Command.{Command}
+use Rattle.session_model.specs.declared.command.Command.TheVariants.{Add, Remove}
+use Rattle.session_model.specs.declared.reply.SessionReply.{SessionReply}
+use Rattle.session_model.specs.declared.reply.SessionReply.TheVariants.{Added, Removed}
+use Rattle.session_model.specs.Sessions as Sessions
+use Rattle.session_model.specs.Sessions.{additions, removals}
+use Rattle.session_transaction.specs.declared.transaction.OpenTransaction.{OpenTransaction}
+use Rattle.session_transaction.specs.declared.transaction.ChangeKind.{ChangeKind}
+use Rattle.session_transaction.specs.declared.transaction.ChangeKind.TheVariants.{Addition, Removal}
+
+abbrev pub change_of : ChangeKind → Triple → Change
+change_of Addition t = changes.Add t
+change_of Removal t = changes.Remove t
+
+abbrev pub changes_of : ChangeKind → List Triple → List Change
+changes_of Addition ts = additions ts
+changes_of Removal ts = removals ts
+
+-- the command of a block of triples, and the reply to one of so many
+abbrev pub command_of : ChangeKind → List Triple → Command
+command_of Addition ts = Add ts
+command_of Removal ts = Remove ts
+
+abbrev pub reply_of : ChangeKind → ℕ → SessionReply
+reply_of Addition count = Added count
+reply_of Removal count = Removed count
+
+-- the transaction that begins at the snapshot
+abbrev pub begun_at : Snapshot → OpenTransaction
+begun_at n = record { transaction = record { base = n.number; net = []; staged = None; finds = []; verdict = None }; snap = n }
+
+abbrev pub with_changes : OpenTransaction → List Change → OpenTransaction
+with_changes w net = record w { transaction = record w.transaction { net = w.transaction.net ++ net } }
+
+-- the shapes graph that was staged last counts
+abbrev pub with_shapes : OpenTransaction → List Triple → OpenTransaction
+with_shapes w ts = record w { transaction = record w.transaction { staged = Some ts } }
+
+-- a find's pattern is recorded
+abbrev pub with_find : OpenTransaction → Pattern → OpenTransaction
+with_find w p = record w { transaction = record w.transaction { finds = w.transaction.finds ++ p ∷ [] } }
+
+-- the plain session's transaction; its commit has taken no head yet
+abbrev pub plain : OpenTransaction → Sessions.OpenTransaction
+plain w = record { transaction = w.transaction; graph = w.snap.graph; head_taken = false }
+
+abbrev pub plain_in : Option OpenTransaction → Option Sessions.OpenTransaction
+plain_in None = None
+plain_in (Some w) = Some (plain w)
+
+-- the transaction began at a version of this store, its terms are named, and it has no verdict
+pub record FitsState (x : Transaction) (s : State) : Type 0 where
+  pub base : x.base ≤ version s
+  pub net : NetNamed s.named x.net
+  pub staged : StagedNamed s.named x.staged
+  pub verdict : x.verdict ≡ None

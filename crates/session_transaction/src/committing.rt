@@ -1,0 +1,75 @@
+//! The commit of a transaction over a core.
+ghost use Rattle.std.specs.Prelude.{◌≡◌, None, MatchResult};
+ghost use Rattle.store_model.specs.Store.{IsCommittable, IsOpened};
+ghost use Rattle.session_transaction.specs.Commits.{IsCommitted};
+
+use collections::Sequence;
+use commit_core::{CheckedTransaction, Commit, Core};
+use rdf_model::Triple;
+use shape_eval::Steps;
+use shape_model::ResultRow;
+use shapes_graph::ShapesGraph;
+use std::alloc::Global;
+use std::sync::ledger::Ledger;
+use store_model::{Again, Transaction};
+
+/// What a commit is answered.
+#[derive(Drop)]
+pub enum Committed {
+    /// The transaction changes nothing; it stands at this version.
+    ReadOnly {
+        version: u64,
+    },
+    /// The commit's number, the version that it made, and why it was evaluated in its turn.
+    Done {
+        number: u64,
+        again: Again,
+    },
+    /// The overtaking commit, and the first triple of it that a find asked for.
+    Conflict {
+        commit: u64,
+        triple: Triple,
+    },
+    /// The graph would have so many triples, more than the limit.
+    FullTriples {
+        count: usize,
+    },
+    /// The graph would have these results, under these shapes.
+    Refused {
+        rows: Sequence<ResultRow>,
+        again: Again,
+        shapes: ShapesGraph,
+    },
+}
+
+/// Commits a transaction that changes something or stages shapes, of which nothing was checked. Without memory it is
+/// handed back, and nothing has happened.
+pub fn commit<L: Ledger>(
+    alloc: Global,
+    core: &mut Core,
+    session: u32,
+    transaction: Transaction,
+    steps: &mut Steps<L>,
+) -> Result<Committed, Transaction>
+    requires opened { IsOpened core.old.state session }
+    requires committable { IsCommittable core.old.state transaction }
+    requires unchecked { transaction.verdict ≡ None }
+    ensures { MatchResult result (IsCommitted core.old core.new session transaction) (λ back. (back ≡ transaction) × (core.new ≡ core.old)) }
+{
+    let checked = CheckedTransaction::unchecked(alloc, transaction);
+    match core.commit(session, checked, steps) {
+        Commit::Done { number, again } => Ok(Committed::Done { number, again }),
+        Commit::Conflict { commit, triple } => Ok(Committed::Conflict { commit, triple }),
+        Commit::FullTriples { count } => Ok(Committed::FullTriples { count }),
+        Commit::Refused {
+            rows,
+            again,
+            shapes,
+        } => Ok(Committed::Refused {
+            rows,
+            again,
+            shapes,
+        }),
+        Commit::Memory(checked) => Err(checked.into_transaction()),
+    }
+}

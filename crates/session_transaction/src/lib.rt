@@ -1,0 +1,17 @@
+//! A session's open transaction, however its store is reached.
+//!
+//! `OpenTransaction` has what its commit hands in and the snapshot of its begin. Its changes, its staged shapes and the
+//! patterns of its finds are kept in their order, and a find sees the snapshot with the changes so far. `commit` hands it to
+//! a core, and `Committed` is the answer. What a session is told of a find, of a refused block and of a commit is told here
+//! too.
+#![tactic(auto)]
+
+mod committing;
+mod replies;
+mod terms;
+mod transaction;
+
+pub use committing::{Committed, commit};
+pub use replies::{block_refusal, reply_of_commit, reply_of_find};
+pub use terms::terms_in;
+pub use transaction::{ChangeKind, OpenTransaction};
