@@ -8,6 +8,7 @@ ghost use Rattle.std.specs.Prelude.{IfOk};
 ghost use Rattle.path_eval.specs.Instances.{AreClassWords};
 ghost use Rattle.shape_ast.specs.Readings.{named_shapes};
 ghost use Rattle.shape_ast.specs.Standing.{StandFor};
+ghost use Rattle.shape_rules.specs.Broken.{IsWellFormed};
 ghost use Rattle.shape_plans.specs.Planned.{ArePlanned};
 ghost use Rattle.term_validation.specs.Named.{AreNamedTriples};
 
@@ -28,6 +29,7 @@ pub fn plan_graph<N: Names>(
 ) -> Result<PlannedShapes, AllocError>
     requires words { AreClassWords (N.terms names.now) words }
     requires shapes { AreNamedTriples (N.terms names.now) shapes.now }
+    ensures well_formed { IsWellFormed shapes.now }
     ensures planned { IfOk result (ArePlanned (N.terms names.now)) }
     ensures stand { IfOk result (λ planned. StandFor (named_shapes (N.terms names.now) planned.bound.shapes) shapes.now) }
 {
