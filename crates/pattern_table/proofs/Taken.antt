@@ -14,7 +14,7 @@ use Rattle.shape_model.specs.Readings.{HasFlags, reading}
 use Rattle.shape_model.specs.ShapeSyntax.{HasProperty, IsShape}
 use Rattle.shape_model.specs.Vocabulary.{ShFlags, ShPattern}
 use Rattle.shape_ast.specs.Readings.{ReadShape, read_optional, read_pattern, read_shape, read_shapes}
-use Rattle.shape_ast.specs.Standing.{AreCompiled, HasFlagsText, IsBuilt as IsCompiled, shape_reading}
+use Rattle.shape_ast.specs.Standing.{AreCompiled, HasFlagsText, IsBuilt as IsCompiled, SameShape, shape_reading}
 use Rattle.shape_ast.specs.declared.pattern.Pattern.{Pattern}
 use Rattle.shape_ast.specs.declared.shape.Shape.{Shape}
 use Rattle.shape_syntax.proofs.Scans.{cases_more, read_in}
