@@ -9,4 +9,5 @@ mod names;
 mod rows;
 
 pub use fault::RowsFault;
-pub use rows::{BothListings, both_listings};
+pub use names::{class_words, names_of};
+pub use rows::{BothListings, both_listings, shapes_of, triples_of};

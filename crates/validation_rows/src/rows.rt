@@ -41,8 +41,8 @@ pub struct BothListings {
     pub plain: Sequence<ResultRow>,
 }
 
-// The triples of a text, whose blank nodes belong to the session and are numbered from 1.
-fn triples_of(alloc: Global, session: u32, text: &[u8]) -> Result<Sequence<Triple>, ReadFault>
+/// The triples of a text, whose blank nodes belong to the session and are numbered from 1.
+pub fn triples_of(alloc: Global, session: u32, text: &[u8]) -> Result<Sequence<Triple>, ReadFault>
     requires session { (1 ≤ session) × (session ≤ 64) }
     requires room { length text.now < 2 ^ 30 }
     ensures read { MatchResult result (IsRead session text.now) (λ fault. Refuses fault (reads text.now session 1)) }
@@ -54,8 +54,8 @@ fn triples_of(alloc: Global, session: u32, text: &[u8]) -> Result<Sequence<Tripl
     Ok(triples)
 }
 
-// The shapes graph of the triples, if they are well-formed and the maker builds their patterns.
-fn shapes_of<M: Maker>(
+/// The shapes graph of the triples, if they are well-formed and the maker builds their patterns.
+pub fn shapes_of<M: Maker>(
     alloc: Global,
     maker: &mut M,
     triples: Sequence<Triple>,
