@@ -26,8 +26,8 @@ use Rattle.store_model.specs.declared.commit.Accepted.{Accepted}
 use Rattle.store_model.specs.declared.commit.Again.{Again}
 use Rattle.store_model.proofs.Steps.{names, names_none, overflows, accepts, refuses}
 use Rattle.store_model.specs.declared.commit.Verdict.{Verdict}
-use Rattle.data_graph.specs.DataGraphs.{NamedGraph, names_of, with_changes, with_names}
-use Rattle.commit_core.specs.Commits.{IsWithin, data_of}
+use Rattle.data_graph.specs.DataGraphs.{NamedGraph, names_of, with_names}
+use Rattle.commit_core.specs.Commits.{IsWithin, committed_graph, data_of}
 use Rattle.commit_core.specs.Verdicts.{IsAtHead}
 use Rattle.commit_core.specs.Consistent.{IsConsistent}
 use Rattle.term_dict.specs.Names.{with_terms}
@@ -240,37 +240,37 @@ pub consistent_name : (s o : RecordedStore) (i : ℕ) (ts names : List Term) →
 consistent_name s o i ts ns k v g e le = IsConsistent-step s (record s.state { named = ns }) (record { session = i; action = Name ts; reply = Named }) k (name_done s.limits s.state i ts ns (opened_inside s o i v g) e le)
 
 -- the store of a data graph with its names and of the other fields
-abbrev fields : NamedGraph → ℕ → List Triple → List Accepted → ℕ → List Event → RecordedStore
-fields d m s cs n h = record { limits = record { terms = d.limit; triples = m }; state = record { graph = d.triples; shapes = s; commits = cs; named = d.terms; opened = n }; history = h }
+abbrev fields : NamedGraph → ℕ → List Accepted → ℕ → List Event → RecordedStore
+fields d m cs n h = record { limits = record { terms = d.limit; triples = m }; state = record { graph = d.triples; shapes = d.shapes; commits = cs; named = d.terms; opened = n }; history = h }
 
 -- a naming, by what the data graph makes of it
 abbrev naming : ℕ → List Term → Reply → Event
 naming i ts r = record { session = i; action = Name ts; reply = r }
 
-module _ (d e : NamedGraph) (m : ℕ) (s : List Triple) (cs : List Accepted) (n : ℕ) (h : List Event) (o : RecordedStore) (i : ℕ) (ts : List Term) (consistent : IsConsistent (fields d m s cs n h)) (view : fields d m s cs n h ≡ o) (given : IsOpened o.state i) where
-  pub consistent_named : e ≡ with_names d ts → length (with_terms d.terms ts) ≤ d.limit + 2 → IsConsistent (fields e m s cs n (h ++ naming i ts Named ∷ []))
+module _ (d e : NamedGraph) (m : ℕ) (cs : List Accepted) (n : ℕ) (h : List Event) (o : RecordedStore) (i : ℕ) (ts : List Term) (consistent : IsConsistent (fields d m cs n h)) (view : fields d m cs n h ≡ o) (given : IsOpened o.state i) where
+  pub consistent_named : e ≡ with_names d ts → length (with_terms d.terms ts) ≤ d.limit + 2 → IsConsistent (fields e m cs n (h ++ naming i ts Named ∷ []))
   consistent_named is le =
-      subst (λ (x : NamedGraph). IsConsistent (fields x m s cs n (h ++ naming i ts Named ∷ []))) (sym is)
-      (consistent_name (fields d m s cs n h) o i ts (with_terms d.terms ts) consistent view given (same_names d.terms ts) le)
+      subst (λ (x : NamedGraph). IsConsistent (fields x m cs n (h ++ naming i ts Named ∷ []))) (sym is)
+      (consistent_name (fields d m cs n h) o i ts (with_terms d.terms ts) consistent view given (same_names d.terms ts) le)
 
-  pub takes_named : e ≡ with_names d ts → length (with_terms d.terms ts) ≤ d.limit + 2 → TakesStep o (fields e m s cs n (h ++ naming i ts Named ∷ [])) (naming i ts Named)
+  pub takes_named : e ≡ with_names d ts → length (with_terms d.terms ts) ≤ d.limit + 2 → TakesStep o (fields e m cs n (h ++ naming i ts Named ∷ [])) (naming i ts Named)
   takes_named is le =
-      let old = fields d m s cs n h in
+      let old = fields d m cs n h in
       let done = name_done old.limits old.state i ts (with_terms d.terms ts) (opened_inside old o i view given) (same_names d.terms ts) le in
-      subst (λ (x : NamedGraph). TakesStep o (fields x m s cs n (h ++ naming i ts Named ∷ [])) (naming i ts Named)) (sym is)
-      (subst (λ (y : RecordedStore). TakesStep y (fields (with_names d ts) m s cs n (h ++ naming i ts Named ∷ [])) (naming i ts Named)) view (record { step = done; limits = refl; history = refl }))
+      subst (λ (x : NamedGraph). TakesStep o (fields x m cs n (h ++ naming i ts Named ∷ [])) (naming i ts Named)) (sym is)
+      (subst (λ (y : RecordedStore). TakesStep y (fields (with_names d ts) m cs n (h ++ naming i ts Named ∷ [])) (naming i ts Named)) view (record { step = done; limits = refl; history = refl }))
 
-  pub consistent_full : (count : ℕ) → e ≡ d → IsCause (dictionary_faults.Full count) (names_of d) ts → IsConsistent (fields e m s cs n (h ++ naming i ts (Full count) ∷ []))
+  pub consistent_full : (count : ℕ) → e ≡ d → IsCause (dictionary_faults.Full count) (names_of d) ts → IsConsistent (fields e m cs n (h ++ naming i ts (Full count) ∷ []))
   consistent_full count is cause =
-      subst (λ (x : NamedGraph). IsConsistent (fields x m s cs n (h ++ naming i ts (Full count) ∷ []))) (sym is)
-      (consistent_name_full (fields d m s cs n h) o i ts (with_terms d.terms ts) count consistent view given (same_names d.terms ts) (omega (arith, cause.1)) (omega (arith, cause.0, cause.1)))
+      subst (λ (x : NamedGraph). IsConsistent (fields x m cs n (h ++ naming i ts (Full count) ∷ []))) (sym is)
+      (consistent_name_full (fields d m cs n h) o i ts (with_terms d.terms ts) count consistent view given (same_names d.terms ts) (omega (arith, cause.1)) (omega (arith, cause.0, cause.1)))
 
-  pub takes_full : (count : ℕ) → e ≡ d → IsCause (dictionary_faults.Full count) (names_of d) ts → TakesStep o (fields e m s cs n (h ++ naming i ts (Full count) ∷ [])) (naming i ts (Full count))
+  pub takes_full : (count : ℕ) → e ≡ d → IsCause (dictionary_faults.Full count) (names_of d) ts → TakesStep o (fields e m cs n (h ++ naming i ts (Full count) ∷ [])) (naming i ts (Full count))
   takes_full count is cause =
-      let old = fields d m s cs n h in
+      let old = fields d m cs n h in
       let none = name_full old.limits old.state i ts (with_terms d.terms ts) count (opened_inside old o i view given) (same_names d.terms ts) (omega (arith, cause.1)) (omega (arith, cause.0, cause.1)) in
-      subst (λ (x : NamedGraph). TakesStep o (fields x m s cs n (h ++ naming i ts (Full count) ∷ [])) (naming i ts (Full count))) (sym is)
-      (subst (λ (y : RecordedStore). TakesStep y (fields d m s cs n (h ++ naming i ts (Full count) ∷ [])) (naming i ts (Full count))) view (record { step = none; limits = refl; history = refl }))
+      subst (λ (x : NamedGraph). TakesStep o (fields x m cs n (h ++ naming i ts (Full count) ∷ [])) (naming i ts (Full count))) (sym is)
+      (subst (λ (y : RecordedStore). TakesStep y (fields d m cs n (h ++ naming i ts (Full count) ∷ [])) (naming i ts (Full count))) view (record { step = none; limits = refl; history = refl }))
 
 -- a commit that changes nothing
 pub consistent_refusal : (s o : RecordedStore) (i : ℕ) (x : Transaction) (r : Reply) → IsConsistent s → s ≡ o → StepOf o.limits o.state i (Commit x) r o.state → IsConsistent (more s s.state (record { session = i; action = Commit x; reply = r }))
@@ -309,28 +309,34 @@ takes_commit s o i x n graph shapes a why view g f e within es listing eg ec fla
     subst (λ (y : RecordedStore). TakesStep y next event) view (record { step = accepts_at s o i x n graph shapes a why view g f e within es listing eg ec flag en; limits = refl; history = refl })
 
 -- by the data graph that the commit makes, which has the same names
-module _ (d e : NamedGraph) (m : ℕ) (s : List Triple) (cs : List Accepted) (n : ℕ) (h : List Event) (o : RecordedStore) (i : ℕ) (x : Transaction) (number : ℕ) (shapes : List Triple) (a : Accepted) (why : Again) (view : fields d m s cs n h ≡ o) where
+module _ (d e : NamedGraph) (m : ℕ) (cs : List Accepted) (n : ℕ) (h : List Event) (o : RecordedStore) (i : ℕ) (x : Transaction) (number : ℕ) (a : Accepted) (why : Again) (view : fields d m cs n h ≡ o) where
   abbrev accepting : Event
   accepting = record { session = i; action = Commit x; reply = Done number why }
 
-  same_fields : e ≡ with_changes (data_of o) x.net → more (fields d m s cs n h) (accepted_state (fields d m s cs n h).state e.triples shapes a) accepting ≡ fields e m shapes (cs ++ a ∷ []) n (h ++ accepting ∷ [])
+  same_fields : e ≡ committed_graph (data_of o) x → more (fields d m cs n h) (accepted_state (fields d m cs n h).state e.triples e.shapes a) accepting ≡ fields e m (cs ++ a ∷ []) n (h ++ accepting ∷ [])
   same_fields is =
-      let own : e ≡ with_changes d x.net = at_fields (fields d m s cs n h) o (λ y. e ≡ with_changes (data_of y) x.net) view is in
+      let own : e ≡ committed_graph d x = at_fields (fields d m cs n h) o (λ y. e ≡ committed_graph (data_of y) x) view is in
       let terms : d.terms ≡ e.terms = sym (ap (λ (g : NamedGraph). g.terms) own) in
       let limit : d.limit ≡ e.limit = sym (ap (λ (g : NamedGraph). g.limit) own) in
-      λ k. record { limits = record { terms = limit k; triples = m }; state = record { graph = e.triples; shapes = shapes; commits = cs ++ a ∷ []; named = terms k; opened = n }; history = h ++ accepting ∷ [] }
+      λ k. record { limits = record { terms = limit k; triples = m }; state = record { graph = e.triples; shapes = e.shapes; commits = cs ++ a ∷ []; named = terms k; opened = n }; history = h ++ accepting ∷ [] }
 
-  module _ (given : IsOpened o.state i) (fit : IsCommittable o.state x) (reason : why ≡ again cs x.staged x.verdict) (within : IsWithin o.limits o.state.graph o.state.commits x) (under : shapes ≡ shapes_under o.state.shapes x.staged) (listing : Listing (after o.state.graph x.net) shapes [])
-      (is : e ≡ with_changes (data_of o) x.net) (changed : a.changed ≡ differing o.state.graph (after o.state.graph x.net)) (flag : a.staged ≡ is_staged x.staged) (count : number ≡ length (cs ++ a ∷ [])) where
-    pub consistent_accepted : IsConsistent (fields d m s cs n h) → IsConsistent (fields e m shapes (cs ++ a ∷ []) n (h ++ accepting ∷ []))
+  module _ (given : IsOpened o.state i) (fit : IsCommittable o.state x) (reason : why ≡ again cs x.staged x.verdict) (within : IsWithin o.limits o.state.graph o.state.commits x) (listing : Listing (after o.state.graph x.net) (shapes_under o.state.shapes x.staged) [])
+      (is : e ≡ committed_graph (data_of o) x) (changed : a.changed ≡ differing o.state.graph (after o.state.graph x.net)) (flag : a.staged ≡ is_staged x.staged) (count : number ≡ length (cs ++ a ∷ [])) where
+    under : e.shapes ≡ shapes_under o.state.shapes x.staged
+    under = ap (λ (g : NamedGraph). g.shapes) is
+
+    own : Listing (after o.state.graph x.net) e.shapes []
+    own = subst (λ (ts : List Triple). Listing (after o.state.graph x.net) ts []) (sym under) listing
+
+    pub consistent_accepted : IsConsistent (fields d m cs n h) → IsConsistent (fields e m (cs ++ a ∷ []) n (h ++ accepting ∷ []))
     consistent_accepted k =
         subst (λ (y : RecordedStore). IsConsistent y) (same_fields is)
-        (consistent_commit (fields d m s cs n h) o i x number e.triples shapes a why k view given fit reason within under listing (ap (λ (g : NamedGraph). g.triples) is) changed flag count)
+        (consistent_commit (fields d m cs n h) o i x number e.triples e.shapes a why k view given fit reason within under own (ap (λ (g : NamedGraph). g.triples) is) changed flag count)
 
-    pub takes_accepted : TakesStep o (fields e m shapes (cs ++ a ∷ []) n (h ++ accepting ∷ [])) accepting
+    pub takes_accepted : TakesStep o (fields e m (cs ++ a ∷ []) n (h ++ accepting ∷ [])) accepting
     takes_accepted =
         subst (λ (y : RecordedStore). TakesStep o y accepting) (same_fields is)
-        (takes_commit (fields d m s cs n h) o i x number e.triples shapes a why view given fit reason within under listing (ap (λ (g : NamedGraph). g.triples) is) changed flag count)
+        (takes_commit (fields d m cs n h) o i x number e.triples e.shapes a why view given fit reason within under own (ap (λ (g : NamedGraph). g.triples) is) changed flag count)
 
 -- a transaction that may be committed has its verdict, if it has one, of a version up to this one
 pub at_head : (s : State) (v : Option Verdict) → VerdictFits s v → IsAtHead (length s.commits) v

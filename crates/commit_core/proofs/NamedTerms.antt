@@ -162,10 +162,14 @@ each_change named (d ∷ ds) a c i = elim (has_cases d ds c i) [
 pub net_named : (named : List Term) (net : List Change) → NetNamed named net → AreNamedChanges named net
 net_named named net a = all_of (λ c. IsNamedTriple named (changed_triple c)) net (each_change named net a)
 
+-- the triples of staged shapes that are named term by term
+pub staged_named : (named : List Term) (g : List Triple) → AllByRecursion (λ t. AreNamed named (terms_of t)) g → AreNamedTriples named g
+staged_named named g n = all_of (IsNamedTriple named) g (all_named named g n)
+
 -- the staged shapes, or else the newest
 pub named_under : (named : List Term) (shapes : List Triple) (staged : Option (List Triple)) → AreNamedTriples named shapes → StagedNamed named staged → AreNamedTriples named (shapes_under shapes staged)
 named_under named shapes None a n = a
-named_under named shapes (Some g) a n = all_of (IsNamedTriple named) g (all_named named g n)
+named_under named shapes (Some g) a n = staged_named named g n
 
 -- the first names of a dictionary are those of the store
 pub first_names : first_terms ≡ rdf_type ∷ sub_class_of ∷ []

@@ -16,8 +16,8 @@ use Rattle.collections.proofs.Members.{has_cases}
 use Rattle.shape_model.specs.Agreement.{Agree}
 use Rattle.shape_model.specs.Validation.{Listing, NoResult}
 use Rattle.shape_model.specs.declared.result_row.ResultRow.{ResultRow}
-use Rattle.shape_model.proofs.Listings.{verdict_law}
 use Rattle.shape_model.proofs.Looks.{look_law}
+use Rattle.change_laws.proofs.Checked.{checked_law, checked_listing_law}
 use Rattle.store_model.specs.declared.commit.Accepted.{Accepted}
 use Rattle.store_model.specs.declared.commit.Again.{Again}
 use Rattle.store_model.specs.declared.commit.Again.TheVariants.{No, ShapesChanged}
@@ -99,7 +99,9 @@ verdict_stands s net v rows k i h =
     let shapes : s.state.shapes ≡ i.head.shapes = g.shapes leave.0 in
     let none : NoResult s.state.graph i.head.shapes = subst (λ (ts : List Triple). NoResult s.state.graph ts) shapes k.sound.no_result in
     subst (λ (ts : List Triple). Listing (after s.state.graph net) ts rows) (sym shapes)
-    (verdict_law i.head.graph s.state.graph i.head.shapes net v.looks rows past.0 k.sound.ascending past.1 none i.looks (agree i.head.graph s.state.graph v.looks (λ t r. g.graph t (leave.1 t r))) i.listing)
+    (checked_listing_law s.state.graph i.head.shapes net i.checked rows
+    (checked_law i.head.graph s.state.graph i.head.shapes net v.looks i.checked past.0 k.sound.ascending i.looks i.pairs (agree i.head.graph s.state.graph v.looks (λ t r. g.graph t (leave.1 t r))))
+    none i.listing)
 
 held_listing : (s : RecordedStore) (net : List Change) (staged : Option (List Triple)) (verdict : Option Verdict) (rows : List ResultRow) → IsConsistent s → AreOfVerdict s net verdict rows → again s.state.commits staged verdict ≡ No → Listing (after s.state.graph net) (shapes_under s.state.shapes staged) rows
 held_listing s net (Some shapes) verdict rows k a h = cc

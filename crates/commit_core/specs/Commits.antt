@@ -10,7 +10,7 @@ use Rattle.store_model.specs.declared.event.Action.TheVariants as actions
 use Rattle.store_model.specs.declared.event.Reply.{Reply}
 use Rattle.store_model.specs.declared.event.Reply.TheVariants as replies
 use Rattle.store_model.specs.Store.{RecordedStore, TakesStep, is_staged, overtaker, shapes_under}
-use Rattle.data_graph.specs.DataGraphs.{NamedGraph, with_changes}
+use Rattle.data_graph.specs.DataGraphs.{NamedGraph, with_changes, with_shapes}
 use Rattle.commit_core.specs.declared.commit.CheckedTransaction.{CheckedTransaction}
 use Rattle.commit_core.specs.declared.commit.Commit.{Commit}
 use Rattle.commit_core.specs.declared.commit.Commit.TheVariants.{Done, Conflict, FullTriples, Refused, Memory}
@@ -35,7 +35,11 @@ Answers (Memory y) old new i x = (y ≡ x) × (new ≡ old)
 
 -- the data graph of a store, with its names
 abbrev pub data_of : RecordedStore → NamedGraph
-data_of s = record { triples = s.state.graph; terms = s.state.named; limit = s.limits.terms }
+data_of s = record { triples = s.state.graph; shapes = s.state.shapes; terms = s.state.named; limit = s.limits.terms }
+
+-- the data graph that a commit would make: after its changes, under the staged shapes or else its own
+abbrev pub committed_graph : NamedGraph → Transaction → NamedGraph
+committed_graph g x = with_shapes (with_changes g x.net) (shapes_under g.shapes x.staged)
 
 -- nothing overtook the transaction, and the graph would be within the limit
 abbrev pub IsWithin : Limits → List Triple → List Accepted → Transaction → Type 0
@@ -46,20 +50,20 @@ abbrev pub Refuses : List Triple → List Triple → Transaction → Refusal →
 Refuses graph shapes x p = (p.shapes ≡ shapes_under shapes x.staged) × Listing (after graph x.net) p.shapes p.rows × (0 < length p.rows) × (p.recorded ≡ p.rows)
 
 -- the graph has none
-abbrev pub Accepts : NamedGraph → List Triple → Transaction → Acceptance → Type 0
-Accepts g shapes x p =
-    (p.shapes ≡ shapes_under shapes x.staged) × Listing (after g.triples x.net) p.shapes [] × (p.graph ≡ with_changes g x.net) × (p.accepted.changed ≡ differing g.triples (after g.triples x.net)) × (p.accepted.staged ≡ is_staged x.staged)
+abbrev pub Accepts : NamedGraph → Transaction → Acceptance → Type 0
+Accepts g x p =
+    Listing (after g.triples x.net) (shapes_under g.shapes x.staged) [] × (p.graph ≡ committed_graph g x) × (p.accepted.changed ≡ differing g.triples (after g.triples x.net)) × (p.accepted.staged ≡ is_staged x.staged)
 
 -- what its listing makes of a commit that nothing overtook and that is within the limit
-abbrev pub IsJudged : NamedGraph → List Triple → Transaction → Plan → Type 0
-IsJudged g shapes x (Overtaken o t) = ⊥
-IsJudged g shapes x (TooLarge n) = ⊥
-IsJudged g shapes x (Refuse p) = Refuses g.triples shapes x p
-IsJudged g shapes x (Accept p) = Accepts g shapes x p
+abbrev pub IsJudged : NamedGraph → Transaction → Plan → Type 0
+IsJudged g x (Overtaken o t) = ⊥
+IsJudged g x (TooLarge n) = ⊥
+IsJudged g x (Refuse p) = Refuses g.triples g.shapes x p
+IsJudged g x (Accept p) = Accepts g x p
 
 -- the first of a commit's answers that applies, and what is needed to carry it out
-abbrev pub IsPlan : Limits → NamedGraph → List Triple → List Accepted → Transaction → Plan → Type 0
-IsPlan l g shapes commits x (Overtaken o t) = (overtaker commits x.base x.finds ≡ Some o) × (t ≡ o.triple)
-IsPlan l g shapes commits x (TooLarge n) = (overtaker commits x.base x.finds ≡ None) × (l.triples < length (after g.triples x.net)) × (n ≡ length (after g.triples x.net))
-IsPlan l g shapes commits x (Refuse p) = IsWithin l g.triples commits x × Refuses g.triples shapes x p
-IsPlan l g shapes commits x (Accept p) = IsWithin l g.triples commits x × Accepts g shapes x p
+abbrev pub IsPlan : Limits → NamedGraph → List Accepted → Transaction → Plan → Type 0
+IsPlan l g commits x (Overtaken o t) = (overtaker commits x.base x.finds ≡ Some o) × (t ≡ o.triple)
+IsPlan l g commits x (TooLarge n) = (overtaker commits x.base x.finds ≡ None) × (l.triples < length (after g.triples x.net)) × (n ≡ length (after g.triples x.net))
+IsPlan l g commits x (Refuse p) = IsWithin l g.triples commits x × Refuses g.triples g.shapes x p
+IsPlan l g commits x (Accept p) = IsWithin l g.triples commits x × Accepts g x p

@@ -5,3 +5,4 @@ pub mod Events
 pub mod Faults
 pub mod Replaying
 pub mod Verdicts
+pub mod Work

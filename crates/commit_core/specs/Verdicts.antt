@@ -1,9 +1,11 @@
 -- What a check beside the store found, and what a commit asks of it.
 use Rattle.std.specs.Prelude.{◌≡◌, ◌≤◌, ◌++◌, ℕ, List, Option, Some, None}
+use Rattle.std.specs.List.{Contains}
+use Rattle.collections.specs.Listings.{IsListing}
 use Rattle.rdf_model.specs.declared.change.Change.{Change}
-use Rattle.rdf_model.specs.Graphs.{after}
-use Rattle.shape_model.specs.Touching.{IsFootprint}
-use Rattle.shape_model.specs.Validation.{Listing}
+use Rattle.change_laws.specs.Checks.{AreChecked, CheckedPair}
+use Rattle.change_laws.specs.Pairs.{IsCheckFootprint}
+use Rattle.shape_model.specs.Rows.{result_row_cmp}
 use Rattle.shape_model.specs.declared.result_row.ResultRow.{ResultRow}
 use Rattle.store_model.specs.declared.commit.Accepted.{Accepted}
 use Rattle.store_model.specs.declared.commit.Transaction.{Transaction}
@@ -12,8 +14,8 @@ use Rattle.store_model.specs.declared.event.Event.{Event}
 use Rattle.store_model.specs.Store.{RecordedStore, Replays, State, again, empty_store, version}
 use Rattle.commit_core.specs.declared.commit.Reasons.{Reasons}
 
--- The verdict is of these changes at its head, which is a version of this history: its looks are those of validating
--- them there, and the rows are the listing of the head's graph after them.
+-- The verdict is of these changes at its head, which is a version of this history: its looks are just those of checking
+-- them there, and the rows are the results that the touched pairs have after them.
 pub record IsVerdict (s : RecordedStore) (net : List Change) (verdict : Verdict) (rows : List ResultRow) : Type 0 where
   pub front : List Event
   pub back : List Event
@@ -21,8 +23,10 @@ pub record IsVerdict (s : RecordedStore) (net : List Change) (verdict : Verdict)
   pub head : State
   pub replays : Replays s.limits empty_store front head
   pub number : verdict.head ≡ version head
-  pub looks : IsFootprint head.graph head.shapes net verdict.looks
-  pub listing : Listing (after head.graph net) head.shapes rows
+  pub looks : IsCheckFootprint head.graph head.shapes net verdict.looks
+  pub checked : List CheckedPair
+  pub pairs : AreChecked head.graph head.shapes net checked
+  pub listing : IsListing result_row_cmp (λ r. (c : CheckedPair) × Contains checked c × Contains c.rows r) rows
 
 -- the rows are those of the transaction's verdict, if it has one
 abbrev pub AreOfVerdict : RecordedStore → List Change → Option Verdict → List ResultRow → Type 0

@@ -2,7 +2,6 @@ ghost use Rattle.std.specs.Prelude.{◌≡◌};
 ghost use Rattle.std.specs.List.{list_all};
 ghost use Rattle.collections.specs.Ordered.{has_item};
 ghost use Rattle.rdf_model.specs.Terms.{term_cmp};
-ghost use Rattle.store_model.specs.Store.{changed_triple};
 ghost use Rattle.commit_core.specs.Conditions;
 ghost use Rattle.commit_core.specs.Conditions.{change_named, has_change, look_named, staged_named, triple_named, triples_named, verdict_fits};
 

@@ -1,6 +1,7 @@
-ghost use Rattle.std.specs.Prelude.{◌≡◌, [], IfOk};
+ghost use Rattle.std.specs.Prelude.{◌≡◌, [], IfOk, OnOk};
 ghost use Rattle.rdf_model.specs.Graphs.{after, differing};
-ghost use Rattle.store_model.specs.Store.{is_staged, shapes_under};
+ghost use Rattle.store_model.specs.Store.{StagedNamed, is_staged, shapes_under};
+ghost use Rattle.data_graph.specs.DataGraphs.{with_shapes};
 
 use collections::Sequence;
 use data_graph::{DataGraph, graph_differing};
@@ -135,11 +136,10 @@ impl Refusal {
     }
 }
 
-/// A commit whose graph has none: the next graph, the commit as it is kept, the next shapes graph.
+/// A commit whose graph has none: the next graph with its shapes, and the commit as it is kept.
 pub struct Acceptance {
     pub graph: DataGraph,
     pub accepted: Accepted,
-    pub shapes: ShapesGraph,
 }
 
 // Written by hand, so that what owns one calls it in place of having it written out.
@@ -148,22 +148,17 @@ impl Drop for Acceptance {
         let Acceptance {
             graph: _,
             accepted: _,
-            shapes: _,
         } = self;
     }
 }
 
 impl Acceptance {
-    /// The next graph, the commit as it is kept, and the next shapes graph.
-    pub fn into_parts(self) -> (DataGraph, Accepted, ShapesGraph)
-        ensures { result ≡ (self.graph, self.accepted, self.shapes) }
+    /// The next graph, and the commit as it is kept.
+    pub fn into_parts(self) -> (DataGraph, Accepted)
+        ensures { result ≡ (self.graph, self.accepted) }
     {
-        let Acceptance {
-            graph,
-            accepted,
-            shapes,
-        } = self;
-        (graph, accepted, shapes)
+        let Acceptance { graph, accepted } = self;
+        (graph, accepted)
     }
 }
 
@@ -178,16 +173,14 @@ pub enum Plan {
     Accept(Acceptance),
 }
 
-/// The shapes graph under which a commit is validated.
-pub fn shapes_for(
-    shapes: &ShapesGraph,
-    staged: &Option<ShapesGraph>,
-) -> Result<ShapesGraph, AllocError>
-    ensures { IfOk result (λ graph. graph ≡ shapes_under shapes.now staged.now) }
+/// Puts the staged shapes graph, if there is one, in the place of the graph's own.
+pub fn stage_shapes(graph: &mut DataGraph, staged: &Option<ShapesGraph>) -> Result<(), AllocError>
+    requires { StagedNamed graph.old.terms staged.now }
+    ensures { OnOk result (graph.new ≡ with_shapes graph.old (shapes_under graph.old.shapes staged.now)) }
 {
     match staged {
-        Some(staged) => staged.share(),
-        None => shapes.share(),
+        Some(staged) => graph.replace_shapes(staged.share()?),
+        None => Ok(()),
     }
 }
 
@@ -207,10 +200,9 @@ pub fn accepting(
     next: DataGraph,
     net: &[Change],
     staged: &Option<ShapesGraph>,
-    shapes: ShapesGraph,
 ) -> Result<Acceptance, AllocError>
     requires { next.triples ≡ after graph.now.triples net.now }
-    ensures { IfOk result (λ plan. (plan.graph ≡ next) × (plan.accepted.changed ≡ differing graph.now.triples next.triples) × (plan.accepted.staged ≡ is_staged staged.now) × (plan.shapes ≡ shapes)) }
+    ensures { IfOk result (λ plan. (plan.graph ≡ next) × (plan.accepted.changed ≡ differing graph.now.triples next.triples) × (plan.accepted.staged ≡ is_staged staged.now)) }
 {
     let changed = graph_differing(alloc, graph.triples(), next.triples(), net)?;
     Ok(Acceptance {
@@ -219,6 +211,5 @@ pub fn accepting(
             changed: Sequence::from_vec(changed),
             staged: stages_shapes(staged),
         },
-        shapes,
     })
 }

@@ -1,7 +1,8 @@
-ghost use Rattle.std.specs.Prelude.{◌≡◌, ◌≤◌, ◌+◌, ◌<◌, ◌^◌, MatchBool, length, IfOk};
+ghost use Rattle.std.specs.Prelude.{◌≡◌, ◌+◌, ◌<◌, ◌^◌, MatchBool, length, IfOk};
 ghost use Rattle.rdf_model.specs.Matching.{is_read};
 ghost use Rattle.store_model.specs.Store.{again, again_from, first_read};
 ghost use Rattle.commit_core.specs.Verdicts.{AreReasons, IsAtHead};
+ghost use Rattle.commit_core.specs.Work.{is_no};
 
 use crate::commit::Reasons;
 use rdf_model::{Look, Term, Triple};
@@ -77,7 +78,8 @@ pub fn find_reasons(commits: &[Accepted], transaction: &Transaction) -> Result<R
 
 /// Whether a verdict held, so that nothing has to be evaluated.
 pub fn has_held(reason: &Again) -> bool
-    ensures { MatchBool result (reason.now ≡ Again.No) (Unit {0}) }
+    ensures held { MatchBool result (reason.now ≡ Again.No) (Unit {0}) }
+    ensures no { result ≡ is_no reason.now }
 {
     match reason {
         Again::No => true,

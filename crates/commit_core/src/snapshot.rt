@@ -3,20 +3,16 @@ ghost use Rattle.rdf_model.specs.Graphs.{after};
 ghost use Rattle.store_model.specs.Finds.{found};
 ghost use Rattle.commit_core.specs.Consistent.{IsSound};
 
-use collections::both;
 use data_graph::DataGraph;
 use rdf_model::{Change, Pattern, Triple};
-use shapes_graph::ShapesGraph;
 use std::alloc::{AllocError, Global};
 use std::marker::Model;
 
-/// The store as it was at one version: its number, its data graph, ascending, its shapes graph and
-/// its names, which the data graph keeps. Contracts see these four; the graph has no result under the
-/// shapes.
+/// The store as it was at one version: its number, and its data graph, ascending, which keeps its shapes graph and
+/// its names. Contracts see these four; the graph has no result under the shapes.
 pub struct Snap {
     number: u64,
     graph: DataGraph,
-    shapes: ShapesGraph,
 }
 
 impl Model for Snap {
@@ -25,9 +21,9 @@ impl Model for Snap {
 
     ghost Value = { Snapshot };
 
-    ghost view = { λ s. record { number = s.number; graph = s.graph.triples; shapes = s.shapes; named = s.graph.terms } };
+    ghost view = { λ s. record { number = s.number; graph = s.graph.triples; shapes = s.graph.shapes; named = s.graph.terms } };
 
-    ghost invariant = { λ s. IsSound (record { number = s.number; graph = s.graph.triples; shapes = s.shapes; named = s.graph.terms }) };
+    ghost invariant = { λ s. IsSound (record { number = s.number; graph = s.graph.triples; shapes = s.graph.shapes; named = s.graph.terms }) };
 }
 
 // Written by hand, so that what owns one calls it in place of having it written out.
@@ -36,26 +32,19 @@ impl Drop for Snap {
         let Snap {
             number: _,
             graph: _,
-            shapes: _,
         } = self;
     }
 }
 
 impl Snap {
-    // The snapshot of these, which it shares.
-    pub(crate) fn sharing(
-        number: u64,
-        graph: &DataGraph,
-        shapes: &ShapesGraph,
-    ) -> Result<Snap, AllocError>
-        requires { IsSound (record { number = number; graph = graph.now.triples; shapes = shapes.now; named = graph.now.terms }) }
-        ensures { IfOk result (λ snap. snap ≡ record { number = number; graph = graph.now.triples; shapes = shapes.now; named = graph.now.terms }) }
+    // The snapshot of the graph, which it shares.
+    pub(crate) fn sharing(number: u64, graph: &DataGraph) -> Result<Snap, AllocError>
+        requires { IsSound (record { number = number; graph = graph.now.triples; shapes = graph.now.shapes; named = graph.now.terms }) }
+        ensures { IfOk result (λ snap. snap ≡ record { number = number; graph = graph.now.triples; shapes = graph.now.shapes; named = graph.now.terms }) }
     {
-        let (graph, shapes) = both(graph.share(), shapes.share())?;
         Ok(Snap {
             number,
-            graph,
-            shapes,
+            graph: graph.share()?,
         })
     }
 

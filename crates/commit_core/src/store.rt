@@ -1,17 +1,17 @@
-ghost use Rattle.std.specs.Prelude.{◌≡◌, ◌+◌, ◌≤◌, ◌<◌, ◌^◌, [], ◌∷◌, ◌++◌, MatchBool, length, map, IfOk, OnOk, OnErr, MatchResult};
+ghost use Rattle.std.specs.Prelude.{false, ◌≡◌, ◌+◌, ◌≤◌, ◌<◌, ◌^◌, [], ◌∷◌, ◌++◌, MatchBool, length, map, IfOk, OnOk, OnErr, MatchResult};
 ghost use Rattle.store_model.specs.Store.{RecordedStore, empty_store, Step, TakesStep, IsOpened, IsCommittable, numbers_of, shapes_under};
 ghost use Rattle.store_model.specs.Snapshots.{snapshot_of};
 ghost use Rattle.rdf_model.specs.Graphs.{after};
 ghost use Rattle.shape_model.specs.Validation.{Listing};
-ghost use Rattle.term_validation.specs.Named.{AreNamedTriples};
 ghost use Rattle.data_graph.specs.DataGraphs.{with_changes};
-ghost use Rattle.commit_core.specs.Commits.{Answers, IsJudged, IsPlan, TakesCommit, data_of};
+ghost use Rattle.commit_core.specs.Commits.{Answers, IsJudged, IsPlan, TakesCommit, committed_graph, data_of};
 ghost use Rattle.commit_core.specs.Verdicts.{AreOfVerdict, AreReasons};
+ghost use Rattle.commit_core.specs.Work.{AnswerSteps, CommitSteps, IsByResults, PlanSteps, ResultSteps};
 ghost use Rattle.commit_core.specs.Consistent.{IsConsistent};
 ghost use Rattle.commit_core.specs.Faults.{OpensNone, NamesNone};
 
 use crate::commit::{
-    Acceptance, CheckedTransaction, Commit, Plan, Reasons, Refusal, accepting, shapes_for,
+    Acceptance, CheckedTransaction, Commit, Plan, Reasons, Refusal, accepting, stage_shapes,
 };
 use crate::history::{History, events_back, room_for, sessions_back};
 use crate::overtaking::find_overtaker;
@@ -23,7 +23,6 @@ use data_graph::DataGraph;
 use rdf_model::Term;
 use shape_eval::Steps;
 use shape_model::ResultRow;
-use shapes_graph::ShapesGraph;
 use std::alloc::{AllocError, Global};
 use std::boxed::Box;
 use std::marker::Model;
@@ -92,12 +91,11 @@ fn add_commit(commits: &mut Vec<Accepted>, accepted: Accepted) -> Result<(), All
 }
 
 /// The store with its history. Contracts see its limits, its state and its events. The data graph
-/// keeps the terms that are named, and their limit.
+/// keeps the shapes graph, the terms that are named, and their limit.
 pub struct Core {
     pub(crate) alloc: Global,
     most_triples: usize,
     pub(crate) graph: DataGraph,
-    shapes: ShapesGraph,
     pub(crate) commits: Vec<Accepted>,
     pub(crate) opened: u32,
     pub(crate) history: History,
@@ -109,9 +107,9 @@ impl Model for Core {
 
     ghost Value = { RecordedStore };
 
-    ghost view = { λ c. record { limits = record { terms = c.graph.limit; triples = c.most_triples }; state = record { graph = c.graph.triples; shapes = c.shapes; commits = c.commits.items; named = c.graph.terms; opened = c.opened }; history = c.history } };
+    ghost view = { λ c. record { limits = record { terms = c.graph.limit; triples = c.most_triples }; state = record { graph = c.graph.triples; shapes = c.graph.shapes; commits = c.commits.items; named = c.graph.terms; opened = c.opened }; history = c.history } };
 
-    ghost invariant = { λ c. IsConsistent (record { limits = record { terms = c.graph.limit; triples = c.most_triples }; state = record { graph = c.graph.triples; shapes = c.shapes; commits = c.commits.items; named = c.graph.terms; opened = c.opened }; history = c.history }) };
+    ghost invariant = { λ c. IsConsistent (record { limits = record { terms = c.graph.limit; triples = c.most_triples }; state = record { graph = c.graph.triples; shapes = c.graph.shapes; commits = c.commits.items; named = c.graph.terms; opened = c.opened }; history = c.history }) };
 }
 
 // Written by hand, so that what owns a core calls it in place of having it written out.
@@ -121,7 +119,6 @@ impl Drop for Core {
             alloc: _,
             most_triples: _,
             graph: _,
-            shapes: _,
             commits: _,
             opened: _,
             history: _,
@@ -136,12 +133,10 @@ impl Core {
         ensures { IfOk result (λ core. core ≡ record { limits = limits; state = empty_store; history = [] }) }
     {
         let graph = DataGraph::new(alloc, limits.terms)?;
-        let shapes = ShapesGraph::empty(alloc)?;
         Ok(Core {
             alloc,
             most_triples: limits.triples,
             graph,
-            shapes,
             commits: Vec::new(alloc),
             opened: 0,
             history: History::new(),
@@ -190,7 +185,7 @@ impl Core {
     fn newest(&self) -> Result<Snap, AllocError>
         ensures { IfOk result (λ snap. snap ≡ snapshot_of self.now.state) }
     {
-        Snap::sharing(version_of(&self.commits), &self.graph, &self.shapes)
+        Snap::sharing(version_of(&self.commits), &self.graph)
     }
 
     /// The newest snapshot, at which a transaction begins.
@@ -270,25 +265,49 @@ impl Core {
         }
     }
 
+    // The results of the next graph by an evaluation: all of them under staged shapes, and those of what the changes touch
+    // under the shapes that this store has.
+    fn evaluated<L: Ledger>(
+        &self,
+        next: &mut DataGraph,
+        transaction: &Transaction,
+        steps: &mut Steps<L>,
+    ) -> Result<Vec<ResultRow>, AllocError>
+        requires committable { IsCommittable self.now.state transaction.now }
+        requires next { next.old ≡ committed_graph (data_of self.now) transaction.now }
+        ensures same { next.new ≡ next.old }
+        ensures rows { IfOk result (λ rows. Listing (after self.now.state.graph transaction.now.net) (shapes_under self.now.state.shapes transaction.now.staged) rows.items) }
+        ensures steps { OnOk result (ResultSteps false self.now.state transaction.now steps.old steps.new) }
+        ensures counted { steps.old ≤ steps.new }
+    {
+        match &transaction.staged {
+            Some(_) => next.listing(steps),
+            None => self
+                .graph
+                .listing_after(transaction.net.as_slice(), next, steps),
+        }
+    }
+
     // The results of the next graph: those that a verdict found, where it held, else by an evaluation.
     fn results<L: Ledger>(
         &self,
         next: &mut DataGraph,
-        shapes: &ShapesGraph,
-        found: &Sequence<ResultRow>,
+        checked: &CheckedTransaction,
         held: bool,
         steps: &mut Steps<L>,
     ) -> Result<Sequence<ResultRow>, AllocError>
-        requires graph { AreNamedTriples next.old.terms next.old.triples }
-        requires shapes { AreNamedTriples next.old.terms shapes.now }
-        requires found { MatchBool held (Listing next.old.triples shapes.now found.now) (Unit {0}) }
+        requires committable { IsCommittable self.now.state checked.now.transaction }
+        requires next { next.old ≡ committed_graph (data_of self.now) checked.now.transaction }
+        requires found { MatchBool held (Listing (after self.now.state.graph checked.now.transaction.net) (shapes_under self.now.state.shapes checked.now.transaction.staged) checked.now.rows) (Unit {0}) }
         ensures same { next.new ≡ next.old }
-        ensures rows { IfOk result (λ rows. Listing next.old.triples shapes.now rows) }
+        ensures rows { IfOk result (Listing (after self.now.state.graph checked.now.transaction.net) (shapes_under self.now.state.shapes checked.now.transaction.staged)) }
+        ensures steps { OnOk result (ResultSteps held self.now.state checked.now.transaction steps.old steps.new) }
+        ensures counted { steps.old ≤ steps.new }
     {
         if held {
-            return Sequence::copied_from(self.alloc, found.as_slice());
+            return Sequence::copied_from(self.alloc, checked.rows.as_slice());
         }
-        let rows = next.listing(shapes, steps)?;
+        let rows = self.evaluated(next, &checked.transaction, steps)?;
         Ok(Sequence::from_vec(rows))
     }
 
@@ -303,17 +322,20 @@ impl Core {
         requires committable { IsCommittable self.now.state checked.now.transaction }
         requires next { next ≡ with_changes (data_of self.now) checked.now.transaction.net }
         requires found { MatchBool held (Listing (after self.now.state.graph checked.now.transaction.net) (shapes_under self.now.state.shapes checked.now.transaction.staged) checked.now.rows) (Unit {0}) }
-        ensures { IfOk result (IsJudged (data_of self.now) self.now.state.shapes checked.now.transaction) }
+        ensures judged { IfOk result (IsJudged (data_of self.now) checked.now.transaction) }
+        ensures steps { IfOk result (PlanSteps held self.now.state checked.now.transaction steps.old steps.new) }
+        ensures counted { steps.old ≤ steps.new }
     {
         let mut next = next;
         let staged = &checked.transaction.staged;
-        let shapes = shapes_for(&self.shapes, staged)?;
-        let rows = self.results(&mut next, &shapes, &checked.rows, held, steps)?;
+        stage_shapes(&mut next, staged)?;
+        let rows = self.results(&mut next, checked, held, steps)?;
         if rows.is_empty() {
             let net = checked.transaction.net.as_slice();
-            let plan = accepting(self.alloc, &self.graph, next, net, staged, shapes)?;
+            let plan = accepting(self.alloc, &self.graph, next, net, staged)?;
             return Ok(Plan::Accept(plan));
         }
+        let shapes = next.shapes().share()?;
         let recorded = Sequence::copied_from(self.alloc, rows.as_slice())?;
         Ok(Plan::Refuse(Refusal {
             rows,
@@ -331,7 +353,9 @@ impl Core {
     ) -> Result<Plan, AllocError>
         requires committable { IsCommittable self.now.state checked.now.transaction }
         requires found { MatchBool held (Listing (after self.now.state.graph checked.now.transaction.net) (shapes_under self.now.state.shapes checked.now.transaction.staged) checked.now.rows) (Unit {0}) }
-        ensures { IfOk result (IsPlan self.now.limits (data_of self.now) self.now.state.shapes self.now.state.commits checked.now.transaction) }
+        ensures plan { IfOk result (IsPlan self.now.limits (data_of self.now) self.now.state.commits checked.now.transaction) }
+        ensures steps { IfOk result (PlanSteps held self.now.state checked.now.transaction steps.old steps.new) }
+        ensures counted { steps.old ≤ steps.new }
     {
         let transaction = &checked.transaction;
         let finds = transaction.finds.as_slice();
@@ -373,9 +397,10 @@ impl Core {
     ) -> Commit
         requires opened { IsOpened self.old.state session }
         requires committable { IsCommittable self.old.state checked.transaction }
-        requires plan { IsPlan self.old.limits (data_of self.old) self.old.state.shapes self.old.state.commits checked.transaction (Plan.Refuse refusal) }
+        requires plan { IsPlan self.old.limits (data_of self.old) self.old.state.commits checked.transaction (Plan.Refuse refusal) }
         requires reasons { AreReasons self.old.state.commits checked.transaction reasons }
-        ensures { Answers result self.old self.new session checked }
+        ensures answer { Answers result self.old self.new session checked }
+        ensures by_results { IsByResults reasons.answer result }
     {
         let (rows, recorded, shapes) = refusal.into_parts();
         let (again, why) = reasons.into_parts();
@@ -399,11 +424,12 @@ impl Core {
     ) -> Commit
         requires opened { IsOpened self.old.state session }
         requires committable { IsCommittable self.old.state checked.transaction }
-        requires plan { IsPlan self.old.limits (data_of self.old) self.old.state.shapes self.old.state.commits checked.transaction (Plan.Accept acceptance) }
+        requires plan { IsPlan self.old.limits (data_of self.old) self.old.state.commits checked.transaction (Plan.Accept acceptance) }
         requires reasons { AreReasons self.old.state.commits checked.transaction reasons }
-        ensures { Answers result self.old self.new session checked }
+        ensures answer { Answers result self.old self.new session checked }
+        ensures by_results { IsByResults reasons.answer result }
     {
-        let (graph, accepted, shapes) = acceptance.into_parts();
+        let (graph, accepted) = acceptance.into_parts();
         let Ok(()) = add_commit(&mut self.commits, accepted) else {
             return Commit::Memory(checked);
         };
@@ -418,7 +444,6 @@ impl Core {
             },
         );
         self.graph = graph;
-        self.shapes = shapes;
         Commit::Done { number, again }
     }
 
@@ -436,7 +461,8 @@ impl Core {
         requires committable { IsCommittable self.old.state checked.transaction }
         requires reasons { AreReasons self.old.state.commits checked.transaction reasons }
         requires found { MatchBool held (Listing (after self.old.state.graph checked.transaction.net) (shapes_under self.old.state.shapes checked.transaction.staged) checked.rows) (Unit {0}) }
-        ensures { Answers result self.old self.new session checked }
+        ensures answer { Answers result self.old self.new session checked }
+        ensures steps { AnswerSteps held reasons.answer self.old.state checked.transaction steps.old steps.new result }
     {
         match self.plan(&checked, held, steps) {
             Err(_) => Commit::Memory(checked),
@@ -464,9 +490,9 @@ impl Core {
     }
 
     /// Commits a transaction that changes something or stages shapes, whose terms are named and whose
-    /// base is a version of this store. The graph that it would make is validated whole, under the
-    /// staged shapes or else the newest, unless a verdict held: then its rows are the results. How
-    /// many evaluations `steps` allows for it is not promised.
+    /// base is a version of this store. The graph that it would make is validated whole under staged shapes; else just those
+    /// pairs of a shape and a node are evaluated that the changes touch, since the store's own graph has no result; and none
+    /// where a verdict held: then its rows are the results. The evaluations are counted in `steps`.
     pub fn commit<L: Ledger>(
         &mut self,
         session: u32,
@@ -476,7 +502,8 @@ impl Core {
         requires opened { IsOpened self.old.state session }
         requires committable { IsCommittable self.old.state checked.transaction }
         requires verdict { AreOfVerdict self.old checked.transaction.net checked.transaction.verdict checked.rows }
-        ensures { Answers result self.old self.new session checked }
+        ensures answer { Answers result self.old self.new session checked }
+        ensures steps { CommitSteps result self.old.state checked.transaction steps.old steps.new }
     {
         let Ok(slip) = slip(self.alloc) else {
             return Commit::Memory(checked);
@@ -553,7 +580,6 @@ impl Core {
             alloc: _,
             most_triples: _,
             graph: _,
-            shapes: _,
             commits: _,
             opened: _,
             history,

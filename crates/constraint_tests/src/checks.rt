@@ -10,7 +10,6 @@ ghost use Rattle.rdf_model.specs.Numbers.{AreNumbered, IsNumbering, term_at};
 
 // Tests of what the calls ask for, made on the tables' rows.
 
-use component_rows::Site;
 use rdf_model::{Ids, ListNames, Names, Term};
 
 // Whether no term before the place is the one there.
@@ -39,7 +38,7 @@ pub(crate) fn are_distinct(terms: &[Term]) -> bool
 }
 
 // Whether each number is a place of one of the terms.
-fn are_named(numbers: &[u32], terms: &[Term]) -> bool
+pub(crate) fn are_named(numbers: &[u32], terms: &[Term]) -> bool
     ensures { IsTrue result → (n : _) → Contains numbers.now n → n < length terms.now }
 {
     numbers
@@ -48,19 +47,11 @@ fn are_named(numbers: &[u32], terms: &[Term]) -> bool
 }
 
 // Whether each number has a name.
-fn have_names(numbers: &[u32], names: &ListNames) -> bool
+pub(crate) fn have_names(numbers: &[u32], names: &ListNames) -> bool
     ensures { IsTrue result → (n : _) → Contains numbers.now n → n < length names.now }
 {
     let count = names.count();
     numbers.iter().all(|number| *number < count)
-}
-
-// Whether each number has a name at the site, which is of these names.
-pub(crate) fn are_named_at(numbers: &[u32], names: &ListNames, site: &Site<'_, ListNames>) -> bool
-    requires { site.now.terms ≡ names.now }
-    ensures { IsTrue result → (n : _) → Contains numbers.now n → n < length site.now.terms }
-{
-    have_names(numbers, names)
 }
 
 // Whether the ascending numbers are nodes.

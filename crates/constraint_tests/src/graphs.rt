@@ -1,6 +1,6 @@
 ghost use Rattle.rdf_model.specs.Numbers.{AreNumbered};
 
-use crate::case::{assert_found, read_case, site_of};
+use crate::case::{Case, assert_found, read_case, site_of};
 use component_rows::Site;
 use pair_constraints::{disjoint, equals, less_than, less_than_or_equals};
 use rdf_model::{ListGraph, ListNames};
@@ -76,15 +76,23 @@ fn pair_rows(
     }
 }
 
+fn pair_rows_of(alloc: Global, case: &Case<'_>) -> Result<Vec<ResultRow>, AllocError> {
+    pair_rows(case.component(), case.graph(), &site_of(alloc, case))
+}
+
+fn closed_rows(alloc: Global, case: &Case<'_>) -> Result<Vec<ResultRow>, AllocError> {
+    closed(case.graph(), &site_of(alloc, case), case.members())
+}
+
 fn assert_pairs(rt: &impl Abort, alloc: Global, line: &str) -> Result<(), Fail> {
     let case = read_case(rt, alloc, "", line)?;
-    let rows = pair_rows(case.component, &case.graph, &site_of(alloc, &case))?;
+    let rows = pair_rows_of(alloc, &case)?;
     assert_found(rt, alloc, &case, &rows, line)
 }
 
 fn assert_closed(rt: &impl Abort, alloc: Global, line: &str) -> Result<(), Fail> {
     let case = read_case(rt, alloc, GRAPH, line)?;
-    let rows = closed(&case.graph, &site_of(alloc, &case), &case.members)?;
+    let rows = closed_rows(alloc, &case)?;
     assert_found(rt, alloc, &case, &rows, line)
 }
 

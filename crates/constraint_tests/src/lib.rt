@@ -6,6 +6,8 @@ mod case;
 #[cfg(test)]
 mod checks;
 #[cfg(test)]
+mod evaluations;
+#[cfg(test)]
 mod graphs;
 #[cfg(test)]
 mod properties;

@@ -24,7 +24,7 @@ fn row_at(
     node: u32,
     letter: char,
 ) -> Result<ResultRow, AllocError> {
-    let focus = match case.names.term(node) {
+    let focus = match case.names().term(node) {
         Some(focus) => focus.clone()?,
         None => term(alloc, "e:missing")?,
     };
@@ -59,7 +59,7 @@ fn rows_at(
 fn lists_of(alloc: Global, case: &Case<'_>, line: &str) -> Result<Vec<Vec<ResultRow>>, AllocError> {
     let mut lists = Vec::new(alloc);
     let words = line.split(';').nth(5).unwrap_or("");
-    for (node, word) in case.values.iter().zip(words.split_ascii_whitespace()) {
+    for (node, word) in case.values().iter().zip(words.split_ascii_whitespace()) {
         lists.push(rows_at(alloc, case, *node, word)?)?;
     }
     Ok(lists)
@@ -76,9 +76,9 @@ fn text_of(alloc: Global, rows: &[ResultRow]) -> Result<String, AllocError> {
 fn assert_property(rt: &impl Abort, alloc: Global, line: &str) -> Result<(), Fail> {
     let case = read_case(rt, alloc, "", line)?;
     let lists = lists_of(alloc, &case, line)?;
-    assert_eq!(rt; lists.len(), case.values.len());
-    let found = text_of(alloc, &property(alloc, &case.values, &lists)?)?;
-    let wanted = format!(in alloc; "{} ", case.wanted)?;
+    assert_eq!(rt; lists.len(), case.values().len());
+    let found = text_of(alloc, &property(alloc, case.values(), &lists)?)?;
+    let wanted = format!(in alloc; "{} ", case.wanted())?;
     assert_eq!(rt; found.trim(), wanted.trim(), "{line}");
     Ok(())
 }

@@ -1,9 +1,9 @@
-ghost use Rattle.std.specs.Prelude.{◌<◌, ◌∷◌, [], length, map};
+ghost use Rattle.std.specs.Prelude.{◌≡◌, ◌<◌, ◌∷◌, [], length, map};
 ghost use Rattle.std.specs.List.{Contains};
 ghost use Rattle.component_rows.specs.Conformance.{AreTold};
 
-use crate::case::{assert_found, read_case, site_of};
-use crate::checks::{are_named_at, are_told};
+use crate::case::{Case, assert_found, read_case, site_of};
+use crate::checks::{are_told, have_names};
 use component_rows::Site;
 use logic_constraints::{and, node, not, or, xone};
 use qualified_shapes::{qualified_max_count, qualified_min_count};
@@ -92,11 +92,21 @@ fn answers_of(alloc: Global, line: &str) -> Result<Vec<Vec<bool>>, AllocError> {
     Ok(answers)
 }
 
+fn class_rows(
+    alloc: Global,
+    case: &Case<'_>,
+    answers: &[bool],
+) -> Result<Vec<ResultRow>, AllocError>
+    requires { length answers.now ≡ length case.now.values }
+{
+    class(&site_of(alloc, case), answers)
+}
+
 fn assert_class(rt: &impl Abort, alloc: Global, line: &str) -> Result<(), Fail> {
     let case = read_case(rt, alloc, "", line)?;
     let answers = letters(alloc, line.split(';').nth(5).unwrap_or(""))?;
-    assert_eq!(rt; answers.len(), case.values.len());
-    let rows = class(&site_of(alloc, &case), &answers)?;
+    assert_eq!(rt; answers.len(), case.values().len());
+    let rows = class_rows(alloc, &case, &answers)?;
     assert_found(rt, alloc, &case, &rows, line)
 }
 
@@ -113,11 +123,21 @@ fn single_rows(
     }
 }
 
+fn single_rows_of(
+    alloc: Global,
+    case: &Case<'_>,
+    answers: &[Vec<bool>],
+) -> Result<Vec<ResultRow>, AllocError>
+    requires { AreTold (case.now.parameter ∷ []) case.now.values (map (λ a. a.items) answers.now) }
+{
+    single_rows(case.component(), &site_of(alloc, case), answers)
+}
+
 fn assert_single(rt: &impl Abort, alloc: Global, line: &str) -> Result<(), Fail> {
     let case = read_case(rt, alloc, "", line)?;
     let answers = answers_of(alloc, line)?;
-    assert!(rt; are_told(&[case.parameter], &case.values, &answers));
-    let rows = single_rows(case.component, &site_of(alloc, &case), &answers)?;
+    assert!(rt; are_told(&[case.parameter()], case.values(), &answers));
+    let rows = single_rows_of(alloc, &case, &answers)?;
     assert_found(rt, alloc, &case, &rows, line)
 }
 
@@ -137,14 +157,26 @@ fn list_rows(
     }
 }
 
+fn list_rows_of(
+    alloc: Global,
+    case: &Case<'_>,
+    answers: &[Vec<bool>],
+) -> Result<Vec<ResultRow>, AllocError>
+    requires { AreTold case.now.others case.now.values (map (λ a. a.items) answers.now) }
+{
+    list_rows(
+        case.component(),
+        &site_of(alloc, case),
+        case.others(),
+        answers,
+    )
+}
+
 fn assert_list(rt: &impl Abort, alloc: Global, line: &str) -> Result<(), Fail> {
     let case = read_case(rt, alloc, "", line)?;
     let answers = answers_of(alloc, line)?;
-    let members = case.others.as_slice();
-    let site = site_of(alloc, &case);
-    assert!(rt; are_named_at(members, &case.names, &site));
-    assert!(rt; are_told(members, &case.values, &answers));
-    let rows = list_rows(case.component, &site, members, &answers)?;
+    assert!(rt; are_told(case.others(), case.values(), &answers));
+    let rows = list_rows_of(alloc, &case, &answers)?;
     assert_found(rt, alloc, &case, &rows, line)
 }
 
@@ -165,16 +197,31 @@ fn qualified_rows(
     }
 }
 
+// The shape is the first of the other terms, and its siblings are the rest.
+fn qualified_rows_of(
+    alloc: Global,
+    case: &Case<'_>,
+    shape: u32,
+    siblings: &[u32],
+    answers: &[Vec<bool>],
+) -> Result<Vec<ResultRow>, AllocError>
+    requires shape { shape < length case.now.names }
+    requires siblings { (n : _) → Contains siblings.now n → n < length case.now.names }
+    requires answers { AreTold (shape ∷ siblings.now) case.now.values (map (λ a. a.items) answers.now) }
+{
+    let site = site_of(alloc, case);
+    qualified_rows(case.component(), &site, shape, siblings, answers)
+}
+
 fn assert_qualified(rt: &impl Abort, alloc: Global, line: &str) -> Result<(), Fail> {
     let case = read_case(rt, alloc, "", line)?;
     let answers = answers_of(alloc, line)?;
-    let shapes = case.others.as_slice();
-    assert!(rt; are_told(shapes, &case.values, &answers));
+    let shapes = case.others();
+    assert!(rt; are_told(shapes, case.values(), &answers));
     if let [shape, siblings @ ..] = shapes {
-        let site = site_of(alloc, &case);
-        assert!(rt; *shape < case.names.count());
-        assert!(rt; are_named_at(siblings, &case.names, &site));
-        let rows = qualified_rows(case.component, &site, *shape, siblings, &answers)?;
+        assert!(rt; *shape < case.names().count());
+        assert!(rt; have_names(siblings, case.names()));
+        let rows = qualified_rows_of(alloc, &case, *shape, siblings, &answers)?;
         assert_found(rt, alloc, &case, &rows, line)?;
     }
     Ok(())

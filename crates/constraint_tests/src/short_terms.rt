@@ -78,6 +78,13 @@ fn push_term(text: &mut String, term: &Term) -> Result<(), AllocError> {
     }
 }
 
+// A term by its short form.
+pub(crate) fn text_of(alloc: Global, term: &Term) -> Result<String, AllocError> {
+    let mut text = String::new(alloc);
+    push_term(&mut text, term)?;
+    Ok(text)
+}
+
 fn push_optional(text: &mut String, term: &Option<Term>) -> Result<(), AllocError> {
     match term {
         Some(term) => push_term(text, term),

@@ -1,9 +1,4 @@
-ghost use Rattle.std.specs.Prelude.{◌<◌, length};
-ghost use Rattle.rdf_model.specs.Numbers.{IsNumbering};
-ghost use Rattle.component_rows.specs.Nodes.{AreNodes};
-
 use crate::case::{Case, assert_found, read_case, site_of};
-use crate::checks::are_named_at;
 use component_rows::Site;
 use outside::{MakeFault, Maker, RegexMaker};
 use rdf_model::{ListNames, Names};
@@ -75,24 +70,33 @@ fn length_rows(component: &str, site: &Site<'_, ListNames>) -> Result<Vec<Result
     }
 }
 
+fn length_rows_of(alloc: Global, case: &Case<'_>) -> Result<Vec<ResultRow>, AllocError> {
+    length_rows(case.component(), &site_of(alloc, case))
+}
+
+fn language_rows(alloc: Global, case: &Case<'_>) -> Result<Vec<ResultRow>, AllocError> {
+    language_in(&site_of(alloc, case), case.others())
+}
+
+fn tag_rows(alloc: Global, case: &Case<'_>) -> Result<Vec<ResultRow>, AllocError> {
+    unique_lang(&site_of(alloc, case))
+}
+
 fn assert_length(rt: &impl Abort, alloc: Global, line: &str) -> Result<(), Fail> {
     let case = read_case(rt, alloc, "", line)?;
-    let rows = length_rows(case.component, &site_of(alloc, &case))?;
+    let rows = length_rows_of(alloc, &case)?;
     assert_found(rt, alloc, &case, &rows, line)
 }
 
 fn assert_languages(rt: &impl Abort, alloc: Global, line: &str) -> Result<(), Fail> {
     let case = read_case(rt, alloc, "", line)?;
-    let ranges = case.others.as_slice();
-    let site = site_of(alloc, &case);
-    assert!(rt; are_named_at(ranges, &case.names, &site));
-    let rows = language_in(&site, ranges)?;
+    let rows = language_rows(alloc, &case)?;
     assert_found(rt, alloc, &case, &rows, line)
 }
 
 fn assert_tags(rt: &impl Abort, alloc: Global, line: &str) -> Result<(), Fail> {
     let case = read_case(rt, alloc, "", line)?;
-    let rows = unique_lang(&site_of(alloc, &case))?;
+    let rows = tag_rows(alloc, &case)?;
     assert_found(rt, alloc, &case, &rows, line)
 }
 
@@ -112,7 +116,7 @@ fn lengths_and_languages(rt: HostRuntime) -> Result<(), Fail> {
 
 // The pattern of the parameter's text.
 fn regex_of(alloc: Global, case: &Case<'_>, flags: &str) -> Result<Option<Regex>, AllocError> {
-    let text = match case.names.term(case.parameter) {
+    let text = match case.names().term(case.parameter()) {
         Some(term) => literal_order::str(term).unwrap_or(""),
         None => "",
     };
@@ -123,18 +127,21 @@ fn regex_of(alloc: Global, case: &Case<'_>, flags: &str) -> Result<Option<Regex>
     }
 }
 
+fn rows_of_regex(
+    alloc: Global,
+    case: &Case<'_>,
+    regex: &Regex,
+) -> Result<Vec<ResultRow>, AllocError> {
+    pattern(&site_of(alloc, case), regex)
+}
+
 fn pattern_rows(
     alloc: Global,
     case: &Case<'_>,
     flags: &str,
-) -> Result<Option<Vec<ResultRow>>, AllocError>
-    requires numbering { IsNumbering case.now.names }
-    requires nodes { AreNodes case.now.names case.now.values.items }
-    requires parameter { case.now.parameter < length case.now.names }
-    requires focus { case.now.focus < length case.now.names }
-{
+) -> Result<Option<Vec<ResultRow>>, AllocError> {
     match regex_of(alloc, case, flags)? {
-        Some(regex) => Ok(Some(pattern(&site_of(alloc, case), &regex)?)),
+        Some(regex) => Ok(Some(rows_of_regex(alloc, case, &regex)?)),
         None => Ok(None),
     }
 }

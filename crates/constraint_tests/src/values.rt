@@ -1,6 +1,6 @@
 ghost use Rattle.component_rows.specs.Nodes.{AreNodes};
 
-use crate::case::{assert_found, read_case, site_of};
+use crate::case::{Case, assert_found, read_case, site_of};
 use component_rows::Site;
 use rdf_model::ListNames;
 use shape_model::ResultRow;
@@ -120,21 +120,33 @@ fn kind_rows(component: &str, site: &Site<'_, ListNames>) -> Result<Vec<ResultRo
     }
 }
 
+fn range_rows_of(alloc: Global, case: &Case<'_>) -> Result<Vec<ResultRow>, AllocError> {
+    range_rows(case.component(), &site_of(alloc, case))
+}
+
+fn set_rows_of(alloc: Global, case: &Case<'_>) -> Result<Vec<ResultRow>, AllocError> {
+    set_rows(case.component(), &site_of(alloc, case), case.members())
+}
+
+fn kind_rows_of(alloc: Global, case: &Case<'_>) -> Result<Vec<ResultRow>, AllocError> {
+    kind_rows(case.component(), &site_of(alloc, case))
+}
+
 fn assert_range(rt: &impl Abort, alloc: Global, line: &str) -> Result<(), Fail> {
     let case = read_case(rt, alloc, "", line)?;
-    let rows = range_rows(case.component, &site_of(alloc, &case))?;
+    let rows = range_rows_of(alloc, &case)?;
     assert_found(rt, alloc, &case, &rows, line)
 }
 
 fn assert_set(rt: &impl Abort, alloc: Global, line: &str) -> Result<(), Fail> {
     let case = read_case(rt, alloc, "", line)?;
-    let rows = set_rows(case.component, &site_of(alloc, &case), &case.members)?;
+    let rows = set_rows_of(alloc, &case)?;
     assert_found(rt, alloc, &case, &rows, line)
 }
 
 fn assert_kind(rt: &impl Abort, alloc: Global, line: &str) -> Result<(), Fail> {
     let case = read_case(rt, alloc, "", line)?;
-    let rows = kind_rows(case.component, &site_of(alloc, &case))?;
+    let rows = kind_rows_of(alloc, &case)?;
     assert_found(rt, alloc, &case, &rows, line)
 }
 

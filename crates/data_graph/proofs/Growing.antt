@@ -12,7 +12,9 @@ use Rattle.rdf_model.specs.Numbers.{AreNumbered, graph_of, triple_at}
 use Rattle.rdf_model.specs.Terms.{term_cmp}
 use Rattle.shape_model.specs.Vocabulary.{rdf, rdf_type, sub_class_of}
 use Rattle.term_dict.specs.Names.{first_terms, with_terms}
-use Rattle.term_validation.specs.Named.{IsNumbered}
+use Rattle.bound_shapes.specs.Bound.{BoundGraph, IsBoundTo}
+use Rattle.bound_shapes.proofs.Growing.{still_bound}
+use Rattle.term_validation.specs.Named.{AreNamedTriples, IsNumbered}
 use Rattle.data_graph.specs.DataGraphs.{HaveClassWords, IsIndexOf, IsIndexed}
 
 same_triple : (terms : List Term) (u : Term) (i : Ids) → IsNumbered terms i → triple_at (terms ++ u ∷ []) i ≡ triple_at terms i
@@ -54,6 +56,21 @@ named_more terms more ts ids g e x = subst (λ (us : List Term). IsIndexOf us id
 pub indexed_more : (terms more ts : List Term) (numbers : Option (List Ids)) (g : List Triple) → more ≡ with_terms terms ts → IsIndexed terms numbers g → IsIndexed more numbers g
 indexed_more terms more ts None g e x = tt
 indexed_more terms more ts (Some ids) g e x = named_more terms more ts ids g e x
+
+-- the terms of no triples are named
+pub no_triple_named : (terms : List Term) (g : List Triple) → g ≡ [] → AreNamedTriples terms g
+no_triple_named terms g e = subst (λ (ts : List Triple). AreNamedTriples terms ts) (sym e) (λ k d lt. absurd (omega (arith, lt)))
+
+-- the bound shapes stay bound
+all_bound : (terms ts : List Term) (b : BoundGraph) → IsBoundTo terms b → IsBoundTo (with_terms terms ts) b
+all_bound terms [] b x = x
+all_bound terms (t ∷ ts) b x = elim (has_item term_cmp t terms) as (λ h. IsBoundTo (with_terms (cond h terms (terms ++ t ∷ [])) ts) b) [
+  | true ↦ all_bound terms ts b x
+  | false ↦ all_bound (terms ++ t ∷ []) ts b (still_bound terms (t ∷ []) b x)
+]
+
+pub bound_more : (terms more ts : List Term) (b : BoundGraph) → more ≡ with_terms terms ts → IsBoundTo terms b → IsBoundTo more b
+bound_more terms more ts b e x = subst (λ (us : List Term). IsBoundTo us b) (sym e) (all_bound terms ts b x)
 
 -- the first terms of a dictionary are the words of classes
 first_are_words : first_terms ≡ rdf_type ∷ sub_class_of ∷ []

@@ -6,3 +6,7 @@ pub mod Growing
 pub mod Runs
 pub mod Tests
 pub mod AtOnce
+mod ChangedTriples
+mod Checking
+mod NoChecks
+mod RowsOfPairs

@@ -17,21 +17,26 @@ use Rattle.term_validation.specs.Named.{IsNamedTriple, IsNumbered}
 use Rattle.triple_index.specs.declared.change.NumberedChange.{NumberedChange}
 use Rattle.triple_index.specs.declared.change.NumberedChange.TheVariants.{Add, Remove}
 
--- what a data graph is to contracts: its triples, the terms by their numbers, and how many are named beside the first two
+-- what a data graph is to contracts: its triples, the triples of its shapes graph, the terms by their numbers, and how many
+-- may be named beside the first two
 pub record NamedGraph : Type 0 where
   pub triples : List Triple
+  pub shapes : List Triple
   pub terms : List Term
   pub limit : ℕ
 
 abbrev pub names_of : NamedGraph → Named
 names_of g = record { terms = g.terms; limit = g.limit }
 
--- the graph where more terms are named, and the graph after changes
+-- the graph where more terms are named, the graph after changes, and the graph under other shapes
 abbrev pub with_names : NamedGraph → List Term → NamedGraph
-with_names g ts = record { triples = g.triples; terms = with_terms g.terms ts; limit = g.limit }
+with_names g ts = record { triples = g.triples; shapes = g.shapes; terms = with_terms g.terms ts; limit = g.limit }
 
 abbrev pub with_changes : NamedGraph → List Change → NamedGraph
-with_changes g net = record { triples = after g.triples net; terms = g.terms; limit = g.limit }
+with_changes g net = record { triples = after g.triples net; shapes = g.shapes; terms = g.terms; limit = g.limit }
+
+abbrev pub with_shapes : NamedGraph → List Triple → NamedGraph
+with_shapes g shapes = record { triples = g.triples; shapes = shapes; terms = g.terms; limit = g.limit }
 
 -- rdf:type and rdfs:subClassOf have the numbers 0 and 1
 abbrev pub HaveClassWords : List Term → Type 0

@@ -1,3 +1,4 @@
+pub mod Changes
 pub mod DataGraphs
 pub mod Finding
 pub mod Nets

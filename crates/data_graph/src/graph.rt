@@ -1,17 +1,20 @@
 ghost use Rattle.std.specs.Prelude.{◌≡◌, ◌+◌, ◌<◌, ◌≤◌, ◌^◌, [], IfErr, IfOk, MatchOption, OnErr, OnOk, length};
 ghost use Rattle.rdf_model.specs.Graphs.{after};
 ghost use Rattle.store_model.specs.Finds.{found};
-ghost use Rattle.shape_model.specs.Validation.{Listing};
+ghost use Rattle.shape_model.specs.Validation.{Listing, NoResult};
+ghost use Rattle.parallel_validate.specs.Verdicts.{IsEvaluated};
 ghost use Rattle.term_dict.specs.Faults.{IsCause};
 ghost use Rattle.term_dict.specs.Names.{AreNumbersOf, first_terms, with_terms};
 ghost use Rattle.graph_validation.specs.Counting.{GrowsByCount, IsTargetPair};
 ghost use Rattle.term_validation.specs.Named.{AreNamedTriples};
-ghost use Rattle.data_graph.specs.DataGraphs.{AreNamedChanges, IsIndexOf, IsIndexed, names_of, with_changes, with_names};
+ghost use Rattle.data_graph.specs.DataGraphs.{AreNamedChanges, IsIndexOf, IsIndexed, names_of, with_changes, with_names, with_shapes};
 
 use crate::by_number::found_by_number;
+use crate::changes::listing_of_changes;
 use crate::graphs::{graph_after, graph_after_asked, list_after_asked};
-use crate::numbering::{index_after, index_of, listing_by};
+use crate::numbering::{CLASS_WORDS, index_after, index_of, listing_by};
 use crate::run::graph_matching;
+use bound_shapes::BoundShapes;
 use collections::both;
 use page_index::Pages;
 use rdf_model::{Change, Pattern, Term, Triple};
@@ -25,24 +28,26 @@ use term_dict::{Dict, NameFault};
 use term_validation::is_without_shapes;
 use triple_index::Index;
 
-/// A data graph with numbers for its terms. Contracts see its triples, the terms by their numbers,
-/// and how many may be named beside the two first. Its triples by number are there once it, or one
-/// that it was made from, was validated.
+/// A data graph with the shapes graph by which it is validated, and numbers for the terms of both. Contracts see its triples,
+/// those of its shapes graph, the terms by their numbers, and how many may be named beside the two first. The shapes are
+/// bound to the numbers once. Its triples by number are there once it, or one that it was made from, was validated.
 pub struct DataGraph {
     alloc: Global,
     triples: Pages<Triple>,
     names: Dict,
     numbers: Option<Index>,
+    shapes: BoundShapes,
 }
 
 impl Model for DataGraph {
+    ghost use Rattle.bound_shapes.specs.Bound.{IsBoundTo};
     ghost use Rattle.data_graph.specs.DataGraphs.{HaveClassWords, IsIndexed, NamedGraph};
 
     ghost Value = { NamedGraph };
 
-    ghost view = { λ g. record { triples = g.triples; terms = g.names.terms; limit = g.names.limit } };
+    ghost view = { λ g. record { triples = g.triples; shapes = g.shapes.graph; terms = g.names.terms; limit = g.names.limit } };
 
-    ghost invariant = { λ g. HaveClassWords g.names.terms × IsIndexed g.names.terms g.numbers g.triples };
+    ghost invariant = { λ g. HaveClassWords g.names.terms × IsIndexed g.names.terms g.numbers g.triples × IsBoundTo g.names.terms g.shapes };
 }
 
 // Written by hand, so that what owns one calls it in place of having it written out.
@@ -53,6 +58,7 @@ impl Drop for DataGraph {
             triples: _,
             names: _,
             numbers: _,
+            shapes: _,
         } = self;
     }
 }
@@ -78,18 +84,20 @@ fn share_numbers(numbers: &Option<Index>) -> Result<Option<Index>, AllocError>
 }
 
 impl DataGraph {
-    /// A graph with no triple, where rdf:type and rdfs:subClassOf are named, and as many terms beside
+    /// A graph with no triple and no shape, where rdf:type and rdfs:subClassOf are named, and as many terms beside
     /// them may be as the limit says.
     pub fn new(alloc: Global, limit: usize) -> Result<DataGraph, AllocError>
         requires { limit + 2 < 2 ^ 32 }
-        ensures { IfOk result (λ graph. graph ≡ record { triples = []; terms = first_terms; limit = limit }) }
+        ensures { IfOk result (λ graph. graph ≡ record { triples = []; shapes = []; terms = first_terms; limit = limit }) }
     {
         let names = Dict::new(alloc, limit)?;
+        let shapes = BoundShapes::new(alloc, &names, CLASS_WORDS, ShapesGraph::empty(alloc)?)?;
         Ok(DataGraph {
             alloc,
             triples: Pages::new(alloc),
             names,
             numbers: None,
+            shapes,
         })
     }
 
@@ -98,13 +106,14 @@ impl DataGraph {
     pub fn share(&self) -> Result<DataGraph, AllocError>
         ensures { IfOk result (λ share. share ≡ self.now) }
     {
-        let numbers = share_numbers(&self.numbers)?;
+        let (numbers, shapes) = both(share_numbers(&self.numbers), self.shapes.share())?;
         let (triples, names) = both(self.triples.share(), self.names.share())?;
         Ok(DataGraph {
             alloc: self.alloc,
             triples,
             names,
             numbers,
+            shapes,
         })
     }
 
@@ -113,6 +122,13 @@ impl DataGraph {
         ensures { result.now ≡ self.now.triples }
     {
         &self.triples
+    }
+
+    /// The shapes graph.
+    pub fn shapes(&self) -> &ShapesGraph
+        ensures { result.now ≡ self.now.shapes }
+    {
+        self.shapes.graph()
     }
 
     /// The names of terms.
@@ -162,15 +178,29 @@ impl DataGraph {
         requires { AreNamedChanges self.now.terms net.now }
         ensures { IfOk result (λ next. next ≡ with_changes self.now net.now) }
     {
-        let triples = graph_after(self.alloc, &self.triples, net)?;
-        let numbers = self.numbers_after(net)?;
-        let names = self.names.share()?;
+        let (triples, numbers) = both(
+            graph_after(self.alloc, &self.triples, net),
+            self.numbers_after(net),
+        )?;
+        let (names, shapes) = both(self.names.share(), self.shapes.share())?;
         Ok(DataGraph {
             alloc: self.alloc,
             triples,
             names,
             numbers,
+            shapes,
         })
+    }
+
+    /// Puts another shapes graph in the place of the one that is there. All its terms are named; its shapes are bound
+    /// to their numbers here. After an error the graph is as it was.
+    pub fn replace_shapes(&mut self, shapes: ShapesGraph) -> Result<(), AllocError>
+        requires { AreNamedTriples self.old.terms shapes }
+        ensures ok { OnOk result (self.new ≡ with_shapes self.old shapes) }
+        ensures err { OnErr result (self.new ≡ self.old) }
+    {
+        self.shapes = BoundShapes::new(self.alloc, &self.names, CLASS_WORDS, shapes)?;
+        Ok(())
     }
 
     // The triples that the pattern asks for, where their numbers serve it, and are there.
@@ -214,28 +244,61 @@ impl DataGraph {
         }
     }
 
-    /// The results of validating the graph by the shapes graph (SHACL section 3.6), each once, in the
-    /// order of results. All terms of both are named. Without shapes nothing is numbered. The evaluations are counted in
-    /// `steps`: there are as many as there are pairs of a shape and its target. After an error the count is what it was,
-    /// or more.
-    pub fn listing<L: Ledger>(
-        &mut self,
-        shapes: &ShapesGraph,
-        steps: &mut Steps<L>,
-    ) -> Result<Vec<ResultRow>, AllocError>
-        requires graph { AreNamedTriples self.old.terms self.old.triples }
-        requires shapes { AreNamedTriples self.old.terms shapes.now }
+    /// The results of validating the graph by its shapes graph (SHACL section 3.6), each once, in the order of results. All
+    /// terms of the graph are named. Without shapes nothing is numbered. The evaluations are counted in `steps`: there are
+    /// as many as there are pairs of a shape and its target. After an error the count is what it was, or more.
+    pub fn listing<L: Ledger>(&mut self, steps: &mut Steps<L>) -> Result<Vec<ResultRow>, AllocError>
+        requires { AreNamedTriples self.old.terms self.old.triples }
         ensures same { self.new ≡ self.old }
-        ensures rows { IfOk result (λ rows. Listing self.old.triples shapes.now rows.items) }
-        ensures steps { OnOk result (GrowsByCount (IsTargetPair self.old.triples shapes.now) steps.old steps.new) }
+        ensures rows { IfOk result (λ rows. Listing self.old.triples self.old.shapes rows.items) }
+        ensures steps { OnOk result (GrowsByCount (IsTargetPair self.old.triples self.old.shapes) steps.old steps.new) }
         ensures counted { steps.old ≤ steps.new }
     {
-        if is_without_shapes(shapes) {
+        if is_without_shapes(self.shapes.graph()) {
             return Ok(Vec::new(self.alloc));
         }
         let numbers = self.index()?;
-        let rows = listing_by(self.alloc, &self.names, &numbers, shapes, steps)?;
+        let rows = listing_by(self.alloc, &self.names, &numbers, &self.shapes, steps)?;
         self.numbers = Some(numbers);
+        Ok(rows)
+    }
+
+    /// The results of the graph that the changes make of this one, which has none, under its shapes graph: those of what
+    /// the changes touch, each once, in the order of results. All terms of the graph and the changes are named. The
+    /// evaluations are counted in `steps`: there are as many as there are pairs of a shape and a node that a changed triple
+    /// touches and that are targets after the changes. After an error the count is what it was, or more.
+    pub fn listing_after<L: Ledger>(
+        &self,
+        net: &[Change],
+        next: &mut DataGraph,
+        steps: &mut Steps<L>,
+    ) -> Result<Vec<ResultRow>, AllocError>
+        requires graph { AreNamedTriples self.now.terms self.now.triples }
+        requires net { AreNamedChanges self.now.terms net.now }
+        requires after { AreNamedTriples self.now.terms (after self.now.triples net.now) }
+        requires next { next.old ≡ with_changes self.now net.now }
+        requires none { NoResult self.now.triples self.now.shapes }
+        ensures same { next.new ≡ next.old }
+        ensures rows { IfOk result (λ rows. Listing (after self.now.triples net.now) self.now.shapes rows.items) }
+        ensures steps { OnOk result (GrowsByCount (IsEvaluated self.now.triples self.now.shapes net.now) steps.old steps.new) }
+        ensures counted { steps.old ≤ steps.new }
+    {
+        if is_without_shapes(self.shapes.graph()) {
+            return Ok(Vec::new(self.alloc));
+        }
+        self.triples.recall_ascending();
+        let before = self.index()?;
+        let later = next.index()?;
+        let rows = listing_of_changes(
+            self.alloc,
+            &self.names,
+            &before,
+            &later,
+            &self.shapes,
+            net,
+            steps,
+        )?;
+        next.numbers = Some(later);
         Ok(rows)
     }
 }

@@ -57,8 +57,8 @@ pub(crate) fn graph_after(
     }
 }
 
-// The triple that a change adds or removes.
-fn triple_of(change: &Change) -> &Triple
+/// The triple that a change adds or removes.
+pub(crate) fn triple_of(change: &Change) -> &Triple
     ensures { result.now ≡ changed_triple change.now }
 {
     match change {

@@ -1,27 +1,29 @@
-ghost use Rattle.std.specs.Prelude.{◌≡◌, ◌≤◌, ◌↔◌, IfOk, OnOk, map};
-ghost use Rattle.std.specs.List.{AllByRecursion, Contains};
+ghost use Rattle.std.specs.Prelude.{◌≡◌, ◌≤◌, IfOk, OnOk, map};
+ghost use Rattle.std.specs.List.{AllByRecursion};
 ghost use Rattle.rdf_model.specs.Numbers.{AreNumbered, graph_of};
 ghost use Rattle.shape_model.specs.Validation.{Listing};
 ghost use Rattle.store_model.specs.Store.{changed_triple};
 ghost use Rattle.graph_validation.specs.Counting.{GrowsByCount, IsTargetPair};
+ghost use Rattle.bound_shapes.specs.Bound.{IsBoundTo};
 ghost use Rattle.term_validation.specs.Named.{AreNamedTriples, IsNamedTriple};
-ghost use Rattle.triple_index.specs.Changes.{after_ids};
-ghost use Rattle.data_graph.specs.DataGraphs.{AreNamedChanges, HaveClassWords, IsIndexOf, IsNumberedChange, KeepsIndex, change_at};
+ghost use Rattle.data_graph.specs.DataGraphs.{AreNamedChanges, IsIndexOf, IsNumberedChange, KeepsIndex, change_at};
 
+use crate::graphs::triple_of;
+use bound_shapes::BoundShapes;
+use graph_validation::whole;
 use page_index::Pages;
 use path_eval::ClassWords;
 use rdf_model::{Change, Ids, Triple};
 use shape_eval::Steps;
 use shape_model::ResultRow;
-use shapes_graph::ShapesGraph;
 use std::alloc::{AllocError, Global};
 use std::sync::ledger::Ledger;
 use term_dict::Dict;
-use term_validation::{listing_over, number_triple};
+use term_validation::number_triple;
 use triple_index::{Index, NumberedChange};
 
 // The numbers of rdf:type and rdfs:subClassOf, which are named first.
-const CLASS_WORDS: ClassWords = ClassWords {
+pub(crate) const CLASS_WORDS: ClassWords = ClassWords {
     rdf_type: 0,
     sub_class_of: 1,
 };
@@ -45,6 +47,18 @@ pub fn index_of(alloc: Global, names: &Dict, graph: &Pages<Triple>) -> Result<In
 {
     let ids = number_graph(alloc, names, graph)?;
     Ok(Index::from_triples(alloc, &ids)?)
+}
+
+/// The triples that are added or removed, by the numbers of their terms.
+pub fn number_changed(alloc: Global, names: &Dict, net: &[Change]) -> Result<Vec<Ids>, AllocError>
+    requires { AreNamedChanges names.now.terms net.now }
+    ensures { IfOk result (λ ids. AreNumbered names.now.terms ids.items × (graph_of names.now.terms ids.items ≡ map changed_triple net.now)) }
+{
+    let mut ids = Vec::with_capacity(alloc, net.len())?;
+    for change in net {
+        ids.push(number_triple(names, triple_of(change)))?;
+    }
+    Ok(ids)
 }
 
 // A change by the numbers of its terms.
@@ -98,16 +112,16 @@ pub fn listing_by<L: Ledger>(
     alloc: Global,
     names: &Dict,
     index: &Index,
-    shapes: &ShapesGraph,
+    shapes: &BoundShapes,
     steps: &mut Steps<L>,
 ) -> Result<Vec<ResultRow>, AllocError>
-    requires words { HaveClassWords names.now.terms }
     requires index { AreNumbered names.now.terms index.now }
-    requires shapes { AreNamedTriples names.now.terms shapes.now }
-    ensures rows { IfOk result (λ rows. Listing (graph_of names.now.terms index.now) shapes.now rows.items) }
-    ensures steps { OnOk result (GrowsByCount (IsTargetPair (graph_of names.now.terms index.now) shapes.now) steps.old steps.new) }
+    requires shapes { IsBoundTo names.now.terms shapes.now }
+    ensures rows { IfOk result (λ rows. Listing (graph_of names.now.terms index.now) shapes.now.graph rows.items) }
+    ensures steps { OnOk result (GrowsByCount (IsTargetPair (graph_of names.now.terms index.now) shapes.now.graph) steps.old steps.new) }
     ensures counted { steps.old ≤ steps.new }
 {
     names.recall_numbering();
-    Ok(listing_over(alloc, index, names, CLASS_WORDS, shapes, steps)?)
+    let planned = shapes.planned();
+    Ok(whole(alloc, index, names, planned.words, &planned.bound, steps)?)
 }

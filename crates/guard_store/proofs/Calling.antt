@@ -1,5 +1,5 @@
 -- What a call of a session is answered, by what its turn gave.
-use Rattle.std.proofs.Common.{◌≡◌, ◌≢◌, ℕ, Result, Ok, Err, MatchResult, List, Some, None, sym, ap, ◌∙◌, subst, inr}
+use Rattle.std.proofs.Common.{◌≡◌, ◌≢◌, ℕ, Result, Ok, Err, MatchResult, List, Some, None, refl, sym, ap, ◌∙◌, subst, inr}
 use Rattle.turn_lock.specs.Callers.{Caller}
 use Rattle.rdf_model.specs.declared.term.Term.{Term}
 use Rattle.rdf_model.specs.declared.triple.Triple.{Triple}
@@ -23,12 +23,14 @@ use Rattle.session_transaction.specs.declared.committing.Committed.TheVariants.{
 use Rattle.session_transaction.specs.declared.transaction.OpenTransaction.{OpenTransaction}
 use Rattle.guard_store.specs.declared.session.Session.{Session}
 use Rattle.session_transaction.specs.declared.transaction.ChangeKind.{ChangeKind}
-use Rattle.session_transaction.specs.Commits.{IsAnswer}
+use Rattle.session_transaction.specs.Commits.{CountsFor, IsAnswer}
 use Rattle.guard_store.specs.Fronts.{SharedStore, Turn, Fails}
 use Rattle.guard_store.specs.Callers.{IsSession}
 use Rattle.session_transaction.specs.Transactions.{begun_at, changes_of, with_changes}
 use Rattle.guard_store.proofs.Fitting.{stages_session, stages_not_session}
-use Rattle.guard_store.specs.Answers.{Begins, Heads, NamesFor, NamesNot, Stages, StagesNot, IsOpen, AnswersCommit, Commits, TurnCommits, event_of}
+use Rattle.commit_core.specs.Work.{StepsBy}
+use Rattle.guard_store.specs.declared.faults.CommitFault.{CommitFault}
+use Rattle.guard_store.specs.Answers.{Begins, Heads, NamesFor, NamesNot, Stages, StagesNot, IsOpen, AnswersCommit, CommitCounts, Commits, EndsReading, TurnCommits, TurnCounts, event_of}
 
 pub begins_now : (l : Limits) (old : Session) (pass : Caller Event Limits) (snap : Snapshot) (v : ℕ) (new : Session) → old.current ≡ None
     → (t : Turn l old.pass pass (event_of old.number actions.Begin (replies.Version snap.number))) × (snap ≡ snapshot_of t.before) → v ≡ snap.number → new ≡ record old { pass = pass; current = Some (begun_at snap); head = None } → Begins l old new v
@@ -52,6 +54,19 @@ turn_commits l old new i x r (Conflict n y) t h = subst (λ (s : Reply). Turn l 
 turn_commits l old new i x r (FullTriples n) t h = subst (λ (s : Reply). Turn l old new (event_of i (actions.Commit x) s)) h t
 turn_commits l old new i x r (Refused rows why shapes) t h =
     subst (λ (s : Reply). (u : Turn l old new (event_of i (actions.Commit x) s)) × (shapes ≡ shapes_under u.before.shapes x.staged) × Listing (after u.before.graph x.net) shapes rows) h.0 (t, h.1, h.2)
+
+-- and how many evaluations it counted
+pub turn_counts : (l : Limits) (old new : Caller Event Limits) (i : ℕ) (x : Transaction) (r : Reply) (a : Committed) (counted now : ℕ) (t : Turn l old new (event_of i (actions.Commit x) r)) → IsAnswer t.before x r a → CountsFor a t.before x counted now → TurnCounts l old new i x counted now a
+turn_counts l old new i x r (ReadOnly v) counted now t h k = k
+turn_counts l old new i x r (Done n why) counted now t h k = subst (λ (s : Reply). (u : Turn l old new (event_of i (actions.Commit x) s)) × StepsBy why u.before.graph u.before.shapes x counted now) h (t, k)
+turn_counts l old new i x r (Conflict n y) counted now t h k = k
+turn_counts l old new i x r (FullTriples n) counted now t h k = k
+turn_counts l old new i x r (Refused rows why shapes) counted now t h k = subst (λ (s : Reply). (u : Turn l old new (event_of i (actions.Commit x) s)) × StepsBy why u.before.graph u.before.shapes x counted now) h.0 (t, k)
+
+-- a commit that only reads counts none, nor does that of no transaction
+pub reading_counts : (l : Limits) (old new : Session) (n : ℕ) (r : Result Committed CommitFault) → EndsReading old new r → CommitCounts l old new n n r
+reading_counts l old new n (Ok a) h = (h.0, h.1, subst (λ (b : Committed). TurnCounts l old.pass new.pass old.number h.0.transaction n n b) (sym h.2) refl)
+reading_counts l old new n (Err fault) h = subst (λ (f : CommitFault). CommitCounts l old new n n (Err f)) (sym h.1) refl
 
 answers_now : (l : Limits) (old : Session) (pass : Caller Event Limits) (w : OpenTransaction) (a : Committed) (new : Session) → new.pass ≡ pass → HasChange w.transaction.net w.transaction.staged → TurnCommits l old.pass pass old.number w.transaction a → AnswersCommit l old new w a
 answers_now l old pass w (ReadOnly v) new e h t = absurd t

@@ -15,6 +15,7 @@ use Rattle.store_model.specs.declared.commit.Transaction.{Transaction}
 use Rattle.store_model.specs.Snapshots.{snapshot_of}
 use Rattle.store_model.specs.Store.{HasChange, shapes_under}
 use Rattle.session_model.specs.Sessions.{parts_of}
+use Rattle.commit_core.specs.Work.{StepsBy}
 use Rattle.commit_core.specs.declared.store.NameFault.{NameFault}
 use Rattle.commit_core.specs.declared.store.NameFault.TheVariants as names
 use Rattle.guard_store.specs.declared.faults.OpenFault.{OpenFault}
@@ -95,6 +96,15 @@ TurnCommits l old new i x (FullTriples n) = Turn l old new (event_of i (actions.
 TurnCommits l old new i x (Refused rows why shapes) =
     (t : Turn l old new (event_of i (actions.Commit x) (replies.Refused rows why))) × (shapes ≡ shapes_under t.before.shapes x.staged) × Listing (after t.before.graph x.net) shapes rows
 
+-- How many evaluations were counted in the turn of a commit, from the one number to the other: by the answer, and by the
+-- graph and the shapes that the turn found.
+abbrev pub TurnCounts : Limits → Caller Event Limits → Caller Event Limits → ℕ → Transaction → ℕ → ℕ → Committed → Type 0
+TurnCounts l old new i x counted now (ReadOnly v) = now ≡ counted
+TurnCounts l old new i x counted now (Done n why) = (t : Turn l old new (event_of i (actions.Commit x) (replies.Done n why))) × StepsBy why t.before.graph t.before.shapes x counted now
+TurnCounts l old new i x counted now (Conflict n t) = now ≡ counted
+TurnCounts l old new i x counted now (FullTriples n) = now ≡ counted
+TurnCounts l old new i x counted now (Refused rows why shapes) = (t : Turn l old new (event_of i (actions.Commit x) (replies.Refused rows why))) × StepsBy why t.before.graph t.before.shapes x counted now
+
 -- A transaction begins at the version where the history then leads; or one is open, and nothing happens.
 abbrev pub BeginsNot : BeginFault → Limits → Session → Session → Type 0
 BeginsNot begins.AlreadyOpen l old new = ((w : OpenTransaction) × IsOpen old w) × (new ≡ old)
@@ -143,6 +153,13 @@ Commits l old new answer = (w : OpenTransaction) × IsOpen old w × AnswersCommi
 abbrev pub CommitsNot : CommitFault → Limits → Session → Session → Type 0
 CommitsNot commits.NoTransaction l old new = (old.current ≡ None) × (new ≡ old)
 CommitsNot commits.Memory l old new = (w : OpenTransaction) × IsOpen old w × HasChange w.transaction.net w.transaction.staged × Fails l old.pass new.pass old.number × (new ≡ record old { pass = new.pass })
+
+-- How many evaluations a session's commit counted: none where it only reads, or where no transaction is open. After want of
+-- memory the count is what it was, or more.
+abbrev pub CommitCounts : Limits → Session → Session → ℕ → ℕ → Result Committed CommitFault → Type 0
+CommitCounts l old new counted now (Ok answer) = (w : OpenTransaction) × IsOpen old w × TurnCounts l old.pass new.pass old.number w.transaction counted now answer
+CommitCounts l old new counted now (Err commits.NoTransaction) = now ≡ counted
+CommitCounts l old new counted now (Err commits.Memory) = counted ≤ now
 
 -- the commit of a transaction that only reads, and of none
 abbrev pub EndsReading : Session → Session → Result Committed CommitFault → Type 0

@@ -4,7 +4,7 @@ ghost use Rattle.session_model.specs.Sessions.{additions, removals};
 ghost use Rattle.session_transaction.specs.Transactions;
 ghost use Rattle.session_transaction.specs.Transactions.{changes_of};
 ghost use Rattle.guard_store.specs.Callers.{HasWork, IsSession};
-ghost use Rattle.guard_store.specs.Answers.{Begins, BeginsNot, Commits, CommitsNot, Heads, HeadsNot, NamesFor, Stages, StagesNot};
+ghost use Rattle.guard_store.specs.Answers.{Begins, BeginsNot, CommitCounts, Commits, CommitsNot, Heads, HeadsNot, NamesFor, Stages, StagesNot};
 
 use crate::faults::{BeginFault, CommitFault, HeadFault, StageFault};
 use crate::session::Session;
@@ -180,6 +180,7 @@ impl Store {
         requires work { HasWork session.current }
         ensures session { IsSession self.now result.0 }
         ensures commits { MatchResult result.1 (Commits self.now.limits session result.0) (λ fault. CommitsNot fault self.now.limits session result.0) }
+        ensures steps { CommitCounts self.now.limits session result.0 steps.old steps.new result.1 }
     {
         let (pass, number, current, head) = session.into_parts();
         let Some(open) = current else { unreachable!() };
@@ -196,7 +197,8 @@ impl Store {
     }
 
     /// Commits the open transaction. One that changes nothing and stages no shapes is answered ReadOnly, which is no
-    /// event; nor is NoTransaction, which comes where none is open. Each answer ends the transaction.
+    /// event; nor is NoTransaction, which comes where none is open. Each answer ends the transaction. Its evaluations are
+    /// counted in `steps`, by why it was evaluated.
     pub fn commit<L: Ledger, R: Wait>(
         &self,
         rt: &R,
@@ -206,6 +208,7 @@ impl Store {
         requires { IsSession self.now session }
         ensures session { IsSession self.now result.0 }
         ensures commits { MatchResult result.1 (Commits self.now.limits session result.0) (λ fault. CommitsNot fault self.now.limits session result.0) }
+        ensures steps { CommitCounts self.now.limits session result.0 steps.old steps.new result.1 }
     {
         if session.has_work() {
             return self.commit_work(rt, session, steps);

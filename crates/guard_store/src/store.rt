@@ -55,6 +55,11 @@ impl Store {
         Ok((store, Keeper { pass, opened: 0 }))
     }
 
+    /// Where the store takes its memory.
+    pub fn allocator(&self) -> Global {
+        self.alloc
+    }
+
     /// Waits for the caller's turn, and takes the core.
     pub(crate) fn start<R: Wait>(&self, rt: &R, pass: Pass<Shared>) -> (Held<Shared>, Core)
         requires lock { pass.lock ≡ self.now.id }

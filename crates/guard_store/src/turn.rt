@@ -1,12 +1,12 @@
 //! The events of a session, each a turn of its own.
-ghost use Rattle.std.specs.Prelude.{◌≡◌, MatchResult};
+ghost use Rattle.std.specs.Prelude.{◌≡◌, ◌≤◌, MatchResult};
 ghost use Rattle.store_model.specs.Store.{HasChange};
 ghost use Rattle.store_model.specs.Snapshots.{snapshot_of};
 ghost use Rattle.session_model.specs.Sessions.{parts_of};
 ghost use Rattle.guard_store.specs.Fronts.{At, Fails, Turn};
 ghost use Rattle.session_transaction.specs.Transactions.{FitsState};
 ghost use Rattle.guard_store.specs.Callers.{IsCaller};
-ghost use Rattle.guard_store.specs.Answers.{NamesNot, TurnCommits, event_of};
+ghost use Rattle.guard_store.specs.Answers.{NamesNot, TurnCommits, TurnCounts, event_of};
 
 use crate::shared::Shared;
 use crate::store::Store;
@@ -14,7 +14,7 @@ use commit_core::{NameFault, Snap, slip};
 use rdf_model::{Term, Triple};
 use session_transaction::{Committed, commit, terms_in};
 use shape_eval::Steps;
-use std::alloc::{AllocError, Global};
+use std::alloc::AllocError;
 use std::sync::Wait;
 use std::sync::ledger::Ledger;
 use store_model::{Action, Reply, Transaction};
@@ -119,7 +119,8 @@ impl Store {
         self.take_names(rt, pass, number, &terms)
     }
 
-    /// Commits a transaction that changes something or stages shapes. Without memory it is handed back.
+    /// Commits a transaction that changes something or stages shapes, and counts its evaluations. Without memory it is
+    /// handed back.
     pub(crate) fn take_commit<L: Ledger, R: Wait>(
         &self,
         rt: &R,
@@ -131,9 +132,10 @@ impl Store {
         requires caller { IsCaller self.now number pass }
         requires fits { At self.now.limits pass.known.front (FitsState transaction) }
         requires change { HasChange transaction.net transaction.staged }
-        ensures { MatchResult result.1
+        ensures commits { MatchResult result.1
             (TurnCommits self.now.limits pass result.0 number transaction)
             (λ back. (back ≡ transaction) × Fails self.now.limits pass result.0 number) }
+        ensures steps { MatchResult result.1 (TurnCounts self.now.limits pass result.0 number transaction steps.old steps.new) (λ _. steps.old ≤ steps.new) }
     {
         let Ok(slip) = slip(self.alloc) else {
             return (pass, Err(transaction));

@@ -5,14 +5,14 @@ use Rattle.literal_order.specs.Dates.{date, time, offset, date_form, date_value,
 use Rattle.literal_order.specs.declared.date_time.Day.{Day}
 use Rattle.literal_order.specs.declared.date_time.Day.TheVariants as days
 use Rattle.literal_order.specs.declared.date_time.Offset.{Offset}
-use Rattle.literal_order.specs.declared.literal_value.Reading.{Reading}
-use Rattle.literal_order.specs.declared.literal_value.Reading.TheVariants.{IllTyped}
+use Rattle.literal_order.specs.declared.literal_value.LiteralReading.{LiteralReading}
+use Rattle.literal_order.specs.declared.literal_value.LiteralReading.TheVariants.{IllTyped}
 use Rattle.literal_laws.specs.DateForms.{IsDateForm, IsDateTimeForm}
 use Rattle.literal_laws.proofs.Days.{date_from, date_to}
 use Rattle.literal_laws.proofs.Times.{time_from, time_to, offset_from, offset_to, zone_ends_time}
 
 -- what is well-formed was read
-was_read : (o : Option Reading) → read_or_ill_typed o ≢ IllTyped → (r : Reading) × (o ≡ Some r)
+was_read : (o : Option LiteralReading) → read_or_ill_typed o ≢ IllTyped → (r : LiteralReading) × (o ≡ Some r)
 was_read None h = absurd (h refl)
 was_read (Some r) h = (r, refl)
 
@@ -25,7 +25,7 @@ date_time_value_typed d None seconds from e = cc
 date_time_value_typed (days.Number n) (Some nanos) seconds from e = cc
 date_time_value_typed days.YearOutOfRange (Some nanos) seconds from e = cc
 
-from_date : (text : List ℕ) (r : Reading) → date_form text ≡ Some r → IsDateForm text
+from_date : (text : List ℕ) (r : LiteralReading) → date_form text ≡ Some r → IsDateForm text
 from_date text r h =
     option_and_then_some _ (date text) r h λ d at_day then_zone.
     option_and_then_some _ (offset d.1) r then_zone λ from at_zone last.
@@ -45,7 +45,7 @@ pub date_forms : (text : List ℕ) → (date_reading text ≢ IllTyped) ↔ IsDa
 unfolding date_reading
 date_forms text = (λ h. let read = was_read (date_form text) h in from_date text read.0 read.1, to_date text)
 
-from_date_time : (text : List ℕ) (r : Reading) → date_time_form text ≡ Some r → IsDateTimeForm text
+from_date_time : (text : List ℕ) (r : LiteralReading) → date_time_form text ≡ Some r → IsDateTimeForm text
 from_date_time text r h =
     option_and_then_some _ (date text) r h λ d at_day then_time.
     option_and_then_some _ (time d.1) r then_time λ t at_time then_zone.

@@ -5,7 +5,7 @@ use Rattle.literal_order.specs.Calendar.{days_in_month}
 use Rattle.literal_order.specs.Dates.{begins_with_zero, year_number, date_reading, date_time_reading}
 use Rattle.literal_order.specs.Digits.{is_negative, are_zeros, number}
 use Rattle.literal_order.specs.Forms.{AreDigits}
-use Rattle.literal_order.specs.declared.literal_value.Reading.TheVariants.{IllTyped}
+use Rattle.literal_order.specs.declared.literal_value.LiteralReading.TheVariants.{IllTyped}
 
 -- [0-9][0-9], which write n
 pub record IsTwo (n : ℕ) (text : List ℕ) : Type 0 where

@@ -11,7 +11,7 @@ use Rattle.literal_order.specs.declared.date_time.Time.{Time}
 use Rattle.literal_order.specs.declared.date_time.Offset.{Offset}
 use Rattle.literal_order.specs.declared.literal_value.Instant.{Instant}
 use Rattle.literal_order.specs.declared.literal_value.LiteralValue.TheVariants as values
-use Rattle.literal_order.specs.declared.literal_value.Reading.TheVariants.{Value}
+use Rattle.literal_order.specs.declared.literal_value.LiteralReading.TheVariants.{Value}
 
 zeros_from : (zs : List ℕ) → are_zeros zs ≡ true → number_after 0 zs ≡ 0
 zeros_from [] h = refl

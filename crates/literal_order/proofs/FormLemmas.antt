@@ -11,8 +11,8 @@ use Rattle.literal_order.specs.Digits.{is_empty, is_negative, are_digits, whole_
 use Rattle.literal_order.specs.Numerals.{unsigned, whole_digits, fraction_digits, is_integer_form, is_decimal_form, integer_value, integer_reading, decimal_value, decimal_of_parts, decimal_reading, boolean_reading}
 use Rattle.literal_order.specs.Forms.{IsSign, AreDigits, IsIntegerForm, IsDecimalForm, IsBooleanForm}
 use Rattle.literal_order.specs.declared.datatype.IntegerType.TheVariants.{Integer}
-use Rattle.literal_order.specs.declared.literal_value.Reading.{Reading}
-use Rattle.literal_order.specs.declared.literal_value.Reading.TheVariants.{IllTyped, Value}
+use Rattle.literal_order.specs.declared.literal_value.LiteralReading.{LiteralReading}
+use Rattle.literal_order.specs.declared.literal_value.LiteralReading.TheVariants.{IllTyped, Value}
 use Rattle.literal_order.specs.declared.literal_value.LiteralValue.TheVariants as values
 
 -- a text is a sign and what follows it
@@ -108,7 +108,7 @@ not_empty [] h = absurd (h refl)
 not_empty (x ∷ xs) h = ap not (ne_eqb (length (x ∷ xs)) 0 (λ e. omega arith))
 
 -- what is not ill-typed passed the test of its form
-well_formed : (b : Bool) (x : Reading) → cond b x IllTyped ≢ IllTyped → b ≡ true
+well_formed : (b : Bool) (x : LiteralReading) → cond b x IllTyped ≢ IllTyped → b ≡ true
 well_formed true x h = refl
 well_formed false x h = absurd (h refl)
 

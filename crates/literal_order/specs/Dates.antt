@@ -11,8 +11,8 @@ use Rattle.literal_order.specs.declared.date_time.Offset.{Offset}
 use Rattle.literal_order.specs.declared.date_time.Offset.TheVariants as offsets
 use Rattle.literal_order.specs.declared.literal_value.Instant.{Instant}
 use Rattle.literal_order.specs.declared.literal_value.LiteralValue.TheVariants as values
-use Rattle.literal_order.specs.declared.literal_value.Reading.{Reading}
-use Rattle.literal_order.specs.declared.literal_value.Reading.TheVariants.{IllTyped, Refused, Value}
+use Rattle.literal_order.specs.declared.literal_value.LiteralReading.{LiteralReading}
+use Rattle.literal_order.specs.declared.literal_value.LiteralReading.TheVariants.{IllTyped, Refused, Value}
 use Rattle.literal_order.specs.declared.literal_value.Refusal.TheVariants.{TooManyDigits, YearOutOfRange}
 
 infixl 10 ◌>>=◌
@@ -164,38 +164,38 @@ instant day seconds nanos from = record {
   has_offset = has_offset from;
 }
 
-abbrev pub date_time_value : Day → Option ℕ → ℕ → Offset → Reading
+abbrev pub date_time_value : Day → Option ℕ → ℕ → Offset → LiteralReading
 date_time_value day None seconds from = Refused TooManyDigits
 date_time_value days.YearOutOfRange (Some nanos) seconds from = Refused YearOutOfRange
 date_time_value (days.Number n) (Some nanos) seconds from = Value (values.DateTime (instant n seconds nanos from))
 
-abbrev pub date_time_form : List ℕ → Option Reading
+abbrev pub date_time_form : List ℕ → Option LiteralReading
 date_time_form text = do
   d ← date text
   t ← time d.1
   from ← offset t.1
   Some (date_time_value d.0 t.0.nanoseconds t.0.seconds from)
 
-abbrev pub read_or_ill_typed : Option Reading → Reading
+abbrev pub read_or_ill_typed : Option LiteralReading → LiteralReading
 read_or_ill_typed None = IllTyped
 read_or_ill_typed (Some reading) = reading
 
 -- dateTime: its form, then the limit of digits, then the years
-unfoldable pub date_time_reading : List ℕ → Reading
+unfoldable pub date_time_reading : List ℕ → LiteralReading
 date_time_reading text = read_or_ill_typed (date_time_form text)
 
-abbrev pub date_value : Day → Offset → Reading
+abbrev pub date_value : Day → Offset → LiteralReading
 date_value days.YearOutOfRange from = Refused YearOutOfRange
 date_value (days.Number n) from = Value (values.Date (instant n 0 0 from))
 
-abbrev pub date_form : List ℕ → Option Reading
+abbrev pub date_form : List ℕ → Option LiteralReading
 date_form text = do
   d ← date text
   from ← offset d.1
   Some (date_value d.0 from)
 
 -- date: its form, then the years; its value is its first instant
-unfoldable pub date_reading : List ℕ → Reading
+unfoldable pub date_reading : List ℕ → LiteralReading
 date_reading text = read_or_ill_typed (date_form text)
 
 -- A day, `T24:00:00` with a fraction of zeros, if any, and an offset, if any, are the start of the next day (3.3.7.1).

@@ -3,7 +3,7 @@ use Rattle.std.specs.Prelude.{◌≡◌, ◌≢◌, ◌↔◌, ◌⊎◌, true, 
 use Rattle.literal_order.specs.Digits.{are_digits}
 use Rattle.literal_order.specs.Numerals.{integer_reading, decimal_reading, boolean_reading}
 use Rattle.literal_order.specs.declared.datatype.IntegerType.TheVariants.{Integer}
-use Rattle.literal_order.specs.declared.literal_value.Reading.TheVariants.{IllTyped}
+use Rattle.literal_order.specs.declared.literal_value.LiteralReading.TheVariants.{IllTyped}
 
 -- [+-]?
 abbrev pub IsSign : List ℕ → Type 0

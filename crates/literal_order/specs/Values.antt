@@ -10,17 +10,17 @@ use Rattle.literal_order.specs.declared.datatype.Datatype.TheVariants as datatyp
 use Rattle.literal_order.specs.declared.literal_value.LiteralValue.TheVariants as values
 use Rattle.literal_order.specs.declared.literal_value.Lexical.{Lexical}
 use Rattle.literal_order.specs.declared.literal_value.Lexical.TheVariants as lexicals
-use Rattle.literal_order.specs.declared.literal_value.Reading.{Reading}
-use Rattle.literal_order.specs.declared.literal_value.Reading.TheVariants as readings
+use Rattle.literal_order.specs.declared.literal_value.LiteralReading.{LiteralReading}
+use Rattle.literal_order.specs.declared.literal_value.LiteralReading.TheVariants as readings
 use Rattle.literal_order.specs.declared.literal_value.Refusal.{Refusal}
 use Rattle.literal_order.specs.declared.literal_value.Refusal.TheVariants as refusals
 
 -- rdf:langString goes with a language tag (RDF 1.1 Concepts, 3.3)
-abbrev pub tagged_reading : Option (List ℕ) → Reading
+abbrev pub tagged_reading : Option (List ℕ) → LiteralReading
 tagged_reading None = readings.Refused refusals.NoLanguageTag
 tagged_reading (Some tag) = readings.NotTyped
 
-abbrev pub reading_by : Datatype → List ℕ → Option (List ℕ) → Reading
+abbrev pub reading_by : Datatype → List ℕ → Option (List ℕ) → LiteralReading
 reading_by datatypes.String text language = readings.Value (values.Text text)
 reading_by datatypes.Boolean text language = boolean_reading text
 reading_by datatypes.Decimal text language = decimal_reading text
@@ -31,13 +31,13 @@ reading_by datatypes.Floating text language = readings.Refused refusals.Floating
 reading_by datatypes.LangString text language = tagged_reading language
 reading_by datatypes.Other text language = readings.NotTyped
 
-unfoldable pub reading : Term → Reading
+unfoldable pub reading : Term → LiteralReading
 reading (terms.Blank session number) = readings.NotTyped
 reading (terms.Iri iri) = readings.NotTyped
 reading (terms.Literal text datatype language) = reading_by (datatype_of datatype) text language
 
 -- a literal that the profile refuses has no value here
-abbrev pub lexical_of : Reading → Lexical
+abbrev pub lexical_of : LiteralReading → Lexical
 lexical_of readings.NotTyped = lexicals.NotTyped
 lexical_of readings.IllTyped = lexicals.IllTyped
 lexical_of (readings.Refused refusal) = lexicals.NotTyped
@@ -53,7 +53,7 @@ kind_of refusals.TooManyDigits = 8
 kind_of refusals.YearOutOfRange = 9
 kind_of refusals.NoLanguageTag = 10
 
-abbrev pub refusal_of : Reading → Option ℕ
+abbrev pub refusal_of : LiteralReading → Option ℕ
 refusal_of readings.NotTyped = None
 refusal_of readings.IllTyped = None
 refusal_of (readings.Refused refusal) = Some (kind_of refusal)

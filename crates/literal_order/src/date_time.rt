@@ -4,7 +4,7 @@ ghost use Rattle.literal_order.specs.Dates;
 ghost use Rattle.literal_order.specs.Digits;
 
 use crate::digits::{are_zeros, fraction_of, number};
-use crate::literal_value::{Instant, LiteralValue, Reading, Refusal};
+use crate::literal_value::{Instant, LiteralReading, LiteralValue, Refusal};
 use jiff::civil::Date;
 
 /// The number of days from 1 January of the year 0 to 1 January 1970.
@@ -287,25 +287,22 @@ fn instant(day: u32, seconds: u32, nanoseconds: u32, offset: Offset) -> Instant
     }
 }
 
-fn date_time_value(day: Day, time: Time, offset: Offset) -> Reading<'static>
+fn date_time_value(day: Day, time: Time, offset: Offset) -> LiteralReading<'static>
     requires after_first { Dates.IsAfterFirst day }
     requires limit { Dates.IsWithinLimit offset }
     ensures { result ≡ Dates.date_time_value day time.nanoseconds time.seconds offset }
 {
     match (time.nanoseconds, day) {
-        (None, _) => Reading::Refused(Refusal::TooManyDigits),
-        (Some(_), Day::YearOutOfRange) => Reading::Refused(Refusal::YearOutOfRange),
-        (Some(nanoseconds), Day::Number(day)) => Reading::Value(LiteralValue::DateTime(instant(
-            day,
-            time.seconds,
-            nanoseconds,
-            offset,
-        ))),
+        (None, _) => LiteralReading::Refused(Refusal::TooManyDigits),
+        (Some(_), Day::YearOutOfRange) => LiteralReading::Refused(Refusal::YearOutOfRange),
+        (Some(nanoseconds), Day::Number(day)) => LiteralReading::Value(LiteralValue::DateTime(
+            instant(day, time.seconds, nanoseconds, offset),
+        )),
     }
 }
 
 /// What a well-formed dateTime stands for.
-fn read_date_time(text: &[u8]) -> Option<Reading<'static>>
+fn read_date_time(text: &[u8]) -> Option<LiteralReading<'static>>
     ensures { result ≡ Dates.date_time_form text.now }
 {
     let (day, rest) = read_date(text)?;
@@ -316,28 +313,28 @@ fn read_date_time(text: &[u8]) -> Option<Reading<'static>>
 
 /// The value of a dateTime's lexical form (XSD 1.1 Part 2, section 3.3.7).
 #[tactic(auto, unfolding(crate::specs::Dates::date_time_reading))]
-pub fn date_time_reading(text: &[u8]) -> Reading<'static>
+pub fn date_time_reading(text: &[u8]) -> LiteralReading<'static>
     ensures { result ≡ Dates.date_time_reading text.now }
 {
     match read_date_time(text) {
         Some(reading) => reading,
-        None => Reading::IllTyped,
+        None => LiteralReading::IllTyped,
     }
 }
 
-fn date_value(day: Day, offset: Offset) -> Reading<'static>
+fn date_value(day: Day, offset: Offset) -> LiteralReading<'static>
     requires after_first { Dates.IsAfterFirst day }
     requires limit { Dates.IsWithinLimit offset }
     ensures { result ≡ Dates.date_value day offset }
 {
     match day {
-        Day::YearOutOfRange => Reading::Refused(Refusal::YearOutOfRange),
-        Day::Number(day) => Reading::Value(LiteralValue::Date(instant(day, 0, 0, offset))),
+        Day::YearOutOfRange => LiteralReading::Refused(Refusal::YearOutOfRange),
+        Day::Number(day) => LiteralReading::Value(LiteralValue::Date(instant(day, 0, 0, offset))),
     }
 }
 
 /// What a well-formed date stands for.
-fn read_whole_date(text: &[u8]) -> Option<Reading<'static>>
+fn read_whole_date(text: &[u8]) -> Option<LiteralReading<'static>>
     ensures { result ≡ Dates.date_form text.now }
 {
     let (day, rest) = read_date(text)?;
@@ -347,11 +344,11 @@ fn read_whole_date(text: &[u8]) -> Option<Reading<'static>>
 
 /// The value of a date's lexical form (XSD 1.1 Part 2, section 3.3.9).
 #[tactic(auto, unfolding(crate::specs::Dates::date_reading))]
-pub fn date_reading(text: &[u8]) -> Reading<'static>
+pub fn date_reading(text: &[u8]) -> LiteralReading<'static>
     ensures { result ≡ Dates.date_reading text.now }
 {
     match read_whole_date(text) {
         Some(reading) => reading,
-        None => Reading::IllTyped,
+        None => LiteralReading::IllTyped,
     }
 }

@@ -92,7 +92,7 @@ impl Refusal {
 
 /// All that reading a literal tells.
 #[derive(Debug, Drop)]
-pub enum Reading<'a> {
+pub enum LiteralReading<'a> {
     NotTyped,
     IllTyped,
     Refused(Refusal),

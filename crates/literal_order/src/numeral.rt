@@ -5,7 +5,7 @@ ghost use Rattle.literal_order.specs.Numerals;
 
 use crate::datatype::IntegerType;
 use crate::digits::{are_digits, fraction_number, whole_number};
-use crate::literal_value::{LiteralValue, Reading, Refusal};
+use crate::literal_value::{LiteralReading, LiteralValue, Refusal};
 
 /// Units of 10^-18 in one.
 const SCALE: u128 = 1_000_000_000_000_000_000;
@@ -45,48 +45,48 @@ fn signed(negative: bool, magnitude: u128) -> i128
 
 /// The value of an integer type's lexical form (XSD 1.1 Part 2, sections 3.4.13 to 3.4.25).
 #[tactic(auto, unfolding(crate::specs::Numerals::integer_reading))]
-pub fn integer_reading(integer: IntegerType, text: &[u8]) -> Reading<'static>
+pub fn integer_reading(integer: IntegerType, text: &[u8]) -> LiteralReading<'static>
     ensures { result ≡ Numerals.integer_reading integer text.now }
 {
     let (negative, digits) = split_sign(text);
     if digits.is_empty() || !are_digits(digits) {
-        return Reading::IllTyped;
+        return LiteralReading::IllTyped;
     }
     match whole_number(digits) {
-        None => Reading::Refused(Refusal::TooManyDigits),
+        None => LiteralReading::Refused(Refusal::TooManyDigits),
         Some(whole) if integer.is_in_range(signed(negative, whole)) => {
-            Reading::Value(LiteralValue::Number(signed(negative, whole * SCALE)))
+            LiteralReading::Value(LiteralValue::Number(signed(negative, whole * SCALE)))
         }
-        Some(_) => Reading::IllTyped,
+        Some(_) => LiteralReading::IllTyped,
     }
 }
 
 /// The value of a decimal's lexical form (XSD 1.1 Part 2, section 3.3.3).
 #[tactic(auto, unfolding(crate::specs::Numerals::decimal_reading))]
-pub fn decimal_reading(text: &[u8]) -> Reading<'static>
+pub fn decimal_reading(text: &[u8]) -> LiteralReading<'static>
     ensures { result ≡ Numerals.decimal_reading text.now }
 {
     let (negative, digits) = split_sign(text);
     let (whole, fraction) = split_point(digits);
     if whole.is_empty() && fraction.is_empty() || !are_digits(whole) || !are_digits(fraction) {
-        return Reading::IllTyped;
+        return LiteralReading::IllTyped;
     }
     match (whole_number(whole), fraction_number(fraction)) {
         (Some(whole), Some(fraction)) => {
-            Reading::Value(LiteralValue::Number(signed(negative, whole * SCALE + fraction)))
+            LiteralReading::Value(LiteralValue::Number(signed(negative, whole * SCALE + fraction)))
         }
-        _ => Reading::Refused(Refusal::TooManyDigits),
+        _ => LiteralReading::Refused(Refusal::TooManyDigits),
     }
 }
 
 /// The value of a boolean's lexical form (XSD 1.1 Part 2, section 3.3.2).
 #[tactic(auto, unfolding(crate::specs::Numerals::boolean_reading))]
-pub fn boolean_reading(text: &str) -> Reading<'static>
+pub fn boolean_reading(text: &str) -> LiteralReading<'static>
     ensures { result ≡ Numerals.boolean_reading text.now }
 {
     match text {
-        "true" | "1" => Reading::Value(LiteralValue::Boolean(true)),
-        "false" | "0" => Reading::Value(LiteralValue::Boolean(false)),
-        _ => Reading::IllTyped,
+        "true" | "1" => LiteralReading::Value(LiteralValue::Boolean(true)),
+        "false" | "0" => LiteralReading::Value(LiteralValue::Boolean(false)),
+        _ => LiteralReading::IllTyped,
     }
 }

@@ -4,13 +4,13 @@ ghost use Rattle.literal_order.specs.Values;
 
 use crate::datatype::{Datatype, datatype_of};
 use crate::date_time::{date_reading, date_time_reading};
-use crate::literal_value::{Characters, Lexical, LiteralValue, Reading, Refusal};
+use crate::literal_value::{Characters, Lexical, LiteralReading, LiteralValue, Refusal};
 use crate::numeral::{boolean_reading, decimal_reading, integer_reading};
 use rdf_model::Term;
 
 /// All that the lexical form and the datatype of a term tell.
 #[tactic(auto, unfolding(crate::specs::Values::reading))]
-pub fn reading(term: &Term) -> Reading<'_>
+pub fn reading(term: &Term) -> LiteralReading<'_>
     ensures { result ≡ Values.reading term.now }
 {
     let Term::Literal {
@@ -19,19 +19,21 @@ pub fn reading(term: &Term) -> Reading<'_>
         language,
     } = term
     else {
-        return Reading::NotTyped;
+        return LiteralReading::NotTyped;
     };
     let text = lexical.as_str();
     match datatype_of(datatype.as_str()) {
-        Datatype::String => Reading::Value(LiteralValue::Text(Characters::new(text))),
+        Datatype::String => LiteralReading::Value(LiteralValue::Text(Characters::new(text))),
         Datatype::Boolean => boolean_reading(text),
         Datatype::Decimal => decimal_reading(text.as_bytes()),
         Datatype::Integer(integer) => integer_reading(integer, text.as_bytes()),
         Datatype::DateTime => date_time_reading(text.as_bytes()),
         Datatype::Date => date_reading(text.as_bytes()),
-        Datatype::Floating => Reading::Refused(Refusal::FloatingPoint),
-        Datatype::LangString if language.is_none() => Reading::Refused(Refusal::NoLanguageTag),
-        Datatype::LangString | Datatype::Other => Reading::NotTyped,
+        Datatype::Floating => LiteralReading::Refused(Refusal::FloatingPoint),
+        Datatype::LangString if language.is_none() => LiteralReading::Refused(
+            Refusal::NoLanguageTag,
+        ),
+        Datatype::LangString | Datatype::Other => LiteralReading::NotTyped,
     }
 }
 
@@ -40,9 +42,9 @@ pub fn value(term: &Term) -> Lexical<'_>
     ensures { result ≡ Values.lexical term.now }
 {
     match reading(term) {
-        Reading::Value(value) => Lexical::Value(value),
-        Reading::IllTyped => Lexical::IllTyped,
-        Reading::NotTyped | Reading::Refused(_) => Lexical::NotTyped,
+        LiteralReading::Value(value) => Lexical::Value(value),
+        LiteralReading::IllTyped => Lexical::IllTyped,
+        LiteralReading::NotTyped | LiteralReading::Refused(_) => Lexical::NotTyped,
     }
 }
 
@@ -53,7 +55,7 @@ pub fn profile(term: &Term) -> Option<u8>
     ensures { result ≡ Values.profile term.now }
 {
     match reading(term) {
-        Reading::Refused(refusal) => Some(refusal.kind()),
+        LiteralReading::Refused(refusal) => Some(refusal.kind()),
         _ => None,
     }
 }

@@ -20,7 +20,7 @@ use Rattle.rdf_lexical.proofs.Cut.{Other, is_early, early_is, other_is, enclosed
 use Rattle.ntriples_text.specs.declared.lexeme.TokenKind.{TokenKind}
 use Rattle.ntriples_text.specs.declared.lexeme.TokenKind.TheVariants.{IriRef, StringLiteral, BlankNodeLabel, LanguageTag, Carets, Dot, LineEnd}
 use Rattle.ntriples_text.specs.declared.token.Token.{Token}
-use Rattle.ntriples_text.specs.Tokens.{Reading, Lexeme, skipped, of_kind, label_after_colon, label, language_tag, carets, mark, lexeme, token_of, token_at, token}
+use Rattle.ntriples_text.specs.Tokens.{Parsed, Lexeme, skipped, of_kind, label_after_colon, label, language_tag, carets, mark, lexeme, token_of, token_at, token}
 use Rattle.ntriples_text.specs.Productions.{HasNoToken, BeginsToken, EndsInEscape}
 use Rattle.ntriples_text.specs.Laws.{EndsEarly}
 use Rattle.ntriples_text.proofs.Lexemes.{IsFound, token_found, Reaches, reached, none_missed}
@@ -202,7 +202,7 @@ ends_at cs none (inl begun) = begun_ends cs (lexeme cs) refl none begun
 ends_at cs none (inr escape) = escape_ends cs escape
 
 -- the reader's token
-abbrev read_of : List ℕ → Lexeme → Reading Token
+abbrev read_of : List ℕ → Lexeme → Parsed Token
 read_of cs r = r >>= λ p. Ok (token_of p.0 (take p.1 cs), drop p.1 cs)
 
 fault_of : (cs : List ℕ) (r : Lexeme) → read_of cs r ≡ Err UnexpectedEnd → r ≡ Err UnexpectedEnd

@@ -5,7 +5,7 @@ use Rattle.rdf_lexical.specs.Refusals.{◌>>=◌}
 use Rattle.ntriples_text.specs.declared.lexeme.TokenKind.{TokenKind}
 use Rattle.ntriples_text.specs.declared.token.Token.{Token}
 use Rattle.ntriples_text.specs.declared.token.Token.TheVariants.{TextEnd}
-use Rattle.ntriples_text.specs.Tokens.{Reading, Lexeme, skipped, lexeme, token_of, token_at, token}
+use Rattle.ntriples_text.specs.Tokens.{Parsed, Lexeme, skipped, lexeme, token_of, token_at, token}
 use Rattle.ntriples_text.specs.Productions.{IsTokenAt, HasNoToken}
 use Rattle.ntriples_text.specs.Laws.{FindsLongest, MissesNone, StandsAlone}
 use Rattle.ntriples_text.proofs.Lexemes.{longest_found, none_missed, one_stands}
@@ -13,7 +13,7 @@ use Rattle.ntriples_text.proofs.Lexemes.{longest_found, none_missed, one_stands}
 abbrev Finds : List ℕ → Token → List ℕ → Type 0
 Finds cs t rest = ((cs ≡ []) × (t ≡ TextEnd) × (rest ≡ [])) ⊎ ((kind : TokenKind) × (n : ℕ) × IsTokenAt cs kind n × (t ≡ token_of kind (take n cs)) × (rest ≡ drop n cs))
 
-abbrev read_of : List ℕ → Lexeme → Reading Token
+abbrev read_of : List ℕ → Lexeme → Parsed Token
 read_of cs r = r >>= λ p. Ok (token_of p.0 (take p.1 cs), drop p.1 cs)
 
 by_lexeme : (cs : List ℕ) (r : Lexeme) (t : Token) (rest : List ℕ) → lexeme cs ≡ r → read_of cs r ≡ Ok (t, rest) → Finds cs t rest

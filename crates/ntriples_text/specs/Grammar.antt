@@ -16,7 +16,7 @@ use Rattle.rdf_lexical.specs.Refusals.{◌>>=◌, kind_of_literal}
 use Rattle.ntriples_text.specs.declared.statement.LabelKind.{LabelKind}
 use Rattle.ntriples_text.specs.declared.statement.LabelKind.TheVariants.{OfText, OfStore}
 use Rattle.ntriples_text.specs.StoreLabels.{stored_node}
-use Rattle.ntriples_text.specs.Tokens.{Reading, token}
+use Rattle.ntriples_text.specs.Tokens.{Parsed, token}
 
 -- where a token is none that the grammar asks for: the text's end comes too early, any other isn't allowed
 abbrev pub unexpected : Token → RefusalKind
@@ -28,7 +28,7 @@ abbrev pub iri_of : Token → Result (List ℕ) RefusalKind
 iri_of (IriRef iri) = if has_scheme iri then Ok iri else Err RelativeIri
 iri_of t = Err (unexpected t)
 
-unfoldable pub iri : List ℕ → Reading (List ℕ)
+unfoldable pub iri : List ℕ → Parsed (List ℕ)
 iri cs = do
   t ← token cs
   iri ← iri_of t.0
@@ -54,7 +54,7 @@ abbrev pub predicate_of : Token → Result (List ℕ) RefusalKind
 predicate_of (Label label) = Err BlankPredicate
 predicate_of t = iri_of t
 
-unfoldable pub predicate : List ℕ → Reading (List ℕ)
+unfoldable pub predicate : List ℕ → Parsed (List ℕ)
 predicate cs = do
   t ← token cs
   iri ← predicate_of t.0
@@ -72,24 +72,24 @@ abbrev pub literal : List ℕ → List ℕ → Result Term RefusalKind
 literal lexical datatype = kept (profile (Literal lexical datatype None)) (Literal lexical datatype None)
 
 -- the literal of a string whose datatype follows
-abbrev pub typed_from : List ℕ → List ℕ → Reading Term
+abbrev pub typed_from : List ℕ → List ℕ → Parsed Term
 typed_from lexical cs = iri cs >>= λ d. literal lexical d.0 >>= λ term. Ok (term, d.1)
 
 -- literal: a string, and `^^` IRIREF or LANGTAG; with neither the datatype is xsd:string, with LANGTAG rdf:langString
-abbrev pub literal_at : List ℕ → List ℕ → Token × List ℕ → Reading Term
+abbrev pub literal_at : List ℕ → List ℕ → Token × List ℕ → Parsed Term
 literal_at lexical cs (Carets, rest) = typed_from lexical rest
 literal_at lexical cs (LanguageTag tag, rest) = Ok (Literal lexical rdf_lang_string (Some tag), rest)
 literal_at lexical cs t = Ok (Literal lexical xsd_string None, cs)
 
-unfoldable pub literal_from : List ℕ → List ℕ → Reading Term
+unfoldable pub literal_from : List ℕ → List ℕ → Parsed Term
 literal_from lexical cs = token cs >>= literal_at lexical cs
 
 -- object: a literal, or as a subject
-abbrev pub object_at : LabelKind → Token × List ℕ → Reading Node
+abbrev pub object_at : LabelKind → Token × List ℕ → Parsed Node
 object_at labels (Quoted lexical, rest) = literal_from lexical rest >>= λ r. Ok (Plain r.0, r.1)
 object_at labels t = node_of labels t.0 >>= λ n. Ok (n, t.1)
 
-unfoldable pub object : LabelKind → List ℕ → Reading Node
+unfoldable pub object : LabelKind → List ℕ → Parsed Node
 object labels cs = token cs >>= object_at labels
 
 -- the dot
@@ -130,7 +130,7 @@ abbrev pub plain_term : Node → Option Term
 plain_term (Labelled label) = None
 plain_term (Plain term) = Some term
 
-abbrev pub alone_from : Reading Node → Option Term
+abbrev pub alone_from : Parsed Node → Option Term
 alone_from (Ok (node, [])) = plain_term node
 alone_from (Ok (node, c ∷ cs)) = None
 alone_from (Err kind) = None

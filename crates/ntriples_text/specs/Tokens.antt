@@ -19,8 +19,8 @@ use Rattle.ntriples_text.specs.declared.token.Token.{Token}
 use Rattle.ntriples_text.specs.declared.token.Token.TheVariants.{IriRef, Quoted, Label, LanguageTag, Carets, Dot, LineEnd, TextEnd}
 
 -- What was read, and the characters after it; or the kind of the refusal.
-abbrev pub Reading : Type 0 → Type 0
-Reading X = Result (X × List ℕ) RefusalKind
+abbrev pub Parsed : Type 0 → Type 0
+Parsed X = Result (X × List ℕ) RefusalKind
 
 -- the kind of a token and how many characters it has, or why there is none
 abbrev pub Lexeme : Type 0
@@ -89,10 +89,10 @@ token_of kinds.Dot t = Dot
 token_of kinds.LineEnd t = LineEnd
 
 -- the token that begins with the first of the characters, and what follows it; or the text's end
-abbrev pub token_at : List ℕ → Reading Token
+abbrev pub token_at : List ℕ → Parsed Token
 token_at [] = Ok (TextEnd, [])
 token_at (c ∷ cs) = lexeme (c ∷ cs) >>= λ p. Ok (token_of p.0 (take p.1 (c ∷ cs)), drop p.1 (c ∷ cs))
 
 -- the next token
-unfoldable pub token : List ℕ → Reading Token
+unfoldable pub token : List ℕ → Parsed Token
 token cs = token_at (skipped cs)

@@ -7,5 +7,6 @@
 
 mod kept;
 mod overlay;
+mod pattern;
 
 pub use overlay::Overlay;

@@ -8,4 +8,8 @@ mod growing;
 #[cfg(test)]
 mod index;
 #[cfg(test)]
+mod joins;
+#[cfg(test)]
+mod many;
+#[cfg(test)]
 mod pages;

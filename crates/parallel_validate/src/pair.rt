@@ -1,11 +1,11 @@
 //! The results of one pair of a shape and a node.
-ghost use Rattle.std.specs.Prelude.{◌≡◌, ◌<◌, ◌≤◌, IfOk, OnOk, length};
+ghost use Rattle.std.specs.Prelude.{◌<◌, ◌≤◌, IfOk, OnOk, length};
 ghost use Rattle.rdf_model.specs.Numbers.{AreNumbered, IsNumbering};
 ghost use Rattle.shape_plans.specs.Planned.{ArePlanned};
 ghost use Rattle.parallel_validate.specs.PairResults.{AddsPairLooks, ListsPair, StepsOfPair};
 
 use rdf_model::{Footprint, Names, Triples};
-use shape_eval::{Steps, eval, permit};
+use shape_eval::{Evaluation, Steps, eval, permit};
 use shape_model::ResultRow;
 use shape_plans::PlannedShapes;
 use std::alloc::{AllocError, Global};
@@ -41,16 +41,7 @@ pub(crate) fn rows_of_pair<R: Triples, N: Names, L: Ledger>(
         return Ok(Vec::new(alloc));
     }
     let allowed = permit(steps);
-    let rows = eval(
-        alloc,
-        graph,
-        names,
-        planned.words,
-        bound,
-        shape,
-        focus,
-        footprint,
-        allowed,
-    )?;
+    let evaluation = Evaluation::new(alloc, graph, names, planned.words, bound);
+    let rows = eval(&evaluation, shape, focus, footprint, allowed)?;
     Ok(rows)
 }

@@ -9,13 +9,13 @@ use validation_rows::{BothListings, both_listings};
 
 // A row of numbers by a linear congruence, the same in each run.
 #[derive(Drop)]
-struct Draws {
-    state: u64,
+pub(crate) struct Draws {
+    pub(crate) state: u64,
 }
 
 impl Draws {
     // A number below the count, or 0.
-    fn below(&mut self, count: usize) -> usize {
+    pub(crate) fn below(&mut self, count: usize) -> usize {
         self.state = self
             .state
             .wrapping_mul(6364136223846793005)
@@ -49,7 +49,7 @@ const SPACES: [(&str, &str); 4] = [
 ];
 
 // The text with each IRI in full.
-fn expanded(alloc: Global, text: &str) -> Result<String, AllocError> {
+pub(crate) fn expanded(alloc: Global, text: &str) -> Result<String, AllocError> {
     let mut full = String::from_str(alloc, text)?;
     for (short, long) in SPACES {
         full = full.as_str().replace(alloc, short, long)?;
@@ -95,7 +95,7 @@ const VALUES: &[&str] = &[
     "\"2020-01-01T00:00:00\"^^<xsd:dateTime>",
 ];
 
-fn graph_text(alloc: Global, draws: &mut Draws) -> Result<String, AllocError> {
+pub(crate) fn graph_text(alloc: Global, draws: &mut Draws) -> Result<String, AllocError> {
     let mut text = String::new(alloc);
     let triples = draws.below(7).saturating_add(6);
     for _ in 0..triples {
@@ -188,7 +188,11 @@ fn push_constraints(text: &mut String, draws: &mut Draws, first: usize) -> Resul
 }
 
 // A shape, which has a path in three of four graphs, and what it refers to. Each constraint has its turn.
-fn shapes_text(alloc: Global, draws: &mut Draws, turn: usize) -> Result<String, AllocError> {
+pub(crate) fn shapes_text(
+    alloc: Global,
+    draws: &mut Draws,
+    turn: usize,
+) -> Result<String, AllocError> {
     let mut text = String::from_str(alloc, REFERRED)?;
     text.push_str(pick(draws, TARGETS))?;
     push_constraints(&mut text, draws, turn % CONSTRAINTS.len())?;
@@ -205,12 +209,21 @@ fn shapes_text(alloc: Global, draws: &mut Draws, turn: usize) -> Result<String, 
 
 // What the graphs had so far.
 #[derive(Drop)]
-struct Tally {
+pub(crate) struct Tally {
     with_results: u32,
     components: Vec<Component>,
 }
 
-fn note(tally: &mut Tally, rows: &[ResultRow]) -> Result<(), AllocError> {
+impl Tally {
+    pub(crate) fn new(alloc: Global) -> Tally {
+        Tally {
+            with_results: 0,
+            components: Vec::new(alloc),
+        }
+    }
+}
+
+pub(crate) fn note(tally: &mut Tally, rows: &[ResultRow]) -> Result<(), AllocError> {
     if !rows.is_empty() {
         tally.with_results = tally.with_results.saturating_add(1);
     }
@@ -222,7 +235,7 @@ fn note(tally: &mut Tally, rows: &[ResultRow]) -> Result<(), AllocError> {
     Ok(())
 }
 
-fn assert_same(
+pub(crate) fn assert_same(
     rt: &impl Abort,
     plain: &[ResultRow],
     compiled: &[ResultRow],
@@ -259,22 +272,26 @@ fn try_one(
     }
 }
 
+// More than half of so many listings had results, some had none, and each component had one.
+pub(crate) fn assert_all_occur(rt: &impl Abort, tally: &Tally, listings: usize) {
+    let with_results = tally.with_results as usize;
+    assert!(rt;
+        with_results > listings / 2 && with_results < listings,
+        "{with_results}"
+    );
+    assert!(rt; tally.components.len() == 28, "{:?}", tally.components);
+}
+
 const GRAPHS: usize = 240;
 
 #[test]
 fn both_ways_agree_on_graphs_at_random(rt: HostRuntime) -> Result<(), Fail> {
     let alloc = rt.alloc();
     let mut draws = Draws { state: 1 };
-    let mut tally = Tally {
-        with_results: 0,
-        components: Vec::new(alloc),
-    };
+    let mut tally = Tally::new(alloc);
     for turn in 0..GRAPHS {
         try_one(&rt, alloc, &mut draws, turn, &mut tally)?;
     }
-    let with_results = tally.with_results;
-    let components = tally.components.len();
-    assert!(rt; with_results > 120 && with_results < 240, "{with_results}");
-    assert!(rt; components == 28, "{:?}", tally.components);
+    assert_all_occur(&rt, &tally, GRAPHS);
     Ok(())
 }

@@ -186,9 +186,9 @@ told_commit s x r (committeds.Conflict n t) reply graph cs replies h k = rw (h, 
 told_commit s x r (committeds.FullTriples n) reply graph cs replies h k = rw (h, k) refl
 told_commit s x r (committeds.Refused rows why shapes) reply graph cs replies h k = rw (h.0, k, h.1) refl
 
-pub commits_with : (i : ℕ) (s n : RecordedStore) (x : Transaction) (a : Committed) (r : Result SessionReply AllocError) → IsCommitted s n i x a → IfOk r (IsCommitReply a) → IfOk r (CommitsWith i s n x)
-commits_with i s n x a (Ok reply) c k = record { answer = c.reply; step = c.step; told = λ graph cs replies. told_commit s.state x c.reply a reply graph cs replies c.told k }
-commits_with i s n x a (Err error) c k = tt
+pub commits_with : (i : ℕ) (s n : RecordedStore) (x : Transaction) (counted now : ℕ) (a : Committed) (r : Result SessionReply AllocError) → IsCommitted s n i x counted now a → IfOk r (IsCommitReply a) → IfOk r (CommitsWith i s n x)
+commits_with i s n x counted now a (Ok reply) c k = record { answer = c.reply; step = c.step; told = λ graph cs replies. told_commit s.state x c.reply a reply graph cs replies c.told k }
+commits_with i s n x counted now a (Err error) c k = tt
 
 -- below 64 sessions, one more is given out
 opens_one : (s t : State) (b : Bool) → nat_lt s.opened 64 ≡ b → s.opened < 64 → MatchBool b (OpensNext s 0 SessionsFull t) (OpensNothing s 0 SessionsFull t) → ⊥

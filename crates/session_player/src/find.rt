@@ -1,5 +1,5 @@
 // What the commands do that are no events: a find and an abort.
-ghost use Rattle.std.specs.Prelude.{◌≡◌, None, IfOk, OnOk};
+ghost use Rattle.std.specs.Prelude.{None, IfOk, OnOk};
 ghost use Rattle.session_transaction.specs.Transactions.{plain_in};
 ghost use Rattle.session_player.specs.Ready.{IsReady, Performs};
 

@@ -1,10 +1,10 @@
 // A session that is played event by event.
-ghost use Rattle.std.specs.Prelude.{◌≡◌, ◌≢◌, ◌∷◌, ◌++◌, [], List, MatchBool, MatchOption, None, Some, true, false, IfOk, OnOk};
-ghost use Rattle.store_model.specs.Store.{HasChange, IsOpened};
+ghost use Rattle.std.specs.Prelude.{◌≡◌, ◌≢◌, ◌∷◌, [], MatchBool, MatchOption, None, Some, true, false, IfOk, OnOk};
+ghost use Rattle.store_model.specs.Store.{IsOpened};
 ghost use Rattle.session_model.specs.declared.command.Command.{Command};
 ghost use Rattle.session_transaction.specs.Transactions.{plain, plain_in};
 ghost use Rattle.session_player.specs.Players;
-ghost use Rattle.session_player.specs.Players.{IsAtEvent, IsEvent, MayGoOn, Settles, TakesEvent, new_player, state_of};
+ghost use Rattle.session_player.specs.Players.{IsEvent, MayGoOn, Settles, TakesEvent, new_player, state_of};
 ghost use Rattle.session_player.specs.Ready;
 ghost use Rattle.session_player.specs.Ready.{Performs};
 

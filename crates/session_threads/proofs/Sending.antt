@@ -42,6 +42,7 @@ use Rattle.triple_index.specs.contracts.key.KeyOrd.TheImpl as key_order
 use Rattle.triple_index.specs.contracts.key.KeyPartialEq.TheImpl as key_equality
 use Rattle.triple_index.specs.contracts.key.KeyPartialOrd.TheImpl as key_comparison
 use Rattle.triple_index.specs.contracts.index.Index as index
+use Rattle.bound_shapes.specs.contracts.bound.BoundShapes as bound_shapes
 use Rattle.data_graph.specs.contracts.graph.DataGraph as data_graph
 use Rattle.shapes_graph.specs.contracts.graph.Content as content
 use Rattle.shapes_graph.specs.contracts.graph.ShapesGraph as shapes
@@ -97,8 +98,11 @@ keys_send = search (page_knot.crosses, key_sent.the_send, key_sent.the_sync, cro
 index_send : IsSend index.the_row
 index_send = search (keys_send, crosses, sendable) depth 60 fits 20000
 
+bound_shapes_send : IsSend bound_shapes.the_row
+bound_shapes_send = search (shapes_send, compiled.planned_send, compiled.planned_sync, crosses, sendable) depth 60 fits 20000
+
 data_graph_send : IsSend data_graph.the_row
-data_graph_send = search (triples_send, dict_send, index_send, crosses, sendable) depth 60 fits 20000
+data_graph_send = search (triples_send, dict_send, index_send, bound_shapes_send, crosses, sendable) depth 60 fits 20000
 
 verdict_send : IsSend verdict.the_row
 verdict_send = search (look_sent.the_send, term_sent.the_send, sequence_sent.the_send, crosses, sendable) depth 60 fits 20000

@@ -4,6 +4,7 @@ use Rattle.std.proofs.Crossing.{crosses, Box-send, Box-sync, Vec-send, Vec-sync}
 use denote.Param.Send.{IsSend, IsSync, sendable}
 use denote.Param.SendFields.{as_row_send, as_row_sync, declared_send, declared_sync}
 use denote.RattleType.{RattleType}
+use Rattle.std.specs.Borrow.{u32 as word}
 use Rattle.regex.specs.contracts.pattern.Pattern as regex_pattern
 use Rattle.regex.specs.contracts.string.regex.Regex as regex
 use Rattle.regex_meta.specs.contracts.program.Program as program
@@ -22,6 +23,10 @@ use Rattle.shape_ast.specs.contracts.pattern.Pattern as pattern
 use Rattle.shape_ast.specs.contracts.shape.Shape as shape
 use Rattle.shape_ast.specs.contracts.shape.Shapes as shapes
 use Rattle.rdf_model.specs.contracts.term.Term as term
+use Rattle.shape_ast.specs.contracts.bound.Bound as bound
+use Rattle.focus_affected.specs.contracts.plan.NumberedLook as numbered_look
+use Rattle.focus_affected.specs.contracts.plan.ShapePlan as shape_plan
+use Rattle.shape_plans.specs.contracts.planned.PlannedShapes as planned
 
 program_send : IsSend program.the_row
 program_send = search (dfa_sent.the_field_send, look_sent.the_field_send, ladder_sent.the_field_send, prefilter_sent.the_send, crosses, hir_knot.crosses, sendable) depth 60 fits 20000
@@ -64,3 +69,41 @@ shapes_send = search (shape_send, sequence_sent.the_send, crosses, sendable) dep
 
 pub shapes_sync : IsSync shapes.the_row
 shapes_sync = search (shape_sync, sequence_sent.the_sync, crosses, sendable) depth 60 fits 20000
+
+-- shapes over numbers of terms
+pattern_by_number_send : IsSend (pattern.the_row word)
+pattern_by_number_send = search (regex_send, regex_sync, crosses, sendable) depth 60 fits 20000
+
+pattern_by_number_sync : IsSync (pattern.the_row word)
+pattern_by_number_sync = search (regex_send, regex_sync, crosses, sendable) depth 60 fits 20000
+
+shape_by_number_send : IsSend (shape.the_row word)
+shape_by_number_send = search (pattern_by_number_send, path_send, target_sent.the_send, constraint_sent.the_send, sequence_sent.the_send, crosses, sendable) depth 60 fits 20000
+
+shape_by_number_sync : IsSync (shape.the_row word)
+shape_by_number_sync = search (pattern_by_number_sync, path_sync, target_sent.the_sync, constraint_sent.the_sync, sequence_sent.the_sync, crosses, sendable) depth 60 fits 20000
+
+-- shapes by number with their plans
+bound_send : IsSend bound.the_row
+bound_send = search (shape_by_number_send, sequence_sent.the_send, crosses, sendable) depth 60 fits 20000
+
+bound_sync : IsSync bound.the_row
+bound_sync = search (shape_by_number_sync, sequence_sent.the_sync, crosses, sendable) depth 60 fits 20000
+
+numbered_look_send : IsSend numbered_look.the_row
+numbered_look_send = search (path_send, crosses, sendable) depth 60 fits 20000
+
+numbered_look_sync : IsSync numbered_look.the_row
+numbered_look_sync = search (path_sync, crosses, sendable) depth 60 fits 20000
+
+plan_send : IsSend shape_plan.the_row
+plan_send = search (numbered_look_send, sequence_sent.the_send, crosses, sendable) depth 60 fits 20000
+
+plan_sync : IsSync shape_plan.the_row
+plan_sync = search (numbered_look_sync, sequence_sent.the_sync, crosses, sendable) depth 60 fits 20000
+
+pub planned_send : IsSend planned.the_row
+planned_send = declared_send planned.the_type (bound_send, (search (crosses, sendable) depth 60 fits 20000, (search (plan_send, sequence_sent.the_send, crosses, sendable) depth 60 fits 20000, tt)))
+
+pub planned_sync : IsSync planned.the_row
+planned_sync = declared_sync planned.the_type (bound_sync, (search (crosses, sendable) depth 60 fits 20000, (search (plan_sync, sequence_sent.the_sync, crosses, sendable) depth 60 fits 20000, tt)))

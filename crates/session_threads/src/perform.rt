@@ -15,7 +15,7 @@ use session_model::{Command, SessionReply};
 use session_transaction::block_refusal;
 use shape_eval::Steps;
 use shapes_graph::ShapesGraph;
-use std::alloc::{AllocError, Global};
+use std::alloc::AllocError;
 use std::sync::Wait;
 use std::sync::ledger::Ledger;
 
@@ -119,7 +119,6 @@ fn push_answer(
 }
 
 fn find(
-    alloc: Global,
     store: &Store,
     session: Session,
     pattern: &Pattern,
@@ -128,7 +127,7 @@ fn find(
     requires { IsSession store.now session }
     ensures { IfOk result (λ next. Plays store.now session next (Command.Find pattern.now) replies.old replies.new) }
 {
-    let _ = store;
+    let alloc = store.allocator();
     let mut session = session;
     let answer = session.find(alloc, pattern);
     let reply = find_reply(alloc, answer)?;
@@ -154,7 +153,6 @@ fn abort(
 // Commits where that is no event.
 fn end_reading<L: Ledger, R: Wait>(
     rt: &R,
-    alloc: Global,
     store: &Store,
     session: Session,
     replies: &mut Sequence<SessionReply>,
@@ -165,7 +163,7 @@ fn end_reading<L: Ledger, R: Wait>(
     ensures { IfOk result (λ next. Plays store.now session next Command.Commit replies.old replies.new) }
 {
     let (session, answer) = store.commit(rt, session, steps);
-    let reply = commit_reply(alloc, answer)?;
+    let reply = commit_reply(store.allocator(), answer)?;
     replies.push(reply)?;
     Ok(session)
 }
@@ -173,7 +171,6 @@ fn end_reading<L: Ledger, R: Wait>(
 // Takes the newest version, then commits.
 fn commit_work<L: Ledger, R: Wait, G: Gate>(
     rt: &R,
-    alloc: Global,
     store: &Store,
     watch: &mut Watch<G>,
     session: Session,
@@ -193,14 +190,13 @@ fn commit_work<L: Ledger, R: Wait, G: Gate>(
     let (session, answer) = store.commit(rt, session, steps);
     let ran_out = matches!(answer, Err(CommitFault::Memory));
     watch.after(ran_out, is_ready(&answer));
-    let reply = commit_reply(alloc, answer)?;
+    let reply = commit_reply(store.allocator(), answer)?;
     replies.push(reply)?;
     Ok(session)
 }
 
 fn commit<L: Ledger, R: Wait, G: Gate>(
     rt: &R,
-    alloc: Global,
     store: &Store,
     watch: &mut Watch<G>,
     session: Session,
@@ -211,9 +207,9 @@ fn commit<L: Ledger, R: Wait, G: Gate>(
     ensures { IfOk result (λ next. Plays store.now session next Command.Commit replies.old replies.new) }
 {
     if session.has_work() {
-        commit_work(rt, alloc, store, watch, session, replies, steps)
+        commit_work(rt, store, watch, session, replies, steps)
     } else {
-        end_reading(rt, alloc, store, session, replies, steps)
+        end_reading(rt, store, session, replies, steps)
     }
 }
 
@@ -237,7 +233,6 @@ fn refuse(
 /// Does one command of a session, and adds its reply. The gate is told of each of its events.
 pub fn perform<L: Ledger, R: Wait, G: Gate>(
     rt: &R,
-    alloc: Global,
     store: &Store,
     watch: &mut Watch<G>,
     session: Session,
@@ -254,8 +249,8 @@ pub fn perform<L: Ledger, R: Wait, G: Gate>(
         Command::Add(triples) => add(rt, store, watch, session, triples, replies),
         Command::Remove(triples) => remove(rt, store, watch, session, triples, replies),
         Command::Shapes(shapes) => stage(rt, store, watch, session, shapes, replies),
-        Command::Commit => commit(rt, alloc, store, watch, session, replies, steps),
-        Command::Find(pattern) => find(alloc, store, session, pattern, replies),
+        Command::Commit => commit(rt, store, watch, session, replies, steps),
+        Command::Find(pattern) => find(store, session, pattern, replies),
         Command::Abort => abort(store, session, replies),
         Command::BadAdd { line: _, kind: _ }
         | Command::BadRemove { line: _, kind: _ }

@@ -39,7 +39,6 @@ fn play_in<L: Ledger, R: Wait, G: Gate>(
     for command in commands {
         session = perform(
             rt,
-            alloc,
             store,
             &mut watch,
             session,

@@ -1,5 +1,5 @@
 //! Sessions that run beside each other.
-ghost use Rattle.std.specs.Prelude.{◌≡◌, ◌+◌, ◌^◌, ◌<◌, ◌≤◌, [], IfOk, All, length, vec_len, reverse};
+ghost use Rattle.std.specs.Prelude.{◌≡◌, ◌+◌, ◌^◌, ◌<◌, ◌≤◌, IfOk, All, length, vec_len, reverse};
 ghost use Rattle.session_threads.specs.Ends.{HasEnd};
 ghost use Rattle.session_threads.specs.Team.{AreNumbered, HasEnded, IsSound, IsStarting, Met};
 

@@ -7,6 +7,7 @@ use Rattle.store_model.specs.declared.event.Action.TheVariants as actions
 use Rattle.store_model.specs.declared.event.Reply.{Reply}
 use Rattle.store_model.specs.declared.event.Reply.TheVariants as replies
 use Rattle.store_model.specs.Store.{State, RecordedStore, TakesStep, shapes_under}
+use Rattle.commit_core.specs.Work.{StepsBy}
 use Rattle.session_transaction.specs.declared.committing.Committed.{Committed}
 use Rattle.session_transaction.specs.declared.committing.Committed.TheVariants.{ReadOnly, Done, Conflict, FullTriples, Refused}
 
@@ -19,8 +20,17 @@ IsAnswer s x r (Conflict n t) = r ≡ replies.Conflict n t
 IsAnswer s x r (FullTriples n) = r ≡ replies.FullTriples n
 IsAnswer s x r (Refused rows why shapes) = (r ≡ replies.Refused rows why) × (shapes ≡ shapes_under s.shapes x.staged) × Listing (after s.graph x.net) shapes rows
 
--- The commit of session i was one step of the store, with this answer.
-pub record IsCommitted (old new : RecordedStore) (i : ℕ) (x : Transaction) (answer : Committed) : Type 0 where
+-- How many evaluations were counted, from the one number to the other: by the answer, and by the state before it.
+abbrev pub CountsFor : Committed → State → Transaction → ℕ → ℕ → Type 0
+CountsFor (ReadOnly v) s x counted now = now ≡ counted
+CountsFor (Done n why) s x counted now = StepsBy why s.graph s.shapes x counted now
+CountsFor (Conflict n t) s x counted now = now ≡ counted
+CountsFor (FullTriples n) s x counted now = now ≡ counted
+CountsFor (Refused rows why shapes) s x counted now = StepsBy why s.graph s.shapes x counted now
+
+-- The commit of session i was one step of the store, with this answer, and its evaluations were counted.
+pub record IsCommitted (old new : RecordedStore) (i : ℕ) (x : Transaction) (counted now : ℕ) (answer : Committed) : Type 0 where
   pub reply : Reply
   pub step : TakesStep old new (record { session = i; action = actions.Commit x; reply = reply })
   pub told : IsAnswer old.state x reply answer
+  pub counts : CountsFor answer old.state x counted now

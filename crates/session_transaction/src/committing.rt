@@ -1,5 +1,5 @@
 //! The commit of a transaction over a core.
-ghost use Rattle.std.specs.Prelude.{◌≡◌, None, MatchResult};
+ghost use Rattle.std.specs.Prelude.{◌≡◌, ◌≤◌, None, MatchResult};
 ghost use Rattle.store_model.specs.Store.{IsCommittable, IsOpened};
 ghost use Rattle.session_transaction.specs.Commits.{IsCommitted};
 
@@ -42,8 +42,8 @@ pub enum Committed {
     },
 }
 
-/// Commits a transaction that changes something or stages shapes, of which nothing was checked. Without memory it is
-/// handed back, and nothing has happened.
+/// Commits a transaction that changes something or stages shapes, of which nothing was checked, and counts its evaluations
+/// in `steps`. Without memory it is handed back, and nothing has happened but what was counted.
 pub fn commit<L: Ledger>(
     alloc: Global,
     core: &mut Core,
@@ -54,7 +54,7 @@ pub fn commit<L: Ledger>(
     requires opened { IsOpened core.old.state session }
     requires committable { IsCommittable core.old.state transaction }
     requires unchecked { transaction.verdict ≡ None }
-    ensures { MatchResult result (IsCommitted core.old core.new session transaction) (λ back. (back ≡ transaction) × (core.new ≡ core.old)) }
+    ensures { MatchResult result (IsCommitted core.old core.new session transaction steps.old steps.new) (λ back. (back ≡ transaction) × (core.new ≡ core.old) × (steps.old ≤ steps.new)) }
 {
     let checked = CheckedTransaction::unchecked(alloc, transaction);
     match core.commit(session, checked, steps) {

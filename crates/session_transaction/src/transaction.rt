@@ -1,5 +1,5 @@
 //! The open transaction, and what a block does to its triples.
-ghost use Rattle.std.specs.Prelude.{◌≡◌, ◌∷◌, ◌++◌, [], MatchBool, MatchResult, None, Some, IfOk, OnErr, OnOk};
+ghost use Rattle.std.specs.Prelude.{◌≡◌, ◌∷◌, ◌++◌, [], MatchBool, None, Some, IfOk, OnErr, OnOk};
 ghost use Rattle.store_model.specs.Store.{HasChange};
 ghost use Rattle.session_model.specs.Sessions.{found_by};
 ghost use Rattle.session_transaction.specs.Transactions;

@@ -1,4 +1,4 @@
-ghost use Rattle.std.specs.Prelude.{◌≡◌, ◌≢◌, ◌≤◌, ◌++◌, None, codes, IfErr, IfOk, MatchResult, map, option_map, string_bytes};
+ghost use Rattle.std.specs.Prelude.{◌≡◌, ◌≢◌, ◌≤◌, ◌++◌, None, codes, IfErr, IfOk, MatchResult, map};
 ghost use Rattle.std.specs.Fmt.{decimal};
 ghost use Rattle.session_model.specs.Print.{line};
 ghost use Rattle.session_reader.specs.Checking.{OnlyGrows};

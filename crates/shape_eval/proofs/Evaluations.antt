@@ -181,8 +181,9 @@ module _ (terms : List Term) (shapes : List (Shape ℕ)) (bound : AreBound terms
   pub bound_at : HoldsOfShape (λ n. n < length terms) (length shapes) x
   bound_at = All-contains (HoldsOfShape (λ n. n < length terms) (length shapes)) shapes x bound (of_place shapes place x taken)
 
-  pub values_at : (ids : List Ids) (f : ℕ) (values : List ℕ) → IsNumbering terms → AreNumbered terms ids → f < length terms → AtNumbers ids x.path f (λ terms. AreValueNodes terms ids x.path f values) → AreValueNodes terms ids x.path f values
-  values_at ids f values numbering numbered lt h = h terms numbering numbered bound_at.path lt
+  pub values_at : {is : List Ids} → (ids : List Ids) → is ≡ ids → (f : ℕ) (values : List ℕ) → IsNumbering terms → AreNumbered terms ids → f < length terms
+      → AtNumbers is x.path f (λ ns. AreValueNodes ns is x.path f values) → AreValueNodes terms ids x.path f values
+  values_at ids same f values numbering numbered lt h = subst (λ (js : List Ids). AtNumbers js x.path f (λ ns. AreValueNodes ns js x.path f values)) same h terms numbering numbered bound_at.path lt
 
   pub places_at : (ks : List (Constraint ℕ)) (places : List ℕ) → ks ≡ x.constraints → ((n : ℕ) → Contains places n ↔ AsksSome x ks n) → All (λ n. n < length shapes) places
   places_at ks places same are = asked_within (λ n. n < length terms) (length shapes) x bound_at places (subst (λ (js : List (Constraint ℕ)). (n : ℕ) → Contains places n ↔ AsksSome x js n) same are)

@@ -1,3 +1,4 @@
+pub mod Settings
 pub mod ValueNodes
 pub mod Told
 pub mod Around

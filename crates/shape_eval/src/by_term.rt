@@ -1,15 +1,17 @@
-ghost use Rattle.std.specs.Prelude.{◌<◌, IfOk, length};
-ghost use Rattle.rdf_model.specs.Numbers.{AreNumbered, graph_of, term_at};
+//! The results of a component at a value of its parameter.
+ghost use Rattle.std.specs.Prelude.{◌≡◌, ◌<◌, IfOk, length};
+ghost use Rattle.rdf_model.specs.Numbers.{graph_of, term_at};
 ghost use Rattle.shape_model.specs.declared.component.Component.TheVariants as components;
 ghost use Rattle.component_rows.specs.Sites.{ListsAt};
 ghost use Rattle.shape_ast.specs.Components.{term_component};
-ghost use Rattle.shape_ast.specs.Readings.{AreBound, HoldsOfShape, named_shapes, read_shape};
+ghost use Rattle.shape_ast.specs.Readings.{HoldsOfShape, named_shapes, read_shape};
 ghost use Rattle.shape_ast.specs.Standing.{shape_reading};
 ghost use Rattle.shape_eval.specs.Around.{around};
 ghost use Rattle.shape_eval.specs.Looks.{AreInstanceAnswers};
 ghost use Rattle.shape_eval.specs.Told.{CountAsks, HaveAnswers, WhereRight};
 
 use crate::closing::allowed_predicates;
+use crate::context::Evaluation;
 use crate::qualified::{qualified_max_rows, qualified_min_rows};
 use crate::told::Told;
 use component_rows::Site;
@@ -26,42 +28,44 @@ use value_constraints::{
 
 // The results of sh:closed (SHACL section 4.8.1).
 fn closed_rows<R: Triples, N: Names>(
-    graph: &R,
+    evaluation: &Evaluation<'_, R, N>,
     site: &Site<'_, N>,
-    shapes: &[Shape<u32>],
     shape: &Shape<u32>,
 ) -> Result<Vec<ResultRow>, AllocError>
-    requires graph { AreNumbered site.now.terms (R.triples graph.now) }
-    requires bound { AreBound site.now.terms shapes.now }
-    requires shape { HoldsOfShape (λ n. n < length site.now.terms) (length shapes.now) shape.now }
-    ensures { IfOk result (λ rows. (s : _) (n : _) → ListsAt components.Closed (around site.now.terms (R.triples graph.now) s n site.now.values site.now.focus)
-        (shape_reading (named_shapes site.now.terms shapes.now) (read_shape (term_at site.now.terms) shape.now)) site.now rows.items) }
+    requires same { site.now.terms ≡ evaluation.now.terms }
+    requires shape { HoldsOfShape (λ n. n < length site.now.terms) (length evaluation.now.shapes) shape.now }
+    ensures { IfOk result (λ rows. (s : _) (n : _) → ListsAt components.Closed (around site.now.terms evaluation.now.ids s n site.now.values site.now.focus)
+        (shape_reading (named_shapes site.now.terms evaluation.now.shapes) (read_shape (term_at site.now.terms) shape.now)) site.now rows.items) }
 {
+    evaluation.recall();
+    let shapes = evaluation.shapes();
     let (properties, ignored) = (shape.properties.as_slice(), shape.ignored.as_slice());
     let allowed = allowed_predicates(site.alloc(), shapes, properties, ignored)?;
+    let graph = evaluation.graph();
     closed(graph, site, &allowed)
 }
 
 /// The results of a component at a value of its parameter.
 pub(crate) fn term_rows<R: Triples, N: Names>(
-    graph: &R,
+    evaluation: &Evaluation<'_, R, N>,
     site: &Site<'_, N>,
-    shapes: &[Shape<u32>],
     shape: &Shape<u32>,
     told: &[Told],
     instances: &[bool],
     component: TermComponent,
 ) -> Result<Vec<ResultRow>, AllocError>
-    requires graph { AreNumbered site.now.terms (R.triples graph.now) }
-    requires bound { AreBound site.now.terms shapes.now }
-    requires shape { HoldsOfShape (λ n. n < length site.now.terms) (length shapes.now) shape.now }
-    requires told { HaveAnswers shapes.now site.now.values told.now (CountAsks shape.now component) }
-    requires instances { AreInstanceAnswers (graph_of site.now.terms (R.triples graph.now)) (term_component component)
+    requires same { site.now.terms ≡ evaluation.now.terms }
+    requires shape { HoldsOfShape (λ n. n < length site.now.terms) (length evaluation.now.shapes) shape.now }
+    requires told { HaveAnswers evaluation.now.shapes site.now.values told.now (CountAsks shape.now component) }
+    requires instances { AreInstanceAnswers (graph_of site.now.terms evaluation.now.ids) (term_component component)
         (term_at site.now.terms site.now.parameter) site.now.terms site.now.values instances.now }
-    ensures { IfOk result (λ rows. WhereRight site.now.terms (R.triples graph.now) shapes.now site.now.values told.now (CountAsks shape.now component)
-        (λ s n. ListsAt (term_component component) (around site.now.terms (R.triples graph.now) s n site.now.values site.now.focus)
-        (shape_reading (named_shapes site.now.terms shapes.now) (read_shape (term_at site.now.terms) shape.now)) site.now rows.items)) }
+    ensures { IfOk result (λ rows. WhereRight site.now.terms evaluation.now.ids evaluation.now.shapes site.now.values told.now (CountAsks shape.now component)
+        (λ s n. ListsAt (term_component component) (around site.now.terms evaluation.now.ids s n site.now.values site.now.focus)
+        (shape_reading (named_shapes site.now.terms evaluation.now.shapes) (read_shape (term_at site.now.terms) shape.now)) site.now rows.items)) }
 {
+    evaluation.recall();
+    let graph = evaluation.graph();
+    let shapes = evaluation.shapes();
     match component {
         TermComponent::Class => class(site, instances),
         TermComponent::Datatype => datatype(site),
@@ -81,7 +85,7 @@ pub(crate) fn term_rows<R: Triples, N: Names>(
         TermComponent::LessThanOrEquals => less_than_or_equals(graph, site),
         TermComponent::QualifiedMinCount => qualified_min_rows(site, shapes, shape, told),
         TermComponent::QualifiedMaxCount => qualified_max_rows(site, shapes, shape, told),
-        TermComponent::Closed => closed_rows(graph, site, shapes, shape),
+        TermComponent::Closed => closed_rows(evaluation, site, shape),
         TermComponent::HasValue => has_value(site),
     }
 }

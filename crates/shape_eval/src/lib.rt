@@ -13,6 +13,7 @@ mod by_list;
 mod by_shape;
 mod by_term;
 mod closing;
+mod context;
 mod evaluation;
 mod looks;
 mod own_rows;
@@ -22,6 +23,7 @@ mod steps;
 mod told;
 mod value_nodes;
 
+pub use context::Evaluation;
 pub use evaluation::eval;
 pub use rights::Permit;
 pub use steps::{Steps, permit};

@@ -4,7 +4,6 @@ pub mod Surroundings
 pub mod Findings
 pub mod Covers
 pub mod Changes
-pub mod Verdicts
 pub mod Fuel
 pub mod Listings
 pub mod Bridges

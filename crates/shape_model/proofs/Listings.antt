@@ -1,4 +1,4 @@
--- A graph has at most one listing, and a count is one number; the listing of a verdict stands.
+-- A graph has at most one listing, and a count is one number.
 use Rattle.std.proofs.Common.{◌∙◌, List, [], length, sym, ap, subst, arith, inl, inr}
 use Rattle.std.specs.Prelude.{◌≡◌, ◌↔◌}
 use Rattle.std.specs.List.{Contains}
@@ -8,8 +8,7 @@ use Rattle.rdf_model.specs.declared.term.Term.{Term}
 use Rattle.rdf_model.specs.declared.triple.Triple.{Triple}
 use Rattle.rdf_model.specs.Terms.{term_cmp}
 use Rattle.rdf_model.specs.Orders.{term_total}
-use Rattle.rdf_model.specs.Graphs.{after}
-use Rattle.shape_model.specs.Laws.{ConformsLaw, CountLaw, ListingLaw, NoShapesLaw, VerdictLaw}
+use Rattle.shape_model.specs.Laws.{ConformsLaw, CountLaw, ListingLaw, NoShapesLaw}
 use Rattle.collections.specs.Listings.{IsListing}
 use Rattle.shape_model.specs.Orders.{result_row_total}
 use Rattle.shape_model.specs.Readings.{ValueNode, reading}
@@ -19,7 +18,6 @@ use Rattle.shape_model.specs.Validation.{IsResult, Listing, NoResult}
 use Rattle.shape_model.specs.Vocabulary.{ShTargetClass, ShTargetNode, ShTargetObjectsOf, ShTargetSubjectsOf, property_iri, rdf_type}
 use Rattle.shape_model.specs.declared.result_row.ResultRow.{ResultRow}
 use Rattle.collections.proofs.Members.{same_lists}
-use Rattle.shape_model.proofs.Verdicts.{beside_law}
 
 pub listing_same : {X : Type 0} → (R : X → X → Ordering) (P Q : X → Type 0) → ((x : X) → P x ↔ Q x) → (xs : List X) → IsListing R P xs → IsListing R Q xs
 listing_same R P Q e xs i = record { ascending = i.ascending; members = λ x. (λ c. (e x).0 ((i.members x).0 c), λ q. (i.members x).1 ((e x).1 q)) }
@@ -57,7 +55,3 @@ no_shapes_law g rows =
 pub count_law : CountLaw
 count_law g s shape f n m c d =
     sym c.count ∙ ap length (one_listing term_cmp term_total (ValueNode g (reading s shape) f) c.items d.items c.listing d.listing) ∙ d.count
-
-pub verdict_law : VerdictLaw
-verdict_law g k s net looked rows a b none none_k foot agree i =
-    listing_same result_row_cmp (IsResult (after g net) s) (IsResult (after k net) s) (beside_law g k s net looked a b none none_k foot agree) rows i

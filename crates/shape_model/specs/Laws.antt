@@ -1,12 +1,10 @@
 -- What is promised of the definitions.
 use Rattle.std.specs.Prelude.{◌≡◌, ◌↔◌, ◌≤◌, ℕ, suc, false, List, [], length, IsTrue}
 use Rattle.std.specs.List.{Contains}
-use Rattle.collections.specs.Ordered.{IsAscending}
 use Rattle.rdf_model.specs.declared.term.Term.{Term}
 use Rattle.rdf_model.specs.declared.triple.Triple.{Triple}
-use Rattle.rdf_model.specs.declared.change.Change.{Change}
 use Rattle.rdf_model.specs.declared.look.Look.{Look}
-use Rattle.shape_model.specs.Agreement.{Agree, AgreesAt}
+use Rattle.shape_model.specs.Agreement.{AgreesAt}
 use Rattle.shape_model.specs.CompiledShapes.{CompiledEntry, StandsFor, compiled_reading}
 use Rattle.shape_model.specs.Components.{AtIn}
 use Rattle.shape_model.specs.Declarations.{values_of}
@@ -18,14 +16,12 @@ use Rattle.shape_model.specs.Paths.{Path}
 use Rattle.shape_model.specs.Readings.{IsAcyclic, IsShallow, ValueNode, reading}
 use Rattle.shape_model.specs.ShapeLooks.{Looks, ResultLook}
 use Rattle.shape_model.specs.Targets.{Target, TargetOf}
-use Rattle.shape_model.specs.Touching.{IsFootprint, Touched}
 use Rattle.shape_model.specs.Validation.{At, AtDepth, IsResult, Listing, NoResult, surroundings}
 use Rattle.shape_model.specs.Walks.{Walk}
 use Rattle.shape_model.specs.declared.result_row.ResultRow.{ResultRow}
 use Rattle.collections.specs.Listings.{IsListing}
-use Rattle.rdf_model.specs.Terms.{term_cmp, triple_cmp}
+use Rattle.rdf_model.specs.Terms.{term_cmp}
 use Rattle.shape_model.specs.Triples.{Has}
-use Rattle.rdf_model.specs.Graphs.{after}
 use Rattle.rdf_model.specs.Matching.{is_read_by}
 
 -- A node walks along the class path to just the classes that it is an instance of.
@@ -44,21 +40,6 @@ WalkLaw = (g h : List Triple) (p : Path) (f : Term) → ((row : LookRow) → Pat
 abbrev pub CoverLaw : Type 0
 CoverLaw = (g h s : List Triple) (shape f : Term) → ((row : LookRow) → Looks s shape row → AgreesAt g h f row)
     → (Target g s shape f ↔ Target h s shape f) × ((r : ResultRow) → At g s shape f r ↔ At h s shape f r)
-
--- Where a graph has no result, each result after changes comes from a touched pair.
-abbrev pub TouchedLaw : Type 0
-TouchedLaw = (g s : List Triple) (net : List Change) → IsAscending triple_cmp g → NoResult g s
-    → (shape f : Term) (r : ResultRow) → Target (after g net) s shape f → At (after g net) s shape f r → (Touched g s net shape f → ⊥) → ⊥
-
--- What validating the changes of g found stands for each graph that agrees with g on the looks of doing so.
-abbrev pub BesideLaw : Type 0
-BesideLaw = (g k s : List Triple) (net : List Change) (looked : List (Look Term)) → IsAscending triple_cmp g → IsAscending triple_cmp k → NoResult g s → NoResult k s
-    → IsFootprint g s net looked → Agree g k looked → (r : ResultRow) → IsResult (after g net) s r ↔ IsResult (after k net) s r
-
--- So does its listing.
-abbrev pub VerdictLaw : Type 0
-VerdictLaw = (g k s : List Triple) (net : List Change) (looked : List (Look Term)) (rows : List ResultRow) → IsAscending triple_cmp g → IsAscending triple_cmp k → NoResult g s → NoResult k s
-    → IsFootprint g s net looked → Agree g k looked → Listing (after g net) s rows → Listing (after k net) s rows
 
 -- Where no shape refers to itself, longer chains of references give no other results.
 abbrev pub FuelLaw : Type 0

@@ -1,5 +1,5 @@
 // Each function promises a theorem on the definitions, and does nothing.
-ghost use Rattle.shape_model.specs.Laws.{BesideLaw, BridgeLaw, ClassPathLaw, CompiledLaw, ConformsLaw, CountLaw, CoverLaw, DepthLaw, FuelLaw, ListingLaw, LookLaw, NoShapesLaw, ReadsLaw, TouchedLaw, UnfoldLaw, ValuesLaw, VerdictLaw, WalkLaw};
+ghost use Rattle.shape_model.specs.Laws.{BridgeLaw, ClassPathLaw, CompiledLaw, ConformsLaw, CountLaw, CoverLaw, DepthLaw, FuelLaw, ListingLaw, LookLaw, NoShapesLaw, ReadsLaw, UnfoldLaw, ValuesLaw, WalkLaw};
 
 /// A node walks along the class path to just the classes that it is an instance of.
 pub fn class_path_law()
@@ -19,21 +19,6 @@ pub fn walk_law()
 /// Targets and results of a shape are the same where two graphs agree on its looks.
 pub fn cover_law()
     ensures { CoverLaw }
-{}
-
-/// A result that is new with changes comes from a pair of a shape and a focus node that they touch.
-pub fn touched_law()
-    ensures { TouchedLaw }
-{}
-
-/// What the changes of a graph were found to give stands for each graph that agrees on the looks.
-pub fn beside_law()
-    ensures { BesideLaw }
-{}
-
-/// So does the listing.
-pub fn verdict_law()
-    ensures { VerdictLaw }
 {}
 
 /// As many references as the shapes graph has triples, and one more, are deep enough.

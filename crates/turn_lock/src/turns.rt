@@ -1,5 +1,5 @@
 //! The lock, the passes of those who wait for nothing, and the turns.
-ghost use Rattle.std.specs.Prelude.{◌≡◌, ℕ, ◌+◌, ◌-◌, ◌<◌, ◌++◌, ◌∷◌, [], Some, true, IfOk, MatchResult};
+ghost use Rattle.std.specs.Prelude.{◌≡◌, ◌+◌, ◌-◌, ◌<◌, ◌++◌, ◌∷◌, [], Some, true, IfOk, MatchResult};
 ghost use Rattle.turn_lock.specs.History.{known_after, MayAdd, OthersAdded};
 ghost use Rattle.turn_lock.specs.Meaning.{ComesFrom};
 ghost use Rattle.turn_lock.specs.Callers.{kept_caller, new_caller, met_caller};
@@ -9,10 +9,20 @@ use crate::rule::{Board, Place, Terms};
 use crate::steps::{Compare, Draw, End, Giving, Look, Meet, SplitOff};
 use atomic_table::Table;
 use std::alloc::{AllocError, Global};
+use std::hint::spin_loop;
 use std::marker::{Brand, Model};
 use std::snapshot::Snapshot;
 use std::sync::Wait;
 use std::thread;
+use std::time::Duration;
+
+// How often a caller that is next looks again at once, and how often it then gives way between looks, before it sleeps.
+const LOOKS_AT_ONCE: u32 = 100;
+
+const LOOKS_AFTER_WAY: u32 = 20;
+
+// The longest that a caller sleeps for each turn that is before its own.
+const MICROSECONDS_OF_A_TURN: u64 = 50;
 
 /// A lock that its callers enter in turns. A clause sees which lock it is, and how many callers it has at most.
 #[derive(Drop)]
@@ -138,6 +148,21 @@ impl<S: Entries> Turns<S> {
         self.split_giving::<Brand>(pass, give)
     }
 
+    // Lets a little time pass, for a caller that has so many turns before its own and looked so often at the number that is
+    // served. A caller that is next looks again soon; else it sleeps until the end of a turn wakes it, and no longer than in
+    // proportion to the turns before its own, since a wake may come to another.
+    fn wait_behind<R: Wait>(&self, rt: &R, serving: u64, ahead: u64, looks: u32) {
+        if ahead <= 1 && looks < LOOKS_AT_ONCE {
+            spin_loop();
+        } else if ahead <= 1 && looks < LOOKS_AT_ONCE + LOOKS_AFTER_WAY {
+            thread::yield_now();
+        } else {
+            let most = Duration::from_micros(MICROSECONDS_OF_A_TURN * ahead.min(1000));
+            let low = (serving % (1 << 32)) as u32;
+            self.board.shared.park_timeout(rt, 0, low, most);
+        }
+    }
+
     /// Waits for the caller's turn, and takes the state. The caller has then seen the whole history.
     pub fn enter<R: Wait>(&self, rt: &R, pass: Pass<S>) -> (Held<S>, S)
         requires { pass.lock ≡ self.now.id }
@@ -148,13 +173,15 @@ impl<S: Entries> Turns<S> {
         let Pass { mut place, spare } = pass;
         let shared = &self.board.shared;
         let ticket = shared.fetch_add::<Draw>(&mut place, 1, 1);
+        let mut looks: u32 = 0;
         for _ in rt.forever() {
             let serving = shared.load::<Look>(&mut place, 0);
             if serving == ticket {
                 let state = shared.exchange(&mut place, 0, None).unwrap();
                 return (Held { place, spare }, state);
             }
-            thread::yield_now();
+            looks = looks.saturating_add(1);
+            self.wait_behind(rt, serving, ticket.saturating_sub(serving), looks);
         }
         unreachable!()
     }
@@ -173,6 +200,7 @@ impl<S: Entries> Turns<S> {
         let was = shared.exchange(&mut place, 0, Some(state));
         let None = was else { unreachable!() };
         shared.fetch_add::<End>(&mut place, 0, 1);
+        shared.wake_one(0);
         Pass { place, spare }
     }
 

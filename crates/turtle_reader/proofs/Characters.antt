@@ -9,7 +9,7 @@ use Rattle.rdf_model.specs.declared.triple.Triple.{Triple}
 use Rattle.rdf_lexical.specs.declared.refusal.RefusalKind.TheVariants.{NotUtf8}
 use Rattle.rdf_lexical.specs.declared.refusal.ReadFault.{ReadFault}
 use Rattle.rdf_lexical.specs.Refusals.{Refuses}
-use Rattle.turtle_reader.specs.Readings.{Refusal}
+use Rattle.turtle_reader.specs.Parsers.{Refusal}
 use Rattle.turtle_reader.specs.Document.{text_read, line_of, reads}
 
 -- as many characters as bytes, or fewer

@@ -8,7 +8,7 @@ use Rattle.iri_ref.specs.Resolution.{resolved}
 use Rattle.iri_ref.specs.Components.{components}
 use Rattle.iri_ref.specs.DotSegments.{without_dot_segments}
 use Rattle.rdf_lexical.specs.declared.refusal.RefusalKind.TheVariants.{UnexpectedToken, UndeclaredPrefix, RelativeIri, FloatingPoint, TooDeep, BlankPredicate, UnexpectedEnd}
-use Rattle.turtle_reader.specs.Readings.{many}
+use Rattle.turtle_reader.specs.Parsers.{many}
 use Rattle.turtle_reader.specs.Tokens.{next, is_next, is_other, is_unfinished, expected, where_next}
 use Rattle.turtle_reader.specs.Terms.{rdf, xsd, iri, fresh, labelled, kept, tagged, typed}
 use Rattle.turtle_reader.specs.Grammar.{found, rdf_type, rdf_first, rdf_rest, rdf_nil, verb, more_objects, more_verbs, square, collection, object, prefix_declared, base_declared, statement, turtle_doc}

@@ -10,7 +10,7 @@ use Rattle.turtle_reader.specs.declared.frame.Frame.TheVariants.{Properties, Mem
 use Rattle.rdf_lexical.specs.declared.refusal.ReadFault.{ReadFault}
 use Rattle.rdf_lexical.specs.declared.refusal.ReadFault.TheVariants.{Refusal, Memory}
 use Rattle.rdf_lexical.specs.Refusals.{Refuses}
-use Rattle.turtle_reader.specs.Readings.{Outcome, Reading, and_then, ◌>>=◌, give, many}
+use Rattle.turtle_reader.specs.Parsers.{Outcome, Parser, and_then, ◌>>=◌, give, many}
 use Rattle.turtle_reader.specs.Tokens.{next, is_next, is_other, is_comma, is_semicolon, is_close_bracket, is_close_parenthesis, may_begin_verb, expected, where_next}
 use Rattle.turtle_reader.specs.Terms.{fresh}
 use Rattle.turtle_reader.specs.Grammar.{found, rdf_first, rdf_rest, rdf_nil, verb, one_object, more_objects, object_list, verb_objects, more_verbs, next_member, more_members, property_list, square, collection, object_of, too_deep, object}
@@ -24,7 +24,7 @@ abbrev Nothing : Type 0
 Nothing = Unit {0}
 
 -- a refusal of the first reading is one of all
-pub refuses_same : {A B : Type 0} (e : ReadFault) (o : Outcome A) (f : A → Reading B) (p : Outcome B) → p ≡ and_then o f → Refuses e o → Refuses e p
+pub refuses_same : {A B : Type 0} (e : ReadFault) (o : Outcome A) (f : A → Parser B) (p : Outcome B) → p ≡ and_then o f → Refuses e o → Refuses e p
 refuses_same Memory o f p h r = tt
 refuses_same (Refusal line kind) o f p h r = h ∙ ap (λ q. and_then q f) r
 
@@ -47,9 +47,9 @@ verbs_end text levels node s h =
     many_more text (is_next is_semicolon) _ (λ x. takes_semicolon text (object text levels) node (takes_object text levels)) tt s
     ∙ ap (λ b. cond b (and_then (and_then (next text s) (λ _. where_next may_begin_verb (verb_objects text (object text levels) node) (give tt))) (λ _. more_verbs text (object text levels) node)) (Ok (tt, s))) h
 
-pub where_is : {X : Type 0} (test : _) (f g : Reading X) (s : State) (b : Bool) → is_next test s ≡ b → where_next test f g s ≡ (let h : Reading X = cond b f g in h) s
+pub where_is : {X : Type 0} (test : _) (f g : Parser X) (s : State) (b : Bool) → is_next test s ≡ b → where_next test f g s ≡ (let h : Parser X = cond b f g in h) s
 unfolding where_next
-where_is {X = X} test f g s b h = ap (λ c. (let r : Reading X = cond c f g in r) s) h
+where_is {X = X} test f g s b h = ap (λ c. (let r : Parser X = cond c f g in r) s) h
 
 pub verbs_skip : (text : List ℕ) (levels : ℕ) (node : Term) (s t : State) (token : Token) → is_next is_semicolon s ≡ true → next text s ≡ Ok (token, t) → is_next may_begin_verb t ≡ false
     → more_verbs text (object text levels) node s ≡ more_verbs text (object text levels) node t
@@ -94,7 +94,7 @@ comma_none text levels node predicate s h =
     ∙ ap (λ b. cond b (and_then (and_then (next text s) (λ _. one_object (object text levels) node predicate)) (λ _. more_objects text (object text levels) node predicate)) (Ok (tt, s))) h)
 
 -- within `[`
-reopened : (o : Outcome Term) (f : Term → Reading Nothing) (m : Reading Nothing) (e : Reading Term) (k : Term → Reading Term)
+reopened : (o : Outcome Term) (f : Term → Parser Nothing) (m : Parser Nothing) (e : Parser Term) (k : Term → Parser Term)
     → and_then (and_then (and_then (and_then o f) (λ _. m)) (λ _. e)) k ≡ and_then o (λ t. (f t >>= λ _. m >>= λ _. e) >>= k)
 reopened (Ok r) f m e k = ap (λ q. and_then q k) (then_then (f r.0 r.1) (λ _. m) (λ _. e))
 reopened (Err x) f m e k = refl
@@ -144,7 +144,7 @@ member_end text levels fs first last term s t f h =
     ∙ ap (λ o. and_then (and_then (and_then o (λ l. expected text is_close_parenthesis >>= λ _. found l rdf_rest rdf_nil)) (λ _. give first)) (all_closed text (suc levels) fs)) (members text levels last t true h)
     ∙ then_then ((expected text is_close_parenthesis >>= λ _. found last rdf_rest rdf_nil) t) (λ _. give first) (all_closed text (suc levels) fs)
 
-again : (o : Outcome Term) (f : Term → Reading Nothing) (node : Term) (m : Term → Reading Term) (e : Term → Reading Nothing) (g : Reading Term) (k : Term → Reading Term)
+again : (o : Outcome Term) (f : Term → Parser Nothing) (node : Term) (m : Term → Parser Term) (e : Term → Parser Nothing) (g : Parser Term) (k : Term → Parser Term)
     → and_then (and_then (and_then (and_then (and_then (and_then o f) (λ _. give node)) m) e) (λ _. g)) k ≡ and_then o (λ t. (f t >>= λ _. (m node >>= e) >>= λ _. g) >>= k)
 again (Ok r) f node m e g k = split (f r.0 r.1)
   where
@@ -170,8 +170,8 @@ pub member_next : (text : List ℕ) (levels : ℕ) (fs : List Frame) (first last
     → node_after last t ≡ Ok (node, v)
     → all_closed text levels (Members first last ∷ fs) term s ≡ remaining text levels (Members first node ∷ fs) None v
 member_next text levels fs first last term node s t v f h n =
-    let close : Term → Reading Nothing = λ l. expected text is_close_parenthesis >>= λ _. found l rdf_rest rdf_nil in
-    let more : Term → Reading Term = many text (is_other is_close_parenthesis) (next_member text (object text levels)) in
+    let close : Term → Parser Nothing = λ l. expected text is_close_parenthesis >>= λ _. found l rdf_rest rdf_nil in
+    let more : Term → Parser Term = many text (is_other is_close_parenthesis) (next_member text (object text levels)) in
     member_first text levels fs first last term s t f
     ∙ ap (λ o. and_then (and_then (and_then o close) (λ _. give first)) (all_closed text (suc levels) fs)) (members text levels last t false h)
     ∙ ap (λ o. and_then (and_then (and_then (and_then o more) close) (λ _. give first)) (all_closed text (suc levels) fs)) (nodes text levels last node t v n)
@@ -221,7 +221,7 @@ square_end text levels fs node s t f h =
     ∙ ap (λ o. and_then o (all_closed text (suc levels) fs)) (where_is is_close_bracket (next text >>= λ _. give node) (property_list text (object text levels) node) t true h)
     ∙ then_then (next text t) (λ _. give node) (all_closed text (suc levels) fs)
 
-opened : (o : Outcome Term) (f : Term → Term → Reading Nothing) (m : Term → Reading Nothing) (v : Reading Nothing) (e : Reading Term) (k : Term → Reading Term) (object : Reading Term)
+opened : (o : Outcome Term) (f : Term → Term → Parser Nothing) (m : Term → Parser Nothing) (v : Parser Nothing) (e : Parser Term) (k : Term → Parser Term) (object : Parser Term)
     → and_then (and_then (and_then (and_then o (λ p. (object >>= f p) >>= λ _. m p)) (λ _. v)) (λ _. e)) k
     ≡ and_then o (λ p. object >>= λ t. (f p t >>= λ _. (m p >>= λ _. v) >>= λ _. e) >>= k)
 opened (Ok r) f m v e k object = split (object r.1)
@@ -261,7 +261,7 @@ round_next text levels fs node last s t h f e =
     ∙ reopened_list (object text levels t) (found node rdf_first) (more_members text (object text levels) node) (give node) (all_closed text (suc levels) fs)
     ∙ ap (λ n. remaining text levels (Members node n ∷ fs) None t) (sym e)
   where
-    reopened_list : (o : Outcome Term) (f : Term → Reading Nothing) (m : Reading Nothing) (e : Reading Term) (k : Term → Reading Term)
+    reopened_list : (o : Outcome Term) (f : Term → Parser Nothing) (m : Parser Nothing) (e : Parser Term) (k : Term → Parser Term)
         → and_then (and_then (and_then o f) (λ _. m >>= λ _. e)) k ≡ and_then o (λ t. (f t >>= λ _. m >>= λ _. e) >>= k)
     reopened_list (Ok r) f m e k = refl
     reopened_list (Err x) f m e k = refl

@@ -27,7 +27,7 @@ use Rattle.ntriples_text.specs.Grammar.{kept}
 use Rattle.ntriples_text.specs.Laws.{IsIriText, IsReadableSubject, IsReadableIri, IsReadableObject, IsReadable, IsWithin}
 use Rattle.ntriples_text.proofs.Gives.{tag_of, scalars_take, scalars_drop}
 use Rattle.turtle_reader.specs.declared.state.State.{State}
-use Rattle.turtle_reader.specs.Readings.{Outcome, Reading, and_then, ◌>>=◌, give, refuse, left, repeated, many}
+use Rattle.turtle_reader.specs.Parsers.{Outcome, Parser, and_then, ◌>>=◌, give, refuse, left, repeated, many}
 use Rattle.turtle_reader.specs.Tokens
 use Rattle.turtle_reader.specs.Tokens.{next, next_of, is_next, expected, where_next}
 use Rattle.turtle_reader.specs.Terms
@@ -138,24 +138,24 @@ module _ (session first : ℕ) (text : List ℕ) (are : scalars text ≡ true) w
   abbrev After : {X : Type 0} → ℕ → (X → ℕ → Type 0) → Outcome X → Type 0
   After low Q o = IfOk o (Reached low Q)
 
-  abbrev Sound : {X : Type 0} → ℕ → (X → ℕ → Type 0) → Reading X → Type 0
+  abbrev Sound : {X : Type 0} → ℕ → (X → ℕ → Type 0) → Parser X → Type 0
   Sound low Q f = (s : State) → Fine s → low ≤ s.next → After s.next Q (f s)
 
   after_more : {X : Type 0} (low high : ℕ) (Q : X → ℕ → Type 0) (o : Outcome X) → low ≤ high → After high Q o → After low Q o
   after_more low high Q (Ok r) le h = record { fine = h.fine; rises = omega (arith, le, h.rises); is = h.is }
   after_more low high Q (Err e) le h = tt
 
-  then_after : {X Y : Type 0} (low : ℕ) (Q : X → ℕ → Type 0) (R : Y → ℕ → Type 0) (o : Outcome X) (g : X → Reading Y) → After low Q o → ((x : X) (t : State) → Fine t → low ≤ t.next → Q x t.next → After low R (g x t)) → After low R (and_then o g)
+  then_after : {X Y : Type 0} (low : ℕ) (Q : X → ℕ → Type 0) (R : Y → ℕ → Type 0) (o : Outcome X) (g : X → Parser Y) → After low Q o → ((x : X) (t : State) → Fine t → low ≤ t.next → Q x t.next → After low R (g x t)) → After low R (and_then o g)
   then_after low Q R (Ok r) g h k = k r.0 r.1 h.fine h.rises h.is
   then_after low Q R (Err e) g h k = tt
 
-  sound_then : {X Y : Type 0} (low : ℕ) (Q : X → ℕ → Type 0) (R : Y → ℕ → Type 0) (f : Reading X) (g : X → Reading Y) → Sound low Q f → ((x : X) (n : ℕ) → low ≤ n → Q x n → Sound n R (g x)) → Sound low R (f >>= g)
+  sound_then : {X Y : Type 0} (low : ℕ) (Q : X → ℕ → Type 0) (R : Y → ℕ → Type 0) (f : Parser X) (g : X → Parser Y) → Sound low Q f → ((x : X) (n : ℕ) → low ≤ n → Q x n → Sound n R (g x)) → Sound low R (f >>= g)
   sound_then low Q R f g hf hg s fine le = then_after s.next Q R (f s) g (hf s fine le) (λ x t ft up q. after_more s.next t.next R (g x t) up (hg x t.next (omega (arith, le, up)) q t ft (omega arith)))
 
-  free : {X : Type 0} (low : ℕ) (Q : X → ℕ → Type 0) (f : Reading X) → Sound 0 Q f → Sound low Q f
+  free : {X : Type 0} (low : ℕ) (Q : X → ℕ → Type 0) (f : Parser X) → Sound 0 Q f → Sound low Q f
   free low Q f h s fine le = h s fine (omega arith)
 
-  weak : {X : Type 0} (low : ℕ) (Q R : X → ℕ → Type 0) (f : Reading X) → ((x : X) (n : ℕ) → Q x n → R x n) → Sound low Q f → Sound low R f
+  weak : {X : Type 0} (low : ℕ) (Q R : X → ℕ → Type 0) (f : Parser X) → ((x : X) (n : ℕ) → Q x n → R x n) → Sound low Q f → Sound low R f
   weak {X = X} low Q R f h k s fine le = by (f s) (k s fine le)
     where
       by : (o : Outcome X) → After s.next Q o → After s.next R o
@@ -163,7 +163,7 @@ module _ (session first : ℕ) (text : List ℕ) (are : scalars text ≡ true) w
       by (Err e) a = tt
 
   -- what holds of the next number from here on
-  carry : {X : Type 0} (m : ℕ) (R : ℕ → Type 0) (f : Reading X) → ((k : ℕ) → m ≤ k → R k) → Sound m Any f → Sound m (λ x k. R k) f
+  carry : {X : Type 0} (m : ℕ) (R : ℕ → Type 0) (f : Parser X) → ((k : ℕ) → m ≤ k → R k) → Sound m Any f → Sound m (λ x k. R k) f
   carry {X = X} m R f h k s fine le = by (f s) (k s fine le)
     where
       by : (o : Outcome X) → After s.next Any o → After s.next (λ x k. R k) o
@@ -173,11 +173,11 @@ module _ (session first : ℕ) (text : List ℕ) (are : scalars text ≡ true) w
   sound_give : {X : Type 0} (low : ℕ) (Q : X → ℕ → Type 0) (x : X) → ((n : ℕ) → low ≤ n → Q x n) → Sound low Q (give x)
   sound_give low Q x h s fine le = record { fine = fine; rises = omega arith; is = h s.next le }
 
-  sound_where : {X : Type 0} (low : ℕ) (Q : X → ℕ → Type 0) (test : TokenKind → Bool) (f g : Reading X) → Sound low Q f → Sound low Q g → Sound low Q (where_next test f g)
+  sound_where : {X : Type 0} (low : ℕ) (Q : X → ℕ → Type 0) (test : TokenKind → Bool) (f g : Parser X) → Sound low Q f → Sound low Q g → Sound low Q (where_next test f g)
   unfolding where_next
-  sound_where {X = X} low Q test f g hf hg s fine le = elim (is_next test s) as (λ b. After s.next Q ((let h : Reading X = cond b f g in h) s)) [ true ↦ hf s fine le | false ↦ hg s fine le ]
+  sound_where {X = X} low Q test f g hf hg s fine le = elim (is_next test s) as (λ b. After s.next Q ((let h : Parser X = cond b f g in h) s)) [ true ↦ hf s fine le | false ↦ hg s fine le ]
 
-  sound_repeated : {X : Type 0} (low : ℕ) (Q : X → ℕ → Type 0) (test : State → Bool) (body : X → Reading X) → ((x : X) (n m : ℕ) → n ≤ m → Q x n → Q x m)
+  sound_repeated : {X : Type 0} (low : ℕ) (Q : X → ℕ → Type 0) (test : State → Bool) (body : X → Parser X) → ((x : X) (n m : ℕ) → n ≤ m → Q x n → Q x m)
       → ((x : X) (n : ℕ) → Q x n → Sound n Q (body x)) → (k : ℕ) (x : X) (n : ℕ) → Q x n → Sound n Q (repeated k test body x)
   sound_repeated low Q test body up each zero x n q s fine le = record { fine = fine; rises = omega arith; is = up x n s.next le q }
   sound_repeated low Q test body up each (suc k) x n q s fine le = elim (test s) as (λ b. After s.next Q (cond b (and_then (body x s) (repeated k test body)) (Ok (x, s)))) [
@@ -185,7 +185,7 @@ module _ (session first : ℕ) (text : List ℕ) (are : scalars text ≡ true) w
     | false ↦ record { fine = fine; rises = omega arith; is = up x n s.next le q }
   ]
 
-  sound_many : {X : Type 0} (Q : X → ℕ → Type 0) (test : State → Bool) (body : X → Reading X) → ((x : X) (n m : ℕ) → n ≤ m → Q x n → Q x m)
+  sound_many : {X : Type 0} (Q : X → ℕ → Type 0) (test : State → Bool) (body : X → Parser X) → ((x : X) (n m : ℕ) → n ≤ m → Q x n → Q x m)
       → ((x : X) (n : ℕ) → Q x n → Sound n Q (body x)) → (x : X) (n : ℕ) → Q x n → Sound n Q (many text test body x)
   unfolding many
   sound_many Q test body up each x n q s = sound_repeated n Q test body up each (suc (left text s)) x n q s
@@ -218,7 +218,7 @@ module _ (session first : ℕ) (text : List ℕ) (are : scalars text ≡ true) w
 
   sound_expected : (low : ℕ) (test : TokenKind → Bool) → Sound low Any (expected text test)
   unfolding expected
-  sound_expected low test = sound_then low L Any (next text) _ (sound_next low) (λ t n le q s fine up. elim (test t.kind) as (λ b. After s.next Any ((let h : Reading Token = cond b (give t) (refuse t.start.line UnexpectedToken) in h) s)) [ true ↦ record { fine = fine; rises = omega arith; is = tt } | false ↦ tt ])
+  sound_expected low test = sound_then low L Any (next text) _ (sound_next low) (λ t n le q s fine up. elim (test t.kind) as (λ b. After s.next Any ((let h : Parser Token = cond b (give t) (refuse t.start.line UnexpectedToken) in h) s)) [ true ↦ record { fine = fine; rises = omega arith; is = tt } | false ↦ tt ])
 
   -- terms
 
@@ -285,7 +285,7 @@ module _ (session first : ℕ) (text : List ℕ) (are : scalars text ≡ true) w
   tag_of_kind m LanguageTag cs e h = h.1
   tag_of_kind m _ cs e h = absurd (let bad : false ≡ true = e in cc)
 
-  abbrev tagged_by : List ℕ → Token → Reading Term
+  abbrev tagged_by : List ℕ → Token → Parser Term
   tagged_by value t = give (Literal value (Terms.rdf (codes "langString")) (Some (Terms.tag_of text t)))
 
   tag_ahead : (a : Result (Option Token) LexFault) (value : List ℕ) (s : State) → IsUtf8 value → Fine s → IfOk a (λ o. IfSome o IsLexed) → Tokens.is_of Tokens.is_language_tag a ≡ true → After s.next W (and_then (next_of text a s) (tagged_by value))
@@ -312,8 +312,8 @@ module _ (session first : ℕ) (text : List ℕ) (are : scalars text ≡ true) w
   sound_literal : (low : ℕ) (line : ℕ) (value : List ℕ) → IsUtf8 value → Sound low W (Terms.rdf_literal text line value)
   unfolding where_next
   sound_literal low line value utf8 s f le =
-      let other : Reading Term = where_next Tokens.is_carets (Terms.typed text line value) (give (Literal value (Terms.xsd (codes "string")) None)) in
-      elim (is_next Tokens.is_language_tag s) as (λ b. is_next Tokens.is_language_tag s ≡ b → After s.next W ((let h : Reading Term = cond b (Terms.tagged text value) other in h) s)) [
+      let other : Parser Term = where_next Tokens.is_carets (Terms.typed text line value) (give (Literal value (Terms.xsd (codes "string")) None)) in
+      elim (is_next Tokens.is_language_tag s) as (λ b. is_next Tokens.is_language_tag s ≡ b → After s.next W ((let h : Parser Term = cond b (Terms.tagged text value) other in h) s)) [
         | true ↦ λ e. sound_tagged low value s utf8 f e
         | false ↦ λ e. sound_where low W Tokens.is_carets (Terms.typed text line value) _ (sound_typed low line value utf8) (sound_string low value utf8) s f le
       ] refl
@@ -341,7 +341,7 @@ module _ (session first : ℕ) (text : List ℕ) (are : scalars text ≡ true) w
   any_more x n m le h = tt
 
   -- the productions with an object in them
-  module _ (object : Reading Term) (sound : Sound 0 W object) where
+  module _ (object : Parser Term) (sound : Sound 0 W object) where
     sound_one : (n : ℕ) (a b : Term) → S a n → IsReadableIri b → Sound n Any (Grammar.one_object object a b)
     sound_one n a b ha hb = sound_then n W Any object (Grammar.found a b) (free n W object sound) (λ c m le hc. sound_found m a b c (subject_more a n m le ha) hb hc)
 
@@ -422,7 +422,7 @@ module _ (session first : ℕ) (text : List ℕ) (are : scalars text ≡ true) w
   sound_term_of low False t h = sound_plain low t (codes "boolean") xsd_boolean_text
   sound_term_of low _ t h = λ s fine le. tt
 
-  sound_object_of : (low : ℕ) (k : TokenKind) (list collected : Reading Term) (t : Token) → IsLexed t → Sound low W list → Sound low W collected → Sound low W (Grammar.object_of k text list collected t)
+  sound_object_of : (low : ℕ) (k : TokenKind) (list collected : Parser Term) (t : Token) → IsLexed t → Sound low W list → Sound low W collected → Sound low W (Grammar.object_of k text list collected t)
   sound_object_of low OpenBracket list collected t h hl hc = hl
   sound_object_of low OpenParenthesis list collected t h hl hc = hc
   sound_object_of low k list collected t h hl hc = sound_term_of low k t h
@@ -435,7 +435,7 @@ module _ (session first : ℕ) (text : List ℕ) (are : scalars text ≡ true) w
       (free n W _ (weak 0 S W _ subject_within (sound_square (Grammar.object text levels) (sound_object levels))))
       (free n W _ (weak 0 S W _ subject_within (sound_collection (Grammar.object text levels) (sound_object levels)))))
 
-  sound_subject_of : (low : ℕ) (k : TokenKind) (collected : Reading Term) (t : Token) → IsLexed t → Sound low S collected → Sound low S (Grammar.subject_of k text collected t)
+  sound_subject_of : (low : ℕ) (k : TokenKind) (collected : Parser Term) (t : Token) → IsLexed t → Sound low S collected → Sound low S (Grammar.subject_of k text collected t)
   sound_subject_of low IriRef collected t l h = sound_term low S t (λ a n i. i) l
   sound_subject_of low PrefixName collected t l h = sound_term low S t (λ a n i. i) l
   sound_subject_of low PrefixedName collected t l h = sound_term low S t (λ a n i. i) l
@@ -461,7 +461,7 @@ module _ (session first : ℕ) (text : List ℕ) (are : scalars text ≡ true) w
 
   sound_reference : (low : ℕ) → Sound low I (Grammar.iri_reference text)
   sound_reference low = sound_then low L I (next text) _ (sound_next low)
-      (λ t n le q s fine up. elim (Tokens.is_iri_ref t.kind) as (λ b. After s.next I ((let h : Reading (List ℕ) = cond b (Terms.iri text t) (refuse t.start.line UnexpectedToken) in h) s)) [ true ↦ sound_iri n t q s fine up | false ↦ tt ])
+      (λ t n le q s fine up. elim (Tokens.is_iri_ref t.kind) as (λ b. After s.next I ((let h : Parser (List ℕ) = cond b (Terms.iri text t) (refuse t.start.line UnexpectedToken) in h) s)) [ true ↦ sound_iri n t q s fine up | false ↦ tt ])
 
   sound_prefix : (low : ℕ) → Sound low Any (Grammar.prefix_declared text)
   unfolding Grammar.prefix_declared

@@ -13,7 +13,7 @@ use Rattle.rdf_model.specs.declared.triple.Triple.{Triple}
 use Rattle.rdf_model.specs.Terms.{triple_cmp}
 use Rattle.rdf_model.specs.Graphs.{with_each}
 use Rattle.rdf_lexical.specs.declared.refusal.RefusalKind.TheVariants.{NotUtf8}
-use Rattle.turtle_reader.specs.Readings.{Outcome, Refusal}
+use Rattle.turtle_reader.specs.Parsers.{Outcome, Refusal}
 use Rattle.turtle_reader.specs.Grammar.{turtle_doc}
 use Rattle.turtle_reader.specs.Document.{opening, found_by, graph_of, text_read, line_of, reads}
 use Rattle.ntriples_text.specs.Laws.{IsReadable, IsWithin}

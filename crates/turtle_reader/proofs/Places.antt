@@ -19,7 +19,7 @@ use Rattle.turtle_lex.specs.Places.{HasSpan}
 use Rattle.turtle_reader.specs.Progress.{IsTokenOf, weight, unread}
 use Rattle.turtle_lex.proofs.TokenLaws.{finds_longest}
 use Rattle.turtle_reader.specs.declared.state.State.{State}
-use Rattle.turtle_reader.specs.Readings.{left, left_behind}
+use Rattle.turtle_reader.specs.Parsers.{left, left_behind}
 use Rattle.turtle_reader.specs.Tokens.{next, next_of, is_string}
 use Rattle.turtle_reader.proofs.Progress.{Takes}
 

@@ -10,7 +10,7 @@ use Rattle.turtle_lex.specs.declared.token.TokenKind.TheVariants.{IriRef, Prefix
 use Rattle.turtle_reader.specs.declared.state.State.{State}
 use Rattle.rdf_lexical.specs.declared.refusal.RefusalKind.{RefusalKind}
 use Rattle.rdf_lexical.specs.declared.refusal.RefusalKind.TheVariants.{UnexpectedToken, UndeclaredPrefix}
-use Rattle.turtle_reader.specs.Readings.{Outcome, Reading, ◌>>=◌, give, refuse, asking, left}
+use Rattle.turtle_reader.specs.Parsers.{Outcome, Parser, ◌>>=◌, give, refuse, asking, left}
 use Rattle.turtle_reader.specs.Tokens
 use Rattle.turtle_reader.specs.Tokens.{next, is_next, is_other, expected, where_next}
 use Rattle.turtle_reader.specs.Terms
@@ -25,19 +25,19 @@ keeps_or_refuse : {A : Type 0} (text : List ℕ) (line : ℕ) (kind : RefusalKin
 keeps_or_refuse text line kind (Some x) s = (omega arith, omega arith)
 keeps_or_refuse text line kind None s = tt
 
-keeps_asking : {A B : Type 0} (text : List ℕ) (f : State → A) (g : A → Reading B) → ((x : A) → Keeps text (g x)) → Keeps text (asking f g)
+keeps_asking : {A B : Type 0} (text : List ℕ) (f : State → A) (g : A → Parser B) → ((x : A) → Keeps text (g x)) → Keeps text (asking f g)
 keeps_asking text f g h s = h (f s) s
 
-pub keeps_where : {X : Type 0} (text : List ℕ) (test : TokenKind → Bool) (f g : Reading X) → Keeps text f → Keeps text g → Keeps text (where_next test f g)
+pub keeps_where : {X : Type 0} (text : List ℕ) (test : TokenKind → Bool) (f g : Parser X) → Keeps text f → Keeps text g → Keeps text (where_next test f g)
 unfolding where_next
-keeps_where {X = X} text test f g hf hg s = elim (is_next test s) as (λ b. Below text (suc (left text s)) s.next ((let h : Reading X = cond b f g in h) s)) [ true ↦ hf s | false ↦ hg s ]
+keeps_where {X = X} text test f g hf hg s = elim (is_next test s) as (λ b. Below text (suc (left text s)) s.next ((let h : Parser X = cond b f g in h) s)) [ true ↦ hf s | false ↦ hg s ]
 
 pub keeps_next : (text : List ℕ) → Keeps text (next text)
 keeps_next text = takes_keeps text (next text) (next_takes text)
 
 pub takes_expected : (text : List ℕ) (test : TokenKind → Bool) → Takes text (expected text test)
 unfolding expected
-takes_expected text test = takes_then text (next text) _ (next_takes text) (λ t s. elim (test t.kind) as (λ b. Below text (suc (left text s)) s.next ((let h : Reading Token = cond b (give t) (refuse t.start.line UnexpectedToken) in h) s)) [ true ↦ keeps_give text t s | false ↦ tt ])
+takes_expected text test = takes_then text (next text) _ (next_takes text) (λ t s. elim (test t.kind) as (λ b. Below text (suc (left text s)) s.next ((let h : Parser Token = cond b (give t) (refuse t.start.line UnexpectedToken) in h) s)) [ true ↦ keeps_give text t s | false ↦ tt ])
 
 keeps_resolved : (text : List ℕ) (t : Token) → Keeps text (Terms.resolved_iri text t)
 keeps_resolved text t s = keeps_or_refuse text _ _ (Terms.in_base s.base _) s
@@ -107,46 +107,46 @@ takes_verb text = takes_then text (next text) _ (next_takes text) (λ t. keeps_v
 
 -- the productions with an object in them
 
-pub takes_one : (text : List ℕ) (object : Reading Term) (a b : Term) → Takes text object → Takes text (Grammar.one_object object a b)
+pub takes_one : (text : List ℕ) (object : Parser Term) (a b : Term) → Takes text object → Takes text (Grammar.one_object object a b)
 takes_one text object a b h = takes_then text object _ h (λ c. keeps_found text a b c)
 
-pub takes_comma : (text : List ℕ) (object : Reading Term) (a b : Term) → Takes text object → Takes text (next text >>= λ _. Grammar.one_object object a b)
+pub takes_comma : (text : List ℕ) (object : Parser Term) (a b : Term) → Takes text object → Takes text (next text >>= λ _. Grammar.one_object object a b)
 takes_comma text object a b h = takes_then text (next text) _ (next_takes text) (λ t. takes_keeps text _ (takes_one text object a b h))
 
-keeps_more_objects : (text : List ℕ) (object : Reading Term) (a b : Term) → Takes text object → Keeps text (Grammar.more_objects text object a b)
+keeps_more_objects : (text : List ℕ) (object : Parser Term) (a b : Term) → Takes text object → Keeps text (Grammar.more_objects text object a b)
 unfolding Grammar.more_objects
 keeps_more_objects text object a b h = keeps_many text _ _ (λ x. takes_keeps text _ (takes_comma text object a b h)) tt
 
-takes_object_list : (text : List ℕ) (object : Reading Term) (a b : Term) → Takes text object → Takes text (Grammar.object_list text object a b)
+takes_object_list : (text : List ℕ) (object : Parser Term) (a b : Term) → Takes text object → Takes text (Grammar.object_list text object a b)
 takes_object_list text object a b h = takes_then text _ _ (takes_one text object a b h) (λ x. keeps_more_objects text object a b h)
 
-takes_verb_objects : (text : List ℕ) (object : Reading Term) (a : Term) → Takes text object → Takes text (Grammar.verb_objects text object a)
+takes_verb_objects : (text : List ℕ) (object : Parser Term) (a : Term) → Takes text object → Takes text (Grammar.verb_objects text object a)
 takes_verb_objects text object a h = takes_then text _ _ (takes_verb text) (λ b. takes_keeps text _ (takes_object_list text object a b h))
 
-pub takes_semicolon : (text : List ℕ) (object : Reading Term) (a : Term) → Takes text object → Takes text (next text >>= λ _. where_next Tokens.may_begin_verb (Grammar.verb_objects text object a) (give tt))
+pub takes_semicolon : (text : List ℕ) (object : Parser Term) (a : Term) → Takes text object → Takes text (next text >>= λ _. where_next Tokens.may_begin_verb (Grammar.verb_objects text object a) (give tt))
 takes_semicolon text object a h = takes_then text (next text) _ (next_takes text) (λ t. keeps_where text _ _ _ (takes_keeps text _ (takes_verb_objects text object a h)) (keeps_give {A = Unit {0}} text tt))
 
-keeps_more_verbs : (text : List ℕ) (object : Reading Term) (a : Term) → Takes text object → Keeps text (Grammar.more_verbs text object a)
+keeps_more_verbs : (text : List ℕ) (object : Parser Term) (a : Term) → Takes text object → Keeps text (Grammar.more_verbs text object a)
 unfolding Grammar.more_verbs
 keeps_more_verbs text object a h = keeps_many text _ _ (λ x. takes_keeps text _ (takes_semicolon text object a h)) tt
 
-takes_predicates : (text : List ℕ) (object : Reading Term) (a : Term) → Takes text object → Takes text (Grammar.predicate_object_list text object a)
+takes_predicates : (text : List ℕ) (object : Parser Term) (a : Term) → Takes text object → Takes text (Grammar.predicate_object_list text object a)
 takes_predicates text object a h = takes_then text _ _ (takes_verb_objects text object a h) (λ x. keeps_more_verbs text object a h)
 
-takes_property_list : (text : List ℕ) (object : Reading Term) (a : Term) → Takes text object → Takes text (Grammar.property_list text object a)
+takes_property_list : (text : List ℕ) (object : Parser Term) (a : Term) → Takes text object → Takes text (Grammar.property_list text object a)
 takes_property_list text object a h = takes_then text _ _ (takes_predicates text object a h) (λ x. keeps_then text _ _ (takes_keeps text _ (takes_expected text _)) (λ t. keeps_give text a))
 
-keeps_square : (text : List ℕ) (object : Reading Term) → Takes text object → Keeps text (Grammar.square text object)
+keeps_square : (text : List ℕ) (object : Parser Term) → Takes text object → Keeps text (Grammar.square text object)
 unfolding Grammar.square
 keeps_square text object h = keeps_then text _ _ (keeps_fresh text) (λ node. keeps_where text _ _ _ (keeps_then text _ _ (keeps_next text) (λ t. keeps_give text node)) (takes_keeps text _ (takes_property_list text object node h)))
 
-pub takes_member : (text : List ℕ) (object : Reading Term) (node : Term) → Takes text object → Takes text (Grammar.next_member text object node)
+pub takes_member : (text : List ℕ) (object : Parser Term) (node : Term) → Takes text object → Takes text (Grammar.next_member text object node)
 takes_member text object node h = then_takes text _ _ (keeps_fresh text) (λ m. then_takes text _ _ (keeps_found text node Grammar.rdf_rest m) (λ x. takes_then text _ _ (takes_one text object m Grammar.rdf_first h) (λ y. keeps_give text m)))
 
-keeps_more_members : (text : List ℕ) (object : Reading Term) (node : Term) → Takes text object → Keeps text (Grammar.more_members text object node)
+keeps_more_members : (text : List ℕ) (object : Parser Term) (node : Term) → Takes text object → Keeps text (Grammar.more_members text object node)
 keeps_more_members text object node h = keeps_then text _ _ (keeps_many text _ _ (λ x. takes_keeps text _ (takes_member text object x h)) node) (λ last. keeps_then text _ _ (takes_keeps text _ (takes_expected text _)) (λ t. keeps_found text last _ _))
 
-keeps_collection : (text : List ℕ) (object : Reading Term) → Takes text object → Keeps text (Grammar.collection text object)
+keeps_collection : (text : List ℕ) (object : Parser Term) → Takes text object → Keeps text (Grammar.collection text object)
 unfolding Grammar.collection
 keeps_collection text object h = keeps_where text _ _ _ (keeps_then text _ _ (keeps_next text) (λ t. keeps_give text Grammar.rdf_nil))
     (keeps_then text _ _ (keeps_fresh text) (λ node. keeps_then text _ _ (takes_keeps text _ (takes_one text object node _ h)) (λ x. keeps_then text _ _ (keeps_more_members text object node h) (λ y. keeps_give text node))))
@@ -164,7 +164,7 @@ keeps_term_of True text t = keeps_kept text _ _
 keeps_term_of False text t = keeps_kept text _ _
 keeps_term_of _ text t = λ s. tt
 
-keeps_object_of : (k : TokenKind) (text : List ℕ) (list collected : Reading Term) (t : Token) → Keeps text list → Keeps text collected → Keeps text (Grammar.object_of k text list collected t)
+keeps_object_of : (k : TokenKind) (text : List ℕ) (list collected : Parser Term) (t : Token) → Keeps text list → Keeps text collected → Keeps text (Grammar.object_of k text list collected t)
 keeps_object_of OpenBracket text list collected t hl hc = hl
 keeps_object_of OpenParenthesis text list collected t hl hc = hc
 keeps_object_of k text list collected t hl hc = keeps_term_of k text t
@@ -178,7 +178,7 @@ takes_object text (suc levels) = takes_then text (next text) _ (next_takes text)
 
 -- the productions of a statement
 
-keeps_optional : (text : List ℕ) (object : Reading Term) (a : Term) → Takes text object → Keeps text (Grammar.optional_predicates text object a)
+keeps_optional : (text : List ℕ) (object : Parser Term) (a : Term) → Takes text object → Keeps text (Grammar.optional_predicates text object a)
 keeps_optional text object a h = keeps_where text _ _ _ (keeps_give {A = Unit {0}} text tt) (takes_keeps text _ (takes_predicates text object a h))
 
 keeps_bracket : (text : List ℕ) (levels : ℕ) → Keeps text (Grammar.bracket_triples text levels)
@@ -186,7 +186,7 @@ keeps_bracket text levels = keeps_then text _ _ (keeps_fresh text) (λ node. kee
     (keeps_then text _ _ (keeps_next text) (λ t. takes_keeps text _ (takes_predicates text (Grammar.object text (suc levels)) node (takes_object text (suc levels)))))
     (keeps_then text _ _ (takes_keeps text _ (takes_property_list text (Grammar.object text levels) node (takes_object text levels))) (λ n. keeps_optional text (Grammar.object text (suc levels)) n (takes_object text (suc levels)))))
 
-keeps_subject : (k : TokenKind) (text : List ℕ) (collected : Reading Term) (t : Token) → Keeps text collected → Keeps text (Grammar.subject_of k text collected t)
+keeps_subject : (k : TokenKind) (text : List ℕ) (collected : Parser Term) (t : Token) → Keeps text collected → Keeps text (Grammar.subject_of k text collected t)
 keeps_subject IriRef text collected t h = keeps_term text t
 keeps_subject PrefixName text collected t h = keeps_term text t
 keeps_subject PrefixedName text collected t h = keeps_term text t
@@ -200,7 +200,7 @@ keeps_triples k text levels t = keeps_then text _ _ (keeps_subject t.kind text _
     (λ node. takes_keeps text _ (takes_predicates text (Grammar.object text (suc levels)) node (takes_object text (suc levels))))
 
 keeps_reference : (text : List ℕ) → Keeps text (Grammar.iri_reference text)
-keeps_reference text = keeps_then text _ _ (keeps_next text) (λ t s. elim (Tokens.is_iri_ref t.kind) as (λ b. Below text (suc (left text s)) s.next ((let h : Reading (List ℕ) = cond b (Terms.iri text t) (refuse t.start.line UnexpectedToken) in h) s)) [ true ↦ keeps_iri text t s | false ↦ tt ])
+keeps_reference text = keeps_then text _ _ (keeps_next text) (λ t s. elim (Tokens.is_iri_ref t.kind) as (λ b. Below text (suc (left text s)) s.next ((let h : Parser (List ℕ) = cond b (Terms.iri text t) (refuse t.start.line UnexpectedToken) in h) s)) [ true ↦ keeps_iri text t s | false ↦ tt ])
 
 keeps_prefix : (text : List ℕ) → Keeps text (Grammar.prefix_declared text)
 unfolding Grammar.prefix_declared

@@ -1,6 +1,6 @@
 -- Repetitions, one turn on.
 use Rattle.std.proofs.Common.{◌∙◌, cond, Ok, ap}
-use Rattle.turtle_reader.specs.Readings.{give}
+use Rattle.turtle_reader.specs.Parsers.{give}
 use Rattle.turtle_reader.specs.Tokens.{is_comma, is_semicolon, is_close_parenthesis, may_begin_verb, next, is_next, is_other, is_unfinished, where_next}
 use Rattle.turtle_reader.specs.Grammar.{one_object, more_objects, verb_objects, more_verbs, next_member, object, statement, turtle_doc}
 use Rattle.turtle_reader.specs.Laws.{RepeatsStatements, RepeatsObjects, RepeatsVerbs, RepeatsMembers}

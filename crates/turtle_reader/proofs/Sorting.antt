@@ -1,6 +1,6 @@
 -- The listing of triples is the set into which each is put.
 use Rattle.std.proofs.Common.{◌≡◌, ◌∙◌, ℕ, List, [], ◌∷◌, Ok, Result, ap, sym, subst, inl, inr, arith}
-use Rattle.turtle_reader.specs.Readings.{Refusal}
+use Rattle.turtle_reader.specs.Parsers.{Refusal}
 use Rattle.turtle_reader.specs.Document.{graph_of}
 use Rattle.std.specs.Prelude.{◌⊎◌}
 use Rattle.std.specs.List.{Contains}

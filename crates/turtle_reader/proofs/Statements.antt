@@ -3,7 +3,7 @@ use Rattle.std.proofs.Common.{◌≡◌, ◌∙◌, ℕ, suc, ◌+◌, true, fal
 use Rattle.rdf_model.specs.declared.term.Term.{Term}
 use Rattle.turtle_lex.specs.declared.token.Token.{Token}
 use Rattle.turtle_reader.specs.declared.state.State.{State}
-use Rattle.turtle_reader.specs.Readings.{Outcome, and_then, ◌>>=◌, give}
+use Rattle.turtle_reader.specs.Parsers.{Outcome, and_then, ◌>>=◌, give}
 use Rattle.turtle_reader.specs.Tokens.{next, is_next, is_dot, is_close_bracket, is_unfinished, expected, where_next}
 use Rattle.turtle_reader.specs.Terms.{fresh}
 use Rattle.turtle_reader.specs.Grammar.{verb, one_object, more_verbs, object_list, predicate_object_list, optional_predicates, property_list, collection, object, turtle_doc, statement, bracket_triples}

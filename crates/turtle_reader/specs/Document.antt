@@ -7,7 +7,7 @@ use Rattle.rdf_model.specs.Graphs.{with_each}
 use Rattle.turtle_lex.specs.Tokens.{next_token}
 use Rattle.turtle_reader.specs.declared.state.State.{State}
 use Rattle.rdf_lexical.specs.declared.refusal.RefusalKind.TheVariants.{NotUtf8}
-use Rattle.turtle_reader.specs.Readings.{Outcome, Refusal}
+use Rattle.turtle_reader.specs.Parsers.{Outcome, Refusal}
 use Rattle.turtle_reader.specs.Grammar.{turtle_doc}
 
 -- before the first token

@@ -9,7 +9,7 @@ use Rattle.ntriples_text.specs.Document.{reads_named}
 use Rattle.ntriples_text.specs.Writing.{written}
 use Rattle.ntriples_text.specs.Laws.{IsReadable, IsWithin}
 use Rattle.turtle_reader.specs.declared.state.State.{State}
-use Rattle.turtle_reader.specs.Readings.{and_then, ◌>>=◌, give, many}
+use Rattle.turtle_reader.specs.Parsers.{and_then, ◌>>=◌, give, many}
 use Rattle.turtle_reader.specs.Tokens.{is_comma, is_semicolon, is_close_parenthesis, may_begin_verb, next, is_next, is_other, is_unfinished, where_next}
 use Rattle.turtle_reader.specs.Grammar.{one_object, more_objects, verb_objects, more_verbs, next_member, object, statement, turtle_doc}
 use Rattle.turtle_reader.specs.Document.{reads}

@@ -1,4 +1,4 @@
-pub mod Readings
+pub mod Parsers
 pub mod Tokens
 pub mod Terms
 pub mod Grammar

@@ -10,7 +10,7 @@ use Rattle.turtle_lex.specs.declared.token.LexFault.{LexFault}
 use Rattle.turtle_reader.specs.declared.state.State.{State}
 use Rattle.rdf_lexical.specs.declared.refusal.ReadFault.{ReadFault}
 use Rattle.rdf_lexical.specs.Refusals.{Refuses}
-use Rattle.turtle_reader.specs.Readings.{Outcome, left}
+use Rattle.turtle_reader.specs.Parsers.{Outcome, left}
 
 -- a function answered what the reading gives, in the state after it
 abbrev pub Gives : {X : Type 0} → Result X ReadFault → State → Outcome X → Type 0

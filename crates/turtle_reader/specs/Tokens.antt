@@ -8,7 +8,7 @@ use Rattle.turtle_lex.specs.Places.{line_feeds}
 use Rattle.turtle_lex.specs.Tokens.{next_token}
 use Rattle.turtle_reader.specs.declared.state.State.{State}
 use Rattle.rdf_lexical.specs.declared.refusal.RefusalKind.TheVariants.{UnexpectedToken, UnexpectedEnd}
-use Rattle.turtle_reader.specs.Readings.{Reading, ◌>>=◌, give, refuse, asking}
+use Rattle.turtle_reader.specs.Parsers.{Parser, ◌>>=◌, give, refuse, asking}
 
 abbrev pub is_string : TokenKind → Bool
 is_string (StringLiteral quotes) = true
@@ -61,12 +61,12 @@ may_begin_verb OpenBracket = true
 may_begin_verb _ = false
 
 -- the token ahead, where there must be one, and the reading goes past it
-abbrev pub next_of : List ℕ → Result (Option Token) LexFault → Reading Token
+abbrev pub next_of : List ℕ → Result (Option Token) LexFault → Parser Token
 next_of text (Ok (Some t)) s = Ok (t, record s { ahead = next_token text t.end.at (is_string t.kind) })
 next_of text (Ok None) s = Err (1 + line_feeds text, UnexpectedEnd)
 next_of text (Err fault) s = Err (fault.line, fault.kind)
 
-unfoldable pub next : List ℕ → Reading Token
+unfoldable pub next : List ℕ → Parser Token
 next text s = next_of text s.ahead s
 
 abbrev pub is_of : (TokenKind → Bool) → Result (Option Token) LexFault → Bool
@@ -91,9 +91,9 @@ unfoldable pub is_unfinished : State → Bool
 is_unfinished s = is_some_left s.ahead
 
 -- a token of this kind
-unfoldable pub expected : List ℕ → (TokenKind → Bool) → Reading Token
+unfoldable pub expected : List ℕ → (TokenKind → Bool) → Parser Token
 expected text test = next text >>= λ t. if test t.kind then give t else refuse t.start.line UnexpectedToken
 
--- a reading where a token of this kind is ahead, else another
-unfoldable pub where_next : {A : Type 0} → (TokenKind → Bool) → Reading A → Reading A → Reading A
+-- a parser where a token of this kind is ahead, else another
+unfoldable pub where_next : {A : Type 0} → (TokenKind → Bool) → Parser A → Parser A → Parser A
 where_next test then_read else_read = asking (is_next test) (λ b. if b then then_read else else_read)

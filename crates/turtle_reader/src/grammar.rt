@@ -1,6 +1,6 @@
 ghost use Rattle.std.specs.Prelude.{◌≡◌, suc, ◌+◌, ◌<◌, ◌≤◌, ◌^◌, [], length, Ok, Some, None, IfOk, OnOk};
 ghost use Rattle.turtle_reader.specs.Grammar;
-ghost use Rattle.turtle_reader.specs.Readings.{left};
+ghost use Rattle.turtle_reader.specs.Parsers.{left};
 ghost use Rattle.turtle_reader.specs.Stack as stack;
 ghost use Rattle.turtle_reader.specs.Progress.{Gives, Goes, IsReady, Moved, need, weight};
 

@@ -2,7 +2,7 @@ ghost use Rattle.std.specs.Prelude.{◌≡◌, ℕ, suc, ◌+◌, ◌<◌, ◌�
 ghost use Rattle.rdf_model.specs.declared.term.Term.{Term as TermData};
 ghost use Rattle.turtle_reader.specs.declared.frame.Frame.TheVariants as frames;
 ghost use Rattle.turtle_reader.specs.Grammar;
-ghost use Rattle.turtle_reader.specs.Readings.{left};
+ghost use Rattle.turtle_reader.specs.Parsers.{left};
 ghost use Rattle.turtle_reader.specs.Stack as stack;
 ghost use Rattle.turtle_reader.specs.Progress.{Gives, Goes, IsReady, Moved, need, spare, weight};
 

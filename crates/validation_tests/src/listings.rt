@@ -270,6 +270,18 @@ _:r <sh:nodeKind> <sh:BlankNodeOrLiteral> .
         answer: "<e:P> <e:a> Class <e:D> \"x\" \"x\" -\n",
     },
     Case {
+        name: "a value of neither of two classes (4.1.1)",
+        graph: "<e:a> <e:p> <e:v> .\n",
+        shapes: "<e:P> <sh:targetNode> <e:a> .
+<e:P> <sh:path> <e:p> .
+<e:P> <sh:class> <e:D> .
+<e:P> <sh:class> <e:C> .
+",
+        answer: "<e:P> <e:a> Class <e:C> <e:v> <e:v> -
+<e:P> <e:a> Class <e:D> <e:v> <e:v> -
+",
+    },
+    Case {
         name: "a pattern that is refused",
         graph: "",
         shapes: "<e:P> <sh:targetNode> <e:a> .\n<e:P> <sh:pattern> \"(\" .\n",

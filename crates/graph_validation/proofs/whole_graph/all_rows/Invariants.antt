@@ -5,7 +5,7 @@ use Rattle.graph_validation.proofs.whole_graph.all_rows.Given as goal
 
 abbrev pub invariant-loop-shape : goal.invariant-loop-shape
 invariant-loop-shape g l = record {
-  rows : CollectsResults (g.N.Names.terms l.names) (g.R.Triples.triples l.graph) l.bound.shapes l.shape l.rows.items;
-  steps : StepsOfFirst (g.N.Names.terms l.names) (g.R.Triples.triples l.graph) l.bound.shapes l.shape l.fn.steps l.steps;
+  rows : CollectsResults l.evaluation.terms l.evaluation.ids l.evaluation.shapes l.shape l.rows.items;
+  steps : StepsOfFirst l.evaluation.terms l.evaluation.ids l.evaluation.shapes l.shape l.fn.steps l.steps;
   counted : l.fn.steps ≤ l.steps;
 }

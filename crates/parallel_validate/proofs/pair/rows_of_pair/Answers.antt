@@ -1,4 +1,7 @@
-use Rattle.std.proofs.Common.{◌≤◌, ℕ, Bool, true, false, subst, arith}
+use Rattle.std.proofs.Common.{Bool, true, false, subst, arith}
+use Rattle.shape_eval.specs.Looks.{AddsShapeLooks}
+use Rattle.shape_eval.specs.Results.{ListsResults}
+use Rattle.shape_eval.specs.Settings.{Setting}
 use Rattle.parallel_validate.specs.PairResults.{TellsTarget}
 use Rattle.parallel_validate.proofs.PairParts.{all_looks, no_rows, no_step, one_step, some_rows, target_looks, told_of}
 use Rattle.parallel_validate.proofs.pair.rows_of_pair.Goals as goal
@@ -37,8 +40,8 @@ returns g c =
     let told : TellsTarget terms ids shapes n f true old mid = subst (λ (b : Bool). TellsTarget terms ids shapes n f b old mid) c.if-not-aim.false
     (told_of terms ids planned.words shapes n f c.in_ok-aim.aim old mid c.requires.numbering c.requires.graph is.words is.bound c.requires.focus c.in_ok-aim.ensures.answer c.in_ok-aim.ensures.looks) in
     record {
-      rows = some_rows terms ids shapes n f old mid told c.in_ok-rows.rows.items c.in_ok-rows.ensures.rows;
-      looks = all_looks terms ids shapes n f old mid told c.eval.new.footprint c.in_ok-rows.ensures.looks;
+      rows = some_rows terms ids shapes n f old mid told c.in_ok-rows.rows.items (subst (λ (e : Setting). ListsResults e.terms e.ids e.shapes n f c.in_ok-rows.rows.items) c.new-evaluation.ensures c.in_ok-rows.ensures.rows);
+      looks = all_looks terms ids shapes n f old mid told c.eval.new.footprint (subst (λ (e : Setting). AddsShapeLooks e.terms e.ids e.shapes n f mid c.eval.new.footprint) c.new-evaluation.ensures c.in_ok-rows.ensures.looks);
       steps = one_step terms ids shapes n f old mid told c.args.steps.now c.permit-allowed.new.steps c.permit-allowed.ensures;
       counted = let e = c.permit-allowed.ensures in omega (arith, e);
     }

@@ -1,223 +1,229 @@
-use Rattle.std.proofs.Common.{ℕ, Bool, List, sym, subst, IfOk}
+use Rattle.std.proofs.Common.{◌<◌, ℕ, Bool, List, length, sym, subst, IfOk}
 use Rattle.std.proofs.lemmas.Result.{IfOk-weaker}
-use Rattle.rdf_model.specs.declared.triple.Triple.{Triple}
+use Rattle.rdf_model.specs.declared.ids.Ids.{Ids}
 use Rattle.rdf_model.specs.declared.term.Term.{Term}
-use Rattle.rdf_model.specs.Numbers.{graph_of, term_at}
-use Rattle.shape_model.specs.Components.{row_of}
-use Rattle.shape_model.specs.Instances.{Instance}
-use Rattle.component_rows.proofs.Told.{refused_where}
-use Rattle.value_constraints.specs.Answers.{answered_nodes}
-use Rattle.shape_eval.specs.Looks.{AreInstanceAnswers}
+use Rattle.rdf_model.specs.declared.triple.Triple.{Triple}
+use Rattle.rdf_model.specs.Numbers.{AreNumbered, graph_of, term_at}
 use Rattle.shape_model.specs.declared.component.Component.TheVariants as components
-use Rattle.component_rows.specs.Listed.{ListsRows, at_nodes, untold}
-use Rattle.component_rows.specs.Nodes.{HasNode}
-use Rattle.pair_constraints.specs.Focus.{at_focus}
+use Rattle.shape_model.specs.declared.result_row.ResultRow.{ResultRow}
+use Rattle.shape_model.specs.Instances.{Instance}
+use Rattle.component_rows.specs.Listed.{untold}
+use Rattle.component_rows.specs.Sites.{ListsAt, Spot, at_values, site_row}
+use Rattle.component_rows.proofs.Told.{refused_where}
+use Rattle.pair_constraints.specs.Focus.{at_site}
+use Rattle.value_constraints.specs.Answers.{answered_nodes}
 use Rattle.shape_ast.specs.declared.component.TermComponent.{TermComponent}
 use Rattle.shape_ast.specs.declared.component.TermComponent.TheVariants as by_term
+use Rattle.shape_ast.specs.declared.shape.Shape.{Shape}
 use Rattle.shape_ast.specs.Components.{term_component}
-use Rattle.shape_ast.specs.Readings.{named_shapes, read_shape}
+use Rattle.shape_ast.specs.Readings.{AreBound, HoldsOfShape, named_shapes, read_shape}
 use Rattle.shape_ast.specs.Standing.{shape_reading}
+use Rattle.shape_eval.specs.declared.told.Told.{Told}
 use Rattle.shape_eval.specs.Around.{around}
+use Rattle.shape_eval.specs.Looks.{AreInstanceAnswers}
+use Rattle.shape_eval.specs.Settings.{Setting}
 use Rattle.shape_eval.specs.Told.{CountAsks, HaveAnswers, WhereRight}
 use Rattle.shape_eval.proofs.by_term.term_rows.Goals as goal
 
 -- what the answers for sh:class say
-abbrev Given : List Triple → Term → List Term → List ℕ → List Bool → TermComponent → Type 0
-Given graph q terms values instances k = AreInstanceAnswers graph (term_component k) q terms values instances
+abbrev Answered : List Triple → Spot → List Bool → TermComponent → Type 0
+Answered graph x instances k = AreInstanceAnswers graph (term_component k) (term_at x.terms x.parameter) x.terms x.values instances
+
+module _ (e : Setting) (x : Spot) (shape : Shape ℕ) (told : List Told) where
+  -- the results of a component of the shape, whatever the shapes graph and the number of references
+  abbrev Rows : List (Shape ℕ) → List Ids → TermComponent → List Triple → ℕ → List ResultRow → Type 0
+  Rows shapes ids k s n = ListsAt (term_component k) (around x.terms ids s n x.values x.focus) (shape_reading (named_shapes x.terms shapes) (read_shape (term_at x.terms) shape)) x
+
+  -- where the answers are right that they rest on
+  abbrev Given : TermComponent → List ResultRow → Type 0
+  Given k rows = WhereRight x.terms e.ids e.shapes x.values told (CountAsks shape k) (λ s n. Rows e.shapes e.ids k s n rows)
 
 pub class-requires : goal.class-requires
-class-requires g c =
-    let terms = c.args.site.now.terms in
-    (subst (Given (graph_of terms (g.R.Triples.triples c.args.graph.now)) (term_at terms c.args.site.now.parameter) terms c.args.site.now.values c.args.instances.now) c.in-Class.is c.requires.instances).0
+class-requires g c = (subst (Answered (graph_of c.args.site.now.terms c.args.evaluation.now.ids) c.args.site.now c.args.instances.now) c.in-Class.is c.requires.instances).0
 
 pub returns-in-Class : goal.returns-in-Class
 returns-in-Class g c =
-    let terms = c.args.site.now.terms in
-    let ids = g.R.Triples.triples c.args.graph.now in
-    let f = term_at terms c.args.site.now.focus in
-    let q = term_at terms c.args.site.now.parameter in
-    let values = c.args.site.now.values in
+    let x = c.args.site.now in
+    let graph = graph_of x.terms c.args.evaluation.now.ids in
     let instances = c.args.instances.now in
-    let are = subst (Given (graph_of terms ids) q terms values instances) c.in-Class.is c.requires.instances in
-    subst (λ (k : TermComponent). IfOk c.class.result (λ rows. WhereRight terms ids c.args.shapes.now values c.args.told.now (CountAsks c.args.shape.now k) (λ s n. ListsRows (term_component k) (around terms ids s n values c.args.site.now.focus) (shape_reading (named_shapes terms c.args.shapes.now) (read_shape (term_at terms) c.args.shape.now)) c.args.site.now.source f q rows.items))) (sym c.in-Class.is)
-    (IfOk-weaker c.class.result (λ rows. ListsRows components.Class (answered_nodes terms values instances) untold c.args.site.now.source f q rows.items)
-    (λ rows. WhereRight terms ids c.args.shapes.now values c.args.told.now (CountAsks c.args.shape.now by_term.Class) (λ s n. ListsRows (term_component by_term.Class) (around terms ids s n values c.args.site.now.focus) (shape_reading (named_shapes terms c.args.shapes.now) (read_shape (term_at terms) c.args.shape.now)) c.args.site.now.source f q rows.items))
-    (λ rows h s n right. refused_where (λ v. Instance (graph_of terms ids) v q) terms values instances are.1 (row_of components.Class c.args.site.now.source f q) rows.items h)
-    c.class.ensures)
+    let are = subst (Answered graph x instances) c.in-Class.is c.requires.instances in
+    let Here = Given c.args.evaluation.now x c.args.shape.now c.args.told.now in
+    subst (λ (k : TermComponent). IfOk c.class.result (λ rows. Here k rows.items)) (sym c.in-Class.is)
+    (IfOk-weaker c.class.result (λ rows. ListsAt components.Class (answered_nodes x.terms x.values instances) untold x rows.items) (λ rows. Here by_term.Class rows.items)
+    (λ rows h s n right. refused_where (λ v. Instance graph v (term_at x.terms x.parameter)) x.terms x.values instances are.1 (site_row components.Class x) rows.items h) c.class.ensures)
 
 pub returns-in-Datatype : goal.returns-in-Datatype
 returns-in-Datatype g c =
-    let terms = c.args.site.now.terms in
-    let ids = g.R.Triples.triples c.args.graph.now in
-    subst (λ (k : TermComponent). IfOk c.datatype.result (λ rows. WhereRight terms ids c.args.shapes.now c.args.site.now.values c.args.told.now (CountAsks c.args.shape.now k) (λ s n. ListsRows (term_component k) (around terms ids s n c.args.site.now.values c.args.site.now.focus) (shape_reading (named_shapes terms c.args.shapes.now) (read_shape (term_at terms) c.args.shape.now)) c.args.site.now.source (term_at terms c.args.site.now.focus) (term_at terms c.args.site.now.parameter) rows.items))) (sym c.in-Datatype.is)
-    (IfOk-weaker c.datatype.result (λ rows. ListsRows components.Datatype (at_nodes (HasNode terms c.args.site.now.values)) untold c.args.site.now.source (term_at terms c.args.site.now.focus) (term_at terms c.args.site.now.parameter) rows.items)
-    (λ rows. WhereRight terms ids c.args.shapes.now c.args.site.now.values c.args.told.now (CountAsks c.args.shape.now by_term.Datatype) (λ s n. ListsRows (term_component by_term.Datatype) (around terms ids s n c.args.site.now.values c.args.site.now.focus) (shape_reading (named_shapes terms c.args.shapes.now) (read_shape (term_at terms) c.args.shape.now)) c.args.site.now.source (term_at terms c.args.site.now.focus) (term_at terms c.args.site.now.parameter) rows.items))
-    (λ rows h s n right. h) c.datatype.ensures)
+    let x = c.args.site.now in
+    let Here = Given c.args.evaluation.now x c.args.shape.now c.args.told.now in
+    subst (λ (k : TermComponent). IfOk c.datatype.result (λ rows. Here k rows.items)) (sym c.in-Datatype.is)
+    (IfOk-weaker c.datatype.result (λ rows. ListsAt components.Datatype (at_values x) untold x rows.items) (λ rows. Here by_term.Datatype rows.items) (λ rows h s n right. h) c.datatype.ensures)
 
 pub returns-in-NodeKind : goal.returns-in-NodeKind
 returns-in-NodeKind g c =
-    let terms = c.args.site.now.terms in
-    let ids = g.R.Triples.triples c.args.graph.now in
-    subst (λ (k : TermComponent). IfOk c.node_kind.result (λ rows. WhereRight terms ids c.args.shapes.now c.args.site.now.values c.args.told.now (CountAsks c.args.shape.now k) (λ s n. ListsRows (term_component k) (around terms ids s n c.args.site.now.values c.args.site.now.focus) (shape_reading (named_shapes terms c.args.shapes.now) (read_shape (term_at terms) c.args.shape.now)) c.args.site.now.source (term_at terms c.args.site.now.focus) (term_at terms c.args.site.now.parameter) rows.items))) (sym c.in-NodeKind.is)
-    (IfOk-weaker c.node_kind.result (λ rows. ListsRows components.NodeKind (at_nodes (HasNode terms c.args.site.now.values)) untold c.args.site.now.source (term_at terms c.args.site.now.focus) (term_at terms c.args.site.now.parameter) rows.items)
-    (λ rows. WhereRight terms ids c.args.shapes.now c.args.site.now.values c.args.told.now (CountAsks c.args.shape.now by_term.NodeKind) (λ s n. ListsRows (term_component by_term.NodeKind) (around terms ids s n c.args.site.now.values c.args.site.now.focus) (shape_reading (named_shapes terms c.args.shapes.now) (read_shape (term_at terms) c.args.shape.now)) c.args.site.now.source (term_at terms c.args.site.now.focus) (term_at terms c.args.site.now.parameter) rows.items))
-    (λ rows h s n right. h) c.node_kind.ensures)
+    let x = c.args.site.now in
+    let Here = Given c.args.evaluation.now x c.args.shape.now c.args.told.now in
+    subst (λ (k : TermComponent). IfOk c.node_kind.result (λ rows. Here k rows.items)) (sym c.in-NodeKind.is)
+    (IfOk-weaker c.node_kind.result (λ rows. ListsAt components.NodeKind (at_values x) untold x rows.items) (λ rows. Here by_term.NodeKind rows.items) (λ rows h s n right. h) c.node_kind.ensures)
 
 pub returns-in-MinCount : goal.returns-in-MinCount
 returns-in-MinCount g c =
-    let terms = c.args.site.now.terms in
-    let ids = g.R.Triples.triples c.args.graph.now in
-    subst (λ (k : TermComponent). IfOk c.min_count.result (λ rows. WhereRight terms ids c.args.shapes.now c.args.site.now.values c.args.told.now (CountAsks c.args.shape.now k) (λ s n. ListsRows (term_component k) (around terms ids s n c.args.site.now.values c.args.site.now.focus) (shape_reading (named_shapes terms c.args.shapes.now) (read_shape (term_at terms) c.args.shape.now)) c.args.site.now.source (term_at terms c.args.site.now.focus) (term_at terms c.args.site.now.parameter) rows.items))) (sym c.in-MinCount.is)
-    (IfOk-weaker c.min_count.result (λ rows. ListsRows components.MinCount (at_nodes (HasNode terms c.args.site.now.values)) untold c.args.site.now.source (term_at terms c.args.site.now.focus) (term_at terms c.args.site.now.parameter) rows.items)
-    (λ rows. WhereRight terms ids c.args.shapes.now c.args.site.now.values c.args.told.now (CountAsks c.args.shape.now by_term.MinCount) (λ s n. ListsRows (term_component by_term.MinCount) (around terms ids s n c.args.site.now.values c.args.site.now.focus) (shape_reading (named_shapes terms c.args.shapes.now) (read_shape (term_at terms) c.args.shape.now)) c.args.site.now.source (term_at terms c.args.site.now.focus) (term_at terms c.args.site.now.parameter) rows.items))
-    (λ rows h s n right. h) c.min_count.ensures)
+    let x = c.args.site.now in
+    let Here = Given c.args.evaluation.now x c.args.shape.now c.args.told.now in
+    subst (λ (k : TermComponent). IfOk c.min_count.result (λ rows. Here k rows.items)) (sym c.in-MinCount.is)
+    (IfOk-weaker c.min_count.result (λ rows. ListsAt components.MinCount (at_values x) untold x rows.items) (λ rows. Here by_term.MinCount rows.items) (λ rows h s n right. h) c.min_count.ensures)
 
 pub returns-in-MaxCount : goal.returns-in-MaxCount
 returns-in-MaxCount g c =
-    let terms = c.args.site.now.terms in
-    let ids = g.R.Triples.triples c.args.graph.now in
-    subst (λ (k : TermComponent). IfOk c.max_count.result (λ rows. WhereRight terms ids c.args.shapes.now c.args.site.now.values c.args.told.now (CountAsks c.args.shape.now k) (λ s n. ListsRows (term_component k) (around terms ids s n c.args.site.now.values c.args.site.now.focus) (shape_reading (named_shapes terms c.args.shapes.now) (read_shape (term_at terms) c.args.shape.now)) c.args.site.now.source (term_at terms c.args.site.now.focus) (term_at terms c.args.site.now.parameter) rows.items))) (sym c.in-MaxCount.is)
-    (IfOk-weaker c.max_count.result (λ rows. ListsRows components.MaxCount (at_nodes (HasNode terms c.args.site.now.values)) untold c.args.site.now.source (term_at terms c.args.site.now.focus) (term_at terms c.args.site.now.parameter) rows.items)
-    (λ rows. WhereRight terms ids c.args.shapes.now c.args.site.now.values c.args.told.now (CountAsks c.args.shape.now by_term.MaxCount) (λ s n. ListsRows (term_component by_term.MaxCount) (around terms ids s n c.args.site.now.values c.args.site.now.focus) (shape_reading (named_shapes terms c.args.shapes.now) (read_shape (term_at terms) c.args.shape.now)) c.args.site.now.source (term_at terms c.args.site.now.focus) (term_at terms c.args.site.now.parameter) rows.items))
-    (λ rows h s n right. h) c.max_count.ensures)
+    let x = c.args.site.now in
+    let Here = Given c.args.evaluation.now x c.args.shape.now c.args.told.now in
+    subst (λ (k : TermComponent). IfOk c.max_count.result (λ rows. Here k rows.items)) (sym c.in-MaxCount.is)
+    (IfOk-weaker c.max_count.result (λ rows. ListsAt components.MaxCount (at_values x) untold x rows.items) (λ rows. Here by_term.MaxCount rows.items) (λ rows h s n right. h) c.max_count.ensures)
 
 pub returns-in-MinExclusive : goal.returns-in-MinExclusive
 returns-in-MinExclusive g c =
-    let terms = c.args.site.now.terms in
-    let ids = g.R.Triples.triples c.args.graph.now in
-    subst (λ (k : TermComponent). IfOk c.min_exclusive.result (λ rows. WhereRight terms ids c.args.shapes.now c.args.site.now.values c.args.told.now (CountAsks c.args.shape.now k) (λ s n. ListsRows (term_component k) (around terms ids s n c.args.site.now.values c.args.site.now.focus) (shape_reading (named_shapes terms c.args.shapes.now) (read_shape (term_at terms) c.args.shape.now)) c.args.site.now.source (term_at terms c.args.site.now.focus) (term_at terms c.args.site.now.parameter) rows.items))) (sym c.in-MinExclusive.is)
-    (IfOk-weaker c.min_exclusive.result (λ rows. ListsRows components.MinExclusive (at_nodes (HasNode terms c.args.site.now.values)) untold c.args.site.now.source (term_at terms c.args.site.now.focus) (term_at terms c.args.site.now.parameter) rows.items)
-    (λ rows. WhereRight terms ids c.args.shapes.now c.args.site.now.values c.args.told.now (CountAsks c.args.shape.now by_term.MinExclusive) (λ s n. ListsRows (term_component by_term.MinExclusive) (around terms ids s n c.args.site.now.values c.args.site.now.focus) (shape_reading (named_shapes terms c.args.shapes.now) (read_shape (term_at terms) c.args.shape.now)) c.args.site.now.source (term_at terms c.args.site.now.focus) (term_at terms c.args.site.now.parameter) rows.items))
-    (λ rows h s n right. h) c.min_exclusive.ensures)
+    let x = c.args.site.now in
+    let Here = Given c.args.evaluation.now x c.args.shape.now c.args.told.now in
+    subst (λ (k : TermComponent). IfOk c.min_exclusive.result (λ rows. Here k rows.items)) (sym c.in-MinExclusive.is)
+    (IfOk-weaker c.min_exclusive.result (λ rows. ListsAt components.MinExclusive (at_values x) untold x rows.items) (λ rows. Here by_term.MinExclusive rows.items) (λ rows h s n right. h) c.min_exclusive.ensures)
 
 pub returns-in-MinInclusive : goal.returns-in-MinInclusive
 returns-in-MinInclusive g c =
-    let terms = c.args.site.now.terms in
-    let ids = g.R.Triples.triples c.args.graph.now in
-    subst (λ (k : TermComponent). IfOk c.min_inclusive.result (λ rows. WhereRight terms ids c.args.shapes.now c.args.site.now.values c.args.told.now (CountAsks c.args.shape.now k) (λ s n. ListsRows (term_component k) (around terms ids s n c.args.site.now.values c.args.site.now.focus) (shape_reading (named_shapes terms c.args.shapes.now) (read_shape (term_at terms) c.args.shape.now)) c.args.site.now.source (term_at terms c.args.site.now.focus) (term_at terms c.args.site.now.parameter) rows.items))) (sym c.in-MinInclusive.is)
-    (IfOk-weaker c.min_inclusive.result (λ rows. ListsRows components.MinInclusive (at_nodes (HasNode terms c.args.site.now.values)) untold c.args.site.now.source (term_at terms c.args.site.now.focus) (term_at terms c.args.site.now.parameter) rows.items)
-    (λ rows. WhereRight terms ids c.args.shapes.now c.args.site.now.values c.args.told.now (CountAsks c.args.shape.now by_term.MinInclusive) (λ s n. ListsRows (term_component by_term.MinInclusive) (around terms ids s n c.args.site.now.values c.args.site.now.focus) (shape_reading (named_shapes terms c.args.shapes.now) (read_shape (term_at terms) c.args.shape.now)) c.args.site.now.source (term_at terms c.args.site.now.focus) (term_at terms c.args.site.now.parameter) rows.items))
-    (λ rows h s n right. h) c.min_inclusive.ensures)
+    let x = c.args.site.now in
+    let Here = Given c.args.evaluation.now x c.args.shape.now c.args.told.now in
+    subst (λ (k : TermComponent). IfOk c.min_inclusive.result (λ rows. Here k rows.items)) (sym c.in-MinInclusive.is)
+    (IfOk-weaker c.min_inclusive.result (λ rows. ListsAt components.MinInclusive (at_values x) untold x rows.items) (λ rows. Here by_term.MinInclusive rows.items) (λ rows h s n right. h) c.min_inclusive.ensures)
 
 pub returns-in-MaxExclusive : goal.returns-in-MaxExclusive
 returns-in-MaxExclusive g c =
-    let terms = c.args.site.now.terms in
-    let ids = g.R.Triples.triples c.args.graph.now in
-    subst (λ (k : TermComponent). IfOk c.max_exclusive.result (λ rows. WhereRight terms ids c.args.shapes.now c.args.site.now.values c.args.told.now (CountAsks c.args.shape.now k) (λ s n. ListsRows (term_component k) (around terms ids s n c.args.site.now.values c.args.site.now.focus) (shape_reading (named_shapes terms c.args.shapes.now) (read_shape (term_at terms) c.args.shape.now)) c.args.site.now.source (term_at terms c.args.site.now.focus) (term_at terms c.args.site.now.parameter) rows.items))) (sym c.in-MaxExclusive.is)
-    (IfOk-weaker c.max_exclusive.result (λ rows. ListsRows components.MaxExclusive (at_nodes (HasNode terms c.args.site.now.values)) untold c.args.site.now.source (term_at terms c.args.site.now.focus) (term_at terms c.args.site.now.parameter) rows.items)
-    (λ rows. WhereRight terms ids c.args.shapes.now c.args.site.now.values c.args.told.now (CountAsks c.args.shape.now by_term.MaxExclusive) (λ s n. ListsRows (term_component by_term.MaxExclusive) (around terms ids s n c.args.site.now.values c.args.site.now.focus) (shape_reading (named_shapes terms c.args.shapes.now) (read_shape (term_at terms) c.args.shape.now)) c.args.site.now.source (term_at terms c.args.site.now.focus) (term_at terms c.args.site.now.parameter) rows.items))
-    (λ rows h s n right. h) c.max_exclusive.ensures)
+    let x = c.args.site.now in
+    let Here = Given c.args.evaluation.now x c.args.shape.now c.args.told.now in
+    subst (λ (k : TermComponent). IfOk c.max_exclusive.result (λ rows. Here k rows.items)) (sym c.in-MaxExclusive.is)
+    (IfOk-weaker c.max_exclusive.result (λ rows. ListsAt components.MaxExclusive (at_values x) untold x rows.items) (λ rows. Here by_term.MaxExclusive rows.items) (λ rows h s n right. h) c.max_exclusive.ensures)
 
 pub returns-in-MaxInclusive : goal.returns-in-MaxInclusive
 returns-in-MaxInclusive g c =
-    let terms = c.args.site.now.terms in
-    let ids = g.R.Triples.triples c.args.graph.now in
-    subst (λ (k : TermComponent). IfOk c.max_inclusive.result (λ rows. WhereRight terms ids c.args.shapes.now c.args.site.now.values c.args.told.now (CountAsks c.args.shape.now k) (λ s n. ListsRows (term_component k) (around terms ids s n c.args.site.now.values c.args.site.now.focus) (shape_reading (named_shapes terms c.args.shapes.now) (read_shape (term_at terms) c.args.shape.now)) c.args.site.now.source (term_at terms c.args.site.now.focus) (term_at terms c.args.site.now.parameter) rows.items))) (sym c.in-MaxInclusive.is)
-    (IfOk-weaker c.max_inclusive.result (λ rows. ListsRows components.MaxInclusive (at_nodes (HasNode terms c.args.site.now.values)) untold c.args.site.now.source (term_at terms c.args.site.now.focus) (term_at terms c.args.site.now.parameter) rows.items)
-    (λ rows. WhereRight terms ids c.args.shapes.now c.args.site.now.values c.args.told.now (CountAsks c.args.shape.now by_term.MaxInclusive) (λ s n. ListsRows (term_component by_term.MaxInclusive) (around terms ids s n c.args.site.now.values c.args.site.now.focus) (shape_reading (named_shapes terms c.args.shapes.now) (read_shape (term_at terms) c.args.shape.now)) c.args.site.now.source (term_at terms c.args.site.now.focus) (term_at terms c.args.site.now.parameter) rows.items))
-    (λ rows h s n right. h) c.max_inclusive.ensures)
+    let x = c.args.site.now in
+    let Here = Given c.args.evaluation.now x c.args.shape.now c.args.told.now in
+    subst (λ (k : TermComponent). IfOk c.max_inclusive.result (λ rows. Here k rows.items)) (sym c.in-MaxInclusive.is)
+    (IfOk-weaker c.max_inclusive.result (λ rows. ListsAt components.MaxInclusive (at_values x) untold x rows.items) (λ rows. Here by_term.MaxInclusive rows.items) (λ rows h s n right. h) c.max_inclusive.ensures)
 
 pub returns-in-MinLength : goal.returns-in-MinLength
 returns-in-MinLength g c =
-    let terms = c.args.site.now.terms in
-    let ids = g.R.Triples.triples c.args.graph.now in
-    subst (λ (k : TermComponent). IfOk c.min_length.result (λ rows. WhereRight terms ids c.args.shapes.now c.args.site.now.values c.args.told.now (CountAsks c.args.shape.now k) (λ s n. ListsRows (term_component k) (around terms ids s n c.args.site.now.values c.args.site.now.focus) (shape_reading (named_shapes terms c.args.shapes.now) (read_shape (term_at terms) c.args.shape.now)) c.args.site.now.source (term_at terms c.args.site.now.focus) (term_at terms c.args.site.now.parameter) rows.items))) (sym c.in-MinLength.is)
-    (IfOk-weaker c.min_length.result (λ rows. ListsRows components.MinLength (at_nodes (HasNode terms c.args.site.now.values)) untold c.args.site.now.source (term_at terms c.args.site.now.focus) (term_at terms c.args.site.now.parameter) rows.items)
-    (λ rows. WhereRight terms ids c.args.shapes.now c.args.site.now.values c.args.told.now (CountAsks c.args.shape.now by_term.MinLength) (λ s n. ListsRows (term_component by_term.MinLength) (around terms ids s n c.args.site.now.values c.args.site.now.focus) (shape_reading (named_shapes terms c.args.shapes.now) (read_shape (term_at terms) c.args.shape.now)) c.args.site.now.source (term_at terms c.args.site.now.focus) (term_at terms c.args.site.now.parameter) rows.items))
-    (λ rows h s n right. h) c.min_length.ensures)
+    let x = c.args.site.now in
+    let Here = Given c.args.evaluation.now x c.args.shape.now c.args.told.now in
+    subst (λ (k : TermComponent). IfOk c.min_length.result (λ rows. Here k rows.items)) (sym c.in-MinLength.is)
+    (IfOk-weaker c.min_length.result (λ rows. ListsAt components.MinLength (at_values x) untold x rows.items) (λ rows. Here by_term.MinLength rows.items) (λ rows h s n right. h) c.min_length.ensures)
 
 pub returns-in-MaxLength : goal.returns-in-MaxLength
 returns-in-MaxLength g c =
-    let terms = c.args.site.now.terms in
-    let ids = g.R.Triples.triples c.args.graph.now in
-    subst (λ (k : TermComponent). IfOk c.max_length.result (λ rows. WhereRight terms ids c.args.shapes.now c.args.site.now.values c.args.told.now (CountAsks c.args.shape.now k) (λ s n. ListsRows (term_component k) (around terms ids s n c.args.site.now.values c.args.site.now.focus) (shape_reading (named_shapes terms c.args.shapes.now) (read_shape (term_at terms) c.args.shape.now)) c.args.site.now.source (term_at terms c.args.site.now.focus) (term_at terms c.args.site.now.parameter) rows.items))) (sym c.in-MaxLength.is)
-    (IfOk-weaker c.max_length.result (λ rows. ListsRows components.MaxLength (at_nodes (HasNode terms c.args.site.now.values)) untold c.args.site.now.source (term_at terms c.args.site.now.focus) (term_at terms c.args.site.now.parameter) rows.items)
-    (λ rows. WhereRight terms ids c.args.shapes.now c.args.site.now.values c.args.told.now (CountAsks c.args.shape.now by_term.MaxLength) (λ s n. ListsRows (term_component by_term.MaxLength) (around terms ids s n c.args.site.now.values c.args.site.now.focus) (shape_reading (named_shapes terms c.args.shapes.now) (read_shape (term_at terms) c.args.shape.now)) c.args.site.now.source (term_at terms c.args.site.now.focus) (term_at terms c.args.site.now.parameter) rows.items))
-    (λ rows h s n right. h) c.max_length.ensures)
+    let x = c.args.site.now in
+    let Here = Given c.args.evaluation.now x c.args.shape.now c.args.told.now in
+    subst (λ (k : TermComponent). IfOk c.max_length.result (λ rows. Here k rows.items)) (sym c.in-MaxLength.is)
+    (IfOk-weaker c.max_length.result (λ rows. ListsAt components.MaxLength (at_values x) untold x rows.items) (λ rows. Here by_term.MaxLength rows.items) (λ rows h s n right. h) c.max_length.ensures)
 
 pub returns-in-UniqueLang : goal.returns-in-UniqueLang
 returns-in-UniqueLang g c =
-    let terms = c.args.site.now.terms in
-    let ids = g.R.Triples.triples c.args.graph.now in
-    subst (λ (k : TermComponent). IfOk c.unique_lang.result (λ rows. WhereRight terms ids c.args.shapes.now c.args.site.now.values c.args.told.now (CountAsks c.args.shape.now k) (λ s n. ListsRows (term_component k) (around terms ids s n c.args.site.now.values c.args.site.now.focus) (shape_reading (named_shapes terms c.args.shapes.now) (read_shape (term_at terms) c.args.shape.now)) c.args.site.now.source (term_at terms c.args.site.now.focus) (term_at terms c.args.site.now.parameter) rows.items))) (sym c.in-UniqueLang.is)
-    (IfOk-weaker c.unique_lang.result (λ rows. ListsRows components.UniqueLang (at_nodes (HasNode terms c.args.site.now.values)) untold c.args.site.now.source (term_at terms c.args.site.now.focus) (term_at terms c.args.site.now.parameter) rows.items)
-    (λ rows. WhereRight terms ids c.args.shapes.now c.args.site.now.values c.args.told.now (CountAsks c.args.shape.now by_term.UniqueLang) (λ s n. ListsRows (term_component by_term.UniqueLang) (around terms ids s n c.args.site.now.values c.args.site.now.focus) (shape_reading (named_shapes terms c.args.shapes.now) (read_shape (term_at terms) c.args.shape.now)) c.args.site.now.source (term_at terms c.args.site.now.focus) (term_at terms c.args.site.now.parameter) rows.items))
-    (λ rows h s n right. h) c.unique_lang.ensures)
-
-pub returns-in-Equals : goal.returns-in-Equals
-returns-in-Equals g c =
-    let terms = c.args.site.now.terms in
-    let ids = g.R.Triples.triples c.args.graph.now in
-    subst (λ (k : TermComponent). IfOk c.equals.result (λ rows. WhereRight terms ids c.args.shapes.now c.args.site.now.values c.args.told.now (CountAsks c.args.shape.now k) (λ s n. ListsRows (term_component k) (around terms ids s n c.args.site.now.values c.args.site.now.focus) (shape_reading (named_shapes terms c.args.shapes.now) (read_shape (term_at terms) c.args.shape.now)) c.args.site.now.source (term_at terms c.args.site.now.focus) (term_at terms c.args.site.now.parameter) rows.items))) (sym c.in-Equals.is)
-    (IfOk-weaker c.equals.result (λ rows. ListsRows components.Equals (at_focus terms ids c.args.site.now.values (term_at terms c.args.site.now.focus)) untold c.args.site.now.source (term_at terms c.args.site.now.focus) (term_at terms c.args.site.now.parameter) rows.items)
-    (λ rows. WhereRight terms ids c.args.shapes.now c.args.site.now.values c.args.told.now (CountAsks c.args.shape.now by_term.Equals) (λ s n. ListsRows (term_component by_term.Equals) (around terms ids s n c.args.site.now.values c.args.site.now.focus) (shape_reading (named_shapes terms c.args.shapes.now) (read_shape (term_at terms) c.args.shape.now)) c.args.site.now.source (term_at terms c.args.site.now.focus) (term_at terms c.args.site.now.parameter) rows.items))
-    (λ rows h s n right. h) c.equals.ensures)
-
-pub returns-in-Disjoint : goal.returns-in-Disjoint
-returns-in-Disjoint g c =
-    let terms = c.args.site.now.terms in
-    let ids = g.R.Triples.triples c.args.graph.now in
-    subst (λ (k : TermComponent). IfOk c.disjoint.result (λ rows. WhereRight terms ids c.args.shapes.now c.args.site.now.values c.args.told.now (CountAsks c.args.shape.now k) (λ s n. ListsRows (term_component k) (around terms ids s n c.args.site.now.values c.args.site.now.focus) (shape_reading (named_shapes terms c.args.shapes.now) (read_shape (term_at terms) c.args.shape.now)) c.args.site.now.source (term_at terms c.args.site.now.focus) (term_at terms c.args.site.now.parameter) rows.items))) (sym c.in-Disjoint.is)
-    (IfOk-weaker c.disjoint.result (λ rows. ListsRows components.Disjoint (at_focus terms ids c.args.site.now.values (term_at terms c.args.site.now.focus)) untold c.args.site.now.source (term_at terms c.args.site.now.focus) (term_at terms c.args.site.now.parameter) rows.items)
-    (λ rows. WhereRight terms ids c.args.shapes.now c.args.site.now.values c.args.told.now (CountAsks c.args.shape.now by_term.Disjoint) (λ s n. ListsRows (term_component by_term.Disjoint) (around terms ids s n c.args.site.now.values c.args.site.now.focus) (shape_reading (named_shapes terms c.args.shapes.now) (read_shape (term_at terms) c.args.shape.now)) c.args.site.now.source (term_at terms c.args.site.now.focus) (term_at terms c.args.site.now.parameter) rows.items))
-    (λ rows h s n right. h) c.disjoint.ensures)
-
-pub returns-in-LessThan : goal.returns-in-LessThan
-returns-in-LessThan g c =
-    let terms = c.args.site.now.terms in
-    let ids = g.R.Triples.triples c.args.graph.now in
-    subst (λ (k : TermComponent). IfOk c.less_than.result (λ rows. WhereRight terms ids c.args.shapes.now c.args.site.now.values c.args.told.now (CountAsks c.args.shape.now k) (λ s n. ListsRows (term_component k) (around terms ids s n c.args.site.now.values c.args.site.now.focus) (shape_reading (named_shapes terms c.args.shapes.now) (read_shape (term_at terms) c.args.shape.now)) c.args.site.now.source (term_at terms c.args.site.now.focus) (term_at terms c.args.site.now.parameter) rows.items))) (sym c.in-LessThan.is)
-    (IfOk-weaker c.less_than.result (λ rows. ListsRows components.LessThan (at_focus terms ids c.args.site.now.values (term_at terms c.args.site.now.focus)) untold c.args.site.now.source (term_at terms c.args.site.now.focus) (term_at terms c.args.site.now.parameter) rows.items)
-    (λ rows. WhereRight terms ids c.args.shapes.now c.args.site.now.values c.args.told.now (CountAsks c.args.shape.now by_term.LessThan) (λ s n. ListsRows (term_component by_term.LessThan) (around terms ids s n c.args.site.now.values c.args.site.now.focus) (shape_reading (named_shapes terms c.args.shapes.now) (read_shape (term_at terms) c.args.shape.now)) c.args.site.now.source (term_at terms c.args.site.now.focus) (term_at terms c.args.site.now.parameter) rows.items))
-    (λ rows h s n right. h) c.less_than.ensures)
-
-pub returns-in-LessThanOrEquals : goal.returns-in-LessThanOrEquals
-returns-in-LessThanOrEquals g c =
-    let terms = c.args.site.now.terms in
-    let ids = g.R.Triples.triples c.args.graph.now in
-    subst (λ (k : TermComponent). IfOk c.less_than_or_equals.result (λ rows. WhereRight terms ids c.args.shapes.now c.args.site.now.values c.args.told.now (CountAsks c.args.shape.now k) (λ s n. ListsRows (term_component k) (around terms ids s n c.args.site.now.values c.args.site.now.focus) (shape_reading (named_shapes terms c.args.shapes.now) (read_shape (term_at terms) c.args.shape.now)) c.args.site.now.source (term_at terms c.args.site.now.focus) (term_at terms c.args.site.now.parameter) rows.items))) (sym c.in-LessThanOrEquals.is)
-    (IfOk-weaker c.less_than_or_equals.result (λ rows. ListsRows components.LessThanOrEquals (at_focus terms ids c.args.site.now.values (term_at terms c.args.site.now.focus)) untold c.args.site.now.source (term_at terms c.args.site.now.focus) (term_at terms c.args.site.now.parameter) rows.items)
-    (λ rows. WhereRight terms ids c.args.shapes.now c.args.site.now.values c.args.told.now (CountAsks c.args.shape.now by_term.LessThanOrEquals) (λ s n. ListsRows (term_component by_term.LessThanOrEquals) (around terms ids s n c.args.site.now.values c.args.site.now.focus) (shape_reading (named_shapes terms c.args.shapes.now) (read_shape (term_at terms) c.args.shape.now)) c.args.site.now.source (term_at terms c.args.site.now.focus) (term_at terms c.args.site.now.parameter) rows.items))
-    (λ rows h s n right. h) c.less_than_or_equals.ensures)
-
-pub returns-in-QualifiedMinCount : goal.returns-in-QualifiedMinCount
-returns-in-QualifiedMinCount g c =
-    let terms = c.args.site.now.terms in
-    let ids = g.R.Triples.triples c.args.graph.now in
-    subst (λ (k : TermComponent). IfOk c.qualified_min_rows.result (λ rows. WhereRight terms ids c.args.shapes.now c.args.site.now.values c.args.told.now (CountAsks c.args.shape.now k) (λ s n. ListsRows (term_component k) (around terms ids s n c.args.site.now.values c.args.site.now.focus) (shape_reading (named_shapes terms c.args.shapes.now) (read_shape (term_at terms) c.args.shape.now)) c.args.site.now.source (term_at terms c.args.site.now.focus) (term_at terms c.args.site.now.parameter) rows.items))) (sym c.in-QualifiedMinCount.is)
-    (IfOk-weaker c.qualified_min_rows.result (λ rows. (is : _) → WhereRight terms is c.args.shapes.now c.args.site.now.values c.args.told.now (CountAsks c.args.shape.now by_term.QualifiedMinCount) (λ s n. ListsRows components.QualifiedMinCount (around terms is s n c.args.site.now.values c.args.site.now.focus) (shape_reading (named_shapes terms c.args.shapes.now) (read_shape (term_at terms) c.args.shape.now)) c.args.site.now.source (term_at terms c.args.site.now.focus) (term_at terms c.args.site.now.parameter) rows.items))
-    (λ rows. WhereRight terms ids c.args.shapes.now c.args.site.now.values c.args.told.now (CountAsks c.args.shape.now by_term.QualifiedMinCount) (λ s n. ListsRows (term_component by_term.QualifiedMinCount) (around terms ids s n c.args.site.now.values c.args.site.now.focus) (shape_reading (named_shapes terms c.args.shapes.now) (read_shape (term_at terms) c.args.shape.now)) c.args.site.now.source (term_at terms c.args.site.now.focus) (term_at terms c.args.site.now.parameter) rows.items))
-    (λ rows h. h ids) c.qualified_min_rows.ensures)
-
-pub returns-in-QualifiedMaxCount : goal.returns-in-QualifiedMaxCount
-returns-in-QualifiedMaxCount g c =
-    let terms = c.args.site.now.terms in
-    let ids = g.R.Triples.triples c.args.graph.now in
-    subst (λ (k : TermComponent). IfOk c.qualified_max_rows.result (λ rows. WhereRight terms ids c.args.shapes.now c.args.site.now.values c.args.told.now (CountAsks c.args.shape.now k) (λ s n. ListsRows (term_component k) (around terms ids s n c.args.site.now.values c.args.site.now.focus) (shape_reading (named_shapes terms c.args.shapes.now) (read_shape (term_at terms) c.args.shape.now)) c.args.site.now.source (term_at terms c.args.site.now.focus) (term_at terms c.args.site.now.parameter) rows.items))) (sym c.in-QualifiedMaxCount.is)
-    (IfOk-weaker c.qualified_max_rows.result (λ rows. (is : _) → WhereRight terms is c.args.shapes.now c.args.site.now.values c.args.told.now (CountAsks c.args.shape.now by_term.QualifiedMaxCount) (λ s n. ListsRows components.QualifiedMaxCount (around terms is s n c.args.site.now.values c.args.site.now.focus) (shape_reading (named_shapes terms c.args.shapes.now) (read_shape (term_at terms) c.args.shape.now)) c.args.site.now.source (term_at terms c.args.site.now.focus) (term_at terms c.args.site.now.parameter) rows.items))
-    (λ rows. WhereRight terms ids c.args.shapes.now c.args.site.now.values c.args.told.now (CountAsks c.args.shape.now by_term.QualifiedMaxCount) (λ s n. ListsRows (term_component by_term.QualifiedMaxCount) (around terms ids s n c.args.site.now.values c.args.site.now.focus) (shape_reading (named_shapes terms c.args.shapes.now) (read_shape (term_at terms) c.args.shape.now)) c.args.site.now.source (term_at terms c.args.site.now.focus) (term_at terms c.args.site.now.parameter) rows.items))
-    (λ rows h. h ids) c.qualified_max_rows.ensures)
-
-pub returns-in-Closed : goal.returns-in-Closed
-returns-in-Closed g c =
-    let terms = c.args.site.now.terms in
-    let ids = g.R.Triples.triples c.args.graph.now in
-    subst (λ (k : TermComponent). IfOk c.closed_rows.result (λ rows. WhereRight terms ids c.args.shapes.now c.args.site.now.values c.args.told.now (CountAsks c.args.shape.now k) (λ s n. ListsRows (term_component k) (around terms ids s n c.args.site.now.values c.args.site.now.focus) (shape_reading (named_shapes terms c.args.shapes.now) (read_shape (term_at terms) c.args.shape.now)) c.args.site.now.source (term_at terms c.args.site.now.focus) (term_at terms c.args.site.now.parameter) rows.items))) (sym c.in-Closed.is)
-    (IfOk-weaker c.closed_rows.result (λ rows. (s : List Triple) (n : ℕ) → ListsRows components.Closed (around terms ids s n c.args.site.now.values c.args.site.now.focus) (shape_reading (named_shapes terms c.args.shapes.now) (read_shape (term_at terms) c.args.shape.now)) c.args.site.now.source (term_at terms c.args.site.now.focus) (term_at terms c.args.site.now.parameter) rows.items)
-    (λ rows. WhereRight terms ids c.args.shapes.now c.args.site.now.values c.args.told.now (CountAsks c.args.shape.now by_term.Closed) (λ s n. ListsRows (term_component by_term.Closed) (around terms ids s n c.args.site.now.values c.args.site.now.focus) (shape_reading (named_shapes terms c.args.shapes.now) (read_shape (term_at terms) c.args.shape.now)) c.args.site.now.source (term_at terms c.args.site.now.focus) (term_at terms c.args.site.now.parameter) rows.items))
-    (λ rows h s n right. h s n) c.closed_rows.ensures)
+    let x = c.args.site.now in
+    let Here = Given c.args.evaluation.now x c.args.shape.now c.args.told.now in
+    subst (λ (k : TermComponent). IfOk c.unique_lang.result (λ rows. Here k rows.items)) (sym c.in-UniqueLang.is)
+    (IfOk-weaker c.unique_lang.result (λ rows. ListsAt components.UniqueLang (at_values x) untold x rows.items) (λ rows. Here by_term.UniqueLang rows.items) (λ rows h s n right. h) c.unique_lang.ensures)
 
 pub returns-in-HasValue : goal.returns-in-HasValue
 returns-in-HasValue g c =
-    let terms = c.args.site.now.terms in
-    let ids = g.R.Triples.triples c.args.graph.now in
-    subst (λ (k : TermComponent). IfOk c.has_value.result (λ rows. WhereRight terms ids c.args.shapes.now c.args.site.now.values c.args.told.now (CountAsks c.args.shape.now k) (λ s n. ListsRows (term_component k) (around terms ids s n c.args.site.now.values c.args.site.now.focus) (shape_reading (named_shapes terms c.args.shapes.now) (read_shape (term_at terms) c.args.shape.now)) c.args.site.now.source (term_at terms c.args.site.now.focus) (term_at terms c.args.site.now.parameter) rows.items))) (sym c.in-HasValue.is)
-    (IfOk-weaker c.has_value.result (λ rows. ListsRows components.HasValue (at_nodes (HasNode terms c.args.site.now.values)) untold c.args.site.now.source (term_at terms c.args.site.now.focus) (term_at terms c.args.site.now.parameter) rows.items)
-    (λ rows. WhereRight terms ids c.args.shapes.now c.args.site.now.values c.args.told.now (CountAsks c.args.shape.now by_term.HasValue) (λ s n. ListsRows (term_component by_term.HasValue) (around terms ids s n c.args.site.now.values c.args.site.now.focus) (shape_reading (named_shapes terms c.args.shapes.now) (read_shape (term_at terms) c.args.shape.now)) c.args.site.now.source (term_at terms c.args.site.now.focus) (term_at terms c.args.site.now.parameter) rows.items))
-    (λ rows h s n right. h) c.has_value.ensures)
+    let x = c.args.site.now in
+    let Here = Given c.args.evaluation.now x c.args.shape.now c.args.told.now in
+    subst (λ (k : TermComponent). IfOk c.has_value.result (λ rows. Here k rows.items)) (sym c.in-HasValue.is)
+    (IfOk-weaker c.has_value.result (λ rows. ListsAt components.HasValue (at_values x) untold x rows.items) (λ rows. Here by_term.HasValue rows.items) (λ rows h s n right. h) c.has_value.ensures)
+
+pub equals-requires : goal.equals-requires
+equals-requires g c = subst (λ (p : List Term × List Ids). AreNumbered p.0 p.1) (λ i. (sym c.requires.same i, sym c.graph-graph.ensures i)) c.recall.ensures.numbered
+
+pub returns-in-Equals : goal.returns-in-Equals
+returns-in-Equals g c =
+    let x = c.args.site.now in
+    let Here = Given c.args.evaluation.now x c.args.shape.now c.args.told.now in
+    subst (λ (k : TermComponent). IfOk c.equals.result (λ rows. Here k rows.items)) (sym c.in-Equals.is)
+    (IfOk-weaker c.equals.result (λ rows. ListsAt components.Equals (at_site c.args.evaluation.now.ids x) untold x rows.items) (λ rows. Here by_term.Equals rows.items) (λ rows h s n right. h)
+    (subst (λ (ids : List Ids). IfOk c.equals.result (λ rows. ListsAt components.Equals (at_site ids x) untold x rows.items)) c.graph-graph.ensures c.equals.ensures))
+
+pub disjoint-requires : goal.disjoint-requires
+disjoint-requires g c = subst (λ (p : List Term × List Ids). AreNumbered p.0 p.1) (λ i. (sym c.requires.same i, sym c.graph-graph.ensures i)) c.recall.ensures.numbered
+
+pub returns-in-Disjoint : goal.returns-in-Disjoint
+returns-in-Disjoint g c =
+    let x = c.args.site.now in
+    let Here = Given c.args.evaluation.now x c.args.shape.now c.args.told.now in
+    subst (λ (k : TermComponent). IfOk c.disjoint.result (λ rows. Here k rows.items)) (sym c.in-Disjoint.is)
+    (IfOk-weaker c.disjoint.result (λ rows. ListsAt components.Disjoint (at_site c.args.evaluation.now.ids x) untold x rows.items) (λ rows. Here by_term.Disjoint rows.items) (λ rows h s n right. h)
+    (subst (λ (ids : List Ids). IfOk c.disjoint.result (λ rows. ListsAt components.Disjoint (at_site ids x) untold x rows.items)) c.graph-graph.ensures c.disjoint.ensures))
+
+pub less_than-requires : goal.less_than-requires
+less_than-requires g c = subst (λ (p : List Term × List Ids). AreNumbered p.0 p.1) (λ i. (sym c.requires.same i, sym c.graph-graph.ensures i)) c.recall.ensures.numbered
+
+pub returns-in-LessThan : goal.returns-in-LessThan
+returns-in-LessThan g c =
+    let x = c.args.site.now in
+    let Here = Given c.args.evaluation.now x c.args.shape.now c.args.told.now in
+    subst (λ (k : TermComponent). IfOk c.less_than.result (λ rows. Here k rows.items)) (sym c.in-LessThan.is)
+    (IfOk-weaker c.less_than.result (λ rows. ListsAt components.LessThan (at_site c.args.evaluation.now.ids x) untold x rows.items) (λ rows. Here by_term.LessThan rows.items) (λ rows h s n right. h)
+    (subst (λ (ids : List Ids). IfOk c.less_than.result (λ rows. ListsAt components.LessThan (at_site ids x) untold x rows.items)) c.graph-graph.ensures c.less_than.ensures))
+
+pub less_than_or_equals-requires : goal.less_than_or_equals-requires
+less_than_or_equals-requires g c = subst (λ (p : List Term × List Ids). AreNumbered p.0 p.1) (λ i. (sym c.requires.same i, sym c.graph-graph.ensures i)) c.recall.ensures.numbered
+
+pub returns-in-LessThanOrEquals : goal.returns-in-LessThanOrEquals
+returns-in-LessThanOrEquals g c =
+    let x = c.args.site.now in
+    let Here = Given c.args.evaluation.now x c.args.shape.now c.args.told.now in
+    subst (λ (k : TermComponent). IfOk c.less_than_or_equals.result (λ rows. Here k rows.items)) (sym c.in-LessThanOrEquals.is)
+    (IfOk-weaker c.less_than_or_equals.result (λ rows. ListsAt components.LessThanOrEquals (at_site c.args.evaluation.now.ids x) untold x rows.items) (λ rows. Here by_term.LessThanOrEquals rows.items) (λ rows h s n right. h)
+    (subst (λ (ids : List Ids). IfOk c.less_than_or_equals.result (λ rows. ListsAt components.LessThanOrEquals (at_site ids x) untold x rows.items)) c.graph-graph.ensures c.less_than_or_equals.ensures))
+
+pub qualified_min_rows-requires-clause-bound : goal.qualified_min_rows-requires-clause-bound
+qualified_min_rows-requires-clause-bound g c = subst (λ (p : List Term × List (Shape ℕ)). AreBound p.0 p.1) (λ i. (sym c.requires.same i, sym c.shapes-shapes.ensures i)) c.recall.ensures.bound
+
+pub qualified_min_rows-requires-clause-shape : goal.qualified_min_rows-requires-clause-shape
+qualified_min_rows-requires-clause-shape g c = subst (λ (xs : List (Shape ℕ)). HoldsOfShape (λ n. n < length c.args.site.now.terms) (length xs) c.args.shape.now) (sym c.shapes-shapes.ensures) c.requires.shape
 
 pub qualified_min_rows-requires-clause-told : goal.qualified_min_rows-requires-clause-told
-qualified_min_rows-requires-clause-told g c = subst (λ (k : TermComponent). HaveAnswers c.args.shapes.now c.args.site.now.values c.args.told.now (CountAsks c.args.shape.now k)) c.in-QualifiedMinCount.is c.requires.told
+qualified_min_rows-requires-clause-told g c =
+    subst (λ (p : TermComponent × List (Shape ℕ)). HaveAnswers p.1 c.args.site.now.values c.args.told.now (CountAsks c.args.shape.now p.0)) (λ i. (c.in-QualifiedMinCount.is i, sym c.shapes-shapes.ensures i)) c.requires.told
+
+pub returns-in-QualifiedMinCount : goal.returns-in-QualifiedMinCount
+returns-in-QualifiedMinCount g c =
+    let e = c.args.evaluation.now in
+    let x = c.args.site.now in
+    let Here = Given e x c.args.shape.now c.args.told.now in
+    let There : List (Shape ℕ) → List ResultRow → Type 0 = λ shapes rows. (ids : List Ids) → WhereRight x.terms ids shapes x.values c.args.told.now (CountAsks c.args.shape.now by_term.QualifiedMinCount) (λ s n. Rows e x c.args.shape.now c.args.told.now shapes ids by_term.QualifiedMinCount s n rows) in
+    subst (λ (k : TermComponent). IfOk c.qualified_min_rows.result (λ rows. Here k rows.items)) (sym c.in-QualifiedMinCount.is)
+    (IfOk-weaker c.qualified_min_rows.result (λ rows. There e.shapes rows.items) (λ rows. Here by_term.QualifiedMinCount rows.items) (λ rows h. h e.ids)
+    (subst (λ (shapes : List (Shape ℕ)). IfOk c.qualified_min_rows.result (λ rows. There shapes rows.items)) c.shapes-shapes.ensures c.qualified_min_rows.ensures))
+
+pub qualified_max_rows-requires-clause-bound : goal.qualified_max_rows-requires-clause-bound
+qualified_max_rows-requires-clause-bound g c = subst (λ (p : List Term × List (Shape ℕ)). AreBound p.0 p.1) (λ i. (sym c.requires.same i, sym c.shapes-shapes.ensures i)) c.recall.ensures.bound
+
+pub qualified_max_rows-requires-clause-shape : goal.qualified_max_rows-requires-clause-shape
+qualified_max_rows-requires-clause-shape g c = subst (λ (xs : List (Shape ℕ)). HoldsOfShape (λ n. n < length c.args.site.now.terms) (length xs) c.args.shape.now) (sym c.shapes-shapes.ensures) c.requires.shape
 
 pub qualified_max_rows-requires-clause-told : goal.qualified_max_rows-requires-clause-told
-qualified_max_rows-requires-clause-told g c = subst (λ (k : TermComponent). HaveAnswers c.args.shapes.now c.args.site.now.values c.args.told.now (CountAsks c.args.shape.now k)) c.in-QualifiedMaxCount.is c.requires.told
+qualified_max_rows-requires-clause-told g c =
+    subst (λ (p : TermComponent × List (Shape ℕ)). HaveAnswers p.1 c.args.site.now.values c.args.told.now (CountAsks c.args.shape.now p.0)) (λ i. (c.in-QualifiedMaxCount.is i, sym c.shapes-shapes.ensures i)) c.requires.told
+
+pub returns-in-QualifiedMaxCount : goal.returns-in-QualifiedMaxCount
+returns-in-QualifiedMaxCount g c =
+    let e = c.args.evaluation.now in
+    let x = c.args.site.now in
+    let Here = Given e x c.args.shape.now c.args.told.now in
+    let There : List (Shape ℕ) → List ResultRow → Type 0 = λ shapes rows. (ids : List Ids) → WhereRight x.terms ids shapes x.values c.args.told.now (CountAsks c.args.shape.now by_term.QualifiedMaxCount) (λ s n. Rows e x c.args.shape.now c.args.told.now shapes ids by_term.QualifiedMaxCount s n rows) in
+    subst (λ (k : TermComponent). IfOk c.qualified_max_rows.result (λ rows. Here k rows.items)) (sym c.in-QualifiedMaxCount.is)
+    (IfOk-weaker c.qualified_max_rows.result (λ rows. There e.shapes rows.items) (λ rows. Here by_term.QualifiedMaxCount rows.items) (λ rows h. h e.ids)
+    (subst (λ (shapes : List (Shape ℕ)). IfOk c.qualified_max_rows.result (λ rows. There shapes rows.items)) c.shapes-shapes.ensures c.qualified_max_rows.ensures))
+
+pub returns-in-Closed : goal.returns-in-Closed
+returns-in-Closed g c =
+    let e = c.args.evaluation.now in
+    let x = c.args.site.now in
+    let Here = Given e x c.args.shape.now c.args.told.now in
+    subst (λ (k : TermComponent). IfOk c.closed_rows.result (λ rows. Here k rows.items)) (sym c.in-Closed.is)
+    (IfOk-weaker c.closed_rows.result (λ rows. (s : List Triple) (n : ℕ) → Rows e x c.args.shape.now c.args.told.now e.shapes e.ids by_term.Closed s n rows.items) (λ rows. Here by_term.Closed rows.items) (λ rows h s n right. h s n) c.closed_rows.ensures)

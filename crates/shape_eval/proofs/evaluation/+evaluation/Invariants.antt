@@ -37,47 +37,47 @@ decreases-property_rows g l = 3 * l.levels + 2
 -- so far each answer says whether the value node conforms
 abbrev pub invariant-answers_at-loop-value : goal.invariant-answers_at-loop-value
 invariant-answers_at-loop-value g l =
-    let terms = g.N.Names.terms l.names in
-    let ids = g.R.Triples.triples l.graph in
+    let terms = l.evaluation.terms in
+    let ids = l.evaluation.ids in
     record {
       many : length l.answers.items ≡ l.value-index;
-      told : AtPlace terms l.shapes l.place (λ s c. Tells (λ i. ConformsAt (graph_of terms ids) s l.levels c.node (term_at terms (get_or l.values i 0))) l.value-index l.answers.items);
-      looks : AtPlace terms l.shapes l.place (λ s c. AddsLooks terms (ReadsOfSome (take l.value-index l.values) (λ v. ShapeReads l.levels (graph_of terms ids) (reading s) c.node (term_at terms v))) l.fn.footprint l.footprint);
+      told : AtPlace terms l.evaluation.shapes l.place (λ s c. Tells (λ i. ConformsAt (graph_of terms ids) s l.levels c.node (term_at terms (get_or l.values i 0))) l.value-index l.answers.items);
+      looks : AtPlace terms l.evaluation.shapes l.place (λ s c. AddsLooks terms (ReadsOfSome (take l.value-index l.values) (λ v. ShapeReads l.levels (graph_of terms ids) (reading s) c.node (term_at terms v))) l.fn.footprint l.footprint);
       kept : Keeps l.fn.footprint l.footprint;
     }
 
 -- the entries so far are for the shapes so far
 abbrev pub invariant-told_of_each-loop-place : goal.invariant-told_of_each-loop-place
 invariant-told_of_each-loop-place g l =
-    let terms = g.N.Names.terms l.names in
-    let ids = g.R.Triples.triples l.graph in
+    let terms = l.evaluation.terms in
+    let ids = l.evaluation.ids in
     record {
-      entries : ((p : ℕ) → Contains (take l.place-index l.places) p → Contains (map (λ t. t.node) l.told.items) (node_at l.shapes p))
+      entries : ((p : ℕ) → Contains (take l.place-index l.places) p → Contains (map (λ t. t.node) l.told.items) (node_at l.evaluation.shapes p))
           × ((t : Told) → Contains l.told.items t → length t.answers ≡ length l.values)
-          × ((s : List Triple) → StandFor (named_shapes terms l.shapes) s → (t : Told) → Contains l.told.items t
+          × ((s : List Triple) → StandFor (named_shapes terms l.evaluation.shapes) s → (t : Told) → Contains l.told.items t
           → AreAnswersTo (ConformsAt (graph_of terms ids) s l.levels (term_at terms t.node)) terms l.values t.answers);
-      looks : AddsAtPlaces terms ids l.shapes l.levels (take l.place-index l.places) l.values l.fn.footprint l.footprint;
+      looks : AddsAtPlaces terms ids l.evaluation.shapes l.levels (take l.place-index l.places) l.values l.fn.footprint l.footprint;
       kept : Keeps l.fn.footprint l.footprint;
     }
 
 abbrev pub invariant-rows_at_each-loop-value : goal.invariant-rows_at_each-loop-value
 invariant-rows_at_each-loop-value g l =
-    let terms = g.N.Names.terms l.names in
-    let ids = g.R.Triples.triples l.graph in
+    let terms = l.evaluation.terms in
+    let ids = l.evaluation.ids in
     record {
       rows : (length (map (λ list. list.items) l.rows.items) ≡ l.value-index)
-          × AtPlace terms l.shapes l.place (λ s c. (k : ℕ) → k < l.value-index → Collects (AtDepth l.levels (graph_of terms ids) (reading s) c.node (term_at terms (get_or l.values k 0))) (get_or (map (λ list. list.items) l.rows.items) k []));
-      looks : AtPlace terms l.shapes l.place (λ s c. AddsLooks terms (ReadsOfSome (take l.value-index l.values) (λ v. ShapeReads l.levels (graph_of terms ids) (reading s) c.node (term_at terms v))) l.fn.footprint l.footprint);
+          × AtPlace terms l.evaluation.shapes l.place (λ s c. (k : ℕ) → k < l.value-index → Collects (AtDepth l.levels (graph_of terms ids) (reading s) c.node (term_at terms (get_or l.values k 0))) (get_or (map (λ list. list.items) l.rows.items) k []));
+      looks : AtPlace terms l.evaluation.shapes l.place (λ s c. AddsLooks terms (ReadsOfSome (take l.value-index l.values) (λ v. ShapeReads l.levels (graph_of terms ids) (reading s) c.node (term_at terms v))) l.fn.footprint l.footprint);
       kept : Keeps l.fn.footprint l.footprint;
     }
 
 abbrev pub invariant-property_rows-loop-place : goal.invariant-property_rows-loop-place
 invariant-property_rows-loop-place g l =
-    let terms = g.N.Names.terms l.names in
-    let ids = g.R.Triples.triples l.graph in
+    let terms = l.evaluation.terms in
+    let ids = l.evaluation.ids in
     record {
-      rows : (s : List Triple) (f : ℕ) → StandFor (named_shapes terms l.shapes) s
-          → Collects (FromSome (take l.place-index l.places) (PropertyAt (around terms ids s l.levels l.values f) (named_shapes terms l.shapes))) l.rows.items;
-      looks : AddsAtPlaces terms ids l.shapes l.levels (take l.place-index l.places) l.values l.fn.footprint l.footprint;
+      rows : (s : List Triple) (f : ℕ) → StandFor (named_shapes terms l.evaluation.shapes) s
+          → Collects (FromSome (take l.place-index l.places) (PropertyAt (around terms ids s l.levels l.values f) (named_shapes terms l.evaluation.shapes))) l.rows.items;
+      looks : AddsAtPlaces terms ids l.evaluation.shapes l.levels (take l.place-index l.places) l.values l.fn.footprint l.footprint;
       kept : Keeps l.fn.footprint l.footprint;
     }

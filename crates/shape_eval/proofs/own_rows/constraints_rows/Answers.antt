@@ -25,20 +25,20 @@ constraint_rows-requires-clause-told g c =
     let constraints = c.args.constraints.now in
     let i = c.loop-constraint.constraint-index in
     let d = c.constraint-item.result in
-    subst (λ (k : Constraint ℕ). HaveAnswers c.args.shapes.now c.args.values.now c.args.told.now (Asks c.args.shape.now k)) (sym c.constraint-item.is)
+    subst (λ (k : Constraint ℕ). HaveAnswers c.args.evaluation.now.shapes c.args.values.now c.args.told.now (Asks c.args.shape.now k)) (sym c.constraint-item.is)
     (λ p asks. c.requires.told p (get_or constraints i d, Contains-get_or constraints i d c.loop-constraint-test.true, asks))
 
 pub loop-constraint-preserved : goal.loop-constraint-preserved
 loop-constraint-preserved g c =
-    let terms = g.N.Names.terms c.args.names.now in
-    let ids = g.R.Triples.triples c.args.graph.now in
+    let terms = c.args.evaluation.now.terms in
+    let ids = c.args.evaluation.now.ids in
     let constraints = c.args.constraints.now in
     let i = c.loop-constraint.constraint-index in
     let d = c.constraint-item.result in
-    let named = named_shapes terms c.args.shapes.now in
+    let named = named_shapes terms c.args.evaluation.now.shapes in
     let Gives : List Triple → ℕ → Constraint ℕ → ResultRow → Type 0 = λ s n k r. ConstraintRow (around terms ids s n c.args.values.now c.args.focus) named (read_shape (term_at terms) c.args.shape.now) (term_at terms c.args.focus) (read_constraint (term_at terms) k) r in
     let there = Contains-get_or constraints i d c.loop-constraint-test.true in
-    let given = subst (λ (k : Constraint ℕ). WhereRight terms ids c.args.shapes.now c.args.values.now c.args.told.now (Asks c.args.shape.now k) (λ s n. IsLinked named (read_constraint (term_at terms) k)
+    let given = subst (λ (k : Constraint ℕ). WhereRight terms ids c.args.evaluation.now.shapes c.args.values.now c.args.told.now (Asks c.args.shape.now k) (λ s n. IsLinked named (read_constraint (term_at terms) k)
     → Collects (ConstraintRow (around terms ids s n c.args.values.now c.args.focus) named (read_shape (term_at terms) c.args.shape.now) (term_at terms c.args.focus) (read_constraint (term_at terms) k)) c.in_ok-more.more.items)) c.constraint-item.is c.in_ok-more.ensures.rows in
     let Reads : Constraint ℕ → Look Term → Type 0 = λ k. ConstraintReads (graph_of terms ids) (HasNode terms c.args.values.now) (term_at terms c.args.focus) (read_constraint (term_at terms) k) in
     let old = c.args.footprint.now in
@@ -58,16 +58,16 @@ loop-constraint-preserved g c =
 
 pub returns-clause-rows : goal.returns-clause-rows
 returns-clause-rows g c = λ s n right linked.
-    let terms = g.N.Names.terms c.args.names.now in
-    let ids = g.R.Triples.triples c.args.graph.now in
-    loop_end (read_constraint (term_at terms)) (ConstraintRow (around terms ids s n c.args.values.now c.args.focus) (named_shapes terms c.args.shapes.now) (read_shape (term_at terms) c.args.shape.now) (term_at terms c.args.focus))
+    let terms = c.args.evaluation.now.terms in
+    let ids = c.args.evaluation.now.ids in
+    loop_end (read_constraint (term_at terms)) (ConstraintRow (around terms ids s n c.args.values.now c.args.focus) (named_shapes terms c.args.evaluation.now.shapes) (read_shape (term_at terms) c.args.shape.now) (term_at terms c.args.focus))
     c.args.constraints.now c.loop-constraint.constraint-index c.loop-constraint.rows.items c.loop-constraint-test.false (c.loop-constraint.invariant.rows s n right linked)
 
 pub returns-clause-looks : goal.returns-clause-looks
 returns-clause-looks g c =
-    let terms = g.N.Names.terms c.args.names.now in
+    let terms = c.args.evaluation.now.terms in
     let constraints = c.args.constraints.now in
-    let Reads = ConstraintReads (graph_of terms (g.R.Triples.triples c.args.graph.now)) (HasNode terms c.args.values.now) (term_at terms c.args.focus) in
+    let Reads = ConstraintReads (graph_of terms c.args.evaluation.now.ids) (HasNode terms c.args.values.now) (term_at terms c.args.focus) in
     reads_mapped terms (read_constraint (term_at terms)) constraints Reads c.args.footprint.now c.loop-constraint.footprint
     (reads_all terms (λ (k : Constraint ℕ). Reads (read_constraint (term_at terms) k)) constraints c.loop-constraint.constraint-index c.loop-constraint-test.false c.args.footprint.now c.loop-constraint.footprint c.loop-constraint.invariant.looks)
 

@@ -17,9 +17,9 @@ use Rattle.shape_eval.proofs.own_rows.own_rows.Goals as goal
 
 pub returns-clause-rows : goal.returns-clause-rows
 returns-clause-rows g c = λ s n right linked.
-    let terms = g.N.Names.terms c.args.names.now in
-    let ids = g.R.Triples.triples c.args.graph.now in
-    let shapes = c.args.shapes.now in
+    let terms = c.args.evaluation.now.terms in
+    let ids = c.args.evaluation.now.ids in
+    let shapes = c.args.evaluation.now.shapes in
     let shape = c.args.shape.now in
     let named = named_shapes terms shapes in
     let read = read_shape (term_at terms) shape in
@@ -33,8 +33,8 @@ returns-clause-rows g c = λ s n right linked.
 
 pub returns-clause-looks : goal.returns-clause-looks
 returns-clause-looks g c =
-    let terms = g.N.Names.terms c.args.names.now in
-    subst (λ (ks : List (Constraint ℕ)). AddsLooks terms (ReadsOfSome (map (read_constraint (term_at terms)) ks) (ConstraintReads (graph_of terms (g.R.Triples.triples c.args.graph.now)) (HasNode terms c.args.values.now) (term_at terms c.args.focus)))
+    let terms = c.args.evaluation.now.terms in
+    subst (λ (ks : List (Constraint ℕ)). AddsLooks terms (ReadsOfSome (map (read_constraint (term_at terms)) ks) (ConstraintReads (graph_of terms c.args.evaluation.now.ids) (HasNode terms c.args.values.now) (term_at terms c.args.focus)))
     c.args.footprint.now c.constraints_rows.new.footprint) c.as_slice-constraints.ensures c.in_ok-rows.ensures.looks
 
 pub returns-clause-kept : goal.returns-clause-kept

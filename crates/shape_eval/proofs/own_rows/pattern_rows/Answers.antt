@@ -8,7 +8,7 @@ use Rattle.rdf_model.specs.declared.ids.Ids.{Ids}
 use Rattle.rdf_model.specs.Numbers.{term_at}
 use Rattle.shape_model.specs.declared.component.Component.TheVariants as components
 use Rattle.shape_model.specs.Components.{RowsOf, row_of}
-use Rattle.component_rows.specs.Listed.{Collects, Lists, ListsRows, at_nodes}
+use Rattle.component_rows.specs.Listed.{Collects, ListsRows, at_nodes}
 use Rattle.component_rows.specs.Sites.{ListsAt, Spot, at_values}
 use Rattle.component_rows.specs.Nodes.{HasNode}
 use Rattle.component_rows.proofs.Collecting.{collects_none, collects_same}
@@ -25,32 +25,30 @@ use Rattle.shape_eval.proofs.own_rows.pattern_rows.Goals as goal
 
 pub returns-in-None : goal.returns-in-None
 returns-in-None g c = λ ids s n shapes.
-    let terms = g.N.Names.terms c.args.names.now in
+    let terms = c.args.evaluation.now.terms in
     let none = ap (read_pattern (term_at terms)) c.in-None.is in
     rw c.new.ensures.items (collects_none (PatternRow (around terms ids s n c.args.values.now c.args.focus) shapes (read_shape (term_at terms) c.args.shape.now) (term_at terms c.args.focus))
     (λ r h. let is = h.1 in cc (none, is)))
 
 pub returns-in-Some : goal.returns-in-Some
 returns-in-Some g c =
-    let terms = g.N.Names.terms c.args.names.now in
+    let terms = c.args.evaluation.now.terms in
     let shape = c.args.shape.now in
     let values = c.args.values.now in
     let f = term_at terms c.args.focus in
     let read = read_shape (term_at terms) shape in
     let q = term_at terms c.in-Some.built.parameter in
-    let source = c.named-source.result.now in
     let is : read.pattern ≡ Some q = ap (read_pattern (term_at terms)) c.in-Some.is in
     let b = subst (λ (o : Option (Pattern ℕ)). MatchOption o (Unit {0}) (λ p. (text : List ℕ) × HasFlagsText (read_optional (term_at terms) shape.flags) text × IsPatternOf (term_at terms p.parameter) text (arc_value p.regex))) c.in-Some.is c.requires.built in
     IfOk-weaker c.pattern.result
-    (λ rows. ListsRows components.Pattern (at_nodes (HasNode terms values)) (with_flags b.0) source f q rows.items)
+    (λ rows. ListsRows components.Pattern (at_nodes (HasNode terms values)) (with_flags b.0) read.node f q rows.items)
     (λ rows. (ids : List Ids) (s : List Triple) (n : ℕ) (shapes : List ReadShape) → Collects (PatternRow (around terms ids s n values c.args.focus) shapes read f) rows.items)
     (λ rows h ids s n shapes.
     let around_it = around terms ids s n values c.args.focus in
-    let h2 = subst (λ (x : Term). Lists (RowsOf components.Pattern around_it (with_flags b.0) q (row_of components.Pattern x f q)) rows.items) c.named-source.ensures h in
     collects_same (RowsOf components.Pattern around_it (with_flags b.0) q (row_of components.Pattern read.node f q)) (PatternRow around_it shapes read f) rows.items
     (λ r. let same = pattern_same b.0 around_it shapes read b.1 q (row_of components.Pattern read.node f q) r in (
       (λ a. (q, is, same.0 a)),
       (λ k. same.1 (subst (λ (x : Term). RowsOf components.Pattern around_it (shape_reading shapes read) x (row_of components.Pattern read.node f x) r) (only_some read.pattern k.0 q k.1 is) k.2)),
-    )) h2.members)
-    (subst (λ (x : Spot). IfOk c.pattern.result (λ rows. ListsAt components.Pattern (at_values x) (with_flags b.0) x rows.items)) c.new-site.ensures
-    (c.pattern.ensures b.0 (subst (λ (x : Spot). IsPatternOf (term_at x.terms x.parameter) b.0 c.deref.result.now) (sym c.new-site.ensures) (subst (λ x. IsPatternOf q b.0 x) (sym c.deref.ensures) b.2))))
+    )) h.members)
+    (subst (λ (x : Spot). IfOk c.pattern.result (λ rows. ListsAt components.Pattern (at_values x) (with_flags b.0) x rows.items)) c.site-site.ensures
+    (c.pattern.ensures b.0 (subst (λ (x : Spot). IsPatternOf (term_at x.terms x.parameter) b.0 c.deref.result.now) (sym c.site-site.ensures) (subst (λ x. IsPatternOf q b.0 x) (sym c.deref.ensures) b.2))))

@@ -1,6 +1,6 @@
 use Rattle.std.proofs.Common.{◌∙◌, ◌+◌, sym, ap}
 use Rattle.std.proofs.lemmas.Result.{err_from_is_err_and}
-use Rattle.turtle_reader.specs.Readings.{and_then}
+use Rattle.turtle_reader.specs.Parsers.{and_then}
 use Rattle.turtle_reader.specs.Grammar.{predicate_object_list, optional_predicates, object}
 use Rattle.turtle_reader.proofs.Machine.{refuses_same}
 use Rattle.turtle_reader.proofs.Statements.{gives_by, bracket_end, bracket_next}

@@ -1,5 +1,5 @@
 use Rattle.std.proofs.Common.{◌≡◌}
-use Rattle.turtle_reader.specs.Readings.{left}
+use Rattle.turtle_reader.specs.Parsers.{left}
 use Rattle.turtle_reader.specs.Grammar.{predicate_object_list, object}
 use Rattle.turtle_reader.specs.Stack.{properties_from}
 use Rattle.turtle_reader.specs.Progress.{Moved}

@@ -1,6 +1,6 @@
 use Rattle.std.proofs.Common.{◌∙◌, sym, ap, arith}
 use Rattle.std.proofs.lemmas.Result.{err_from_is_err_and}
-use Rattle.turtle_reader.specs.Readings.{and_then}
+use Rattle.turtle_reader.specs.Parsers.{and_then}
 use Rattle.turtle_reader.specs.Grammar.{turtle_doc}
 use Rattle.turtle_reader.proofs.Machine.{refuses_same}
 use Rattle.turtle_reader.proofs.Statements.{doc_more, doc_end}

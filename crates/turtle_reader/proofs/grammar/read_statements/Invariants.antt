@@ -1,5 +1,5 @@
 use Rattle.std.proofs.Common.{◌≡◌}
-use Rattle.turtle_reader.specs.Readings.{left}
+use Rattle.turtle_reader.specs.Parsers.{left}
 use Rattle.turtle_reader.specs.Grammar.{turtle_doc}
 use Rattle.turtle_reader.specs.Progress.{Moved}
 use Rattle.turtle_reader.proofs.grammar.read_statements.Given as goal

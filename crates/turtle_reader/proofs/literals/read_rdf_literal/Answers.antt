@@ -1,7 +1,7 @@
 use Rattle.std.proofs.Common.{◌∙◌, Ok, None, sym, ap}
 use Rattle.std.specs.Prelude.{codes}
 use Rattle.rdf_model.specs.declared.term.Term.TheVariants.{Literal}
-use Rattle.turtle_reader.specs.Readings.{give}
+use Rattle.turtle_reader.specs.Parsers.{give}
 use Rattle.turtle_reader.specs.Tokens.{is_language_tag, is_carets, where_next}
 use Rattle.turtle_reader.specs.Terms.{tagged, typed, xsd}
 use Rattle.turtle_reader.proofs.Machine.{where_is}

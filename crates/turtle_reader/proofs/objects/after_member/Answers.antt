@@ -1,6 +1,6 @@
 use Rattle.std.proofs.Common.{◌∙◌, suc, refl, sym, ap}
 use Rattle.std.proofs.lemmas.Result.{err_from_is_err_and}
-use Rattle.turtle_reader.specs.Readings.{and_then}
+use Rattle.turtle_reader.specs.Parsers.{and_then}
 use Rattle.turtle_reader.specs.Stack.{all_closed}
 use Rattle.turtle_reader.proofs.Machine.{refuses_same, found_as, member_end, member_next, at_levels, at_frames}
 use Rattle.turtle_reader.proofs.objects.after_member.Goals as goal

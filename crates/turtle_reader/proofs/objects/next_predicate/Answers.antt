@@ -1,7 +1,7 @@
 use Rattle.std.proofs.Common.{◌∙◌, Some, sym, ap}
 use Rattle.std.proofs.lemmas.Result.{err_from_is_err_and}
 use Rattle.turtle_reader.specs.Grammar.{object}
-use Rattle.turtle_reader.specs.Readings.{and_then}
+use Rattle.turtle_reader.specs.Parsers.{and_then}
 use Rattle.turtle_reader.specs.Stack.{properties_from}
 use Rattle.turtle_reader.proofs.Machine.{refuses_same, goes_by, comma_more, comma_none}
 use Rattle.turtle_reader.proofs.objects.next_predicate.Goals as goal

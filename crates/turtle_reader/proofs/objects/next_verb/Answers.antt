@@ -1,7 +1,7 @@
 use Rattle.std.proofs.Common.{◌∙◌, Some, sym, ap, arith}
 use Rattle.std.proofs.lemmas.Result.{err_from_is_err_and}
 use Rattle.turtle_reader.specs.Grammar.{object}
-use Rattle.turtle_reader.specs.Readings.{and_then}
+use Rattle.turtle_reader.specs.Parsers.{and_then}
 use Rattle.turtle_reader.specs.Stack.{properties_from}
 use Rattle.turtle_reader.proofs.Machine.{refuses_same, verbs_more, verbs_end, verbs_skip, verbs_verb}
 use Rattle.turtle_reader.proofs.objects.next_verb.Goals as goal

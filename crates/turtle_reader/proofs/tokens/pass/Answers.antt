@@ -1,5 +1,5 @@
 use Rattle.std.proofs.Common.{◌+◌, ◌<◌, ◌≤◌, arith}
-use Rattle.turtle_reader.specs.Readings.{left, left_behind}
+use Rattle.turtle_reader.specs.Parsers.{left, left_behind}
 use Rattle.turtle_reader.specs.Progress.{unread, weight}
 use Rattle.turtle_reader.proofs.Places.{next_passed, next_ready, passed_unread}
 use Rattle.turtle_reader.proofs.tokens.pass.Goals as goal

@@ -4,7 +4,7 @@ use Rattle.commit_core.proofs.NamedTerms.{first_names}
 use Rattle.commit_core.proofs.store.Core.open.Goals as goal
 
 pub invariant_of-result : goal.invariant_of-result
-invariant_of-result c = rw (c.in_ok-graph.ensures, first_names, c.in_ok-shapes.ensures, c.new-2.ensures.items, c.new-3.ensures) (IsConsistent-empty c.args.limits c.requires)
+invariant_of-result c = rw (c.in_ok-graph.ensures, first_names, c.new-2.ensures.items, c.new-3.ensures) (IsConsistent-empty c.args.limits c.requires)
 
 pub returns : goal.returns
-returns c = rw (c.in_ok-graph.ensures, first_names, c.in_ok-shapes.ensures, c.new-2.ensures.items, c.new-3.ensures) refl
+returns c = rw (c.in_ok-graph.ensures, first_names, c.new-2.ensures.items, c.new-3.ensures) refl

@@ -13,5 +13,5 @@ after-requires g c =
     let named = subst (λ (s : RecordedStore). AreNamedChanges s.state.named net) (sym c.self.view_is) (net_named _ _ c.requires.committable.net) in
     subst (λ (cs : List Change). AreNamedChanges c.self.inside.graph.terms cs) (sym c.as_slice.ensures) named
 
-pub returns : goal.returns
-returns g c = judged_result c.args.self.now.limits (data_of c.args.self.now) c.args.self.now.state.shapes c.args.self.now.state.commits c.args.checked.now.transaction _ (search rules, search rules) c.judge.ensures
+pub returns-clause-plan : goal.returns-clause-plan
+returns-clause-plan g c = judged_result c.args.self.now.limits (data_of c.args.self.now) c.args.self.now.state.commits c.args.checked.now.transaction _ (search rules, search rules) c.judge.ensures.judged

@@ -1,7 +1,15 @@
-use Rattle.std.proofs.Common.{ap}
+use Rattle.std.proofs.Common.{List, ap, arith, sym, subst}
+use Rattle.rdf_model.specs.declared.triple.Triple.{Triple}
 use Rattle.term_dict.specs.Names.{Named}
-use Rattle.data_graph.proofs.Growing.{words_first}
+use Rattle.term_validation.specs.Named.{AreNamedTriples}
+use Rattle.data_graph.proofs.Growing.{no_triple_named, words_first}
 use Rattle.data_graph.proofs.graph.DataGraph.new.Goals as goal
 
+pub new-requires-2-clause-words : goal.new-requires-2-clause-words
+new-requires-2-clause-words c = words_first c.in_ok-names.names.terms (ap (λ (d : Named). d.terms) c.in_ok-names.ensures)
+
+pub new-requires-2-clause-named : goal.new-requires-2-clause-named
+new-requires-2-clause-named c = no_triple_named c.in_ok-names.names.terms _ c.in_ok-empty.ensures
+
 pub invariant_of-result : goal.invariant_of-result
-invariant_of-result c = (words_first c.in_ok-names.names.terms (ap (λ (d : Named). d.terms) c.in_ok-names.ensures), tt)
+invariant_of-result c = (words_first c.in_ok-names.names.terms (ap (λ (d : Named). d.terms) c.in_ok-names.ensures), tt, c.in_ok-shapes.ensures.bound)

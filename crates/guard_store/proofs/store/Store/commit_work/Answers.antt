@@ -10,17 +10,26 @@ use Rattle.guard_store.proofs.store.Store.commit_work.Goals as goal
 pub returns-in-Ok-clause-commits : goal.returns-in-Ok-clause-commits
 returns-in-Ok-clause-commits g c =
     let o : IsOpen c.args.session c.in-Some.open = rw c.into_parts-pass.ensures at c.in-Some.is in
-    let turn = at_ok _ _ _ _ c.in-Ok.is (rw (c.into_parts-pass.ensures, c.into_parts-transaction.ensures) at c.take_commit-pass.ensures) in
+    let turn = at_ok _ _ _ _ c.in-Ok.is (rw (c.into_parts-pass.ensures, c.into_parts-transaction.ensures) at c.take_commit-pass.ensures.commits) in
     commits_now c.args.self.now.limits c.args.session c.take_commit-pass.result.0 c.in-Some.open c.in-Ok.committed _ o (subst HasWork o c.requires.work) turn (rw (c.from_parts.ensures, c.into_parts-pass.ensures) refl)
 
 pub returns-in-Ok-clause-session : goal.returns-in-Ok-clause-session
 returns-in-Ok-clause-session g c = commits_session c.args.self.now c.args.session _ c.in-Ok.committed c.requires.session (returns-in-Ok-clause-commits g c)
 
+pub returns-in-Ok-clause-steps : goal.returns-in-Ok-clause-steps
+returns-in-Ok-clause-steps g c =
+    let o : IsOpen c.args.session c.in-Some.open = rw c.into_parts-pass.ensures at c.in-Some.is in
+    let turn = at_ok _ _ _ _ c.in-Ok.is (rw (c.into_parts-pass.ensures, c.into_parts-transaction.ensures) at c.take_commit-pass.ensures.steps) in
+    (c.in-Some.open, o, rw c.from_parts.ensures turn)
+
 pub returns-in-Err-clause-commits : goal.returns-in-Err-clause-commits
 returns-in-Err-clause-commits g c =
     let o : IsOpen c.args.session c.in-Some.open = rw c.into_parts-pass.ensures at c.in-Some.is in
-    let back = at_err _ _ _ _ c.in-Err.is (rw (c.into_parts-pass.ensures, c.into_parts-transaction.ensures) at c.take_commit-pass.ensures) in
+    let back = at_err _ _ _ _ c.in-Err.is (rw (c.into_parts-pass.ensures, c.into_parts-transaction.ensures) at c.take_commit-pass.ensures.commits) in
     rw c.from_parts-session.ensures (c.in-Some.open, o, subst HasWork o c.requires.work, back.1, rw (c.into_parts-pass.ensures, c.from_parts-open.ensures, back.0, c.into_parts-transaction.ensures, o) refl)
+
+pub returns-in-Err-clause-steps : goal.returns-in-Err-clause-steps
+returns-in-Err-clause-steps g c = at_err _ _ _ _ c.in-Err.is c.take_commit-pass.ensures.steps
 
 pub returns-in-Err-clause-session : goal.returns-in-Err-clause-session
 returns-in-Err-clause-session g c = commits_not_session c.args.self.now c.args.session _ faults.Memory c.requires.session (returns-in-Err-clause-commits g c)

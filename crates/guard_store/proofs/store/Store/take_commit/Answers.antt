@@ -1,10 +1,10 @@
 use Rattle.std.proofs.Common.{◌≡◌, ◌≤◌, inr, sym, subst}
 use Rattle.store_model.specs.Store.{State, RecordedStore, TakesStep}
-use Rattle.session_transaction.specs.Commits.{IsAnswer}
+use Rattle.session_transaction.specs.Commits.{CountsFor, IsAnswer}
 use Rattle.guard_store.specs.Fronts.{void_of}
 use Rattle.guard_store.proofs.Turning.{may_own, opened_now, turned, turned_with}
 use Rattle.guard_store.proofs.Fitting.{committable_now, unchecked_now}
-use Rattle.guard_store.proofs.Calling.{turn_commits}
+use Rattle.guard_store.proofs.Calling.{turn_commits, turn_counts}
 use Rattle.guard_store.proofs.store.Store.take_commit.Goals as goal
 
 pub commit-requires-clause-opened : goal.commit-requires-clause-opened
@@ -19,19 +19,28 @@ commit-requires-clause-unchecked g c = unchecked_now c.args.self.now.limits c.ar
 pub finish-requires-clause-step : goal.finish-requires-clause-step
 finish-requires-clause-step g c = may_own c.args.self.now.limits c.args.pass c.start-held.result.0 c.start-held.result.1 c.commit.new.core _ c.requires.caller.own c.start-held.ensures c.in-Ok-commit.ensures.step
 
-pub returns-in-Ok-commit : goal.returns-in-Ok-commit
-returns-in-Ok-commit g c =
+pub returns-in-Ok-commit-clause-commits : goal.returns-in-Ok-commit-clause-commits
+returns-in-Ok-commit-clause-commits g c =
     let done = c.in-Ok-commit.ensures in
     let t = turned_with c.args.self.now.limits c.args.pass c.start-held.result.0 c.finish.result c.start-held.result.1 c.commit.new.core _ (λ (s : State). IsAnswer s c.args.transaction done.reply c.in-Ok-commit.committed)
     c.start-held.ensures done.step (c.finish.ensures c.args.pass c.start-held.result.1 _ c.start-held.ensures done.step) done.told in
     turn_commits c.args.self.now.limits c.args.pass c.finish.result c.args.number c.args.transaction done.reply c.in-Ok-commit.committed t.0 t.1
 
+pub returns-in-Ok-commit-clause-steps : goal.returns-in-Ok-commit-clause-steps
+returns-in-Ok-commit-clause-steps g c =
+    let done = c.in-Ok-commit.ensures in
+    let x = c.args.transaction in
+    let t = turned_with c.args.self.now.limits c.args.pass c.start-held.result.0 c.finish.result c.start-held.result.1 c.commit.new.core _
+    (λ (s : State). IsAnswer s x done.reply c.in-Ok-commit.committed × CountsFor c.in-Ok-commit.committed s x c.args.steps.now c.commit.new.steps)
+    c.start-held.ensures done.step (c.finish.ensures c.args.pass c.start-held.result.1 _ c.start-held.ensures done.step) (done.told, done.counts) in
+    turn_counts c.args.self.now.limits c.args.pass c.finish.result c.args.number x done.reply c.in-Ok-commit.committed _ _ t.0 t.1.0 t.1.1
+
 pub void-requires : goal.void-requires
 void-requires g c = subst (λ (s : RecordedStore). c.args.number ≤ s.state.opened) (sym c.in-Err.ensures.1)
     (opened_now c.args.self.now c.args.number c.args.pass c.start-held.result.0 c.start-held.result.1 c.requires.caller c.start-held.ensures).1
 
-pub returns-in-Err : goal.returns-in-Err
-returns-in-Err g c =
+pub returns-in-Err-clause-commits : goal.returns-in-Err-clause-commits
+returns-in-Err-clause-commits g c =
     let step = subst (λ (s : RecordedStore). TakesStep s c.void.new.self (void_of c.args.number)) c.in-Err.ensures.1 c.void.ensures in (
       c.in-Err.ensures.0,
       inr (turned c.args.self.now.limits c.args.pass c.start-held.result.0 c.finish-in-Err.result c.start-held.result.1 c.void.new.self _ c.start-held.ensures step

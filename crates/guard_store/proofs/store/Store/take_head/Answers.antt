@@ -1,7 +1,8 @@
-use Rattle.std.proofs.Common.{◌≡◌, ◌≤◌, sym, subst}
+use Rattle.std.proofs.Common.{◌≡◌, ◌≤◌, inr, sym, subst}
 use Rattle.store_model.specs.Snapshots.{snapshot_of}
-use Rattle.store_model.specs.Store.{State, RecordedStore}
-use Rattle.guard_store.proofs.Turning.{opened_now, turned_with}
+use Rattle.store_model.specs.Store.{State, RecordedStore, TakesStep}
+use Rattle.guard_store.specs.Fronts.{void_of}
+use Rattle.guard_store.proofs.Turning.{opened_now, turned, turned_with}
 use Rattle.guard_store.proofs.store.Store.take_head.Goals as goal
 
 pub head-requires : goal.head-requires
@@ -15,3 +16,9 @@ pub returns-in-Ok-head : goal.returns-in-Ok-head
 returns-in-Ok-head g c =
     turned_with c.args.self.now.limits c.args.pass c.start-held.result.0 c.finish.result c.start-held.result.1 c.head.new.self _ (λ (s : State). c.in-Ok-head.snap ≡ snapshot_of s) c.start-held.ensures c.in-Ok-head.ensures.step
     (c.finish.ensures c.args.pass c.start-held.result.1 _ c.start-held.ensures c.in-Ok-head.ensures.step) c.in-Ok-head.ensures.snapshot
+
+pub returns-in-Err : goal.returns-in-Err
+returns-in-Err g c =
+    let step = subst (λ (s : RecordedStore). TakesStep s c.void.new.self (void_of c.args.number)) c.in-Err.ensures.memory c.void.ensures in
+    inr (turned c.args.self.now.limits c.args.pass c.start-held.result.0 c.finish-in-Err.result c.start-held.result.1 c.void.new.self _ c.start-held.ensures step
+    (c.finish-in-Err.ensures c.args.pass c.start-held.result.1 _ c.start-held.ensures step))

@@ -1,0 +1,7 @@
+use Rattle.std.proofs.Common.{take}
+use Rattle.bgp_query.specs.Bindings.{Occurs}
+use Rattle.bgp_query.specs.Trails.{IsReach}
+use Rattle.bgp_query.proofs.variables.variable_count.Given as goal
+
+abbrev pub invariant-loop-pattern : goal.invariant-loop-pattern
+invariant-loop-pattern l = IsReach (Occurs (take l.pattern-index l.patterns)) l.count

@@ -1,0 +1,3 @@
+pub mod AllBindings
+pub mod Bindings
+pub mod Trails

@@ -1,0 +1,12 @@
+use Rattle.std.proofs.Common.{sym, subst}
+use Rattle.rdf_model.specs.Numbers.{term_at}
+use Rattle.shape_ast.specs.Readings.{AreBound}
+use Rattle.shape_ast.specs.Standing.{AreBuilt}
+use Rattle.shape_plans.specs.declared.planned.PlannedShapes.{PlannedShapes}
+use Rattle.data_graph.proofs.numbering.listing_by.Goals as goal
+
+pub returns-clause-rows : goal.returns-clause-rows
+returns-clause-rows g c = (rw c.planned-planned.ensures at c.in_ok-whole.ensures.rows) c.args.shapes.now.graph c.requires.shapes.stand c.requires.shapes.acyclic c.requires.shapes.shallow
+
+pub returns-clause-steps : goal.returns-clause-steps
+returns-clause-steps g c = (rw c.planned-planned.ensures at c.in_ok-whole.ensures.steps) c.args.shapes.now.graph c.requires.shapes.stand

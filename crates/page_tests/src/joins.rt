@@ -1,0 +1,288 @@
+//! Joins over an overlay and over an index, against tables and against all assignments in turn.
+use bgp_query::{JoinPattern, Matcher, Part, SelectFault, select};
+use overlay_view::Overlay;
+use rdf_model::{Ids, Triples};
+use std::alloc::{AllocError, Global};
+use std::process::Abort;
+use std::test::Fail;
+use triple_index::{Index, NumberedChange};
+
+// A part by a number: below 100 a variable, else the constant that is 100 less.
+fn part(code: u32) -> Part<u32> {
+    if code < 100 {
+        Part::Variable(code)
+    } else {
+        Part::Constant(code - 100)
+    }
+}
+
+fn patterns_of(
+    alloc: Global,
+    codes: &[(u32, u32, u32)],
+) -> Result<Vec<JoinPattern<u32>>, AllocError> {
+    let mut patterns = Vec::new(alloc);
+    for (subject, predicate, object) in codes {
+        patterns.push(JoinPattern {
+            subject: part(*subject),
+            predicate: part(*predicate),
+            object: part(*object),
+        })?;
+    }
+    Ok(patterns)
+}
+
+fn triple(subject: u32, predicate: u32, object: u32) -> Ids {
+    Ids {
+        subject,
+        predicate,
+        object,
+    }
+}
+
+// The rows are these, in this order.
+fn expect_rows<R: Matcher>(
+    rt: &impl Abort,
+    alloc: Global,
+    set: &R,
+    codes: &[(u32, u32, u32)],
+    rows: &[&[u32]],
+) -> Result<(), AllocError> {
+    match select(alloc, set, &patterns_of(alloc, codes)?) {
+        Ok(found) => {
+            assert_eq!(rt; found.len(), rows.len());
+            for (row, wanted) in found.iter().zip(rows.iter()) {
+                assert_eq!(rt; row.as_slice(), *wanted);
+            }
+            Ok(())
+        }
+        Err(_) => panic!(rt; "no bindings"),
+    }
+}
+
+// Edges 10: 1 to 2, 2 to 3, 2 to 4, 3 to 1, 5 to 5. Edges 11: 1 to 2, 4 to 4. The net adds that from 5 to 5, and
+// removes one from 6 to 1.
+const BENEATH: [(u32, u32, u32); 7] = [
+    (3, 10, 1),
+    (2, 10, 4),
+    (1, 11, 2),
+    (6, 10, 1),
+    (2, 10, 3),
+    (4, 11, 4),
+    (1, 10, 2),
+];
+
+fn net() -> [NumberedChange; 2] {
+    [
+        NumberedChange::Add(triple(5, 10, 5)),
+        NumberedChange::Remove(triple(6, 10, 1)),
+    ]
+}
+
+fn index_of(alloc: Global, edges: &[(u32, u32, u32)]) -> Result<Index, AllocError> {
+    let mut triples = Vec::new(alloc);
+    for (subject, predicate, object) in edges {
+        triples.push(triple(*subject, *predicate, *object))?;
+    }
+    Index::from_triples(alloc, &triples)
+}
+
+fn expect_table<R: Matcher>(rt: &impl Abort, alloc: Global, set: &R) -> Result<(), AllocError> {
+    // chains
+    expect_rows(
+        rt,
+        alloc,
+        set,
+        &[(0, 110, 1), (1, 110, 2)],
+        &[&[1, 2, 3], &[1, 2, 4], &[2, 3, 1], &[3, 1, 2], &[5, 5, 5]],
+    )?;
+    expect_rows(
+        rt,
+        alloc,
+        set,
+        &[(101, 110, 0), (0, 110, 1), (1, 111, 2)],
+        &[&[2, 4, 4]],
+    )?;
+    // triangles
+    expect_rows(
+        rt,
+        alloc,
+        set,
+        &[(0, 110, 1), (1, 110, 2), (2, 110, 0)],
+        &[&[1, 2, 3], &[2, 3, 1], &[3, 1, 2], &[5, 5, 5]],
+    )?;
+    // a variable twice in a pattern
+    expect_rows(rt, alloc, set, &[(0, 110, 0)], &[&[5]])?;
+    expect_rows(rt, alloc, set, &[(0, 1, 0)], &[&[4, 11], &[5, 10]])?;
+    expect_rows(rt, alloc, set, &[(0, 110, 1), (1, 111, 1)], &[&[2, 4]])?;
+    // predicates
+    expect_rows(rt, alloc, set, &[(101, 0, 102)], &[&[10], &[11]])?;
+    // no variables
+    expect_rows(rt, alloc, set, &[(101, 110, 102)], &[&[]])?;
+    expect_rows(rt, alloc, set, &[(106, 110, 101)], &[])?;
+    expect_rows(rt, alloc, set, &[], &[&[]])?;
+    // a later pattern cuts a product
+    expect_rows(
+        rt,
+        alloc,
+        set,
+        &[(0, 110, 1), (2, 111, 3), (3, 110, 0)],
+        &[&[3, 1, 1, 2]],
+    )?;
+    // a pattern twice
+    expect_rows(
+        rt,
+        alloc,
+        set,
+        &[(0, 111, 1), (0, 111, 1)],
+        &[&[1, 2], &[4, 4]],
+    )?;
+    // variable 0 is missing
+    expect_rows(rt, alloc, set, &[(1, 110, 2)], &[])
+}
+
+#[test]
+fn bindings_are_those_of_the_table(rt: HostRuntime) -> Result<(), Fail> {
+    let alloc = rt.alloc();
+    let index = index_of(alloc, &BENEATH)?;
+    let overlay = Overlay::new(alloc, &index, &net())?;
+    expect_table(&rt, alloc, &overlay)?;
+    let mut after = index.share()?;
+    after.apply(&net())?;
+    expect_table(&rt, alloc, &after)?;
+    Ok(())
+}
+
+// The edges 10 from n nodes.
+fn index_of_pairs(alloc: Global, count: u32) -> Result<Index, AllocError> {
+    let mut triples = Vec::new(alloc);
+    for node in 0..count {
+        triples.push(triple(node, 10, 2000))?;
+    }
+    Index::from_triples(alloc, &triples)
+}
+
+#[test]
+fn more_than_100000_are_too_many(rt: HostRuntime) -> Result<(), Fail> {
+    let alloc = rt.alloc();
+    let pairs = patterns_of(alloc, &[(0, 110, 1), (2, 110, 3)])?;
+    let most = index_of_pairs(alloc, 316)?;
+    match select(alloc, &most, &pairs) {
+        Ok(rows) => assert_eq!(&rt; rows.len(), 99856),
+        Err(_) => panic!(&rt; "99,856 are not answered"),
+    }
+    let more = index_of_pairs(alloc, 317)?;
+    match select(alloc, &more, &pairs) {
+        Ok(_) => panic!(&rt; "100,489 are answered"),
+        Err(fault) => assert_eq!(&rt; fault, SelectFault::TooMany),
+    }
+    Ok(())
+}
+
+#[test]
+fn the_limit_is_100000(rt: HostRuntime) -> Result<(), Fail> {
+    let alloc = rt.alloc();
+    let edges = patterns_of(alloc, &[(0, 110, 1)])?;
+    let most = index_of_pairs(alloc, 100_000)?;
+    match select(alloc, &most, &edges) {
+        Ok(rows) => assert_eq!(&rt; rows.len(), 100_000),
+        Err(_) => panic!(&rt; "100,000 are not answered"),
+    }
+    let more = index_of_pairs(alloc, 100_001)?;
+    match select(alloc, &more, &edges) {
+        Ok(_) => panic!(&rt; "100,001 are answered"),
+        Err(fault) => assert_eq!(&rt; fault, SelectFault::TooMany),
+    }
+    Ok(())
+}
+
+// The next number of a sequence without order.
+fn next(seed: u32) -> u32 {
+    seed.wrapping_mul(1_664_525).wrapping_add(1_013_904_223)
+}
+
+// The number of a part, where the digits of a number are those of three variables.
+fn number_under(digits: u32, code: u32) -> u32 {
+    match code {
+        0 => digits / 25 % 5,
+        1 => digits / 5 % 5,
+        2 => digits % 5,
+        _ => code.wrapping_sub(100),
+    }
+}
+
+// All assignments of 0 to 4 to three variables under which the patterns stand.
+fn rows_by_trial(
+    alloc: Global,
+    index: &Index,
+    codes: &[(u32, u32, u32)],
+) -> Result<Vec<(u32, u32, u32)>, AllocError> {
+    let mut rows = Vec::new(alloc);
+    for digits in 0..125u32 {
+        let stand = codes.iter().all(|(subject, predicate, object)| {
+            index.contains(triple(
+                number_under(digits, *subject),
+                number_under(digits, *predicate),
+                number_under(digits, *object),
+            ))
+        });
+        if stand {
+            rows.push((digits / 25, digits / 5 % 5, digits % 5))?;
+        }
+    }
+    Ok(rows)
+}
+
+fn same_as_by_trial(
+    rt: &impl Abort,
+    alloc: Global,
+    index: &Index,
+    codes: &[(u32, u32, u32)],
+) -> Result<(), AllocError> {
+    let rows = rows_by_trial(alloc, index, codes)?;
+    match select(alloc, index, &patterns_of(alloc, codes)?) {
+        Ok(found) => {
+            assert_eq!(rt; found.len(), rows.len());
+            for (row, wanted) in found.iter().zip(rows.iter()) {
+                assert_eq!(rt; row.as_slice(), [wanted.0, wanted.1, wanted.2].as_slice());
+            }
+            Ok(())
+        }
+        Err(_) => panic!(rt; "no bindings"),
+    }
+}
+
+// A variable mostly, else a constant.
+fn code_of(seed: u32) -> u32 {
+    match (seed >> 16) % 8 {
+        0..=2 => 0,
+        3 | 4 => 1,
+        5 | 6 => 2,
+        _ => 100 + (seed >> 20) % 5,
+    }
+}
+
+#[test]
+fn bindings_are_those_found_by_trial(rt: HostRuntime) -> Result<(), Fail> {
+    let alloc = rt.alloc();
+    let mut index = Index::new(alloc);
+    let mut seed = 1;
+    for _ in 0..300u32 {
+        let second = next(seed);
+        let third = next(second);
+        let fourth = next(third);
+        seed = next(fourth);
+        let edge = triple((second >> 16) % 5, (third >> 16) % 5, (fourth >> 16) % 5);
+        index.apply(&[NumberedChange::Add(edge)])?;
+        same_as_by_trial(
+            &rt,
+            alloc,
+            &index,
+            &[
+                (0, 1, 2),
+                (code_of(second), code_of(third), code_of(fourth)),
+                (code_of(fourth), code_of(seed), code_of(second)),
+            ],
+        )?;
+    }
+    Ok(())
+}

@@ -1,0 +1,146 @@
+// The core's own calls, each with what it answers.
+ghost use Rattle.std.specs.Prelude.{◌≡◌, ◌<◌, IfOk};
+ghost use Rattle.store_model.specs.Store.{IsCommittable, IsOpened};
+
+use collections::Sequence;
+use commit_core::{Again, CheckedTransaction, Commit, Core, Limits, NameFault, Transaction};
+use rdf_model::{Pattern, Term, Text};
+use shape_eval::Steps;
+use shapes_graph::ShapesGraph;
+use std::alloc::{AllocError, Global};
+use std::marker::Brand;
+use std::sync::ledger::{Blank, Ledger};
+use std::test::Fail;
+
+const LIMITS: Limits = Limits {
+    terms: 2,
+    triples: 2,
+};
+
+fn iri(alloc: Global, text: &str) -> Result<Term, AllocError> {
+    Ok(Term::Iri(Text::new(alloc, text)?))
+}
+
+fn first_session(core: &mut Core) -> Result<u32, Fail>
+    ensures { IfOk result (λ session. IsOpened core.new.state session) }
+{
+    match core.session() {
+        Ok(session) => Ok(session),
+        Err(_) => Err(Fail::new("a session is given out")),
+    }
+}
+
+// A store with one session.
+fn opened(alloc: Global) -> Result<(Core, u32), Fail>
+    ensures { IfOk result (λ r. IsOpened r.0.state r.1) }
+{
+    let mut core = Core::open(alloc, LIMITS)?;
+    let session = first_session(&mut core)?;
+    Ok((core, session))
+}
+
+// All triples of a version, which are none.
+const ALL: Pattern = Pattern {
+    subject: None,
+    predicate: None,
+    object: None,
+};
+
+#[test]
+fn an_empty_store_is_handed_out(rt: HostRuntime) -> Result<(), Fail> {
+    let alloc = rt.alloc();
+    let (mut core, session) = opened(alloc)?;
+    assert_eq!(rt; session, 1);
+    let snap = core.begin(session)?;
+    assert_eq!(rt; snap.number(), 0);
+    assert!(rt; snap.find(alloc, &[], &ALL)?.is_empty());
+    assert_eq!(rt; core.triples(), 0);
+    assert_eq!(rt; core.order()?.as_slice(), [1, 1].as_slice());
+    Ok(())
+}
+
+#[test]
+fn terms_are_numbered(rt: HostRuntime) -> Result<(), Fail> {
+    let alloc = rt.alloc();
+    let (mut core, session) = opened(alloc)?;
+    let two = [iri(alloc, "e:b")?, iri(alloc, "e:a")?];
+    // Behind the two terms that each store has.
+    match core.name(session, &two) {
+        Ok(numbers) => assert_eq!(rt; numbers.as_slice(), [2, 3].as_slice()),
+        Err(_) => return Err(Fail::new("two terms are named")),
+    }
+    Ok(())
+}
+
+#[test]
+fn a_third_term_is_one_too_many(rt: HostRuntime) -> Result<(), Fail> {
+    let alloc = rt.alloc();
+    let (mut core, session) = opened(alloc)?;
+    let three = [iri(alloc, "e:a")?, iri(alloc, "e:b")?, iri(alloc, "e:c")?];
+    match core.name(session, &three) {
+        Err(NameFault::Full { count }) => assert_eq!(rt; count, 3),
+        Ok(_) | Err(NameFault::Memory) => return Err(Fail::new("the store is full")),
+    }
+    Ok(())
+}
+
+// A transaction that stages the shapes graph without triples, and changes nothing else.
+fn staging(alloc: Global) -> Result<Transaction, AllocError>
+    ensures committable { IfOk result (λ x. (s : _) → IsCommittable s x) }
+    ensures unchecked { IfOk result (λ x. x.verdict ≡ None) }
+{
+    let staged = ShapesGraph::empty(alloc)?;
+    let net = Sequence::new(alloc);
+    let finds = Sequence::new(alloc);
+    Ok(Transaction {
+        base: 0,
+        net,
+        staged: Some(staged),
+        finds,
+        verdict: None,
+    })
+}
+
+fn committed<L: Ledger>(
+    alloc: Global,
+    core: &mut Core,
+    session: u32,
+    blank: Blank,
+) -> Result<Commit, AllocError>
+    requires session { IsOpened core.old.state session }
+    requires name { blank.name ≡ L.name }
+    requires parts { blank.parts ≡ L.parts }
+    requires some { 0 < L.parts }
+{
+    let transaction = staging(alloc)?;
+    let mut steps = Steps::<L>::begin(blank);
+    let checked = CheckedTransaction::unchecked(alloc, transaction);
+    Ok(core.commit(session, checked, &mut steps))
+}
+
+fn committed_one(alloc: Global, core: &mut Core, session: u32) -> Result<Commit, AllocError>
+    requires { IsOpened core.old.state session }
+{
+    committed::<Brand>(alloc, core, session, Blank::new(1))
+}
+
+// A shapes graph without triples is staged, so the graph is evaluated in the step.
+#[test]
+fn shapes_are_committed(rt: HostRuntime) -> Result<(), Fail> {
+    let alloc = rt.alloc();
+    let (mut core, session) = opened(alloc)?;
+    let commit = committed_one(alloc, &mut core, session)?;
+    match &commit {
+        Commit::Done {
+            number,
+            again: Again::OwnShapes,
+        } => assert_eq!(rt; *number, 1),
+        _ => return Err(Fail::new("the shapes are committed")),
+    }
+    assert_eq!(rt; core.order()?.as_slice(), [1, 1].as_slice());
+    match core.into_events() {
+        Ok(events) => assert_eq!(rt; events.len(), 2),
+        Err(_) => return Err(Fail::new("the events are given")),
+    }
+    Ok(())
+}
