@@ -11,7 +11,7 @@ ghost use Rattle.term_validation.specs.Named.{AreNamedTriples, IsNumbered};
 use crate::listings::{
     Draws, Tally, assert_all_occur, assert_same, expanded, graph_text, note, shapes_text,
 };
-use collections::{Sequence, sorted_once};
+use collections::{Sequence, both, sorted_once};
 use graph_plans::plan_graph;
 use outside::RegexMaker;
 use parallel_validate::{CheckedRows, check};
@@ -32,13 +32,13 @@ use validation_rows::{RowsFault, class_words, names_of, shapes_of, triples_of};
 
 // The triples before changes and after them, and those that are added or removed, by number.
 #[derive(Drop)]
-struct Changed {
-    before: Sequence<Ids>,
-    later: Sequence<Ids>,
-    changed: Sequence<Ids>,
+pub(crate) struct Changed {
+    pub(crate) before: Sequence<Ids>,
+    pub(crate) later: Sequence<Ids>,
+    pub(crate) changed: Sequence<Ids>,
 }
 
-fn push_if(list: &mut Sequence<Ids>, ids: Ids, wanted: bool) -> Result<(), AllocError>
+pub(crate) fn push_if(list: &mut Sequence<Ids>, ids: Ids, wanted: bool) -> Result<(), AllocError>
     ensures { OnOk result ((terms : List TermData) → IsNumbered terms ids → AreNumbered terms list.old → AreNumbered terms list.new) }
 {
     if wanted {
@@ -173,13 +173,44 @@ fn merged(
     sorted_once(rows)
 }
 
-// The listing after the changes in both ways, and how many pairs were checked.
+// The listing that is had of checking changes alone, and how many pairs were kept and checked.
 #[derive(Drop)]
-struct Outcome {
-    checked: Vec<ResultRow>,
-    whole: Vec<ResultRow>,
+struct Incremental {
+    rows: Vec<ResultRow>,
     kept: usize,
     pairs: usize,
+}
+
+fn checked_listing<L: Ledger>(
+    alloc: Global,
+    before: &ListGraph,
+    later: &ListGraph,
+    names: &ListNames,
+    planned: &PlannedShapes,
+    changed: &[Ids],
+    steps: &mut Steps<L>,
+) -> Result<Incremental, AllocError>
+    requires numbering { IsNumbering names.now }
+    requires before { AreNumbered names.now before.now }
+    requires later { AreNumbered names.now later.now }
+    requires changed { AreNumbered names.now changed.now }
+    requires planned { ArePlanned names.now planned.now }
+{
+    let kept = kept_rows(alloc, before, names, planned, steps)?;
+    let found = check(alloc, before, later, names, planned, changed, steps)?;
+    let rows = merged(alloc, &kept, found.pairs.as_slice())?;
+    Ok(Incremental {
+        rows,
+        kept: kept.len(),
+        pairs: found.pairs.len(),
+    })
+}
+
+// The listing after the changes in both ways.
+#[derive(Drop)]
+struct Outcome {
+    checked: Incremental,
+    whole: Vec<ResultRow>,
 }
 
 fn listings_in<L: Ledger>(
@@ -209,24 +240,11 @@ fn listings_in<L: Ledger>(
     let before = ListGraph::from_triples(before);
     let later = ListGraph::from_triples(later);
     let planned = plan_graph(alloc, names, words, shapes)?;
-    let kept = kept_rows(alloc, &before, names, &planned, &mut steps)?;
-    let found = check(
-        alloc,
-        &before,
-        &later,
-        names,
-        &planned,
-        changed.as_slice(),
-        &mut steps,
-    )?;
-    let checked = merged(alloc, &kept, found.pairs.as_slice())?;
-    let whole = listing_over(alloc, &later, names, words, shapes, &mut steps)?;
-    Ok(Outcome {
-        checked,
-        whole,
-        kept: kept.len(),
-        pairs: found.pairs.len(),
-    })
+    let changed = changed.as_slice();
+    let checked = checked_listing(alloc, &before, &later, names, &planned, changed, &mut steps);
+    let whole = listing_over(alloc, &later, names, words, shapes, &mut steps);
+    let (checked, whole) = both(checked, whole)?;
+    Ok(Outcome { checked, whole })
 }
 
 fn listings(
@@ -245,7 +263,7 @@ fn listings(
 }
 
 // The triples of a data graph and of a shapes graph.
-fn both_graphs(
+pub(crate) fn both_graphs(
     alloc: Global,
     maker: &mut RegexMaker,
     data_text: &[u8],
@@ -265,6 +283,37 @@ fn both_graphs(
     Ok((graph, shapes))
 }
 
+// The texts of a data graph and of a shapes graph, with each IRI in full.
+fn drawn_texts(
+    alloc: Global,
+    draws: &mut Draws,
+    turn: usize,
+) -> Result<(String, String), AllocError> {
+    let mut graph = graph_text(alloc, draws)?;
+    graph.push_str(graph_text(alloc, draws)?.as_str())?;
+    let shapes = shapes_text(alloc, draws, turn)?;
+    both(
+        expanded(alloc, graph.as_str()),
+        expanded(alloc, shapes.as_str()),
+    )
+}
+
+fn assert_listings(
+    rt: &impl Abort,
+    alloc: Global,
+    draws: &mut Draws,
+    all: &[Triple],
+    shapes_graph: &ShapesGraph,
+    counts: &mut Counts,
+    shapes: &str,
+) -> Result<(), Fail> {
+    assert!(rt; all.len() < 8000);
+    assert!(rt; shapes_graph.triples().len() < 8000);
+    let found = listings(alloc, draws, all, shapes_graph)?;
+    count(counts, &found)?;
+    assert_same(rt, &found.whole, &found.checked.rows, shapes)
+}
+
 // Both listings of one graph after changes.
 fn try_changes(
     rt: &impl Abort,
@@ -273,19 +322,21 @@ fn try_changes(
     turn: usize,
     counts: &mut Counts,
 ) -> Result<(), Fail> {
-    let mut text = graph_text(alloc, draws)?;
-    text.push_str(graph_text(alloc, draws)?.as_str())?;
-    let graph = expanded(alloc, text.as_str())?;
-    let shapes = expanded(alloc, shapes_text(alloc, draws, turn)?.as_str())?;
+    let (graph, shapes) = drawn_texts(alloc, draws, turn)?;
     assert!(rt; graph.len() < 8000 && shapes.len() < 4000);
     let mut maker = RegexMaker::new(alloc);
     match both_graphs(alloc, &mut maker, graph.as_bytes(), shapes.as_bytes()) {
         Ok((all, shapes_graph)) => {
-            assert!(rt; all.len() < 8000);
-            assert!(rt; shapes_graph.triples().len() < 8000);
-            let found = listings(alloc, draws, all.as_slice(), &shapes_graph)?;
-            count(counts, &found)?;
-            assert_same(rt, &found.whole, &found.checked, shapes.as_str())
+            let all = all.as_slice();
+            assert_listings(
+                rt,
+                alloc,
+                draws,
+                all,
+                &shapes_graph,
+                counts,
+                shapes.as_str(),
+            )
         }
         Err(fault) => {
             assert!(rt; false, "{fault:?} {shapes}");
@@ -303,10 +354,10 @@ struct Counts {
 }
 
 fn count(counts: &mut Counts, found: &Outcome) -> Result<(), AllocError> {
-    if found.pairs > 0 {
+    if found.checked.pairs > 0 {
         counts.checked = counts.checked.saturating_add(1);
     }
-    if found.kept > found.pairs {
+    if found.checked.kept > found.checked.pairs {
         counts.unchecked = counts.unchecked.saturating_add(1);
     }
     note(&mut counts.after, &found.whole)

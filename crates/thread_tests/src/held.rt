@@ -15,16 +15,16 @@ use std::sync::Wait;
 use std::test::*;
 use std::thread::Threads;
 
-const LIMITS: Limits = Limits {
+pub const LIMITS: Limits = Limits {
     terms: 20,
     triples: 100,
 };
 
-const COMMITS: &[EventKind] = &[Begin, Name, Head, Commit];
+pub const COMMITS: &[EventKind] = &[Begin, Name, Head, Commit];
 
 const COMMITS_TWICE: &[EventKind] = &[Begin, Name, Head, Commit, Begin, Name, Head, Commit];
 
-const ADDS_AT_A: &str = "\
+pub const ADDS_AT_A: &str = "\
 begin
 add ntriples
 <e:a> <e:p> <e:b> .
@@ -32,7 +32,7 @@ add ntriples
 commit
 ";
 
-const ADDS_AT_B: &str = "\
+pub const ADDS_AT_B: &str = "\
 begin
 add ntriples
 <e:b> <e:p> <e:b> .
@@ -424,7 +424,7 @@ history 1 2 2 2 2 2 2 2 2 2 1 1 1 1
 ];
 
 // The commands of session files.
-fn commands_of(alloc: Global, files: &[&str]) -> Result<Vec<Sequence<Command>>, Fail> {
+pub fn commands_of(alloc: Global, files: &[&str]) -> Result<Vec<Sequence<Command>>, Fail> {
     let mut maker = RegexMaker::new(alloc);
     let mut all = Vec::new(alloc);
     let mut session = 1;

@@ -5,9 +5,9 @@ use std::sync::atomic::{AtomicBool, AtomicU64, Ordering};
 use std::thread;
 
 // How often a hold looks for what it waits for, at most; between looks it gives way now and then.
-const TURNS: u64 = 200_000_000;
+pub const TURNS: u64 = 200_000_000;
 
-const TURNS_BETWEEN: u64 = 100_000;
+pub const TURNS_BETWEEN: u64 = 100_000;
 
 // An event: its session, and its place in the session, where the opening's is 1.
 #[derive(Clone, Copy, Debug)]

@@ -9,3 +9,5 @@ mod files;
 mod held;
 #[cfg(test)]
 mod holding_gate;
+#[cfg(test)]
+mod told;

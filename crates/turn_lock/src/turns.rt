@@ -16,10 +16,13 @@ use std::sync::Wait;
 use std::thread;
 use std::time::Duration;
 
-// How often a caller that is next looks again at once, and how often it then gives way between looks, before it sleeps.
-const LOOKS_AT_ONCE: u32 = 100;
+// The most turns before a caller that looks again soon, how often it looks again at once, and how often it then gives way
+// between looks, before it sleeps.
+const SOON: u64 = 8;
 
-const LOOKS_AFTER_WAY: u32 = 20;
+const LOOKS_AT_ONCE: u32 = 50;
+
+const LOOKS_AFTER_WAY: u32 = 200;
 
 // The longest that a caller sleeps for each turn that is before its own.
 const MICROSECONDS_OF_A_TURN: u64 = 50;
@@ -148,13 +151,13 @@ impl<S: Entries> Turns<S> {
         self.split_giving::<Brand>(pass, give)
     }
 
-    // Lets a little time pass, for a caller that has so many turns before its own and looked so often at the number that is
-    // served. A caller that is next looks again soon; else it sleeps until the end of a turn wakes it, and no longer than in
+    // Lets a little time pass, for a caller that has so many turns before its own and saw the number that is served so often.
+    // Where its turn is near, it looks again soon; else it sleeps until the end of a turn wakes it, and no longer than in
     // proportion to the turns before its own, since a wake may come to another.
     fn wait_behind<R: Wait>(&self, rt: &R, serving: u64, ahead: u64, looks: u32) {
-        if ahead <= 1 && looks < LOOKS_AT_ONCE {
+        if ahead <= SOON && looks < LOOKS_AT_ONCE {
             spin_loop();
-        } else if ahead <= 1 && looks < LOOKS_AT_ONCE + LOOKS_AFTER_WAY {
+        } else if ahead <= SOON && looks < LOOKS_AT_ONCE + LOOKS_AFTER_WAY {
             thread::yield_now();
         } else {
             let most = Duration::from_micros(MICROSECONDS_OF_A_TURN * ahead.min(1000));
@@ -173,6 +176,7 @@ impl<S: Entries> Turns<S> {
         let Pass { mut place, spare } = pass;
         let shared = &self.board.shared;
         let ticket = shared.fetch_add::<Draw>(&mut place, 1, 1);
+        let mut seen = ticket;
         let mut looks: u32 = 0;
         for _ in rt.forever() {
             let serving = shared.load::<Look>(&mut place, 0);
@@ -180,7 +184,12 @@ impl<S: Entries> Turns<S> {
                 let state = shared.exchange(&mut place, 0, None).unwrap();
                 return (Held { place, spare }, state);
             }
-            looks = looks.saturating_add(1);
+            looks = if serving == seen {
+                looks.saturating_add(1)
+            } else {
+                0
+            };
+            seen = serving;
             self.wait_behind(rt, serving, ticket.saturating_sub(serving), looks);
         }
         unreachable!()
