@@ -18,11 +18,11 @@ use std::time::Duration;
 
 // The most turns before a caller that looks again soon, how often it looks again at once, and how often it then gives way
 // between looks, before it sleeps.
-const SOON: u64 = 8;
+const SOON: u64 = 4;
 
 const LOOKS_AT_ONCE: u32 = 50;
 
-const LOOKS_AFTER_WAY: u32 = 200;
+const LOOKS_AFTER_WAY: u32 = 20_000;
 
 // The longest that a caller sleeps for each turn that is before its own.
 const MICROSECONDS_OF_A_TURN: u64 = 50;
