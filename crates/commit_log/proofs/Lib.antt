@@ -1,0 +1,9 @@
+pub mod Logs
+pub mod Puts
+pub mod One
+pub mod Appends
+pub mod Fronts
+pub mod Steps
+pub mod Records
+pub mod Stops
+pub mod Unsynced

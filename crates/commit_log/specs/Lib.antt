@@ -1,0 +1,4 @@
+pub mod Format
+pub mod Bad
+pub mod Texts
+pub mod Log

@@ -1,0 +1,4 @@
+pub mod OneSplit
+pub mod StoredTerms
+pub mod TripleLines
+pub mod Sections
