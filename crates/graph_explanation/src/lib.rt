@@ -1,0 +1,9 @@
+//! The explanation of a validation: for each result, in their order, the evidence by which it can be found again.
+//!
+//! `explanation_over` ensures that the text is that of just the results of a data graph by numbers under a shapes graph, each
+//! behind its number, from 1.
+#![tactic(auto)]
+
+mod explaining;
+
+pub use explaining::explanation_over;

@@ -1,0 +1,5 @@
+mod Looked
+mod Matched
+mod Showing
+mod LeastAims
+mod Evidenced

@@ -1,0 +1,109 @@
+//! The evidence of a result.
+ghost use Rattle.std.specs.Prelude.{◌≡◌, ◌<◌, IfOk, Some, length, slice_get, string_bytes};
+ghost use Rattle.rdf_model.specs.Numbers.{AreNumbered, IsNumbering, term_at};
+ghost use Rattle.path_eval.specs.Instances.{AreClassWords};
+ghost use Rattle.shape_ast.specs.Readings.{AreBound, ReadShape, named_shapes};
+ghost use Rattle.shape_ast.specs.Standing.{AreBuilt};
+ghost use Rattle.result_evidence.specs.BlockText.{block_text};
+ghost use Rattle.result_evidence.specs.Standing.{IsEvidenceOf, IsSomeResult};
+
+use crate::Block;
+use crate::aims::{Aim, aim_of};
+use crate::looks::looks_of;
+use crate::shown::shown_looks;
+use crate::text::text_of;
+use collections::both;
+use component_rows::named;
+use path_eval::ClassWords;
+use rdf_model::{Names, Term, Triples};
+use shape_ast::Bound;
+use shape_eval::{Evaluation, Steps};
+use shape_model::ResultRow;
+use std::alloc::{AllocError, Global};
+use std::sync::ledger::Ledger;
+
+// The node that is the shape at the place.
+fn node_at<'a, R: Triples, N: Names>(
+    evaluation: &Evaluation<'_, R, N>,
+    names: &'a N,
+    place: usize,
+) -> &'a Term
+    requires names { N.terms names.now ≡ evaluation.now.terms }
+    requires place { place < length evaluation.now.shapes }
+    ensures { (c : ReadShape) → slice_get (named_shapes evaluation.now.terms evaluation.now.shapes) place ≡ Some c → result.now ≡ c.node }
+{
+    evaluation.recall();
+    let bound = evaluation.bound();
+    named(names, bound.shapes.as_slice()[place].node)
+}
+
+// The terms of a shape and of a focus node.
+fn aim_terms<R: Triples, N: Names>(
+    evaluation: &Evaluation<'_, R, N>,
+    names: &N,
+    aim: Aim,
+) -> Result<(Term, Term), AllocError>
+    requires names { N.terms names.now ≡ evaluation.now.terms }
+    requires place { aim.place < length evaluation.now.shapes }
+    requires focus { aim.focus < length evaluation.now.terms }
+    ensures shape { IfOk result (λ both. (c : ReadShape) → slice_get (named_shapes evaluation.now.terms evaluation.now.shapes) aim.place ≡ Some c → both.0 ≡ c.node) }
+    ensures focus { IfOk result (λ both. both.1 ≡ term_at evaluation.now.terms aim.focus) }
+{
+    let node = node_at(evaluation, names, aim.place);
+    Ok(both(node.clone(), named(names, aim.focus).clone())?)
+}
+
+// The evidence of a result at the shape and the focus node that give it.
+fn block_of<R: Triples, N: Names, L: Ledger>(
+    evaluation: &Evaluation<'_, R, N>,
+    names: &N,
+    row: &ResultRow,
+    steps: &mut Steps<L>,
+) -> Result<Block, AllocError>
+    requires names { N.terms names.now ≡ evaluation.now.terms }
+    requires row { IsSomeResult evaluation.now.terms evaluation.now.ids evaluation.now.shapes row.now }
+    ensures { IfOk result (IsEvidenceOf evaluation.now.terms evaluation.now.ids evaluation.now.shapes row.now) }
+{
+    evaluation.recall();
+    let aim = aim_of(evaluation, names, row, steps)?;
+    let looks = looks_of(evaluation, names, aim.place, aim.focus, steps)?;
+    let shown = shown_looks(
+        evaluation.alloc(),
+        evaluation.graph(),
+        names,
+        looks.as_slice(),
+    )?;
+    let (shape, focus) = aim_terms(evaluation, names, aim)?;
+    Ok(Block {
+        shape,
+        focus,
+        row: row.clone()?,
+        looks: shown,
+    })
+}
+
+/// The text of a result's evidence (SHACL section 3.6), line by line: the least shape and focus node that give the result,
+/// its parts, the looks of that shape at that node in their order, each followed by the triples of the graph that match it,
+/// and `end`. It is that of each shapes graph that the shapes stand for, in which no shape refers to itself and no chain of
+/// references is longer than 256. It fails only for want of memory.
+pub fn evidence<R: Triples, N: Names, L: Ledger>(
+    alloc: Global,
+    graph: &R,
+    names: &N,
+    words: ClassWords,
+    bound: &Bound,
+    row: &ResultRow,
+    steps: &mut Steps<L>,
+) -> Result<String, AllocError>
+    requires numbering { IsNumbering (N.terms names.now) }
+    requires graph { AreNumbered (N.terms names.now) (R.triples graph.now) }
+    requires words { AreClassWords (N.terms names.now) words }
+    requires bound { AreBound (N.terms names.now) bound.now.shapes }
+    requires built { AreBuilt (term_at (N.terms names.now)) bound.now.shapes }
+    requires row { IsSomeResult (N.terms names.now) (R.triples graph.now) bound.now.shapes row.now }
+    ensures { IfOk result (λ text. (block : _) × IsEvidenceOf (N.terms names.now) (R.triples graph.now) bound.now.shapes row.now block × (string_bytes text ≡ block_text block)) }
+{
+    let evaluation = Evaluation::new(alloc, graph, names, words, bound);
+    let block = block_of(&evaluation, names, row, steps)?;
+    text_of(alloc, &block)
+}
