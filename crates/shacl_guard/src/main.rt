@@ -6,6 +6,10 @@
 #![tactic(auto)]
 
 mod answer;
+#[cfg(test)]
+mod device_tests;
+#[cfg(test)]
+mod held_tests;
 mod request;
 mod run;
 mod status;

@@ -222,7 +222,8 @@ impl Gate for HoldingGate {
     }
 }
 
-// Both sessions' four events are told before and after; no commit is ready, since none is checked before its turn.
+// Both sessions' four events are told before and after; both commits are ready, since each is checked before its turn and nothing
+// that its check read is changed until then.
 #[test]
 fn sessions_are_held(rt: HostRuntime) -> Result<(), Fail> {
     let alloc = rt.alloc();
@@ -245,7 +246,7 @@ fn sessions_are_held(rt: HostRuntime) -> Result<(), Fail> {
     assert_eq!(rt; status, Status::Done);
     assert_eq!(rt; gate.spent.load(Ordering::SeqCst), 0);
     assert_eq!(rt; gate.calls.load(Ordering::SeqCst), 16);
-    assert_eq!(rt; gate.ready.load(Ordering::SeqCst), 0);
+    assert_eq!(rt; gate.ready.load(Ordering::SeqCst), 2);
     let sessions =
         b"session 1\nbegin 0\nadd 1\ncommit 2\nsession 2\nbegin 0\nadd 1\ncommit 1\nhistory 1 2 ";
     assert!(rt; out.taken().starts_with(sessions.as_slice()));

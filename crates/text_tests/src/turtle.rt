@@ -286,6 +286,31 @@ fn refusals(rt: HostRuntime) -> Result<(), Fail> {
     Ok(())
 }
 
+const CUT: &[u8] = b"@base <http://a/b/c/d;p?q> .\n<e:x> <e:p> <../g> .\n";
+
+// What each beginning of the text gives that has from so many bytes up to so many: a directive and a statement end with their
+// dot.
+const BEGINNINGS: [(usize, usize, &str); 6] = [
+    (0, 0, "next 1"),
+    (1, 27, "14 in 1"),
+    (28, 29, "next 1"),
+    (30, 48, "14 in 2"),
+    (49, 49, "<e:x> <e:p> <http://a/b/g> .\nnext 1"),
+    (50, 50, "<e:x> <e:p> <http://a/b/g> .\nnext 1"),
+];
+
+#[test]
+fn cut_after_each_byte(rt: HostRuntime) -> Result<(), Fail> {
+    assert_eq!(rt; CUT.len(), 50);
+    for (first, last, wanted) in BEGINNINGS {
+        for length in first..last + 1 {
+            let found = outcome(&rt, rt.alloc(), &CUT[..length])?;
+            same(&rt, "a cut text", found.as_str(), wanted);
+        }
+    }
+    Ok(())
+}
+
 // The text of a row: what stands before brackets, what opens each, what stands within, what closes each, and what stands
 // behind. So many times they are opened.
 fn nested(rt: &impl Abort, alloc: Global, row: &str, count: usize) -> Result<String, AllocError> {
