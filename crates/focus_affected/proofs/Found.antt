@@ -2,9 +2,7 @@
 use Rattle.std.proofs.Common.{◌≡◌, Option, ℕ, ◌+◌, ◌<◌, ◌≤◌, List, [], ◌∷◌, ◌++◌, length, map, take, get_or, Some, None, refl, sym, ap, subst, arith, inl, inr}
 use Rattle.std.specs.Prelude.{◌⊎◌, ◌↔◌, true}
 use Rattle.std.specs.List.{Contains}
-use Rattle.std.proofs.lemmas.List.{get_or_default, take_all}
 use Rattle.std.proofs.lemmas.List.Elements.{Contains-append_cases, Contains-append_left, Contains-append_right}
-use Rattle.collections.proofs.Members.{has_cases, has_head}
 use Rattle.rdf_model.specs.declared.term.Term.{Term}
 use Rattle.rdf_model.specs.declared.ids.Ids.{Ids}
 use Rattle.rdf_model.specs.declared.look.Look.{Look}
@@ -15,10 +13,10 @@ use Rattle.shape_model.specs.Walks.{Walk, Walks}
 use Rattle.compiled_paths.specs.declared.path.Path.{Path}
 use Rattle.compiled_paths.specs.PathReadings.{path_of}
 use Rattle.path_eval.specs.Naming.{AddsLooks, NumberedEach}
-use Rattle.path_eval.proofs.Footprints.{looks_more, looks_none, looks_same, next_looks, none_before, some_next}
+use Rattle.path_eval.proofs.Footprints.{looks_more, looks_none, looks_same, none_before, some_next}
 use Rattle.path_eval.proofs.Mirrors.{mapped_from, mapped_to}
 use Rattle.reverse_walk.specs.Walkers.{AddsBackReadsOfSome, AreWalkersToSome}
-use Rattle.focus_affected.specs.Finding.{Finds, FindsFrom, WhereNodes}
+use Rattle.focus_affected.specs.Finding.{Finds, FindsFrom, FindsPairs, WhereNodes}
 use Rattle.focus_affected.specs.Plans.{way_of}
 use Rattle.focus_affected.proofs.Ways.{way_reads, way_walks}
 
@@ -38,11 +36,36 @@ module _ (terms : List Term) where
     looks = looks_none terms P never old;
   }
 
-  map_kept : (xs ys : List ℕ) → ((n : ℕ) → Contains xs n → Contains ys n) → (t : Term) → Contains (map (term_at terms) xs) t → Contains (map (term_at terms) ys) t
-  map_kept xs ys k t c = let h = mapped_from (term_at terms) xs t c in subst (λ (u : Term). Contains (map (term_at terms) ys) u) h.2 (mapped_to (term_at terms) ys h.0 (k h.0 h.1))
+  -- pairs of a place with each of the numbers
+  pub pairs_from : (W : Term → Type 0) (P : Look Term → Type 0) (place : ℕ) (xs : List ℕ) (old new : List (Look ℕ)) → Finds terms W P xs old new → FindsPairs terms (λ p t. (place ≡ p) × W t) P (map (λ n. (place, n)) xs) old new
+  pairs_from W P place xs old new f =
+      let pair : ℕ → ℕ × ℕ = λ n. (place, n) in
+      record {
+        members = λ e. (
+          λ c.
+              let m = mapped_from pair xs e c in
+              let k = (f.members m.0).0 m.1 in
+              subst (λ (y : ℕ × ℕ). (y.1 < length terms) × ((place ≡ y.0) × W (term_at terms y.1))) m.2 (k.0, (refl, k.1)),
+          λ h.
+              let same : pair e.1 ≡ e = λ j. (h.1.0 j, e.1) in
+              subst (λ (y : ℕ × ℕ). Contains (map pair xs) y) same (mapped_to pair xs e.1 ((f.members e.1).1 (h.0, h.1.1))),
+        );
+        every = λ p t h.
+            let m = mapped_from (term_at terms) xs t (f.every t h.1) in
+            (m.0, subst (λ (q : ℕ). Contains (map pair xs) (q, m.0)) h.0 (mapped_to pair xs m.0 m.1), m.2);
+        looks = f.looks;
+      }
 
-  both : (W V : Term → Type 0) (P Q : Look Term → Type 0) (xs ys : List ℕ) (old mid new : List (Look ℕ)) → Finds terms W P xs old mid → Finds terms V Q ys mid new
-      → Finds terms (λ t. W t ⊎ V t) (λ l. P l ⊎ Q l) (xs ++ ys) old new
+  pub pairs_same : (W V : ℕ → Term → Type 0) (P Q : Look Term → Type 0) (xs : List (ℕ × ℕ)) (old new : List (Look ℕ)) → ((p : ℕ) (t : Term) → W p t ↔ V p t) → ((l : Look Term) → P l ↔ Q l)
+      → FindsPairs terms W P xs old new → FindsPairs terms V Q xs old new
+  pairs_same W V P Q xs old new e d f = record {
+    members = λ n. (λ c. let k = (f.members n).0 c in (k.0, (e n.0 (term_at terms n.1)).0 k.1), λ h. (f.members n).1 (h.0, (e n.0 (term_at terms n.1)).1 h.1));
+    every = λ p t v. f.every p t ((e p t).1 v);
+    looks = looks_same terms P Q d old new f.looks;
+  }
+
+  both : (W V : ℕ → Term → Type 0) (P Q : Look Term → Type 0) (xs ys : List (ℕ × ℕ)) (old mid new : List (Look ℕ)) → FindsPairs terms W P xs old mid → FindsPairs terms V Q ys mid new
+      → FindsPairs terms (λ p t. W p t ⊎ V p t) (λ l. P l ⊎ Q l) (xs ++ ys) old new
   both W V P Q xs ys old mid new a b = record {
     members = λ n. (
       λ c. elim (Contains-append_cases xs ys n c) [
@@ -54,34 +77,33 @@ module _ (terms : List Term) where
         | inr v ↦ Contains-append_right xs ys n ((b.members n).1 (h.0, v))
       ],
     );
-    every = λ t. elim [
-      | inl w ↦ map_kept xs (xs ++ ys) (λ n c. Contains-append_left xs ys n c) t (a.every t w)
-      | inr v ↦ map_kept ys (xs ++ ys) (λ n c. Contains-append_right xs ys n c) t (b.every t v)
+    every = λ p t. elim [
+      | inl w ↦ let k = a.every p t w in (k.0, Contains-append_left xs ys (p, k.0) k.1, k.2)
+      | inr v ↦ let k = b.every p t v in (k.0, Contains-append_right xs ys (p, k.0) k.1, k.2)
     ];
     looks = looks_more terms P Q old mid new a.looks b.looks;
   }
 
   -- one item more
-  pub next_found : {X : Type 0} → (W : X → Term → Type 0) (P : X → Look Term → Type 0) (ts : List X) (i : ℕ) (t : X) → i < length ts → t ≡ get_or ts i t
-      → (xs ys zs : List ℕ) → zs ≡ xs ++ ys → (old mid new : List (Look ℕ))
-      → Finds terms (λ f. (u : X) × Contains (take i ts) u × W u f) (λ l. (u : X) × Contains (take i ts) u × P u l) xs old mid → Finds terms (W t) (P t) ys mid new
-      → Finds terms (λ f. (u : X) × Contains (take (i + 1) ts) u × W u f) (λ l. (u : X) × Contains (take (i + 1) ts) u × P u l) zs old new
+  pub next_found : {X : Type 0} → (W : X → ℕ → Term → Type 0) (P : X → Look Term → Type 0) (ts : List X) (i : ℕ) (t : X) → i < length ts → t ≡ get_or ts i t
+      → (xs ys zs : List (ℕ × ℕ)) → zs ≡ xs ++ ys → (old mid new : List (Look ℕ))
+      → FindsPairs terms (λ p f. (u : X) × Contains (take i ts) u × W u p f) (λ l. (u : X) × Contains (take i ts) u × P u l) xs old mid → FindsPairs terms (W t) (P t) ys mid new
+      → FindsPairs terms (λ p f. (u : X) × Contains (take (i + 1) ts) u × W u p f) (λ l. (u : X) × Contains (take (i + 1) ts) u × P u l) zs old new
   next_found {X} W P ts i t lt is xs ys zs e old mid new a b =
-      let next : Finds terms (W (get_or ts i t)) (P (get_or ts i t)) ys mid new = subst (λ u. Finds terms (W u) (P u) ys mid new) is b in
-      let joined = both (λ f. (u : X) × Contains (take i ts) u × W u f) (W (get_or ts i t)) (λ l. (u : X) × Contains (take i ts) u × P u l) (P (get_or ts i t)) xs ys old mid new a next in
-      subst (λ (ns : List ℕ). Finds terms (λ f. (u : X) × Contains (take (i + 1) ts) u × W u f) (λ l. (u : X) × Contains (take (i + 1) ts) u × P u l) ns old new) (sym e)
-      (finds_same (λ f. ((u : X) × Contains (take i ts) u × W u f) ⊎ W (get_or ts i t) f) (λ f. (u : X) × Contains (take (i + 1) ts) u × W u f)
+      let next : FindsPairs terms (W (get_or ts i t)) (P (get_or ts i t)) ys mid new = subst (λ u. FindsPairs terms (W u) (P u) ys mid new) is b in
+      let joined = both (λ p f. (u : X) × Contains (take i ts) u × W u p f) (W (get_or ts i t)) (λ l. (u : X) × Contains (take i ts) u × P u l) (P (get_or ts i t)) xs ys old mid new a next in
+      subst (λ (ns : List (ℕ × ℕ)). FindsPairs terms (λ p f. (u : X) × Contains (take (i + 1) ts) u × W u p f) (λ l. (u : X) × Contains (take (i + 1) ts) u × P u l) ns old new) (sym e)
+      (pairs_same (λ p f. ((u : X) × Contains (take i ts) u × W u p f) ⊎ W (get_or ts i t) p f) (λ p f. (u : X) × Contains (take (i + 1) ts) u × W u p f)
       (λ l. ((u : X) × Contains (take i ts) u × P u l) ⊎ P (get_or ts i t) l) (λ l. (u : X) × Contains (take (i + 1) ts) u × P u l) (xs ++ ys) old new
-      (λ f. let k = some_next (λ u. W u f) ts i t lt in (k.1, k.0)) (λ l. let k = some_next (λ u. P u l) ts i t lt in (k.1, k.0)) joined)
+      (λ p f. let k = some_next (λ u. W u p f) ts i t lt in (k.1, k.0)) (λ l. let k = some_next (λ u. P u l) ts i t lt in (k.1, k.0)) joined)
 
-  pub none_found : {X : Type 0} → (W : X → Term → Type 0) (P : X → Look Term → Type 0) (xs : List ℕ) (old : List (Look ℕ)) → xs ≡ []
-      → Finds terms (λ f. (u : X) × Contains [] u × W u f) (λ l. (u : X) × Contains [] u × P u l) xs old old
-  none_found {X} W P xs old e = finds_none (λ f. (u : X) × Contains [] u × W u f) (λ l. (u : X) × Contains [] u × P u l) xs old e (λ f. none_before (λ u. W u f)) (λ l. none_before (λ u. P u l))
-
-  pub all_found : {X : Type 0} → (W : X → Term → Type 0) (P : X → Look Term → Type 0) (ts : List X) (i : ℕ) (xs : List ℕ) (old new : List (Look ℕ)) → length ts ≤ i
-      → Finds terms (λ f. (u : X) × Contains (take i ts) u × W u f) (λ l. (u : X) × Contains (take i ts) u × P u l) xs old new
-      → Finds terms (λ f. (u : X) × Contains ts u × W u f) (λ l. (u : X) × Contains ts u × P u l) xs old new
-  all_found {X} W P ts i xs old new le f = subst (λ (us : List X). Finds terms (λ f. (u : X) × Contains us u × W u f) (λ l. (u : X) × Contains us u × P u l) xs old new) (take_all i ts le) f
+  pub none_found : {X : Type 0} → (W : X → ℕ → Term → Type 0) (P : X → Look Term → Type 0) (xs : List (ℕ × ℕ)) (old : List (Look ℕ)) → xs ≡ []
+      → FindsPairs terms (λ p f. (u : X) × Contains [] u × W u p f) (λ l. (u : X) × Contains [] u × P u l) xs old old
+  none_found {X} W P xs old e = record {
+    members = λ n. (λ c. absurd (omega (arith, (subst (λ (l : List (ℕ × ℕ)). Contains l n) e c).1)), λ h. absurd (none_before (λ u. W u n.0 (term_at terms n.1)) h.1));
+    every = λ p t h. absurd (none_before (λ u. W u p t) h);
+    looks = looks_none terms (λ l. (u : X) × Contains [] u × P u l) (λ l. none_before (λ u. P u l)) old;
+  }
 
 -- the nodes themselves, where there is no way
 pub found_here : (ids : List Ids) (nodes : List ℕ) (old : List (Look ℕ)) → WhereNodes ids None nodes (λ terms. FindsFrom terms ids None nodes nodes old old)

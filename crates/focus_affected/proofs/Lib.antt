@@ -1,5 +1,6 @@
 pub mod Ways
 pub mod Found
 pub mod Matched
-pub mod Runs
+pub mod Keys
 pub mod Paired
+pub mod Rows

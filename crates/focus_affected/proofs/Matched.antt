@@ -52,7 +52,7 @@ module _ (terms : List Term) (numbering : IsNumbering terms) (changed : List Ids
       let is : g.0.subject ≡ n = let some = g.2 in cc in
       (subst (λ (m : ℕ). m < length terms) is bound.0, (triple_at terms g.0, mapped_to (triple_at terms) changed g.0 g.1, ap (term_at terms) is))
 
-  from_matched : (kind : NumberedKind) → IsBoundKind (length terms) kind → (z : Term) → IsMatched (graph_of terms changed) (kind_of terms kind) z → (n : ℕ) × Contains (filter_map (node_in kind) changed) n × (term_at terms n ≡ z)
+  pub from_matched : (kind : NumberedKind) → IsBoundKind (length terms) kind → (z : Term) → IsMatched (graph_of terms changed) (kind_of terms kind) z → (n : ℕ) × Contains (filter_map (node_in kind) changed) n × (term_at terms n ≡ z)
   from_matched (Out p) lt z m =
       let k = found terms numbering changed numbered m.0.subject m.0.predicate m.0.object m.1 in
       let same : k.0.predicate ≡ p = numbering k.0.predicate p k.3 lt (k.6 ∙ m.2.1) in

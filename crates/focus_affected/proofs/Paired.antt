@@ -1,9 +1,9 @@
 -- Pairs of a shape and a focus node, plan by plan.
 use Rattle.std.proofs.Common.{◌≡◌, ◌∙◌, ℕ, ◌+◌, ◌<◌, ◌≤◌, List, [], ◌∷◌, ◌++◌, length, map, take, get_or, refl, sym, ap, subst, arith, inl, inr}
 use Rattle.std.specs.Prelude.{◌⊎◌, ◌↔◌}
-use Rattle.std.specs.List.{AllByRecursion, Contains}
+use Rattle.std.specs.List.{AllByRecursion, Contains, filter_map}
+use Rattle.std.specs.Ordering.{nat_cmp}
 use Rattle.std.proofs.lemmas.List.{get_or_default, take_all}
-use Rattle.std.proofs.lemmas.List.Elements.{Contains-append_cases, Contains-append_left, Contains-append_right}
 use Rattle.collections.specs.Listings.{IsListing}
 use Rattle.collections.specs.Pairs.{pair_cmp}
 use Rattle.collections.proofs.Members.{has_cases, has_head, has_tail}
@@ -13,19 +13,25 @@ use Rattle.rdf_model.specs.declared.change.Change.{Change}
 use Rattle.rdf_model.specs.declared.ids.Ids.{Ids}
 use Rattle.rdf_model.specs.declared.look.Look.{Look}
 use Rattle.rdf_model.specs.Numbers.{AreNumbered, IsNumbering, graph_of, term_at, triple_at}
+use Rattle.rdf_model.proofs.Finding.{from_given}
 use Rattle.shape_model.specs.Looks.{LookRow}
 use Rattle.shape_model.specs.ShapeLooks.{Looks}
 use Rattle.shape_model.specs.Touching.{Touched}
 use Rattle.path_eval.specs.Naming.{AddsLooks}
-use Rattle.path_eval.proofs.Footprints.{looks_none, looks_same, next_looks, none_before, some_next}
+use Rattle.path_eval.proofs.Footprints.{looks_same}
 use Rattle.path_eval.proofs.Mirrors.{mapped_from, mapped_to}
 use Rattle.change_laws.specs.Pairs.{FindingLook}
 use Rattle.focus_affected.specs.declared.plan.NumberedLook.{NumberedLook}
 use Rattle.focus_affected.specs.declared.plan.ShapePlan.{ShapePlan}
-use Rattle.focus_affected.specs.Plans.{AreBoundPlans, row_of}
-use Rattle.focus_affected.specs.Finding.{ArePairs, FindsBy, FindsBySome, FindsWith, FindsWithSome, IsTouchedBy, IsTouchedBySome, WherePlans, WhereRows}
+use Rattle.focus_affected.specs.declared.plan.NumberedKind.{NumberedKind}
+use Rattle.focus_affected.specs.declared.plan.NumberedKind.TheVariants.{Out, In, OutAny}
+use Rattle.focus_affected.specs.declared.index.RowPlace.{RowPlace}
+use Rattle.focus_affected.specs.Plans.{AreBoundPlans, IsBoundLookRow, IsBoundPlan, kind_of, node_in, row_of}
+use Rattle.focus_affected.specs.Index.{HasRow, IsAskedOf, IsItem, IsKindAt, IsRowAt}
+use Rattle.focus_affected.specs.Finding.{ArePairs, FindsAt, FindsAtSome, FindsBy, FindsWith, FindsWithAt, FindsWithSome, IsMatched, IsTouchedAt, IsTouchedBy, IsTouchedBySome, WherePlans}
 use Rattle.focus_affected.specs.Touched.{AddsTouchLooks, AreChanged, ArePlaced, ArePlans, IsTouchedPair, ListsTouched}
-use Rattle.focus_affected.proofs.Found.{all_found, next_found, none_found}
+use Rattle.focus_affected.proofs.Found.{next_found, none_found, pairs_from, pairs_same}
+use Rattle.focus_affected.proofs.Matched.{chosen, from_matched}
 
 all_from : {X : Type 0} → (P : X → Type 0) (xs : List X) → ((x : X) → Contains xs x → P x) → AllByRecursion P xs
 all_from P [] h = tt
@@ -35,71 +41,123 @@ all_to : {X : Type 0} → (P : X → Type 0) (xs : List X) → AllByRecursion P 
 all_to P [] a x c = absurd (omega (arith, c.1))
 all_to P (y ∷ ys) a x c = elim (has_cases y ys x c) [ inl e ↦ subst P e a.0 | inr d ↦ all_to P ys a.1 x d ]
 
--- row by row
-module _ (ids : List Ids) (looks : List NumberedLook) (changed : List Ids) where
-  pub no_row : (xs : List ℕ) (old : List (Look ℕ)) → xs ≡ [] → WhereRows ids looks changed (λ terms. FindsBySome terms ids changed [] xs old old)
-  no_row xs old e terms numbering numbered marked bound = record { found_by = none_found terms (λ (l : NumberedLook) f. IsTouchedBy (graph_of terms ids) (graph_of terms changed) (row_of terms l) f) (λ l k. FindsWith (graph_of terms ids) (graph_of terms changed) (row_of terms l) k) xs old e }
+-- the row at a place
+module _ (plans : List ShapePlan) (at : RowPlace) (plan : ShapePlan) (look : NumberedLook) (is : IsRowAt plans at plan look) where
+  same_plan : (p : ShapePlan) (l : NumberedLook) → IsRowAt plans at p l → plan ≡ p
+  same_plan p l o = sym is.of_plans.1 ∙ (get_or_default plans at.plan plan p is.of_plans.0 ∙ o.of_plans.1)
 
-  pub next_row : (i : ℕ) (d : NumberedLook) (xs ys zs : List ℕ) (old mid new : List (Look ℕ)) → i < length looks → zs ≡ xs ++ ys → WhereRows ids looks changed (λ terms. FindsBySome terms ids changed (take i looks) xs old mid)
-      → FindsBy ids (get_or looks i d) changed ys mid new → WhereRows ids looks changed (λ terms. FindsBySome terms ids changed (take (i + 1) looks) zs old new)
-  next_row i d xs ys zs old mid new lt e before here terms numbering numbered marked bound = record {
-    found_by = next_found terms (λ (l : NumberedLook) f. IsTouchedBy (graph_of terms ids) (graph_of terms changed) (row_of terms l) f) (λ l k. FindsWith (graph_of terms ids) (graph_of terms changed) (row_of terms l) k)
-        looks i (get_or looks i d) lt (get_or_default looks i d (get_or looks i d) lt) xs ys zs e old mid new (before terms numbering numbered marked bound).found_by (here terms numbering numbered marked (bound i d lt));
-  }
+  same_look : (p : ShapePlan) (l : NumberedLook) → IsRowAt plans at p l → look ≡ l
+  same_look p l o =
+      let there : IsItem plan.looks at.look l = subst (λ (q : ShapePlan). IsItem q.looks at.look l) (sym (same_plan p l o)) o.of_plan in
+      sym is.of_plan.1 ∙ (get_or_default plan.looks at.look look l is.of_plan.0 ∙ there.1)
 
-  pub all_rows : (i : ℕ) (xs : List ℕ) (old new : List (Look ℕ)) → length looks ≤ i → WhereRows ids looks changed (λ terms. FindsBySome terms ids changed (take i looks) xs old new) → WhereRows ids looks changed (λ terms. FindsBySome terms ids changed looks xs old new)
-  all_rows i xs old new le all terms numbering numbered marked bound = subst (λ (ls : List NumberedLook). FindsBySome terms ids changed ls xs old new) (take_all i looks le) (all terms numbering numbered marked bound)
+  pub row_bound : (n : ℕ) → AreBoundPlans n plans → IsBoundLookRow n look
+  row_bound n bound =
+      let here : IsBoundPlan n plan = subst (λ (q : ShapePlan). IsBoundPlan n q) is.of_plans.1 (bound at.plan plan is.of_plans.0) in
+      subst (λ (l : NumberedLook). IsBoundLookRow n l) is.of_plan.1 (here.looks at.look look is.of_plan.0)
 
--- plan by plan
-module _ (ids : List Ids) (plans : List ShapePlan) (changed : List Ids) where
-  pub no_plan : (pairs : List (ℕ × ℕ)) (old : List (Look ℕ)) → pairs ≡ [] → WherePlans ids plans changed (λ terms. ArePairs terms ids changed [] pairs old old)
-  no_plan pairs old e terms numbering numbered marked bound = record {
-    members = λ x. (λ c. absurd (omega (arith, (subst (λ (l : List (ℕ × ℕ)). Contains l x) e c).1)), λ h. absurd (none_before (λ (p : ShapePlan). (p.place ≡ x.0) × (x.1 < length terms) × IsTouchedBySome terms (graph_of terms ids) (graph_of terms changed) p.looks (term_at terms x.1)) h));
-    every = λ p f c t. absurd (omega (arith, c.1));
-    looks = looks_none terms (λ l. (p : ShapePlan) × Contains [] p × FindsWithSome terms (graph_of terms ids) (graph_of terms changed) p.looks l) (λ l. none_before (λ (p : ShapePlan). FindsWithSome terms (graph_of terms ids) (graph_of terms changed) p.looks l)) old;
-  }
-
-  pub all_plans : (i : ℕ) (pairs : List (ℕ × ℕ)) (old new : List (Look ℕ)) → length plans ≤ i → WherePlans ids plans changed (λ terms. ArePairs terms ids changed (take i plans) pairs old new) → WherePlans ids plans changed (λ terms. ArePairs terms ids changed plans pairs old new)
-  all_plans i pairs old new le all terms numbering numbered marked bound = subst (λ (ps : List ShapePlan). ArePairs terms ids changed ps pairs old new) (take_all i plans le) (all terms numbering numbered marked bound)
-
-  pub next_plan : (i : ℕ) (d : ShapePlan) (pairs later : List (ℕ × ℕ)) (nodes : List ℕ) (old mid new : List (Look ℕ)) → i < length plans → later ≡ pairs ++ map (λ n. ((get_or plans i d).place, n)) nodes
-      → WherePlans ids plans changed (λ terms. ArePairs terms ids changed (take i plans) pairs old mid)
-      → WhereRows ids (get_or plans i d).looks changed (λ terms. FindsBySome terms ids changed (get_or plans i d).looks nodes mid new)
-      → WherePlans ids plans changed (λ terms. ArePairs terms ids changed (take (i + 1) plans) later old new)
-  next_plan i d pairs later nodes old mid new lt e before rows terms numbering numbered marked bound =
-      let plan : ShapePlan = get_or plans i d in
+  pub found_there : (ids changed : List Ids) (nodes : List ℕ) (old new : List (Look ℕ)) → FindsBy ids look changed nodes old new
+      → WherePlans ids plans changed (λ terms. FindsAt terms ids changed plans at (map (λ n. (plan.place, n)) nodes) old new)
+  found_there ids changed nodes old new by terms numbering numbered marked bound =
       let g = graph_of terms ids in
       let ts = graph_of terms changed in
-      let was : ArePairs terms ids changed (take i plans) pairs old mid = before terms numbering numbered marked bound in
-      let here = (rows terms numbering numbered marked (bound i d lt).looks).found_by in
-      let pair : ℕ → ℕ × ℕ = λ n. (plan.place, n) in
-      let both = pairs ++ map pair nodes in
-      let Is : ℕ × ℕ → ShapePlan → Type 0 = λ x p. (p.place ≡ x.0) × (x.1 < length terms) × IsTouchedBySome terms g ts p.looks (term_at terms x.1) in
-      let grown : ArePairs terms ids changed (take (i + 1) plans) both old new = record {
-        members = λ x. (
-          λ c. elim (Contains-append_cases pairs (map pair nodes) x c) [
-            | inl k ↦ (some_next (Is x) plans i d lt).1 (inl ((was.members x).0 k))
-            | inr k ↦
-                let m = mapped_from pair nodes x k in
-                let f = (here.members m.0).0 m.1 in
-                (some_next (Is x) plans i d lt).1 (inr (subst (λ (y : ℕ × ℕ). Is y plan) m.2 (refl, f.0, f.1)))
-          ],
-          λ h. elim ((some_next (Is x) plans i d lt).0 h) [
-            | inl k ↦ Contains-append_left pairs (map pair nodes) x ((was.members x).1 k)
-            | inr k ↦
-                let same : pair x.1 ≡ x = λ j. (k.0 j, x.1) in
-                Contains-append_right pairs (map pair nodes) x (subst (λ (y : ℕ × ℕ). Contains (map pair nodes) y) same (mapped_to pair nodes x.1 ((here.members x.1).1 (k.1, k.2))))
-          ],
+      let row = row_of terms look in
+      record {
+        found_at = pairs_same terms (λ p f. (plan.place ≡ p) × IsTouchedBy g ts row f) (IsTouchedAt terms g ts plans at) (FindsWith g ts row) (FindsWithAt terms g ts plans at) (map (λ n. (plan.place, n)) nodes) old new
+            (λ p f. (
+              λ h. (plan, look, is, h),
+              λ h. (
+                subst (λ (q : ShapePlan). q.place ≡ p) (sym (same_plan h.0 h.1 h.2)) h.3.0,
+                subst (λ (l : NumberedLook). IsTouchedBy g ts (row_of terms l) f) (sym (same_look h.0 h.1 h.2)) h.3.1,
+              ),
+            ))
+            (λ l. (λ h. (plan, look, is, h), λ h. subst (λ (m : NumberedLook). FindsWith g ts (row_of terms m) l) (sym (same_look h.0 h.1 h.2)) h.3))
+            (pairs_from terms (IsTouchedBy g ts row) (FindsWith g ts row) plan.place nodes old new (by terms numbering numbered marked (row_bound (length terms) bound)));
+      }
+
+-- what has a row at the place has one of the plan there
+pub item_at : (plans : List ShapePlan) (at : RowPlace) (plan : ShapePlan) → plan ≡ get_or plans at.plan plan → HasRow plans at → (look : NumberedLook) × IsItem plan.looks at.look look
+item_at plans at plan is h =
+    let same : h.0 ≡ plan = sym h.2.of_plans.1 ∙ (get_or_default plans at.plan h.0 plan h.2.of_plans.0 ∙ sym is) in
+    (h.1, subst (λ (p : ShapePlan). IsItem p.looks at.look h.1) same h.2.of_plan)
+
+-- row by row
+module _ (ids : List Ids) (plans : List ShapePlan) (places : List RowPlace) (changed : List Ids) where
+  pub no_row : (xs : List (ℕ × ℕ)) (old : List (Look ℕ)) → xs ≡ [] → WherePlans ids plans changed (λ terms. FindsAtSome terms ids changed plans [] xs old old)
+  no_row xs old e terms numbering numbered marked bound = record {
+    found_at_some = none_found terms (IsTouchedAt terms (graph_of terms ids) (graph_of terms changed) plans) (FindsWithAt terms (graph_of terms ids) (graph_of terms changed) plans) xs old e;
+  }
+
+  pub next_row : (i : ℕ) (at : RowPlace) (xs ys zs : List (ℕ × ℕ)) (old mid new : List (Look ℕ)) → i < length places → at ≡ get_or places i at → zs ≡ xs ++ ys
+      → WherePlans ids plans changed (λ terms. FindsAtSome terms ids changed plans (take i places) xs old mid)
+      → WherePlans ids plans changed (λ terms. FindsAt terms ids changed plans at ys mid new)
+      → WherePlans ids plans changed (λ terms. FindsAtSome terms ids changed plans (take (i + 1) places) zs old new)
+  next_row i at xs ys zs old mid new lt is e before here terms numbering numbered marked bound = record {
+    found_at_some = next_found terms (IsTouchedAt terms (graph_of terms ids) (graph_of terms changed) plans) (FindsWithAt terms (graph_of terms ids) (graph_of terms changed) plans)
+        places i at lt is xs ys zs e old mid new (before terms numbering numbered marked bound).found_at_some (here terms numbering numbered marked bound).found_at;
+  }
+
+  pub all_rows : (i : ℕ) (xs : List (ℕ × ℕ)) (old new : List (Look ℕ)) → length places ≤ i → WherePlans ids plans changed (λ terms. FindsAtSome terms ids changed plans (take i places) xs old new)
+      → WherePlans ids plans changed (λ terms. FindsAtSome terms ids changed plans places xs old new)
+  all_rows i xs old new le all terms numbering numbered marked bound = subst (λ (ats : List RowPlace). FindsAtSome terms ids changed plans ats xs old new) (take_all i places le) (all terms numbering numbered marked bound)
+
+-- the rows that may match are all that do
+module _ (ids : List Ids) (plans : List ShapePlan) (changed : List Ids) (predicates : List ℕ) (listed : IsListing nat_cmp (Contains (map (λ (i : Ids). i.predicate) changed)) predicates)
+    (places : List RowPlace) (asked : (at : RowPlace) → Contains places at ↔ ((kind : NumberedKind) × IsKindAt plans at kind × IsAskedOf predicates kind)) where
+  pub has_rows : (at : RowPlace) → Contains places at → HasRow plans at
+  has_rows at c = let k = (asked at).0 c in (k.1.0, k.1.1, k.1.2)
+
+  is_asked : (kind : NumberedKind) (n : ℕ) → Contains (filter_map (node_in kind) changed) n → IsAskedOf predicates kind
+  is_asked (Out p) n c =
+      let g = from_given (node_in (Out p)) changed n c in
+      let e = chosen p g.0.predicate g.0.subject n g.2 in
+      inr (p, (listed.members p).1 (subst (λ (q : ℕ). Contains (map (λ (i : Ids). i.predicate) changed) q) (sym e.0) (mapped_to (λ (i : Ids). i.predicate) changed g.0 g.1)), refl)
+  is_asked (In p) n c =
+      let g = from_given (node_in (In p)) changed n c in
+      let e = chosen p g.0.predicate g.0.object n g.2 in
+      inr (p, (listed.members p).1 (subst (λ (q : ℕ). Contains (map (λ (i : Ids). i.predicate) changed) q) (sym e.0) (mapped_to (λ (i : Ids). i.predicate) changed g.0 g.1)), refl)
+  is_asked OutAny n c = inl refl
+
+  module _ (terms : List Term) (numbering : IsNumbering terms) (marked : AreNumbered terms changed) (bound : AreBoundPlans (length terms) plans) where
+    -- what holds of no row that isn't matched, of a row at one of the places and of one of some plan
+    each_row : (Q : ShapePlan → NumberedLook → Type 0) → ((plan : ShapePlan) (l : NumberedLook) → Q plan l → (z : Term) × IsMatched (graph_of terms changed) (kind_of terms l.kind) z)
+        → ((at : RowPlace) × Contains places at × ((plan : ShapePlan) × (l : NumberedLook) × IsRowAt plans at plan l × Q plan l)) ↔ ((plan : ShapePlan) × Contains plans plan × ((l : NumberedLook) × Contains plan.looks l × Q plan l))
+    each_row Q matched = (
+      λ h.
+          let r = h.2 in
+          let row = r.2 in
+          (r.0, (h.0.plan, row.of_plans.0, row.of_plans.1), (r.1, (h.0.look, row.of_plan.0, row.of_plan.1), r.3)),
+      λ h.
+          let plan = h.0 in
+          let l = h.2.0 in
+          let at : RowPlace = record { plan = h.1.0; look = h.2.1.0 } in
+          let row : IsRowAt plans at plan l = record { of_plans = (h.1.1, h.1.2); of_plan = (h.2.1.1, h.2.1.2) } in
+          let m = matched plan l h.2.2 in
+          let n = from_matched terms numbering changed marked l.kind (row_bound plans at plan l row (length terms) bound).kind m.0 m.1 in
+          (at, (asked at).1 (l.kind, (plan, l, row, refl), is_asked l.kind n.0 n.1), (plan, l, row, h.2.2)),
+    )
+
+  pub by_index : (pairs : List (ℕ × ℕ)) (old new : List (Look ℕ)) → WherePlans ids plans changed (λ terms. FindsAtSome terms ids changed plans places pairs old new)
+      → WherePlans ids plans changed (λ terms. ArePairs terms ids changed plans pairs old new)
+  by_index pairs old new found terms numbering numbered marked bound =
+      let g = graph_of terms ids in
+      let ts = graph_of terms changed in
+      let f = (found terms numbering numbered marked bound).found_at_some in
+      let touched = λ (place : ℕ) (t : Term). each_row terms numbering marked bound (λ plan l. (plan.place ≡ place) × IsTouchedBy g ts (row_of terms l) t) (λ plan l q. (q.1.0, q.1.1)) in
+      record {
+        members = λ e. (
+          λ c.
+              let k = (f.members e).0 c in
+              let r = (touched e.0 (term_at terms e.1)).0 k.1 in
+              (r.0, r.1, (r.2.2.0, k.0, (r.2.0, r.2.1, r.2.2.1))),
+          λ h.
+              let t = h.2.2 in
+              (f.members e).1 (h.2.1, (touched e.0 (term_at terms e.1)).1 (h.0, h.1, (t.0, t.1, (h.2.0, t.2)))),
         );
-        every = λ p f c t. elim ((some_next (λ (q : ShapePlan). q ≡ p) plans i d lt).0 (p, c, refl)) [
-          | inl k ↦ let w = was.every p f (subst (λ (q : ShapePlan). Contains (take i plans) q) k.2 k.1) t in (w.0, Contains-append_left pairs (map pair nodes) (p.place, w.0) w.1, w.2)
-          | inr k ↦
-              let m = mapped_from (term_at terms) nodes f (here.every f (subst (λ (q : ShapePlan). IsTouchedBySome terms g ts q.looks f) (sym k) t)) in
-              (m.0, Contains-append_right pairs (map pair nodes) (p.place, m.0) (subst (λ (q : ShapePlan). Contains (map pair nodes) (q.place, m.0)) k (mapped_to pair nodes m.0 m.1)), m.2)
-        ];
-        looks = next_looks terms (λ (p : ShapePlan) l. FindsWithSome terms g ts p.looks l) plans i plan lt (get_or_default plans i d plan lt) old mid new was.looks here.looks;
-      } in
-      subst (λ (l : List (ℕ × ℕ)). ArePairs terms ids changed (take (i + 1) plans) l old new) (sym e) grown
+        every = λ plan t c h. f.every plan.place t ((touched plan.place t).1 (plan, c, (h.0, h.1, (refl, h.2))));
+        looks = looks_same terms (λ l. (at : RowPlace) × Contains places at × FindsWithAt terms g ts plans at l) (λ l. (plan : ShapePlan) × Contains plans plan × FindsWithSome terms g ts plan.looks l)
+            (λ l. each_row terms numbering marked bound (λ plan m. FindsWith g ts (row_of terms m) l) (λ plan m q. (q.0, q.1))) old new f.looks;
+      }
 
 -- what the rows of a plan find is what is touched
 module _ (terms : List Term) (g s : List Triple) (net : List Change) (plans : List ShapePlan) (changed : List Ids) (are : ArePlans terms s plans) (is : AreChanged terms changed net) where

@@ -1,7 +1,7 @@
 //! The triples of changes, in the order of their predicates.
-ghost use Rattle.std.specs.Prelude.{◌≡◌, ◌↔◌, ◌<◌, ◌≤◌, ◌-◌, IfOk, drop, leb, length, ltb, take};
+ghost use Rattle.std.specs.Prelude.{◌≡◌, ◌↔◌, IfOk, map};
 ghost use Rattle.std.specs.List.{Contains, filter_map};
-ghost use Rattle.std.specs.List.Sorted.{IsNonDecreasingBy, IsPartitionPoint};
+ghost use Rattle.std.specs.List.Sorted.{IsNonDecreasingBy};
 ghost use Rattle.std.specs.Ordering.{nat_cmp};
 ghost use Rattle.collections.specs.Listings.{IsListing};
 ghost use Rattle.rdf_model.specs.declared.ids.Ids.{Ids as IdsData};
@@ -9,6 +9,7 @@ ghost use Rattle.focus_affected.specs.Plans.{IsOf, node_in};
 
 use crate::NumberedKind;
 use crate::matching::nodes_of;
+use crate::runs::with_predicate;
 use collections::sorted_once;
 use rdf_model::Ids;
 use std::alloc::{AllocError, Global};
@@ -20,10 +21,12 @@ pub(crate) struct ChangedTriples {
     triples: Vec<Ids>,
     // The subjects of them all, each once, ascending.
     subjects: Vec<u32>,
+    // Their predicates, each once, ascending.
+    predicates: Vec<u32>,
 }
 
 impl Model for ChangedTriples {
-    ghost use Rattle.std.specs.Prelude.{List};
+    ghost use Rattle.std.specs.Prelude.{List, map};
     ghost use Rattle.std.specs.List.{Contains, filter_map};
     ghost use Rattle.std.specs.List.Sorted.{IsNonDecreasingBy};
     ghost use Rattle.std.specs.Ordering.{nat_cmp};
@@ -36,51 +39,7 @@ impl Model for ChangedTriples {
 
     ghost view = { λ c. c.triples.items };
 
-    ghost invariant = { λ c. IsNonDecreasingBy (λ (i : IdsData). i.predicate) c.triples.items × IsListing nat_cmp (Contains (filter_map (node_in OutAny) c.triples.items)) c.subjects.items };
-}
-
-// How many of the triples have a lower predicate.
-fn count_below(triples: &[Ids], predicate: u32) -> usize
-    requires { IsNonDecreasingBy (λ (i : IdsData). i.predicate) triples.now }
-    ensures bound { result ≤ length triples.now }
-    ensures split { IsPartitionPoint (λ (i : IdsData). i.predicate < predicate) (λ i. predicate ≤ i.predicate) triples.now result }
-{
-    triples.partition_point(
-        |triple: &Ids| -> bool
-            ensures { result ≡ ltb triple.now.predicate predicate }
-        { triple.predicate < predicate },
-    )
-}
-
-// How many of them have the predicate or a lower one.
-fn count_up_to(triples: &[Ids], predicate: u32) -> usize
-    requires { IsNonDecreasingBy (λ (i : IdsData). i.predicate) triples.now }
-    ensures bound { result ≤ length triples.now }
-    ensures split { IsPartitionPoint (λ (i : IdsData). i.predicate ≤ predicate) (λ i. predicate < i.predicate) triples.now result }
-{
-    triples.partition_point(
-        |triple: &Ids| -> bool
-            ensures { result ≡ leb triple.now.predicate predicate }
-        { triple.predicate <= predicate },
-    )
-}
-
-// The triples from a place up to another.
-fn part_of(triples: &[Ids], start: usize, end: usize) -> &[Ids]
-    requires { (start ≤ end) × (end ≤ length triples.now) }
-    ensures { result.now ≡ take (end - start) (drop start triples.now) }
-{
-    &triples[start..end]
-}
-
-// Those with the predicate, which stand side by side.
-fn with_predicate(triples: &[Ids], predicate: u32) -> &[Ids]
-    requires { IsNonDecreasingBy (λ (i : IdsData). i.predicate) triples.now }
-    ensures { (i : IdsData) → Contains result.now i ↔ (Contains triples.now i × (i.predicate ≡ predicate)) }
-{
-    let start = count_below(triples, predicate);
-    let end = count_up_to(triples, predicate);
-    part_of(triples, start, end)
+    ghost invariant = { λ c. IsNonDecreasingBy (λ (i : IdsData). i.predicate) c.triples.items × IsListing nat_cmp (Contains (filter_map (node_in OutAny) c.triples.items)) c.subjects.items × IsListing nat_cmp (Contains (map (λ (i : IdsData). i.predicate) c.triples.items)) c.predicates.items };
 }
 
 // The same nodes.
@@ -107,6 +66,17 @@ fn in_order(alloc: Global, changed: &[Ids]) -> Result<Vec<Ids>, AllocError>
     Ok(triples)
 }
 
+// The predicates of the triples, in their order.
+fn predicates_of(alloc: Global, triples: &[Ids]) -> Result<Vec<u32>, AllocError>
+    ensures { IfOk result (λ predicates. predicates.items ≡ map (λ (i : IdsData). i.predicate) triples.now) }
+{
+    let mut predicates = Vec::new(alloc);
+    for triple in triples {
+        predicates.push(triple.predicate)?;
+    }
+    Ok(predicates)
+}
+
 impl ChangedTriples {
     /// The triples, in the order of their predicates.
     pub(crate) fn new(alloc: Global, changed: &[Ids]) -> Result<ChangedTriples, AllocError>
@@ -115,7 +85,19 @@ impl ChangedTriples {
         let triples = in_order(alloc, changed)?;
         let nodes = nodes_of(alloc, NumberedKind::OutAny, &triples)?;
         let subjects = sorted_once(nodes)?;
-        Ok(ChangedTriples { triples, subjects })
+        let predicates = sorted_once(predicates_of(alloc, &triples)?)?;
+        Ok(ChangedTriples {
+            triples,
+            subjects,
+            predicates,
+        })
+    }
+
+    /// Their predicates, each once, ascending.
+    pub(crate) fn predicates(&self) -> &[u32]
+        ensures { IsListing nat_cmp (Contains (map (λ (i : IdsData). i.predicate) self.now)) result.now }
+    {
+        &self.predicates
     }
 
     // The nodes at which what is asked matches one of the triples with the predicate.

@@ -1,7 +1,7 @@
 //! The nodes that walk to where rows match changed triples.
 ghost use Rattle.std.specs.Prelude.{IfOk};
 ghost use Rattle.collections.specs.Listings.{Keeps};
-ghost use Rattle.focus_affected.specs.Finding.{FindsBy, FindsBySome, FindsFrom, WhereNodes, WhereRows};
+ghost use Rattle.focus_affected.specs.Finding.{FindsBy, FindsFrom, WhereNodes};
 
 use crate::NumberedLook;
 use crate::changes::ChangedTriples;
@@ -30,8 +30,8 @@ fn found_from<R: Triples>(
     }
 }
 
-// The nodes that walk along the row's way to a node at which a changed triple matches the row.
-fn found_by<R: Triples>(
+/// The nodes that walk along the row's way to a node at which a changed triple matches the row.
+pub(crate) fn found_by<R: Triples>(
     alloc: Global,
     graph: &R,
     look: &NumberedLook,
@@ -43,23 +43,4 @@ fn found_by<R: Triples>(
 {
     let nodes = changed.matched(alloc, look.kind)?;
     Ok(found_from(alloc, graph, &look.way, nodes, footprint)?)
-}
-
-/// The nodes that do so by any of the rows.
-pub(crate) fn found_by_each<R: Triples>(
-    alloc: Global,
-    graph: &R,
-    looks: &[NumberedLook],
-    changed: &ChangedTriples,
-    footprint: &mut Footprint,
-) -> Result<Vec<u32>, AllocError>
-    ensures found { IfOk result (λ found. WhereRows (R.triples graph.now) looks.now changed.now (λ terms. FindsBySome terms (R.triples graph.now) changed.now looks.now found.items footprint.old footprint.new)) }
-    ensures kept { Keeps footprint.old footprint.new }
-{
-    let mut found = Vec::new(alloc);
-    for look in looks {
-        let mut more = found_by(alloc, graph, look, changed, footprint)?;
-        found.append(&mut more)?;
-    }
-    Ok(found)
 }

@@ -7,8 +7,7 @@ ghost use Rattle.shape_ast.specs.Standing.{AreBuilt, shape_cmp};
 ghost use Rattle.shape_plans.specs.Planned.{AreFew, ArePlanned};
 
 use crate::plans::number_plans;
-use collections::Sequence;
-use focus_affected::ShapePlan;
+use focus_affected::IndexedPlans;
 use path_eval::ClassWords;
 use rdf_model::Names;
 use shape_ast::{Bound, Shapes, bind};
@@ -21,7 +20,8 @@ pub struct PlannedShapes {
     pub bound: Bound,
     /// The numbers of rdf:type and rdfs:subClassOf.
     pub words: ClassWords,
-    pub plans: Sequence<ShapePlan>,
+    /// The plans of the shapes that declare targets, with an index of their rows.
+    pub plans: IndexedPlans,
 }
 
 // Names have numbers of 32 bits.
@@ -53,6 +53,6 @@ pub fn plan_shapes<N: Names>(
     Ok(PlannedShapes {
         bound,
         words,
-        plans: Sequence::from_vec(plans),
+        plans: IndexedPlans::new(alloc, plans)?,
     })
 }

@@ -5,7 +5,7 @@ use Rattle.std.specs.Ordering.{nat_cmp}
 use Rattle.collections.specs.Listings.{IsListing}
 use Rattle.rdf_model.specs.declared.ids.Ids.{Ids}
 use Rattle.focus_affected.specs.Plans.{node_in}
-use Rattle.focus_affected.proofs.Runs.{run_nodes}
+use Rattle.focus_affected.proofs.Keys.{run_nodes}
 use Rattle.focus_affected.proofs.changes.ChangedTriples.matched_by.Goals as goal
 
 pub returns : goal.returns

@@ -1,5 +1,5 @@
--- Triples with one predicate in a list of triples in the order of their predicates.
-use Rattle.std.proofs.Common.{◌≡◌, ◌∙◌, ℕ, ◌+◌, ◌-◌, ◌<◌, ◌≤◌, Bool, true, false, List, [], length, take, drop, get_or, refl, sym, ap, subst, arith, Option, Some}
+-- Items with one key in a list in the order of the keys.
+use Rattle.std.proofs.Common.{◌≡◌, ◌∙◌, ℕ, ◌+◌, ◌-◌, ◌<◌, ◌≤◌, Bool, true, false, List, [], ◌∷◌, length, take, drop, get_or, refl, sym, ap, subst, arith, Option, Some}
 use Rattle.std.specs.Prelude.{◌↔◌, leb, ltb}
 use Rattle.std.specs.List.{Contains, filter_map}
 use Rattle.std.specs.List.Sorted.{IsPartitionPoint}
@@ -15,34 +15,38 @@ use Rattle.focus_affected.specs.Plans.{IsOf, node_in}
 use Rattle.focus_affected.proofs.Matched.{chosen}
 
 -- a point by a test is one by what the test says
-pub point_of : (P Q : Ids → Type 0) (test : Ids → Bool) (ids : List Ids) (n : ℕ) → ((i : Ids) → test i ≡ true → P i) → ((i : Ids) → test i ≡ false → Q i)
-    → IsPartitionPoint (λ i. test i ≡ true) (λ i. test i ≡ false) ids n → IsPartitionPoint P Q ids n
-point_of P Q test ids n p q point = (λ k d low high. p (get_or ids k d) (point.0 k d low high), λ k d low high. q (get_or ids k d) (point.1 k d low high))
+pub point_of : {X : Type 0} → (P Q : X → Type 0) (test : X → Bool) (xs : List X) (n : ℕ) → ((x : X) → test x ≡ true → P x) → ((x : X) → test x ≡ false → Q x)
+    → IsPartitionPoint (λ x. test x ≡ true) (λ x. test x ≡ false) xs n → IsPartitionPoint P Q xs n
+point_of P Q test xs n p q point = (λ k d low high. p (get_or xs k d) (point.0 k d low high), λ k d low high. q (get_or xs k d) (point.1 k d low high))
 
-pub below_point : (ids : List Ids) (p n : ℕ) → IsPartitionPoint (λ (i : Ids). ltb i.predicate p ≡ true) (λ i. ltb i.predicate p ≡ false) ids n → IsPartitionPoint (λ (i : Ids). i.predicate < p) (λ i. p ≤ i.predicate) ids n
-below_point ids p n = point_of (λ i. i.predicate < p) (λ i. p ≤ i.predicate) (λ i. ltb i.predicate p) ids n (λ i h. ltb-true i.predicate p h) (λ i h. ltb-false i.predicate p h)
+pub below_point : {X : Type 0} → (key : X → ℕ) (xs : List X) (p n : ℕ) → IsPartitionPoint (λ x. ltb (key x) p ≡ true) (λ x. ltb (key x) p ≡ false) xs n → IsPartitionPoint (λ x. key x < p) (λ x. p ≤ key x) xs n
+below_point key xs p n = point_of (λ x. key x < p) (λ x. p ≤ key x) (λ x. ltb (key x) p) xs n (λ x h. ltb-true (key x) p h) (λ x h. ltb-false (key x) p h)
 
-pub up_to_point : (ids : List Ids) (p n : ℕ) → IsPartitionPoint (λ (i : Ids). leb i.predicate p ≡ true) (λ i. leb i.predicate p ≡ false) ids n → IsPartitionPoint (λ (i : Ids). i.predicate ≤ p) (λ i. p < i.predicate) ids n
-up_to_point ids p n = point_of (λ i. i.predicate ≤ p) (λ i. p < i.predicate) (λ i. leb i.predicate p) ids n (λ i h. leb-true i.predicate p h) (λ i h. leb-false i.predicate p h)
+pub up_to_point : {X : Type 0} → (key : X → ℕ) (xs : List X) (p n : ℕ) → IsPartitionPoint (λ x. leb (key x) p ≡ true) (λ x. leb (key x) p ≡ false) xs n → IsPartitionPoint (λ x. key x ≤ p) (λ x. p < key x) xs n
+up_to_point key xs p n = point_of (λ x. key x ≤ p) (λ x. p < key x) (λ x. leb (key x) p) xs n (λ x h. leb-true (key x) p h) (λ x h. leb-false (key x) p h)
+
+first_of : {X : Type 0} → (xs : List X) → 0 < length xs → X
+first_of [] lt = absurd (omega (arith, lt))
+first_of (x ∷ xs) lt = x
 
 not_less : (a b : ℕ) → (b < a → ⊥) → a ≤ b
 not_less a b h = elim (ltb b a) as (λ (t : Bool). ltb b a ≡ t → a ≤ b) [ true ↦ λ e. absurd (h (ltb-true b a e)) | false ↦ λ e. ltb-false b a e ] refl
 
-module _ (ids : List Ids) (p start end : ℕ) (first : start ≤ length ids) (last : end ≤ length ids)
-    (low : IsPartitionPoint (λ (i : Ids). i.predicate < p) (λ i. p ≤ i.predicate) ids start)
-    (high : IsPartitionPoint (λ (i : Ids). i.predicate ≤ p) (λ i. p < i.predicate) ids end) where
+module _ {X : Type 0} (key : X → ℕ) (ids : List X) (p start end : ℕ) (first : start ≤ length ids) (last : end ≤ length ids)
+    (low : IsPartitionPoint (λ (i : X). key i < p) (λ i. p ≤ key i) ids start)
+    (high : IsPartitionPoint (λ (i : X). key i ≤ p) (λ i. p < key i) ids end) where
   pub in_turn : start ≤ end
   in_turn =
-      let any : Ids = record { subject = 0; predicate = 0; object = 0 } in
       -- else the one at the end would have a lower predicate, and a higher one
       let never : end < start → ⊥ = λ less.
+      let any : X = first_of ids (omega (arith, less, first)) in
       let a = low.0 end any (omega arith) less in
       let b = high.1 end any (omega arith) (omega (arith, less, first)) in
       omega (arith, a, b)
       in
       not_less start end never
 
-  pub run_members : (i : Ids) → Contains (take (end - start) (drop start ids)) i ↔ (Contains ids i × (i.predicate ≡ p))
+  pub run_members : (i : X) → Contains (take (end - start) (drop start ids)) i ↔ (Contains ids i × (key i ≡ p))
   run_members i =
       let rest : length (drop start ids) ≡ length ids - start = length-drop start ids in
       let many : length (take (end - start) (drop start ids)) ≡ end - start = length-take-le (end - start) (drop start ids) (omega (arith, rest, in_turn, last)) in (
@@ -52,11 +56,11 @@ module _ (ids : List Ids) (p start end : ℕ) (first : start ≤ length ids) (la
             let is : get_or ids (start + k) i ≡ i = sym (get_or-drop start ids k i) ∙ (sym (get_or-take (end - start) (drop start ids) k i less) ∙ c.2) in
             let a = low.1 (start + k) i (omega arith) (omega (arith, less, last)) in
             let b = high.0 (start + k) i (omega arith) (omega (arith, less)) in
-            let e : (get_or ids (start + k) i).predicate ≡ i.predicate = ap (λ (j : Ids). j.predicate) is in
+            let e : key (get_or ids (start + k) i) ≡ key i = ap key is in
             ((start + k, omega (arith, less, last), is), omega (arith, a, b, e)),
         λ h.
             let k = h.0.0 in
-            let e : (get_or ids k i).predicate ≡ i.predicate = ap (λ (j : Ids). j.predicate) h.0.2 in
+            let e : key (get_or ids k i) ≡ key i = ap key h.0.2 in
             let same = h.1 in
             let from : start ≤ k = not_less start k (λ less. let a = low.0 k i (omega arith) less in omega (arith, a, e, same)) in
             let within : k < end = let le : k + 1 ≤ end = not_less (k + 1) end (λ less. let b = high.1 k i (omega (arith, less)) h.0.1 in omega (arith, b, e, same)) in omega (arith, le) in
