@@ -3,6 +3,7 @@ use Rattle.std.proofs.Common.{◌≡◌, ◌∙◌, ℕ, ◌+◌, Bool, true, fa
 use Rattle.std.specs.Prelude.{◌↔◌, MatchBool}
 use Rattle.std.specs.List.{AllByRecursion, Contains}
 use Rattle.std.specs.Ordering.{eq_by_cmp}
+use Rattle.std.proofs.lemmas.List.{append_assoc}
 use Rattle.rdf_model.specs.declared.change.Change.{Change}
 use Rattle.rdf_model.specs.declared.look.Look.{Look}
 use Rattle.rdf_model.specs.declared.term.Term.{Term}
@@ -24,12 +25,14 @@ use Rattle.store_model.specs.declared.commit.Again.TheVariants.{No, ShapesChange
 use Rattle.store_model.specs.declared.commit.Verdict.{Verdict}
 use Rattle.store_model.specs.declared.event.Event.{Event}
 use Rattle.store_model.specs.declared.event.Limits.{Limits}
-use Rattle.store_model.specs.Store.{RecordedStore, Replays, State, again, again_from, empty_store, first_read, shapes_under, touched_or}
+use Rattle.store_model.specs.Store.{RecordedStore, Replays, State, again, again_from, empty_store, first_read, shapes_under, touched_or, version}
+use Rattle.store_model.specs.Snapshots.{Snapshot, snapshot_of}
 use Rattle.store_model.proofs.Steps.{StepIsDeterministic-holds}
 use Rattle.store_model.proofs.Versions.{Grows, between_is, replayed}
 use Rattle.data_graph.proofs.Tests.{is_equal, or_last, to_list, to_test}
 use Rattle.commit_core.specs.Consistent.{IsConsistent}
-use Rattle.commit_core.specs.Verdicts.{AreOfVerdict, IsVerdict}
+use Rattle.data_graph.specs.Changes.{IsCheckOf}
+use Rattle.commit_core.specs.Verdicts.{AreOfVerdict, AreOfVerdictIn, IsVerdict, IsVerdictIn}
 use Rattle.commit_core.proofs.Consistency.{past_sound}
 
 -- a replay in two parts
@@ -43,7 +46,7 @@ one_end l s m n (e ∷ es) h k =
     let same : k.0 ≡ h.0 = (StepIsDeterministic-holds l s h.0 k.0 e.session e.action e.reply e.reply h.1 k.1).1 in
     one_end l h.0 m n es h.2 (subst (λ (x : State). Replays l x es n) same k.2)
 
-since : (s : RecordedStore) (head : State) (front back : List Event) → Replays s.limits empty_store s.history s.state → s.history ≡ front ++ back → Replays s.limits empty_store front head → Replays s.limits head back s.state
+pub since : (s : RecordedStore) (head : State) (front back : List Event) → Replays s.limits empty_store s.history s.state → s.history ≡ front ++ back → Replays s.limits empty_store front head → Replays s.limits head back s.state
 since s head front back all e h =
     let r = split s.limits empty_store s.state front back (subst (λ (es : List Event). Replays s.limits empty_store es s.state) e all) in
     subst (λ (x : State). Replays s.limits x back s.state) (one_end s.limits empty_store head r.0 front h r.1) r.2
@@ -99,9 +102,9 @@ verdict_stands s net v rows k i h =
     let shapes : s.state.shapes ≡ i.head.shapes = g.shapes leave.0 in
     let none : NoResult s.state.graph i.head.shapes = subst (λ (ts : List Triple). NoResult s.state.graph ts) shapes k.sound.no_result in
     subst (λ (ts : List Triple). Listing (after s.state.graph net) ts rows) (sym shapes)
-    (checked_listing_law s.state.graph i.head.shapes net i.checked rows
-    (checked_law i.head.graph s.state.graph i.head.shapes net v.looks i.checked past.0 k.sound.ascending i.looks i.pairs (agree i.head.graph s.state.graph v.looks (λ t r. g.graph t (leave.1 t r))))
-    none i.listing)
+    (checked_listing_law s.state.graph i.head.shapes net i.check.checked rows
+    (checked_law i.head.graph s.state.graph i.head.shapes net v.looks i.check.checked past.0 k.sound.ascending i.check.looks i.check.pairs (agree i.head.graph s.state.graph v.looks (λ t r. g.graph t (leave.1 t r))))
+    none i.check.listing)
 
 held_listing : (s : RecordedStore) (net : List Change) (staged : Option (List Triple)) (verdict : Option Verdict) (rows : List ResultRow) → IsConsistent s → AreOfVerdict s net verdict rows → again s.state.commits staged verdict ≡ No → Listing (after s.state.graph net) (shapes_under s.state.shapes staged) rows
 held_listing s net (Some shapes) verdict rows k a h = cc
@@ -113,3 +116,30 @@ pub held : (s : RecordedStore) (net : List Change) (staged : Option (List Triple
     → MatchBool b (Listing (after s.state.graph net) (shapes_under s.state.shapes staged) rows) (Unit {0})
 held s net staged verdict rows why true k a e h = held_listing s net staged verdict rows k a (sym e ∙ h)
 held s net staged verdict rows why false k a e h = tt
+
+-- a check at the version that the events in front lead to is a verdict of each history that begins with them
+pub verdict_at : (l : Limits) (front back : List Event) (head : State) (net : List Change) (v : Verdict) (rows : List ResultRow) → Replays l empty_store front head → v.head ≡ version head → IsCheckOf head.graph head.shapes net v.looks rows
+    → IsVerdictIn l (front ++ back) net v rows
+verdict_at l front back head net v rows replays number check = record { front = front; back = back; history = refl; head = head; replays = replays; number = number; check = check }
+
+-- and so is one on the snapshot of that version
+pub verdict_of_snapshot : (l : Limits) (front back : List Event) (head : State) (n : Snapshot) (net : List Change) (v : Verdict) (rows : List ResultRow) → Replays l empty_store front head → n ≡ snapshot_of head → v.head ≡ n.number
+    → IsCheckOf n.graph n.shapes net v.looks rows → IsVerdictIn l (front ++ back) net v rows
+verdict_of_snapshot l front back head n net v rows replays is number check =
+    verdict_at l front back head net v rows replays (number ∙ ap (λ (x : Snapshot). x.number) is) (subst (λ (x : Snapshot). IsCheckOf x.graph x.shapes net v.looks rows) is check)
+
+-- a verdict stays one where the history grows
+pub verdict_lasts : (l : Limits) (events more : List Event) (net : List Change) (v : Verdict) (rows : List ResultRow) → IsVerdictIn l events net v rows → IsVerdictIn l (events ++ more) net v rows
+verdict_lasts l events more net v rows i = record {
+  front = i.front;
+  back = i.back ++ more;
+  history = ap (λ (es : List Event). es ++ more) i.history ∙ append_assoc i.front i.back more;
+  head = i.head;
+  replays = i.replays;
+  number = i.number;
+  check = i.check;
+}
+
+pub rows_last : (l : Limits) (events more : List Event) (net : List Change) (verdict : Option Verdict) (rows : List ResultRow) → AreOfVerdictIn l events net verdict rows → AreOfVerdictIn l (events ++ more) net verdict rows
+rows_last l events more net None rows a = tt
+rows_last l events more net (Some v) rows a = verdict_lasts l events more net v rows a

@@ -39,6 +39,14 @@ impl CheckedTransaction {
         }
     }
 
+    /// The transaction, and the results.
+    pub fn into_parts(self) -> (Transaction, Sequence<ResultRow>)
+        ensures { result ≡ (self.transaction, self.rows) }
+    {
+        let CheckedTransaction { transaction, rows } = self;
+        (transaction, rows)
+    }
+
     /// The transaction alone.
     pub fn into_transaction(self) -> Transaction
         ensures { result ≡ self.transaction }

@@ -6,6 +6,7 @@
 #![tactic(auto)]
 
 mod asking;
+mod checked;
 mod commit;
 mod history;
 mod overtaking;
@@ -16,6 +17,7 @@ mod room;
 mod snapshot;
 mod store;
 
+pub use checked::CheckedNet;
 pub use commit::{CheckedTransaction, Commit};
 pub use replay::ReplayFault;
 pub use room::Slip;

@@ -1,26 +1,23 @@
 ghost use Rattle.std.specs.Prelude.{◌≡◌, ◌+◌, ◌<◌, ◌^◌, MatchBool, length, IfOk};
-ghost use Rattle.rdf_model.specs.Matching.{is_read};
 ghost use Rattle.store_model.specs.Store.{again, again_from, first_read};
 ghost use Rattle.commit_core.specs.Verdicts.{AreReasons, IsAtHead};
 ghost use Rattle.commit_core.specs.Work.{is_no};
 
 use crate::commit::Reasons;
+use look_sets::LookSet;
 use rdf_model::{Look, Term, Triple};
-use std::alloc::AllocError;
+use std::alloc::{AllocError, Global};
 use store_model::{Accepted, Again, Transaction};
 
-fn reads_any(looks: &[Look<Term>], triple: &Triple) -> bool
-    ensures { result ≡ is_read looks.now triple.now }
-{
-    looks.iter().any(|look| look.reads(triple))
-}
-
 // The first triple that a look reads.
-fn first_touched(looks: &[Look<Term>], triples: &[Triple]) -> Result<Option<Triple>, AllocError>
+fn first_touched<'a>(
+    looks: &LookSet<'a>,
+    triples: &'a [Triple],
+) -> Result<Option<Triple>, AllocError>
     ensures { IfOk result (λ found. found ≡ first_read looks.now triples.now) }
 {
     for triple in triples {
-        if reads_any(looks, triple) {
+        if looks.reads(triple) {
             return Ok(Some(triple.clone()?));
         }
     }
@@ -28,7 +25,11 @@ fn first_touched(looks: &[Look<Term>], triples: &[Triple]) -> Result<Option<Trip
 }
 
 // Why a verdict with these looks no longer holds after the commits, numbered from `first` on.
-fn again_after(first: u64, looks: &[Look<Term>], commits: &[Accepted]) -> Result<Again, AllocError>
+fn again_among<'a>(
+    first: u64,
+    looks: &LookSet<'a>,
+    commits: &'a [Accepted],
+) -> Result<Again, AllocError>
     requires { first + length commits.now < 2 ^ 64 }
     ensures { IfOk result (λ why. why ≡ again_from first looks.now commits.now) }
 {
@@ -45,8 +46,29 @@ fn again_after(first: u64, looks: &[Look<Term>], commits: &[Accepted]) -> Result
     Ok(Again::No)
 }
 
+// The same of looks in any order. Where there is no commit nothing is done with them.
+fn again_after<'a>(
+    alloc: Global,
+    first: u64,
+    looks: &'a [Look<Term>],
+    commits: &'a [Accepted],
+) -> Result<Again, AllocError>
+    requires { first + length commits.now < 2 ^ 64 }
+    ensures { IfOk result (λ why. why ≡ again_from first looks.now commits.now) }
+{
+    if commits.is_empty() {
+        return Ok(Again::No);
+    }
+    let set = LookSet::new(alloc, looks)?;
+    again_among(first, &set, commits)
+}
+
 // Why the transaction is evaluated in its own step, after these commits.
-fn find_reason(commits: &[Accepted], transaction: &Transaction) -> Result<Again, AllocError>
+fn find_reason(
+    alloc: Global,
+    commits: &[Accepted],
+    transaction: &Transaction,
+) -> Result<Again, AllocError>
     requires head { IsAtHead (length commits.now) transaction.now.verdict }
     requires few { length commits.now < 2 ^ 63 }
     ensures { IfOk result (λ why. why ≡ again commits.now transaction.now.staged transaction.now.verdict) }
@@ -56,6 +78,7 @@ fn find_reason(commits: &[Accepted], transaction: &Transaction) -> Result<Again,
     }
     match &transaction.verdict {
         Some(verdict) => again_after(
+            alloc,
             verdict.head + 1,
             verdict.looks.as_slice(),
             &commits[verdict.head as usize..],
@@ -66,12 +89,16 @@ fn find_reason(commits: &[Accepted], transaction: &Transaction) -> Result<Again,
 
 /// Why the transaction is evaluated in its own step, after these commits: once for the answer and
 /// once for the history.
-pub fn find_reasons(commits: &[Accepted], transaction: &Transaction) -> Result<Reasons, AllocError>
+pub fn find_reasons(
+    alloc: Global,
+    commits: &[Accepted],
+    transaction: &Transaction,
+) -> Result<Reasons, AllocError>
     requires head { IsAtHead (length commits.now) transaction.now.verdict }
     requires few { length commits.now < 2 ^ 63 }
     ensures { IfOk result (AreReasons commits.now transaction.now) }
 {
-    let answer = find_reason(commits, transaction)?;
+    let answer = find_reason(alloc, commits, transaction)?;
     let recorded = answer.clone()?;
     Ok(Reasons { answer, recorded })
 }

@@ -1,12 +1,21 @@
-ghost use Rattle.std.specs.Prelude.{◌≡◌, IfOk};
+ghost use Rattle.std.specs.Prelude.{◌≡◌, ◌≤◌, IfOk, OnOk};
+ghost use Rattle.std.specs.List.{AllByRecursion};
 ghost use Rattle.rdf_model.specs.Graphs.{after};
 ghost use Rattle.store_model.specs.Finds.{found};
+ghost use Rattle.store_model.specs.Store.{AreNamed, NetNamed, looked_at};
+ghost use Rattle.graph_validation.specs.Counting.{GrowsByCount};
+ghost use Rattle.parallel_validate.specs.Verdicts.{IsEvaluated};
+ghost use Rattle.data_graph.specs.Changes.{IsCheckOf};
 ghost use Rattle.commit_core.specs.Consistent.{IsSound};
 
+use crate::checked::CheckedNet;
 use data_graph::DataGraph;
 use rdf_model::{Change, Pattern, Triple};
+use shape_eval::Steps;
 use std::alloc::{AllocError, Global};
 use std::marker::Model;
+use std::sync::ledger::Ledger;
+use store_model::Verdict;
 
 /// The store as it was at one version: its number, and its data graph, ascending, which keeps its shapes graph and
 /// its names. Contracts see these four; the graph has no result under the shapes.
@@ -66,6 +75,35 @@ impl Snap {
         ensures { IfOk result (λ v. v.items ≡ found (after self.now.graph net.now) pattern.now) }
     {
         self.graph.find(alloc, net, pattern)
+    }
+
+    /// Checks the changes at this version, beside the store: the verdict has this version as its head and all looks that were
+    /// made, and the rows are the results that what the changes touch has after them. All terms of the changes are named, and
+    /// so are those of the looks. The evaluations are counted in `steps`: there are as many as there are pairs of a shape and
+    /// a node that a changed triple touches and that are targets after the changes. After an error the count is what it was,
+    /// or more.
+    pub fn check<L: Ledger>(
+        &self,
+        net: &[Change],
+        steps: &mut Steps<L>,
+    ) -> Result<CheckedNet, AllocError>
+        requires { NetNamed self.now.named net.now }
+        ensures head { IfOk result (λ checked. checked.verdict.head ≡ self.now.number) }
+        ensures check { IfOk result (λ checked. IsCheckOf self.now.graph self.now.shapes net.now checked.verdict.looks checked.rows) }
+        ensures named { IfOk result (λ checked. AllByRecursion (λ look. AreNamed self.now.named (looked_at look)) checked.verdict.looks) }
+        ensures steps { OnOk result (GrowsByCount (IsEvaluated self.now.graph self.now.shapes net.now) steps.old steps.new) }
+        ensures counted { steps.old ≤ steps.new }
+    {
+        let mut next = self.graph.after(net)?;
+        let found = self.graph.check_after(net, &mut next, steps)?;
+        let (rows, looks) = found.into_parts();
+        Ok(CheckedNet {
+            verdict: Verdict {
+                head: self.number,
+                looks,
+            },
+            rows,
+        })
     }
 
     /// What every snapshot is, for a caller that rests on it. It does nothing.

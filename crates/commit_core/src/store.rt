@@ -508,7 +508,7 @@ impl Core {
         let Ok(slip) = slip(self.alloc) else {
             return Commit::Memory(checked);
         };
-        let Ok(reasons) = find_reasons(&self.commits, &checked.transaction) else {
+        let Ok(reasons) = find_reasons(self.alloc, &self.commits, &checked.transaction) else {
             return Commit::Memory(checked);
         };
         let held = has_held(&reasons.answer);
@@ -529,7 +529,7 @@ impl Core {
         let Ok(slip) = slip(self.alloc) else {
             return Commit::Memory(checked);
         };
-        let Ok(reasons) = find_reasons(&self.commits, &checked.transaction) else {
+        let Ok(reasons) = find_reasons(self.alloc, &self.commits, &checked.transaction) else {
             return Commit::Memory(checked);
         };
         self.commit_by_plan(slip, session, checked, reasons, false, steps)

@@ -2,34 +2,27 @@
 use Rattle.std.proofs.Common.{◌≡◌, ℕ, List, [], ◌∷◌, map, sym, subst, ap, inl, inr, arith, refl}
 use Rattle.std.specs.Prelude.{◌↔◌}
 use Rattle.std.specs.List.{Contains}
-use Rattle.collections.specs.Listings.{IsListing}
-use Rattle.collections.specs.Ordered.{IsAscending}
 use Rattle.collections.proofs.Members.{has_cases, has_equal, has_tail}
 use Rattle.rdf_model.specs.declared.change.Change.{Change}
 use Rattle.rdf_model.specs.declared.ids.Ids.{Ids}
+use Rattle.rdf_model.specs.declared.look.Look.{Look}
 use Rattle.rdf_model.specs.declared.term.Term.{Term}
 use Rattle.rdf_model.specs.declared.triple.Triple.{Triple}
-use Rattle.rdf_model.specs.Graphs.{after}
 use Rattle.rdf_model.specs.Numbers.{graph_of}
-use Rattle.rdf_model.specs.Terms.{triple_cmp}
 use Rattle.shape_model.specs.declared.result_row.ResultRow.{ResultRow}
 use Rattle.shape_model.specs.Limits.{levels_limit}
 use Rattle.shape_model.specs.Readings.{IsAcyclic, IsShallow}
-use Rattle.shape_model.specs.Rows.{result_row_cmp}
 use Rattle.shape_model.specs.Touching.{IsChanged}
-use Rattle.shape_model.specs.Validation.{Listing, NoResult}
-use Rattle.shape_model.proofs.Listings.{listing_same}
 use Rattle.store_model.specs.Store.{changed_triple}
 use Rattle.shape_ast.specs.declared.shape.Shape.{Shape}
 use Rattle.shape_ast.specs.Readings.{named_shapes}
 use Rattle.shape_ast.specs.Standing.{StandFor}
-use Rattle.change_laws.specs.Checks.{AreChecked, CheckedPair, SameMembers}
-use Rattle.change_laws.proofs.Checked.{checked_listing_law}
+use Rattle.change_laws.specs.Checks.{CheckedPair}
 use Rattle.focus_affected.specs.Touched.{AreChanged}
 use Rattle.graph_validation.specs.Counting.{GrowsByCount}
 use Rattle.parallel_validate.specs.declared.pairs.CheckedRows.{CheckedRows}
-use Rattle.parallel_validate.specs.Verdicts.{CountsEvaluated, IsEvaluated, KeepsChecked, WhereChecked, checked_pair, checked_pairs}
-use Rattle.data_graph.specs.Changes.{IsRowOf, WhereIndexed}
+use Rattle.parallel_validate.specs.Verdicts.{AreBoundLooks, CountsEvaluated, IsEvaluated, KeepsChecked, KeepsLooks, WhereChecked, checked_pair, checked_pairs}
+use Rattle.data_graph.specs.Changes.{IsCheckByNumber, IsResultOf, IsRowOf, WhereIndexed}
 use Rattle.data_graph.proofs.ChangedTriples.{are_changed}
 
 -- a result of a pair, by numbers and by terms
@@ -48,7 +41,7 @@ module _ (terms : List Term) (shapes : List (Shape ℕ)) where
     | inr d ↦ let k = found ps q d in (k.0, has_tail p ps k.0 k.1, k.2)
   ]
 
-  row_of : (pairs : List CheckedRows) (r : ResultRow) → IsRowOf pairs r ↔ ((q : CheckedPair) × Contains (checked_pairs terms shapes pairs) q × Contains q.rows r)
+  row_of : (pairs : List CheckedRows) (r : ResultRow) → IsRowOf pairs r ↔ IsResultOf (checked_pairs terms shapes pairs) r
   row_of pairs r = (
     λ h. (checked_pair terms shapes h.0, kept pairs h.0 h.1, h.2),
     λ h. let k = found pairs h.0 h.1 in (k.0, k.1, subst (λ (q : CheckedPair). Contains q.rows r) (sym k.2) h.2),
@@ -59,12 +52,15 @@ module _ (terms : List Term) (shapes : List (Shape ℕ)) where
     changes : AreChanged terms changed net
     changes t = subst (λ (ts : List Triple). Contains ts t ↔ IsChanged net t) (sym numbers) (are_changed net t)
 
-    pub changed_listing : (pairs : List CheckedRows) (rows : List ResultRow) → WhereChecked terms before later shapes changed (KeepsChecked terms shapes pairs) → IsListing result_row_cmp (IsRowOf pairs) rows
-        → WhereIndexed terms before later net (λ g. NoResult g s → Listing (after g net) s rows)
-    changed_listing pairs rows checked l = λ g ascending b a none.
-        let are = checked g s net stand acyclic shallow ascending b a changes in
-        checked_listing_law g s net (checked_pairs terms shapes pairs) rows are none
-        (listing_same result_row_cmp (IsRowOf pairs) (λ r. (q : CheckedPair) × Contains (checked_pairs terms shapes pairs) q × Contains q.rows r) (row_of pairs) rows l)
+    pub changed_check : (pairs : List CheckedRows) (looked : List (Look ℕ)) → WhereChecked terms before later shapes changed (KeepsChecked terms shapes pairs) → WhereChecked terms before later shapes changed (KeepsLooks terms looked)
+        → WhereChecked terms before later shapes changed (λ g s net. AreBoundLooks terms looked) → WhereIndexed terms before later net (λ g. IsCheckByNumber terms g s net pairs looked)
+    changed_check pairs looked checks looks within = λ g ascending b a. record {
+      looks = looks g s net stand acyclic shallow ascending b a changes;
+      bound = within g s net stand acyclic shallow ascending b a changes;
+      checked = checked_pairs terms shapes pairs;
+      pairs = checks g s net stand acyclic shallow ascending b a changes;
+      results = row_of pairs;
+    }
 
     pub changed_count : (old new : ℕ) → WhereChecked terms before later shapes changed (CountsEvaluated old new) → WhereIndexed terms before later net (λ g. GrowsByCount (IsEvaluated g s net) old new)
     changed_count old new counted = λ g ascending b a. counted g s net stand acyclic shallow ascending b a changes

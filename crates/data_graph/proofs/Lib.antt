@@ -8,5 +8,6 @@ pub mod Tests
 pub mod AtOnce
 mod ChangedTriples
 mod Checking
+mod Checks
 mod NoChecks
 mod RowsOfPairs

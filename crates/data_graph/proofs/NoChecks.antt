@@ -1,5 +1,6 @@
 -- Without shapes nothing is checked.
-use Rattle.std.proofs.Common.{ℕ, List, [], refl, arith}
+use Rattle.std.proofs.Common.{ℕ, List, [], refl, arith, inl, inr}
+use Rattle.std.specs.List.{Contains}
 use Rattle.rdf_model.specs.declared.change.Change.{Change}
 use Rattle.rdf_model.specs.declared.term.Term.{Term}
 use Rattle.rdf_model.specs.declared.triple.Triple.{Triple}
@@ -7,6 +8,9 @@ use Rattle.shape_model.specs.ShapeSyntax.{IsShape}
 use Rattle.graph_validation.specs.Counting.{GrowsByCount}
 use Rattle.parallel_validate.specs.Verdicts.{IsEvaluated}
 use Rattle.shape_model.proofs.Bridges.{makes_shape}
+use Rattle.shape_model.specs.Readings.{reading}
+use Rattle.shape_model.specs.Targets.{HasTarget}
+use Rattle.data_graph.specs.Changes.{IsCheckOf}
 
 pub no_checks : (g s : List Triple) (net : List Change) → ((shape : Term) → IsShape s shape → ⊥) → (old : ℕ) → GrowsByCount (IsEvaluated g s net) old old
 no_checks g s net none old = (
@@ -19,3 +23,20 @@ no_checks g s net none old = (
   },
   omega arith,
 )
+
+none_in : {X : Type 0} → (x : X) → Contains [] x → ⊥
+none_in x c = absurd (omega (arith, c.1))
+
+-- a check finds nothing and makes no look
+pub no_check : (g s : List Triple) (net : List Change) → ((shape : Term) → IsShape s shape → ⊥) → IsCheckOf g s net [] []
+no_check g s net none =
+    let never : (shape : Term) → HasTarget (reading s shape) → ⊥ = λ shape t. none shape (makes_shape s shape t) in
+    record {
+      looks = λ look. (λ c. absurd (none_in look c), elim [ inl f ↦ absurd (never f.0 f.1) | inr c ↦ absurd (never c.0 c.2.0) ]);
+      checked = [];
+      pairs = record {
+        pairs = λ shape f. (λ h. absurd (none_in h.0 h.1), λ t. absurd (never shape t.0));
+        rows = λ c i. absurd (none_in c i);
+      };
+      listing = record { ascending = tt; members = λ r. (λ c. absurd (none_in r c), λ h. absurd (none_in h.0 h.1)) };
+    }

@@ -66,8 +66,8 @@ fn ids_asked(
     }
 }
 
-// A clone of the term of a number.
-fn read_term(names: &Dict, number: u32) -> Result<Term, AllocError>
+/// A clone of the term of a number.
+pub(crate) fn read_term(names: &Dict, number: u32) -> Result<Term, AllocError>
     requires { number < length names.now.terms }
     ensures { IfOk result (λ term. term ≡ term_at names.now.terms number) }
 {

@@ -1,27 +1,62 @@
-//! The results of a graph after changes of one that has none: those of what the changes touch.
-ghost use Rattle.std.specs.Prelude.{◌≡◌, ◌≤◌, ◌++◌, IfOk, OnOk};
+//! What checking the changes of a graph finds: the results of what they touch, and the looks.
+ghost use Rattle.std.specs.Prelude.{◌≡◌, ◌≤◌, ◌++◌, [], IfOk, OnOk, map};
 ghost use Rattle.collections.specs.Listings.{IsListing};
-ghost use Rattle.rdf_model.specs.Graphs.{after};
 ghost use Rattle.rdf_model.specs.Numbers.{AreNumbered};
+ghost use Rattle.path_eval.specs.Naming.{look_of};
 ghost use Rattle.shape_model.specs.Rows.{result_row_cmp};
-ghost use Rattle.shape_model.specs.Validation.{Listing, NoResult};
 ghost use Rattle.graph_validation.specs.Counting.{GrowsByCount};
-ghost use Rattle.parallel_validate.specs.Verdicts.{IsEvaluated};
+ghost use Rattle.parallel_validate.specs.Verdicts.{AreBoundLooks, IsEvaluated};
 ghost use Rattle.bound_shapes.specs.Bound.{IsBoundTo};
-ghost use Rattle.data_graph.specs.Changes.{IsRowOf, WhereIndexed};
+ghost use Rattle.data_graph.specs.Changes.{IsCheckByNumber, IsRowOf, WhereIndexed};
 ghost use Rattle.data_graph.specs.DataGraphs.{AreNamedChanges};
 
+use crate::looks::read_looks;
 use crate::numbering::number_changed;
 use bound_shapes::BoundShapes;
 use collections::{Sequence, sorted_once};
-use parallel_validate::{CheckedRows, check};
-use rdf_model::Change;
+use parallel_validate::{Checked, CheckedRows, check};
+use rdf_model::{Change, Look, Term};
 use shape_eval::Steps;
 use shape_model::ResultRow;
 use std::alloc::{AllocError, Global};
 use std::sync::ledger::Ledger;
 use term_dict::Dict;
 use triple_index::Index;
+
+/// What checking changes found: the results that what they touch has after them, each once, in the order of results, and
+/// all looks that were made.
+#[derive(Debug)]
+pub struct CheckedChanges {
+    pub rows: Sequence<ResultRow>,
+    pub looks: Sequence<Look<Term>>,
+}
+
+// Written by hand, so that what owns one calls it in place of having it written out.
+impl Drop for CheckedChanges {
+    fn drop(self) {
+        let CheckedChanges { rows: _, looks: _ } = self;
+    }
+}
+
+impl CheckedChanges {
+    // No result and no look.
+    pub(crate) fn empty(alloc: Global) -> CheckedChanges
+        ensures { result ≡ record { rows = []; looks = [] } }
+    {
+        CheckedChanges {
+            rows: Sequence::new(alloc),
+            looks: Sequence::new(alloc),
+        }
+    }
+
+    /// The rows, and the looks.
+    pub fn into_parts(self) -> (Sequence<ResultRow>, Sequence<Look<Term>>)
+        ensures { result ≡ (self.rows, self.looks) }
+    {
+        let CheckedChanges { rows, looks } = self;
+        (rows, looks)
+    }
+}
 
 // Adds the rows of a pair.
 fn add_rows(rows: &mut Vec<ResultRow>, pair: CheckedRows) -> Result<(), AllocError>
@@ -32,8 +67,11 @@ fn add_rows(rows: &mut Vec<ResultRow>, pair: CheckedRows) -> Result<(), AllocErr
     Ok(())
 }
 
-// The rows of all pairs, each once, in order.
-fn rows_of(alloc: Global, pairs: Sequence<CheckedRows>) -> Result<Vec<ResultRow>, AllocError>
+/// The rows of all pairs, each once, in order.
+pub(crate) fn rows_of(
+    alloc: Global,
+    pairs: Sequence<CheckedRows>,
+) -> Result<Vec<ResultRow>, AllocError>
     ensures { IfOk result (λ rows. IsListing result_row_cmp (IsRowOf pairs) rows.items) }
 {
     let mut rows = Vec::new(alloc);
@@ -44,8 +82,8 @@ fn rows_of(alloc: Global, pairs: Sequence<CheckedRows>) -> Result<Vec<ResultRow>
     Ok(sorted_once(rows)?)
 }
 
-/// The results after the changes, by the triples before and after them.
-pub(crate) fn listing_of_changes<L: Ledger>(
+/// What checking the changes finds, by number, by the triples before and after them.
+pub(crate) fn check_by_number<L: Ledger>(
     alloc: Global,
     names: &Dict,
     before: &Index,
@@ -53,12 +91,12 @@ pub(crate) fn listing_of_changes<L: Ledger>(
     shapes: &BoundShapes,
     net: &[Change],
     steps: &mut Steps<L>,
-) -> Result<Vec<ResultRow>, AllocError>
+) -> Result<Checked, AllocError>
     requires before { AreNumbered names.now.terms before.now }
     requires later { AreNumbered names.now.terms later.now }
     requires shapes { IsBoundTo names.now.terms shapes.now }
     requires net { AreNamedChanges names.now.terms net.now }
-    ensures rows { IfOk result (λ rows. WhereIndexed names.now.terms before.now later.now net.now (λ g. NoResult g shapes.now.graph → Listing (after g net.now) shapes.now.graph rows.items)) }
+    ensures checked { IfOk result (λ checked. WhereIndexed names.now.terms before.now later.now net.now (λ g. IsCheckByNumber names.now.terms g shapes.now.graph net.now checked.pairs checked.looks)) }
     ensures steps { OnOk result (WhereIndexed names.now.terms before.now later.now net.now (λ g. GrowsByCount (IsEvaluated g shapes.now.graph net.now) steps.old steps.new)) }
     ensures counted { steps.old ≤ steps.new }
 {
@@ -66,5 +104,26 @@ pub(crate) fn listing_of_changes<L: Ledger>(
     let changed = number_changed(alloc, names, net)?;
     let planned = shapes.planned();
     let checked = check(alloc, before, later, names, planned, &changed, steps)?;
-    Ok(rows_of(alloc, checked.pairs)?)
+    Ok(checked)
+}
+
+/// What was found, with its results in their order and its looks by terms.
+pub(crate) fn checked_changes(
+    alloc: Global,
+    names: &Dict,
+    checked: Checked,
+) -> Result<CheckedChanges, AllocError>
+    requires { AreBoundLooks names.now.terms checked.looks }
+    ensures rows { IfOk result (λ changes. IsListing result_row_cmp (IsRowOf checked.pairs) changes.rows) }
+    ensures looks { IfOk result (λ changes. changes.looks ≡ map (look_of names.now.terms) checked.looks) }
+{
+    let Checked {
+        pairs,
+        looks: footprint,
+    } = checked;
+    let listed = rows_of(alloc, pairs)?;
+    let rows = Sequence::from_vec(listed);
+    let named = read_looks(alloc, names, footprint.looks())?;
+    let looks = Sequence::from_vec(named);
+    Ok(CheckedChanges { rows, looks })
 }

@@ -1,22 +1,26 @@
 ghost use Rattle.std.specs.Prelude.{◌≡◌, ◌+◌, ◌<◌, ◌≤◌, ◌^◌, [], IfErr, IfOk, MatchOption, OnErr, OnOk, length};
 ghost use Rattle.rdf_model.specs.Graphs.{after};
+ghost use Rattle.std.specs.List.{AllByRecursion};
 ghost use Rattle.store_model.specs.Finds.{found};
+ghost use Rattle.store_model.specs.Store.{AreNamed, looked_at};
 ghost use Rattle.shape_model.specs.Validation.{Listing, NoResult};
 ghost use Rattle.parallel_validate.specs.Verdicts.{IsEvaluated};
 ghost use Rattle.term_dict.specs.Faults.{IsCause};
 ghost use Rattle.term_dict.specs.Names.{AreNumbersOf, first_terms, with_terms};
 ghost use Rattle.graph_validation.specs.Counting.{GrowsByCount, IsTargetPair};
 ghost use Rattle.term_validation.specs.Named.{AreNamedTriples};
+ghost use Rattle.data_graph.specs.Changes.{IsCheckByNumber, IsCheckOf};
 ghost use Rattle.data_graph.specs.DataGraphs.{AreNamedChanges, IsIndexOf, IsIndexed, names_of, with_changes, with_names, with_shapes};
 
 use crate::by_number::found_by_number;
-use crate::changes::listing_of_changes;
+use crate::changes::{CheckedChanges, check_by_number, checked_changes, rows_of};
 use crate::graphs::{graph_after, graph_after_asked, list_after_asked};
 use crate::numbering::{CLASS_WORDS, index_after, index_of, listing_by};
 use crate::run::graph_matching;
 use bound_shapes::BoundShapes;
 use collections::both;
 use page_index::Pages;
+use parallel_validate::Checked;
 use rdf_model::{Change, Pattern, Term, Triple};
 use shape_eval::Steps;
 use shape_model::ResultRow;
@@ -263,6 +267,38 @@ impl DataGraph {
         Ok(rows)
     }
 
+    // What checking the changes finds, by number. The numbers of the triples after them are kept in `next`.
+    fn checked_after<L: Ledger>(
+        &self,
+        net: &[Change],
+        next: &mut DataGraph,
+        steps: &mut Steps<L>,
+    ) -> Result<Checked, AllocError>
+        requires graph { AreNamedTriples self.now.terms self.now.triples }
+        requires net { AreNamedChanges self.now.terms net.now }
+        requires after { AreNamedTriples self.now.terms (after self.now.triples net.now) }
+        requires next { next.old ≡ with_changes self.now net.now }
+        ensures same { next.new ≡ next.old }
+        ensures checked { IfOk result (λ checked. IsCheckByNumber self.now.terms self.now.triples self.now.shapes net.now checked.pairs checked.looks) }
+        ensures steps { OnOk result (GrowsByCount (IsEvaluated self.now.triples self.now.shapes net.now) steps.old steps.new) }
+        ensures counted { steps.old ≤ steps.new }
+    {
+        self.triples.recall_ascending();
+        let before = self.index()?;
+        let later = next.index()?;
+        let checked = check_by_number(
+            self.alloc,
+            &self.names,
+            &before,
+            &later,
+            &self.shapes,
+            net,
+            steps,
+        )?;
+        next.numbers = Some(later);
+        Ok(checked)
+    }
+
     /// The results of the graph that the changes make of this one, which has none, under its shapes graph: those of what
     /// the changes touch, each once, in the order of results. All terms of the graph and the changes are named. The
     /// evaluations are counted in `steps`: there are as many as there are pairs of a shape and a node that a changed triple
@@ -286,19 +322,34 @@ impl DataGraph {
         if is_without_shapes(self.shapes.graph()) {
             return Ok(Vec::new(self.alloc));
         }
-        self.triples.recall_ascending();
-        let before = self.index()?;
-        let later = next.index()?;
-        let rows = listing_of_changes(
-            self.alloc,
-            &self.names,
-            &before,
-            &later,
-            &self.shapes,
-            net,
-            steps,
-        )?;
-        next.numbers = Some(later);
-        Ok(rows)
+        let checked = self.checked_after(net, next, steps)?;
+        Ok(rows_of(self.alloc, checked.pairs)?)
+    }
+
+    /// Checks the changes of the graph under its shapes graph: the results that what they touch has after them, whatever
+    /// results the graph has besides, and all looks that were made, those by which it was found what they touch with them.
+    /// All terms of the graph and the changes are named, and so are those of the looks. The evaluations are counted as by
+    /// `listing_after`.
+    pub fn check_after<L: Ledger>(
+        &self,
+        net: &[Change],
+        next: &mut DataGraph,
+        steps: &mut Steps<L>,
+    ) -> Result<CheckedChanges, AllocError>
+        requires graph { AreNamedTriples self.now.terms self.now.triples }
+        requires net { AreNamedChanges self.now.terms net.now }
+        requires after { AreNamedTriples self.now.terms (after self.now.triples net.now) }
+        requires next { next.old ≡ with_changes self.now net.now }
+        ensures same { next.new ≡ next.old }
+        ensures check { IfOk result (λ found. IsCheckOf self.now.triples self.now.shapes net.now found.looks found.rows) }
+        ensures named { IfOk result (λ found. AllByRecursion (λ look. AreNamed self.now.terms (looked_at look)) found.looks) }
+        ensures steps { OnOk result (GrowsByCount (IsEvaluated self.now.triples self.now.shapes net.now) steps.old steps.new) }
+        ensures counted { steps.old ≤ steps.new }
+    {
+        if is_without_shapes(self.shapes.graph()) {
+            return Ok(CheckedChanges::empty(self.alloc));
+        }
+        let checked = self.checked_after(net, next, steps)?;
+        Ok(checked_changes(self.alloc, &self.names, checked)?)
     }
 }

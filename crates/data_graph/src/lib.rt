@@ -4,8 +4,8 @@
 //! Contracts see a `DataGraph` as its triples, ascending, those of its shapes graph, and its terms. Its type
 //! keeps that the triples by number, read as terms, have exactly the members of the graph, and that the
 //! shapes are bound to the numbers, so that it is validated without numbering anything anew. A change makes
-//! another graph, which shares what it leaves, and whose results are those of what the change touches. A find
-//! looks at the triples that the order of triples, or of their numbers, has side by side for its pattern.
+//! another graph, which shares what it leaves, and whose results are those of what the change touches; a check of it tells
+//! the looks that it made besides. A find looks at the triples that the order of triples, or of their numbers, has side by side for its pattern.
 #![tactic(auto)]
 
 mod at_once;
@@ -13,8 +13,10 @@ mod by_number;
 mod changes;
 mod graph;
 mod graphs;
+mod looks;
 mod numbering;
 mod run;
 
+pub use changes::CheckedChanges;
 pub use graph::DataGraph;
 pub use graphs::graph_differing;

@@ -26,6 +26,7 @@ use Rattle.session_transaction.specs.declared.transaction.ChangeKind.{ChangeKind
 use Rattle.session_transaction.specs.Commits.{CountsFor, IsAnswer}
 use Rattle.guard_store.specs.Fronts.{SharedStore, Turn, Fails}
 use Rattle.guard_store.specs.Callers.{IsSession}
+use Rattle.session_transaction.specs.Checks.{committing}
 use Rattle.session_transaction.specs.Transactions.{begun_at, changes_of, with_changes}
 use Rattle.guard_store.proofs.Fitting.{stages_session, stages_not_session}
 use Rattle.commit_core.specs.Work.{StepsBy}
@@ -65,17 +66,17 @@ turn_counts l old new i x r (Refused rows why shapes) counted now t h k = subst 
 
 -- a commit that only reads counts none, nor does that of no transaction
 pub reading_counts : (l : Limits) (old new : Session) (n : ℕ) (r : Result Committed CommitFault) → EndsReading old new r → CommitCounts l old new n n r
-reading_counts l old new n (Ok a) h = (h.0, h.1, subst (λ (b : Committed). TurnCounts l old.pass new.pass old.number h.0.transaction n n b) (sym h.2) refl)
+reading_counts l old new n (Ok a) h = (h.0, h.1, subst (λ (b : Committed). TurnCounts l old.pass new.pass old.number (committing h.0) n n b) (sym h.2) refl)
 reading_counts l old new n (Err fault) h = subst (λ (f : CommitFault). CommitCounts l old new n n (Err f)) (sym h.1) refl
 
-answers_now : (l : Limits) (old : Session) (pass : Caller Event Limits) (w : OpenTransaction) (a : Committed) (new : Session) → new.pass ≡ pass → HasChange w.transaction.net w.transaction.staged → TurnCommits l old.pass pass old.number w.transaction a → AnswersCommit l old new w a
+answers_now : (l : Limits) (old : Session) (pass : Caller Event Limits) (w : OpenTransaction) (a : Committed) (new : Session) → new.pass ≡ pass → HasChange w.transaction.net w.transaction.staged → TurnCommits l old.pass pass old.number (committing w) a → AnswersCommit l old new w a
 answers_now l old pass w (ReadOnly v) new e h t = absurd t
-answers_now l old pass w (Done n why) new e h t = (h, subst (λ (c : Caller Event Limits). TurnCommits l old.pass c old.number w.transaction (Done n why)) (sym e) t)
-answers_now l old pass w (Conflict n x) new e h t = (h, subst (λ (c : Caller Event Limits). TurnCommits l old.pass c old.number w.transaction (Conflict n x)) (sym e) t)
-answers_now l old pass w (FullTriples n) new e h t = (h, subst (λ (c : Caller Event Limits). TurnCommits l old.pass c old.number w.transaction (FullTriples n)) (sym e) t)
-answers_now l old pass w (Refused rows why shapes) new e h t = (h, subst (λ (c : Caller Event Limits). TurnCommits l old.pass c old.number w.transaction (Refused rows why shapes)) (sym e) t)
+answers_now l old pass w (Done n why) new e h t = (h, subst (λ (c : Caller Event Limits). TurnCommits l old.pass c old.number (committing w) (Done n why)) (sym e) t)
+answers_now l old pass w (Conflict n x) new e h t = (h, subst (λ (c : Caller Event Limits). TurnCommits l old.pass c old.number (committing w) (Conflict n x)) (sym e) t)
+answers_now l old pass w (FullTriples n) new e h t = (h, subst (λ (c : Caller Event Limits). TurnCommits l old.pass c old.number (committing w) (FullTriples n)) (sym e) t)
+answers_now l old pass w (Refused rows why shapes) new e h t = (h, subst (λ (c : Caller Event Limits). TurnCommits l old.pass c old.number (committing w) (Refused rows why shapes)) (sym e) t)
 
-pub commits_now : (l : Limits) (old : Session) (pass : Caller Event Limits) (w : OpenTransaction) (a : Committed) (new : Session) → IsOpen old w → HasChange w.transaction.net w.transaction.staged → TurnCommits l old.pass pass old.number w.transaction a
+pub commits_now : (l : Limits) (old : Session) (pass : Caller Event Limits) (w : OpenTransaction) (a : Committed) (new : Session) → IsOpen old w → HasChange w.transaction.net w.transaction.staged → TurnCommits l old.pass pass old.number (committing w) a
     → new ≡ record old { pass = pass; current = None; head = None } → Commits l old new a
 commits_now l old pass w a new o h t e =
     (w, o, answers_now l old pass w a new (ap (λ s. s.pass) e) h t, e ∙ ap (λ (c : Caller Event Limits). let s : Session = record old { pass = c; current = None; head = None } in s) (sym (ap (λ s. s.pass) e)))

@@ -154,6 +154,8 @@ pub session_opened : (store : SharedStore) (k : Keeper) (kept : Caller Event Lim
 session_opened store k kept s is o none = record {
   caller = caller_opened store k kept s.pass s.number is o;
   fits = λ t r. rw none tt;
+  kept = rw none tt;
+  head = rw none tt;
 }
 
 -- the keeper met a session

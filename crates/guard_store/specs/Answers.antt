@@ -1,5 +1,5 @@
 -- What each call of the store is answered, and what the session or the keeper is then.
-use Rattle.std.specs.Prelude.{◌≡◌, ℕ, ◌+◌, ◌<◌, ◌≤◌, List, Some, None, Result, Ok, Err, ◌⊎◌}
+use Rattle.std.specs.Prelude.{◌≡◌, ℕ, ◌+◌, ◌<◌, ◌≤◌, Bool, List, Some, None, Result, Ok, Err, ◌⊎◌}
 use Rattle.rdf_model.specs.declared.term.Term.{Term}
 use Rattle.rdf_model.specs.declared.triple.Triple.{Triple}
 use Rattle.rdf_model.specs.Graphs.{after}
@@ -12,7 +12,7 @@ use Rattle.store_model.specs.declared.event.Action.TheVariants as actions
 use Rattle.store_model.specs.declared.event.Reply.{Reply}
 use Rattle.store_model.specs.declared.event.Reply.TheVariants as replies
 use Rattle.store_model.specs.declared.commit.Transaction.{Transaction}
-use Rattle.store_model.specs.Snapshots.{snapshot_of}
+use Rattle.store_model.specs.Snapshots.{Snapshot, snapshot_of}
 use Rattle.store_model.specs.Store.{HasChange, shapes_under}
 use Rattle.session_model.specs.Sessions.{parts_of}
 use Rattle.commit_core.specs.Work.{StepsBy}
@@ -28,6 +28,8 @@ use Rattle.guard_store.specs.declared.faults.HeadFault.{HeadFault}
 use Rattle.guard_store.specs.declared.faults.HeadFault.TheVariants as heads
 use Rattle.guard_store.specs.declared.faults.CommitFault.{CommitFault}
 use Rattle.guard_store.specs.declared.faults.CommitFault.TheVariants as commits
+use Rattle.guard_store.specs.declared.faults.CheckFault.{CheckFault}
+use Rattle.guard_store.specs.declared.faults.CheckFault.TheVariants as checks
 use Rattle.guard_store.specs.declared.faults.FindFault.{FindFault}
 use Rattle.guard_store.specs.declared.faults.FindFault.TheVariants as finds
 use Rattle.session_transaction.specs.declared.committing.Committed.{Committed}
@@ -36,6 +38,7 @@ use Rattle.session_transaction.specs.declared.transaction.OpenTransaction.{OpenT
 use Rattle.guard_store.specs.declared.session.Session.{Session}
 use Rattle.guard_store.specs.declared.session.Keeper.{Keeper}
 use Rattle.guard_store.specs.Fronts.{SharedStore, Turn, Fails}
+use Rattle.session_transaction.specs.Checks.{CheckSteps, Checks, committing}
 use Rattle.session_transaction.specs.Transactions.{begun_at}
 use Rattle.guard_store.specs.Callers.{IsKeeper, IsSession, OnlyReads}
 
@@ -138,13 +141,13 @@ abbrev pub HeadsNot : HeadFault → Limits → Session → Session → Type 0
 HeadsNot heads.NoTransaction l old new = (old.current ≡ None) × (new ≡ old)
 HeadsNot heads.Memory l old new = ((w : OpenTransaction) × IsOpen old w) × Fails l old.pass new.pass old.number × (new ≡ record old { pass = new.pass })
 
--- The commit's answer ends the transaction. One that only reads is no event.
+-- The commit's answer ends the transaction, which was handed in with what is kept of its check. One that only reads is no event.
 abbrev pub AnswersCommit : Limits → Session → Session → OpenTransaction → Committed → Type 0
 AnswersCommit l old new w (ReadOnly v) = OnlyReads (Some w) × (v ≡ w.transaction.base) × (new.pass ≡ old.pass)
-AnswersCommit l old new w (Done n why) = HasChange w.transaction.net w.transaction.staged × TurnCommits l old.pass new.pass old.number w.transaction (Done n why)
-AnswersCommit l old new w (Conflict n t) = HasChange w.transaction.net w.transaction.staged × TurnCommits l old.pass new.pass old.number w.transaction (Conflict n t)
-AnswersCommit l old new w (FullTriples n) = HasChange w.transaction.net w.transaction.staged × TurnCommits l old.pass new.pass old.number w.transaction (FullTriples n)
-AnswersCommit l old new w (Refused rows why shapes) = HasChange w.transaction.net w.transaction.staged × TurnCommits l old.pass new.pass old.number w.transaction (Refused rows why shapes)
+AnswersCommit l old new w (Done n why) = HasChange w.transaction.net w.transaction.staged × TurnCommits l old.pass new.pass old.number (committing w) (Done n why)
+AnswersCommit l old new w (Conflict n t) = HasChange w.transaction.net w.transaction.staged × TurnCommits l old.pass new.pass old.number (committing w) (Conflict n t)
+AnswersCommit l old new w (FullTriples n) = HasChange w.transaction.net w.transaction.staged × TurnCommits l old.pass new.pass old.number (committing w) (FullTriples n)
+AnswersCommit l old new w (Refused rows why shapes) = HasChange w.transaction.net w.transaction.staged × TurnCommits l old.pass new.pass old.number (committing w) (Refused rows why shapes)
 
 abbrev pub Commits : Limits → Session → Session → Committed → Type 0
 Commits l old new answer = (w : OpenTransaction) × IsOpen old w × AnswersCommit l old new w answer × (new ≡ record old { pass = new.pass; current = None; head = None })
@@ -157,7 +160,7 @@ CommitsNot commits.Memory l old new = (w : OpenTransaction) × IsOpen old w × H
 -- How many evaluations a session's commit counted: none where it only reads, or where no transaction is open. After want of
 -- memory the count is what it was, or more.
 abbrev pub CommitCounts : Limits → Session → Session → ℕ → ℕ → Result Committed CommitFault → Type 0
-CommitCounts l old new counted now (Ok answer) = (w : OpenTransaction) × IsOpen old w × TurnCounts l old.pass new.pass old.number w.transaction counted now answer
+CommitCounts l old new counted now (Ok answer) = (w : OpenTransaction) × IsOpen old w × TurnCounts l old.pass new.pass old.number (committing w) counted now answer
 CommitCounts l old new counted now (Err commits.NoTransaction) = now ≡ counted
 CommitCounts l old new counted now (Err commits.Memory) = counted ≤ now
 
@@ -170,3 +173,23 @@ EndsReading old new (Err fault) = (old.current ≡ None) × (fault ≡ commits.N
 abbrev pub FindsNot : FindFault → Session → Session → Type 0
 FindsNot finds.NoTransaction old new = (old.current ≡ None) × (new ≡ old)
 FindsNot finds.Memory old new = ((w : OpenTransaction) × IsOpen old w) × (new ≡ old)
+
+-- The open transaction was checked at the version of the last head, and is as the check left it; the rest of the session is as
+-- it was.
+abbrev pub ChecksHead : Bool → Session → Session → Type 0
+ChecksHead kept old new = (w : OpenTransaction) × IsOpen old w × ((n : Snapshot) × (old.head ≡ Some n) × ((v : OpenTransaction) × Checks kept n w v × (new ≡ record old { current = Some v })))
+
+-- No transaction is open, or no head was taken since its begin and its last staged change; a head is kept until then.
+abbrev pub HasNoHead : Session → Type 0
+HasNoHead s = (s.current ≡ None) ⊎ (s.head ≡ None)
+
+-- why nothing was checked; the session is as it was
+abbrev pub ChecksNot : CheckFault → Session → Session → Type 0
+ChecksNot checks.NoHead old new = HasNoHead old × (new ≡ old)
+ChecksNot checks.Memory old new = ((w : OpenTransaction) × IsOpen old w) × ((n : Snapshot) × (old.head ≡ Some n)) × (new ≡ old)
+
+-- How many evaluations a session's check counted; after want of memory the count is what it was, or more.
+abbrev pub CheckCounts : Session → ℕ → ℕ → Result Bool CheckFault → Type 0
+CheckCounts old counted now (Ok kept) = (w : OpenTransaction) × IsOpen old w × ((n : Snapshot) × (old.head ≡ Some n) × CheckSteps n w.transaction counted now)
+CheckCounts old counted now (Err checks.NoHead) = now ≡ counted
+CheckCounts old counted now (Err checks.Memory) = counted ≤ now

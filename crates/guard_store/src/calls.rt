@@ -184,12 +184,12 @@ impl Store {
     {
         let (pass, number, current, head) = session.into_parts();
         let Some(open) = current else { unreachable!() };
-        let (transaction, snap) = open.into_parts();
-        let (pass, answer) = self.take_commit(rt, pass, number, transaction, steps);
+        let (handed, snap) = open.into_parts(self.alloc);
+        let (pass, answer) = self.take_commit(rt, pass, number, handed, steps);
         match answer {
             Ok(committed) => (Session::from_parts(pass, number, None, None), Ok(committed)),
-            Err(transaction) => {
-                let open = OpenTransaction::from_parts(transaction, snap);
+            Err(handed) => {
+                let open = OpenTransaction::from_parts(handed, snap);
                 let session = Session::from_parts(pass, number, Some(open), head);
                 (session, Err(CommitFault::Memory))
             }

@@ -39,6 +39,14 @@ pub enum CommitFault {
     Memory,
 }
 
+/// Why nothing was checked.
+#[derive(Clone, Copy, Debug, PartialEq, Eq)]
+pub enum CheckFault {
+    /// No transaction is open, or no head was taken since its begin and its last staged change.
+    NoHead,
+    Memory,
+}
+
 /// Why a find has no answer.
 #[derive(Clone, Copy, Debug, PartialEq, Eq)]
 pub enum FindFault {

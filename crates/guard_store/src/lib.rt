@@ -6,6 +6,7 @@
 #![tactic(auto)]
 
 mod calls;
+mod check;
 mod faults;
 mod find;
 mod laws;
@@ -14,7 +15,9 @@ mod shared;
 mod store;
 mod turn;
 
-pub use faults::{BeginFault, CommitFault, FindFault, HeadFault, OpenFault, StageFault};
+pub use faults::{
+    BeginFault, CheckFault, CommitFault, FindFault, HeadFault, OpenFault, StageFault,
+};
 pub use laws::{
     a_failed_opening_keeps_entries, a_meeting_keeps_both_fronts, a_meeting_keeps_entries,
     a_turn_adds_one_event, an_opening_adds_one_event, an_opening_keeps_entries,

@@ -1,23 +1,23 @@
 //! The events of a session, each a turn of its own.
 ghost use Rattle.std.specs.Prelude.{◌≡◌, ◌≤◌, MatchResult};
-ghost use Rattle.store_model.specs.Store.{HasChange};
+ghost use Rattle.store_model.specs.Store.{IsCommittable};
 ghost use Rattle.store_model.specs.Snapshots.{snapshot_of};
 ghost use Rattle.session_model.specs.Sessions.{parts_of};
 ghost use Rattle.guard_store.specs.Fronts.{At, Fails, Turn};
-ghost use Rattle.session_transaction.specs.Transactions.{FitsState};
+ghost use Rattle.commit_core.specs.Verdicts.{AreOfVerdictIn};
 ghost use Rattle.guard_store.specs.Callers.{IsCaller};
 ghost use Rattle.guard_store.specs.Answers.{NamesNot, TurnCommits, TurnCounts, event_of};
 
 use crate::shared::Shared;
 use crate::store::Store;
-use commit_core::{NameFault, Snap, slip};
+use commit_core::{CheckedTransaction, NameFault, Snap, slip};
 use rdf_model::{Term, Triple};
 use session_transaction::{Committed, commit, terms_in};
 use shape_eval::Steps;
 use std::alloc::AllocError;
 use std::sync::Wait;
 use std::sync::ledger::Ledger;
-use store_model::{Action, Reply, Transaction};
+use store_model::{Action, Reply};
 use turn_lock::Pass;
 
 impl Store {
@@ -119,33 +119,33 @@ impl Store {
         self.take_names(rt, pass, number, &terms)
     }
 
-    /// Commits a transaction that changes something or stages shapes, and counts its evaluations. Without memory it is
-    /// handed back.
+    /// Commits a transaction that changes something or stages shapes, with what is kept of its check, and counts its
+    /// evaluations. Without memory it is handed back.
     pub(crate) fn take_commit<L: Ledger, R: Wait>(
         &self,
         rt: &R,
         pass: Pass<Shared>,
         number: u32,
-        transaction: Transaction,
+        handed: CheckedTransaction,
         steps: &mut Steps<L>,
-    ) -> (Pass<Shared>, Result<Committed, Transaction>)
+    ) -> (Pass<Shared>, Result<Committed, CheckedTransaction>)
         requires caller { IsCaller self.now number pass }
-        requires fits { At self.now.limits pass.known.front (FitsState transaction) }
-        requires change { HasChange transaction.net transaction.staged }
+        requires committable { At self.now.limits pass.known.front (λ s. IsCommittable s handed.transaction) }
+        requires kept { AreOfVerdictIn self.now.limits pass.known.front handed.transaction.net handed.transaction.verdict handed.rows }
         ensures commits { MatchResult result.1
-            (TurnCommits self.now.limits pass result.0 number transaction)
-            (λ back. (back ≡ transaction) × Fails self.now.limits pass result.0 number) }
-        ensures steps { MatchResult result.1 (TurnCounts self.now.limits pass result.0 number transaction steps.old steps.new) (λ _. steps.old ≤ steps.new) }
+            (TurnCommits self.now.limits pass result.0 number handed.transaction)
+            (λ back. (back ≡ handed) × Fails self.now.limits pass result.0 number) }
+        ensures steps { MatchResult result.1 (TurnCounts self.now.limits pass result.0 number handed.transaction steps.old steps.new) (λ _. steps.old ≤ steps.new) }
     {
         let Ok(slip) = slip(self.alloc) else {
-            return (pass, Err(transaction));
+            return (pass, Err(handed));
         };
         let (held, mut core) = self.start(rt, pass);
-        match commit(self.alloc, &mut core, number, transaction, steps) {
+        match commit(&mut core, number, handed, steps) {
             Ok(committed) => (self.finish(held, core), Ok(committed)),
-            Err(transaction) => {
+            Err(handed) => {
                 core.void(number, slip);
-                (self.finish(held, core), Err(transaction))
+                (self.finish(held, core), Err(handed))
             }
         }
     }

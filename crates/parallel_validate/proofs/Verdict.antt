@@ -1,10 +1,11 @@
 -- What a check keeps is what the changes touch, by terms.
-use Rattle.std.proofs.Common.{◌≡◌, ◌∙◌, ℕ, zero, suc, ◌<◌, List, [], ◌∷◌, length, map, refl, sym, ap, subst, arith, inl, inr}
+use Rattle.std.proofs.Common.{◌≡◌, ◌∙◌, ℕ, zero, suc, ◌<◌, List, [], ◌∷◌, length, get_or, map, refl, sym, ap, subst, arith, inl, inr}
 use Rattle.std.specs.Prelude.{◌⊎◌, ◌↔◌, Some, None, slice_get}
 use Rattle.std.specs.declared.cmp.Ordering.TheVariants.{Equal, Less}
 use Rattle.std.proofs.lemmas.Cmp.{tied_itself}
 use Rattle.std.proofs.lemmas.List.{length-map}
 use Rattle.std.specs.List.{Contains}
+use Rattle.std.proofs.lemmas.List.Elements.{Contains-get_or}
 use Rattle.collections.specs.Listings.{IsListing}
 use Rattle.collections.specs.Ordered.{AllAbove, IsAscending}
 use Rattle.collections.proofs.Members.{below}
@@ -45,7 +46,7 @@ use Rattle.shape_plans.specs.Planned.{ArePlansOf}
 use Rattle.parallel_validate.specs.declared.pairs.CheckedRows.{CheckedRows}
 use Rattle.parallel_validate.specs.PairResults.{PairLook}
 use Rattle.parallel_validate.specs.PairsResults.{AddsLooksOfPairs, ArePlacedPairs, HaveRows, StepsOfPairs, pair_of, shape_at}
-use Rattle.parallel_validate.specs.Verdicts.{CountsEvaluated, IsEvaluated, KeepsChecked, KeepsLooks, StandsBeside, WhereChecked, checked_pair, checked_pairs}
+use Rattle.parallel_validate.specs.Verdicts.{AreBoundLooks, CountsEvaluated, IsEvaluated, KeepsChecked, KeepsLooks, StandsBeside, WhereChecked, checked_pair, checked_pairs}
 use Rattle.parallel_validate.proofs.Counts.{IsAim, apart_pairs, count_same, counted}
 
 none_at : {X : Type 0} → {x : X} → None ≡ Some x → ⊥
@@ -166,11 +167,28 @@ module _ (terms : List Term) (before later changed : List Ids) (shapes : List (S
         (e.0, e.1, subst (λ (x : Term). PairLook (graph_of terms later) s x (term_at terms e.0.1) l) (sym e.2) (subst (λ (x : Term). PairLook (graph_of terms later) s i.0 x l) (sym e.3) p)),
   )
 
+  -- the looks by which the pairs are found, and those of the pairs
+  abbrev Finds : Look Term → Type 0
+  Finds l = FindingLook (graph_of terms before) s net l
+
+  abbrev Checks : Look Term → Type 0
+  Checks l = (e : ℕ × ℕ) × Contains pairs e × PairLook (graph_of terms later) s (shape_at terms shapes e) (term_at terms e.1) l
+
+  all_looks : AddsLooks terms (λ l. Finds l ⊎ Checks l) [] new
+  all_looks = looks_more terms Finds Checks [] mid new (found terms s net numbering numbered marked bound (are.planned s stand acyclic shallow) is) (looked s stand acyclic shallow)
+
+  -- each of their numbers has a term
+  pub are_bound : AreBoundLooks terms new
+  are_bound k d lt = elim ((all_looks.added (get_or new k d)).0 (Contains-get_or new k d lt)) [
+    | inl none ↦ absurd (omega (arith, none.1))
+    | inr i ↦ i.0
+  ]
+
   pub is_footprint : IsCheckFootprint g s net (map (look_of terms) new)
   is_footprint l =
-      let P : Look Term → Type 0 = FindingLook (graph_of terms before) s net in
-      let Q : Look Term → Type 0 = λ l. (e : ℕ × ℕ) × Contains pairs e × PairLook (graph_of terms later) s (shape_at terms shapes e) (term_at terms e.1) l in
-      let all = looks_more terms P Q [] mid new (found terms s net numbering numbered marked bound (are.planned s stand acyclic shallow) is) (looked s stand acyclic shallow) in
+      let P : Look Term → Type 0 = Finds in
+      let Q : Look Term → Type 0 = Checks in
+      let all = all_looks in
       let f = finding_same (graph_of terms before) g same s net l in
       let here : (P l ⊎ Q l) ↔ (FindingLook g s net l ⊎ CheckingLook g s net l) = (
         elim [ inl i ↦ inl (f.0 i) | inr i ↦ inr ((checking l).0 i) ],

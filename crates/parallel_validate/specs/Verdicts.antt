@@ -1,5 +1,6 @@
 -- What a check keeps stands for, by the terms of its numbers.
-use Rattle.std.specs.Prelude.{ℕ, List, map}
+use Rattle.std.specs.Prelude.{ℕ, List, length, map}
+use Rattle.std.specs.List.{All}
 use Rattle.collections.specs.Ordered.{IsAscending}
 use Rattle.rdf_model.specs.declared.term.Term.{Term}
 use Rattle.rdf_model.specs.declared.triple.Triple.{Triple}
@@ -14,7 +15,7 @@ use Rattle.shape_model.specs.Limits.{levels_limit}
 use Rattle.shape_model.specs.Readings.{IsAcyclic, IsShallow}
 use Rattle.shape_model.specs.Targets.{Target}
 use Rattle.shape_model.specs.Touching.{Touched}
-use Rattle.path_eval.specs.Naming.{look_of}
+use Rattle.path_eval.specs.Naming.{IsBoundLook, look_of}
 use Rattle.shape_ast.specs.declared.shape.Shape.{Shape}
 use Rattle.shape_ast.specs.Readings.{named_shapes}
 use Rattle.shape_ast.specs.Standing.{StandFor}
@@ -44,6 +45,10 @@ KeepsChecked terms shapes checked g s net = AreChecked g s net (checked_pairs te
 
 abbrev pub KeepsLooks : List Term → List (Look ℕ) → List Triple → List Triple → List Change → Type 0
 KeepsLooks terms looks g s net = IsCheckFootprint g s net (map (look_of terms) looks)
+
+-- each number of the looks has a term
+abbrev pub AreBoundLooks : List Term → List (Look ℕ) → Type 0
+AreBoundLooks terms looks = All (IsBoundLook (length terms)) looks
 
 -- it stands for each graph that agrees with g on the looks
 abbrev pub StandsBeside : List Term → List (Shape ℕ) → List CheckedRows → List (Look ℕ) → List Triple → List Triple → List Change → Type 0

@@ -2,7 +2,7 @@
 ghost use Rattle.std.specs.Prelude.{◌≤◌, IfOk, OnOk};
 ghost use Rattle.rdf_model.specs.Numbers.{AreNumbered, IsNumbering};
 ghost use Rattle.shape_plans.specs.Planned.{ArePlanned};
-ghost use Rattle.parallel_validate.specs.Verdicts.{CountsEvaluated, KeepsChecked, KeepsLooks, StandsBeside, WhereChecked};
+ghost use Rattle.parallel_validate.specs.Verdicts.{AreBoundLooks, CountsEvaluated, KeepsChecked, KeepsLooks, StandsBeside, WhereChecked};
 
 use crate::pairs::{CheckedRows, rows_of_pairs};
 use collections::Sequence;
@@ -40,12 +40,13 @@ pub fn check<R: Triples, S: Triples, N: Names, L: Ledger>(
     requires planned { ArePlanned (N.terms names.now) planned.now }
     ensures checked { IfOk result (λ checked. WhereChecked (N.terms names.now) (R.triples before.now) (S.triples later.now) planned.now.bound.shapes changed.now (KeepsChecked (N.terms names.now) planned.now.bound.shapes checked.pairs)) }
     ensures looks { IfOk result (λ checked. WhereChecked (N.terms names.now) (R.triples before.now) (S.triples later.now) planned.now.bound.shapes changed.now (KeepsLooks (N.terms names.now) checked.looks)) }
+    ensures bound { IfOk result (λ checked. WhereChecked (N.terms names.now) (R.triples before.now) (S.triples later.now) planned.now.bound.shapes changed.now (λ g s net. AreBoundLooks (N.terms names.now) checked.looks)) }
     ensures beside { IfOk result (λ checked. WhereChecked (N.terms names.now) (R.triples before.now) (S.triples later.now) planned.now.bound.shapes changed.now (StandsBeside (N.terms names.now) planned.now.bound.shapes checked.pairs checked.looks)) }
     ensures steps { OnOk result (WhereChecked (N.terms names.now) (R.triples before.now) (S.triples later.now) planned.now.bound.shapes changed.now (CountsEvaluated steps.old steps.new)) }
     ensures counted { steps.old ≤ steps.new }
 {
     let mut looks = Footprint::new(alloc);
-    let pairs = touched(alloc, before, planned.plans.as_slice(), changed, &mut looks)?;
+    let pairs = touched(alloc, before, &planned.plans, changed, &mut looks)?;
     let checked = rows_of_pairs(alloc, later, names, planned, &pairs, &mut looks, steps)?;
     Ok(Checked {
         pairs: Sequence::from_vec(checked),

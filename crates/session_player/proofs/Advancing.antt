@@ -1,5 +1,5 @@
 -- Sessions that advance, one after another.
-use Rattle.std.proofs.Common.{◌≡◌, ℕ, ◌+◌, ◌<◌, ◌≤◌, suc, Bool, true, false, nat_eq, nat_lt, List, [], ◌∷◌, ◌++◌, length, map, get_or, Option, None, refl, sym, ap, ◌∙◌, subst, arith, append_assoc, drop, add-one, drop-cons, length-append}
+use Rattle.std.proofs.Common.{◌≡◌, ℕ, ◌+◌, ◌<◌, ◌≤◌, suc, Bool, true, false, nat_eq, nat_lt, List, [], ◌∷◌, ◌++◌, length, map, get_or, Option, Some, None, refl, sym, ap, ◌∙◌, subst, arith, append_assoc, drop, add-one, drop-cons, length-append}
 use Rattle.std.proofs.lemmas.List.{map-append, append-nil, length-map}
 use Rattle.std.specs.Prelude.{MatchBool}
 use Rattle.std.specs.List.{AllByRecursion}
@@ -8,12 +8,18 @@ use Rattle.store_model.specs.declared.event.Limits.{Limits}
 use Rattle.store_model.specs.declared.event.Event.{Event}
 use Rattle.store_model.specs.declared.event.Action.{Action}
 use Rattle.store_model.specs.declared.event.Action.TheVariants.{Open}
+use Rattle.store_model.specs.declared.event.Action.TheVariants as actions
+use Rattle.store_model.specs.declared.commit.Transaction.{Transaction}
+use Rattle.store_model.specs.declared.commit.Verdict.{Verdict}
 use Rattle.store_model.specs.declared.event.Reply.{Reply}
 use Rattle.store_model.specs.declared.event.Reply.TheVariants.{Session}
 use Rattle.session_model.specs.declared.command.Command.{Command}
+use Rattle.session_model.specs.declared.command.Command.TheVariants.{Commit}
 use Rattle.session_model.specs.declared.reply.SessionReply.{SessionReply}
-use Rattle.store_model.specs.Store.{State, RecordedStore, empty_store, OpensNext, OpensNothing, TakesStep, IsOpened}
-use Rattle.session_model.specs.Sessions.{OpenTransaction, SessionState, World, answers, local_answer, up_to_event, GoesOn, session_at, world, RunsOpening, RunsEvent, RunsInOrder, start, HasReplies}
+use Rattle.store_model.specs.Store.{State, RecordedStore, StepOf, empty_store, OpensNext, OpensNothing, TakesStep, IsOpened}
+use Rattle.thread_model.specs.Following.{unaided}
+use Rattle.thread_model.proofs.Aside.{goes_aside}
+use Rattle.session_model.specs.Sessions.{OpenTransaction, SessionState, World, action_of, after_reply, answers, commit_action, local_answer, up_to_event, GoesOn, session_at, world, RunsOpening, RunsEvent, RunsInOrder, start, HasReplies}
 use Rattle.session_player.specs.Progress.{Advances, OpensSessions, HasRun}
 use Rattle.session_model.proofs.Walking.{RunsInOrder-append, up_to_event-local, turn, opened_same, never_open}
 
@@ -36,15 +42,30 @@ Advances-then i a b c p q r g h = record {
 pub Advances-local : (i : ℕ) (s : RecordedStore) (w v : Option OpenTransaction) (c : Command) (cs : List Command) (replies : List SessionReply) (t : SessionReply) → local_answer w c ≡ answers t v → Advances i s s (up_to_event w (c ∷ cs) replies) (up_to_event v cs (replies ++ t ∷ []))
 Advances-local i s w v c cs replies t e = subst (λ (q : SessionState). Advances i s s (up_to_event w (c ∷ cs) replies) q) (up_to_event-local w v c cs replies t e) (Advances-none i s (up_to_event w (c ∷ cs) replies))
 
-pub Advances-event : (i : ℕ) (s n : RecordedStore) (w : Option OpenTransaction) (c : Command) (cs : List Command) (replies : List SessionReply) (a : Action) (r : Reply) (q : SessionState) → IsOpened s.state i → GoesOn s.state w c cs replies a r q → TakesStep s n (record { session = i; action = a; reply = r })
-    → Advances i s n (record { current = w; commands = c ∷ cs; replies = replies }) q
-Advances-event i s n w c cs replies a r q g on t = record {
-  events = record { session = i; action = a; reply = r } ∷ [];
+-- the store's event may stand there otherwise than the session's command has it
+Advances-as : (i : ℕ) (s n : RecordedStore) (w : Option OpenTransaction) (c : Command) (cs : List Command) (replies : List SessionReply) (a b : Action) (r u : Reply) (q : SessionState) → IsOpened s.state i → GoesOn s.state w c cs replies a r q → StepOf s.limits s.state i a r n.state
+    → TakesStep s n (record { session = i; action = b; reply = u }) → Advances i s n (record { current = w; commands = c ∷ cs; replies = replies }) q
+Advances-as i s n w c cs replies a b r u q g on h t = record {
+  events = record { session = i; action = b; reply = u } ∷ [];
   history = t.history;
   limits = t.limits;
-  opened = opened_same s.limits s.state n.state i a r (never_open w c a on.event) t.step;
-  runs = λ before rest e. (world n.state (before ++ q ∷ rest), turn s.limits s.state n.state i w c cs replies a r q before rest g e on t.step, refl);
+  opened = opened_same s.limits s.state n.state i a r (never_open w c a on.event) h;
+  runs = λ before rest e. (world n.state (before ++ q ∷ rest), turn s.limits s.state n.state i w c cs replies a r q before rest g e on h, refl);
 }
+
+pub Advances-event : (i : ℕ) (s n : RecordedStore) (w : Option OpenTransaction) (c : Command) (cs : List Command) (replies : List SessionReply) (a : Action) (r : Reply) (q : SessionState) → IsOpened s.state i → GoesOn s.state w c cs replies a r q → TakesStep s n (record { session = i; action = a; reply = r })
+    → Advances i s n (record { current = w; commands = c ∷ cs; replies = replies }) q
+Advances-event i s n w c cs replies a r q g on t = Advances-as i s n w c cs replies a a r r q g on t.step t
+
+-- a commit, whatever verdict it hands in
+pub Advances-commit : (i : ℕ) (s n : RecordedStore) (w : OpenTransaction) (cs : List Command) (replies : List SessionReply) (v : Option Verdict) (r : Reply) (q : SessionState) → IsOpened s.state i → w.transaction.verdict ≡ None → w.head_taken ≡ true → after_reply s.state (Some w) Commit cs replies r ≡ Some q
+    → TakesStep s n (record { session = i; action = actions.Commit (record w.transaction { verdict = v }); reply = r }) → Advances i s n (record { current = Some w; commands = Commit ∷ cs; replies = replies }) q
+Advances-commit i s n w cs replies v r q g none held next t =
+    let a : Action = actions.Commit (record w.transaction { verdict = v }) in
+    let bare : record w.transaction { verdict = None } ≡ w.transaction = λ j. record w.transaction { verdict = sym none j } in
+    let event : action_of (Some w) Commit ≡ Some (unaided a) = ap (λ b. Some (commit_action b w.transaction)) held ∙ ap (λ (x : Transaction). Some (actions.Commit x)) (sym bare) in
+    let x = goes_aside s.limits s.state n.state i a r (Some w) Commit cs replies q t.step (record { event = event; next = next }) in
+    Advances-as i s n (Some w) Commit cs replies (unaided a) a x.0 r q g x.1 x.2 t
 
 opened : (s t : State) (i : ℕ) (b : Bool) → MatchBool b (OpensNext s i (Session i) t) (OpensNothing s i (Session i) t) → (i ≡ s.opened + 1) × (t.opened ≡ s.opened + 1)
 opened s t i true h = (h.0, ap (λ (x : State). x.opened) h.1.1)

@@ -12,11 +12,14 @@ use Rattle.store_model.specs.declared.event.Action.TheVariants as actions
 use Rattle.store_model.specs.declared.event.Reply.{Reply}
 use Rattle.store_model.specs.declared.event.Reply.TheVariants.{Session, SessionsFull, Version, Named, Full, Conflict, FullTriples, Refused}
 use Rattle.store_model.specs.declared.commit.Transaction.{Transaction}
+use Rattle.store_model.specs.declared.commit.Verdict.{Verdict}
 use Rattle.session_model.specs.declared.command.Command.{Command}
 use Rattle.session_model.specs.declared.command.Command.TheVariants.{Begin, Commit}
 use Rattle.session_model.specs.declared.reply.SessionReply.{SessionReply}
 use Rattle.session_model.specs.declared.reply.SessionReply.TheVariants.{Begun, FullTerms, ReadOnly}
-use Rattle.store_model.specs.Store.{State, RecordedStore, OpensNext, OpensNothing, TakesStep, IsOpened, HasChange, IsCommittable, version}
+use Rattle.store_model.specs.Store.{State, RecordedStore, OpensNext, OpensNothing, TakesStep, Replays, IsOpened, HasChange, empty_store, version}
+use Rattle.store_model.specs.Snapshots.{Snapshot, snapshot_of}
+use Rattle.store_model.specs.declared.event.Limits.{Limits}
 use Rattle.session_model.specs.Sessions as Sessions
 use Rattle.session_model.specs.Sessions.{LocalAnswer, answers, local_answer, local_commit, up_to_event, begun, parts_of, action_of, commit_action, after_reply, GoesOn, SessionState}
 use Rattle.session_transaction.specs.declared.transaction.ChangeKind.{ChangeKind}
@@ -27,12 +30,14 @@ use Rattle.session_transaction.specs.declared.committing.Committed.{Committed}
 use Rattle.session_transaction.specs.declared.committing.Committed.TheVariants as committeds
 use Rattle.session_transaction.specs.Commits.{IsAnswer, IsCommitted}
 use Rattle.session_transaction.specs.Replies.{IsCommitReply, IsRefused, answer_in}
-use Rattle.session_transaction.proofs.Fitting.{after_full, after_named, committable}
+use Rattle.session_transaction.proofs.Fitting.{after_full, after_named}
 use Rattle.session_transaction.proofs.Blocks.{IsBlock}
+use Rattle.session_transaction.proofs.Checking.{check_keeps, version_now}
+use Rattle.session_transaction.specs.Checks.{Checks, KeepsIn}
 use Rattle.session_transaction.proofs.Refusing.{refused_by}
 use Rattle.thread_model.proofs.Placing.{within}
 use Rattle.session_player.specs.Progress.{Advances, order_of}
-use Rattle.session_player.proofs.Advancing.{Advances-then, Advances-local, Advances-event}
+use Rattle.session_player.proofs.Advancing.{Advances-then, Advances-local, Advances-event, Advances-commit}
 use Rattle.session_model.proofs.Walking.{up_to_event-event}
 use Rattle.session_player.specs.Ready.{CommitsWith, IsReady, Performs, TakesHead, is_commit, places_with, places_of}
 
@@ -138,26 +143,26 @@ no_items (x ∷ xs) h = absurd (omega (arith, h))
 pub local-none : (w : Sessions.OpenTransaction) (net : List Change) (staged : Option (List Triple)) → net ≡ [] → staged ≡ None → local_commit w net staged ≡ answers (ReadOnly w.transaction.base) None
 local-none w net staged en es = ap (λ (cs : List Change). local_commit w cs staged) en ∙ ap (local_commit w []) es
 
-given_n : (i : ℕ) (s m n : RecordedStore) (w : Sessions.OpenTransaction) (v : ℕ) (r : Reply) → IsOpened s.state i → TakesStep s m (record { session = i; action = actions.Head; reply = Version v }) → TakesStep m n (record { session = i; action = actions.Commit w.transaction; reply = r }) → IsOpened n.state i
-given_n i s m n w v r g h a =
+given_n : (i : ℕ) (s m n : RecordedStore) (x : Transaction) (v : ℕ) (r : Reply) → IsOpened s.state i → TakesStep s m (record { session = i; action = actions.Head; reply = Version v }) → TakesStep m n (record { session = i; action = actions.Commit x; reply = r }) → IsOpened n.state i
+given_n i s m n x v r g h a =
     let one : m.state.opened ≡ s.state.opened = ap (λ (y : State). y.opened) h.step.1.1 in
-    let two = (within m.limits m.state n.state i (actions.Commit w.transaction) r refl a.step).same in
+    let two = (within m.limits m.state n.state i (actions.Commit x) r refl a.step).same in
     (g.0, subst (λ (k : ℕ). i ≤ k) (sym (two ∙ one)) g.1)
 
-commit_order : (i : ℕ) (s m n : RecordedStore) (w : Sessions.OpenTransaction) (v : ℕ) (r : Reply) → HasChange w.transaction.net w.transaction.staged → TakesStep s m (record { session = i; action = actions.Head; reply = Version v })
-    → TakesStep m n (record { session = i; action = actions.Commit w.transaction; reply = r }) → order_of n.history ≡ order_of s.history ++ places_of i (Some w) Commit
-commit_order i s m n w v r some h a =
+commit_order : (i : ℕ) (s m n : RecordedStore) (w : Sessions.OpenTransaction) (y : Transaction) (v : ℕ) (r : Reply) → HasChange w.transaction.net w.transaction.staged → TakesStep s m (record { session = i; action = actions.Head; reply = Version v })
+    → TakesStep m n (record { session = i; action = actions.Commit y; reply = r }) → order_of n.history ≡ order_of s.history ++ places_of i (Some w) Commit
+commit_order i s m n w y v r some h a =
     let both : order_of n.history ≡ (order_of s.history ++ i ∷ []) ++ i ∷ [] = one_place m n _ a ∙ ap (λ (is : List ℕ). is ++ i ∷ []) (one_place s m _ h) in
     both ∙ (append_assoc (order_of s.history) (i ∷ []) (i ∷ []) ∙ sym (ap (λ (x : Option LocalAnswer). order_of s.history ++ places_with i true x) (local-change w w.transaction.net w.transaction.staged some)))
 
 -- the store answered the commit, after its head
-pub performs_commit : (i : ℕ) (s m n : RecordedStore) (w : Sessions.OpenTransaction) (replies more : List SessionReply) (v : ℕ) (r : Reply) (t : SessionReply) → IsReady s i (Some w) → HasChange w.transaction.net w.transaction.staged
-    → TakesStep s m (record { session = i; action = actions.Head; reply = Version v }) → TakesStep m n (record { session = i; action = actions.Commit w.transaction; reply = r })
+pub performs_commit : (i : ℕ) (s m n : RecordedStore) (w : Sessions.OpenTransaction) (replies more : List SessionReply) (v : ℕ) (o : Option Verdict) (r : Reply) (t : SessionReply) → IsReady s i (Some w) → HasChange w.transaction.net w.transaction.staged
+    → TakesStep s m (record { session = i; action = actions.Head; reply = Version v }) → TakesStep m n (record { session = i; action = actions.Commit (record w.transaction { verdict = o }); reply = r })
     → ((cs : List Command) → after_reply m.state (Some (record w { head_taken = true })) Commit cs replies r ≡ Some (up_to_event None cs (replies ++ t ∷ []))) → more ≡ replies ++ t ∷ []
     → Performs i s n (Some w) None Commit replies more
-performs_commit i s m n w replies more v r t ready some h a by em = record {
-  ready = record { opened = given_n i s m n w v r ready.opened h a; current = tt };
-  order = commit_order i s m n w v r some h a;
+performs_commit i s m n w replies more v o r t ready some h a by em = record {
+  ready = record { opened = given_n i s m n (record w.transaction { verdict = o }) v r ready.opened h a; current = tt };
+  order = commit_order i s m n w (record w.transaction { verdict = o }) v r some h a;
   advances = λ cs.
       let u : Sessions.OpenTransaction = record w { head_taken = true } in
       let head : action_of (Some w) Commit ≡ Some actions.Head = ap (λ b. Some (commit_action b w.transaction)) ready.current.head_taken in
@@ -167,28 +172,34 @@ performs_commit i s m n w replies more v r t ready some h a by em = record {
       let one : Advances i s m (record { current = Some w; commands = Commit ∷ cs; replies = replies }) mid =
       Advances-event i s m (Some w) Commit cs replies actions.Head (Version v) mid ready.opened (record { event = head; next = refl }) h in
       let given_m : IsOpened m.state i = subst (λ (x : State). IsOpened x i) (sym h.step.1.1) ready.opened in
-      let two : Advances i m n mid last = Advances-event i m n (Some u) Commit cs replies (actions.Commit w.transaction) r last given_m (record { event = refl; next = by cs }) a in
+      let two : Advances i m n mid last = Advances-commit i m n u cs replies o r last given_m ready.current.fits.verdict refl (by cs) a in
       let both : Advances i s n (record { current = Some w; commands = Commit ∷ cs; replies = replies }) last = Advances-then i s m n _ mid last one two in
       subst (λ (ts : List SessionReply). Advances i s n (up_to_event (Some w) (Commit ∷ cs) replies) (up_to_event None cs ts)) (sym em)
       (subst (λ (p : SessionState). Advances i s n p last) (sym start) both);
 }
 
--- after its head the transaction may be committed
-pub committable_after : (i : ℕ) (s m : RecordedStore) (w : Sessions.OpenTransaction) → IsReady s i (Some w) → HasChange w.transaction.net w.transaction.staged → TakesHead i s m → IsCommittable m.state w.transaction
-committable_after i s m w ready some h = subst (λ (x : State). IsCommittable x w.transaction) (sym h.step.step.1.1) (committable w.transaction s.state ready.current.fits some)
+-- after its head the transaction fits the store still
+pub fits_after : (i : ℕ) (s m : RecordedStore) (x : Transaction) → FitsState x s.state → TakesHead i s m → FitsState x m.state
+fits_after i s m x f h = subst (FitsState x) (sym h.step.step.1.1) f
+
+-- what a check at the head keeps is a verdict of the store's history
+pub head_keeps : (s n : RecordedStore) (e : Event) (head : Snapshot) (b : Bool) (old new : OpenTransaction) → Replays s.limits empty_store s.history s.state → TakesStep s n e → head ≡ snapshot_of s.state → Checks b head old new → KeepsIn n.limits n.history old.transaction.net new.checked
+head_keeps s n e head b old new replays t is h =
+    subst (λ (l : Limits). KeepsIn l n.history old.transaction.net new.checked) (sym t.limits) (subst (λ (es : List Event). KeepsIn s.limits es old.transaction.net new.checked) (sym t.history)
+    (check_keeps s.limits (s.history ++ e ∷ []) b head old new (version_now s.limits s.history (e ∷ []) s.state head replays is) h))
 
 -- what the session tells of a commit's answer
-told_commit : (s : State) (x : Transaction) (r : Reply) (a : Committed) (reply : SessionReply) (graph : List Triple) (cs : List Command) (replies : List SessionReply) → IsAnswer s x r a → IsCommitReply a reply
+told_commit : (s : State) (x : Transaction) (o : Option Verdict) (r : Reply) (a : Committed) (reply : SessionReply) (graph : List Triple) (cs : List Command) (replies : List SessionReply) → IsAnswer s (record x { verdict = o }) r a → IsCommitReply a reply
     → after_reply s (Some (record { transaction = x; graph = graph; head_taken = true })) Commit cs replies r ≡ Some (up_to_event None cs (replies ++ reply ∷ []))
-told_commit s x r (committeds.ReadOnly v) reply graph cs replies h k = absurd h
-told_commit s x r (committeds.Done n why) reply graph cs replies h k = rw (h, k) refl
-told_commit s x r (committeds.Conflict n t) reply graph cs replies h k = rw (h, k) refl
-told_commit s x r (committeds.FullTriples n) reply graph cs replies h k = rw (h, k) refl
-told_commit s x r (committeds.Refused rows why shapes) reply graph cs replies h k = rw (h.0, k, h.1) refl
+told_commit s x o r (committeds.ReadOnly v) reply graph cs replies h k = absurd h
+told_commit s x o r (committeds.Done n why) reply graph cs replies h k = rw (h, k) refl
+told_commit s x o r (committeds.Conflict n t) reply graph cs replies h k = rw (h, k) refl
+told_commit s x o r (committeds.FullTriples n) reply graph cs replies h k = rw (h, k) refl
+told_commit s x o r (committeds.Refused rows why shapes) reply graph cs replies h k = rw (h.0, k, h.1) refl
 
-pub commits_with : (i : ℕ) (s n : RecordedStore) (x : Transaction) (counted now : ℕ) (a : Committed) (r : Result SessionReply AllocError) → IsCommitted s n i x counted now a → IfOk r (IsCommitReply a) → IfOk r (CommitsWith i s n x)
-commits_with i s n x counted now a (Ok reply) c k = record { answer = c.reply; step = c.step; told = λ graph cs replies. told_commit s.state x c.reply a reply graph cs replies c.told k }
-commits_with i s n x counted now a (Err error) c k = tt
+pub commits_with : (i : ℕ) (s n : RecordedStore) (x : Transaction) (o : Option Verdict) (counted now : ℕ) (a : Committed) (r : Result SessionReply AllocError) → IsCommitted s n i (record x { verdict = o }) counted now a → IfOk r (IsCommitReply a) → IfOk r (CommitsWith i s n x)
+commits_with i s n x o counted now a (Ok reply) c k = record { verdict = o; answer = c.reply; step = c.step; told = λ graph cs replies. told_commit s.state x o c.reply a reply graph cs replies c.told k }
+commits_with i s n x o counted now a (Err error) c k = tt
 
 -- below 64 sessions, one more is given out
 opens_one : (s t : State) (b : Bool) → nat_lt s.opened 64 ≡ b → s.opened < 64 → MatchBool b (OpensNext s 0 SessionsFull t) (OpensNothing s 0 SessionsFull t) → ⊥

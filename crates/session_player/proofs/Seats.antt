@@ -15,7 +15,7 @@ use Rattle.store_model.specs.declared.event.Action.TheVariants as actions
 use Rattle.store_model.specs.declared.event.Event.{Event}
 use Rattle.store_model.specs.declared.event.Limits.{Limits}
 use Rattle.store_model.specs.declared.event.Reply.TheVariants.{Session, Version}
-use Rattle.store_model.specs.Store.{State, RecordedStore, empty_store, TakesStep, IsOpened, HasChange, IsCommittable, OpensNext, OpensNothing, version}
+use Rattle.store_model.specs.Store.{State, RecordedStore, empty_store, TakesStep, IsOpened, HasChange, OpensNext, OpensNothing, version}
 use Rattle.session_model.specs.declared.command.Command.{Command}
 use Rattle.session_model.specs.declared.command.Command.TheVariants.{Commit}
 use Rattle.session_model.specs.declared.reply.SessionReply.{SessionReply}
@@ -23,10 +23,14 @@ use Rattle.session_model.specs.Sessions.{OpenTransaction, SessionState, World, L
 use Rattle.session_model.proofs.Walking.{RunsInOrder-append, get-middle, set-middle, up_to_event-event}
 use Rattle.session_player.specs.Progress.{Advances, order_of}
 use Rattle.session_player.specs.Ready.{IsCurrent, IsCurrentIn, Performs, TakesHead, CommitsWith, is_commit, places_with, places_of}
-use Rattle.session_player.specs.Players.{Player, Finishes, state_of, held, IsHeld, IsCommitNext, MayGoOn, TakesEvent, Plays, PlaysAll, AreReady, StopsAt, EndsAll, states_of, new_player}
-use Rattle.session_player.proofs.Advancing.{Advances-event, OpensNext-runs, all-append}
+use Rattle.commit_core.specs.declared.checked.CheckedNet.{CheckedNet}
+use Rattle.session_transaction.specs.Checks.{KeepsIn}
+use Rattle.session_transaction.specs.Transactions.{FitsState}
+use Rattle.session_player.specs.Players.{Player, Finishes, state_of, held, IsHeld, KeepsCheck, IsCommitNext, MayGoOn, TakesEvent, Plays, PlaysAll, AreReady, StopsAt, EndsAll, states_of, new_player}
+use Rattle.session_player.proofs.Advancing.{Advances-event, Advances-commit, OpensNext-runs, all-append}
 use Rattle.session_transaction.proofs.Growing.{More, more_same, more_step, more_then}
-use Rattle.session_transaction.proofs.Fitting.{committable, state_more}
+use Rattle.session_transaction.proofs.Fitting.{state_more}
+use Rattle.session_transaction.proofs.Checking.{keeps_last}
 use Rattle.session_player.proofs.Playing.{one_place, local-change}
 
 more_event : (l : Limits) (m n : World) (i : ℕ) (w : Option OpenTransaction) (cs : List Command) (replies : List SessionReply) → RunsEvent l m i w cs replies n → More m.state n.state
@@ -45,11 +49,24 @@ current_later : (s t : RecordedStore) (w : Option OpenTransaction) → More s.st
 current_later s t None g h = tt
 current_later s t (Some w) g h = record { fits = state_more w.transaction s.state t.state g h.fits; head_taken = h.head_taken }
 
--- players may go on, whatever the others did
-pub go_on_later : (s t : RecordedStore) (p : Player) → More s.state t.state → MayGoOn s p → MayGoOn t p
-go_on_later s t p g h = record { current = current_later s t p.current g h.current; held = h.held }
+-- the store took steps, whose events stand last
+pub record IsLater (s t : RecordedStore) : Type 0 where
+  pub more : More s.state t.state
+  pub limits : t.limits ≡ s.limits
+  pub events : List Event
+  pub history : t.history ≡ s.history ++ events
 
-pub all_later : (s t : RecordedStore) (ps : List Player) → More s.state t.state → AllByRecursion (MayGoOn s) ps → AllByRecursion (MayGoOn t) ps
+kept_later : (s t : RecordedStore) (b : Bool) (w : Option OpenTransaction) (o : Option CheckedNet) → IsLater s t → KeepsCheck b s w o → KeepsCheck b t w o
+kept_later s t false w o g h = tt
+kept_later s t true None o g h = tt
+kept_later s t true (Some w) o g h =
+    subst (λ (l : Limits). KeepsIn l t.history w.transaction.net o) (sym g.limits) (subst (λ (es : List Event). KeepsIn s.limits es w.transaction.net o) (sym g.history) (keeps_last s.limits s.history g.events w.transaction.net o h))
+
+-- players may go on, whatever the others did
+go_on_later : (s t : RecordedStore) (p : Player) → IsLater s t → MayGoOn s p → MayGoOn t p
+go_on_later s t p g h = record { current = current_later s t p.current g.more h.current; held = h.held; kept = kept_later s t p.head_taken p.current p.checked g h.kept }
+
+all_later : (s t : RecordedStore) (ps : List Player) → IsLater s t → AllByRecursion (MayGoOn s) ps → AllByRecursion (MayGoOn t) ps
 all_later s t [] g h = tt
 all_later s t (p ∷ ps) g h = (go_on_later s t p g h.0, all_later s t ps g h.1)
 
@@ -95,8 +112,8 @@ settled i s n w v c cs replies more o ne h =
     still i s n (up_to_event w (c ∷ cs) replies) (up_to_event v cs more) g o.0 (places i s n _ _ g [] (h.order ∙ ap (λ (is : List ℕ). order_of s.history ++ is) (not_event i c (local_answer w c) ne)))
 
 -- the next command of a player
-abbrev pub player : List Command → Option OpenTransaction → Bool → List SessionReply → Player
-player cs w head replies = record { commands = cs; current = w; head_taken = head; replies = replies }
+abbrev pub player : List Command → Option OpenTransaction → Bool → Option CheckedNet → List SessionReply → Player
+player cs w head o replies = record { commands = cs; current = w; head_taken = head; checked = o; replies = replies }
 
 pub settles_step : (i : ℕ) (s m n : RecordedStore) (o p q : Player) (c : Command) (cs : List Command) → IsOpened m.state i → m ≡ s → state_of p ≡ state_of o → p.head_taken ≡ false → p.commands ≡ c ∷ cs → local_answer p.current c ≢ None
     → Performs i m n p.current q.current c p.replies q.replies → q.commands ≡ cs → q.head_taken ≡ false → (n ≡ s) × (MayGoOn n q × (state_of q ≡ state_of o))
@@ -104,7 +121,7 @@ settles_step i s m n o p q c cs g em es free next ne h rest free_q =
     let two = settled i m n p.current q.current c cs p.replies q.replies g ne h in
     let from : state_of p ≡ up_to_event p.current (c ∷ cs) p.replies = ap (λ (b : Bool). up_to_event (held b p.current) p.commands p.replies) free ∙ ap (λ (ds : List Command). up_to_event p.current ds p.replies) next in
     let to : state_of q ≡ up_to_event q.current cs q.replies = ap (λ (b : Bool). up_to_event (held b q.current) q.commands q.replies) free_q ∙ ap (λ (ds : List Command). up_to_event q.current ds q.replies) rest in
-    (two.0 ∙ em, (record { current = h.ready.current; held = subst (λ (b : Bool). IsHeld b q.current q.commands) (sym free_q) tt }, to ∙ (two.1 ∙ (sym from ∙ es))))
+    (two.0 ∙ em, (record { current = h.ready.current; held = subst (λ (b : Bool). IsHeld b q.current q.commands) (sym free_q) tt; kept = subst (λ (b : Bool). KeepsCheck b n q.current q.checked) (sym free_q) tt }, to ∙ (two.1 ∙ (sym from ∙ es))))
 
 -- an event that is no commit was done
 pub takes_event : (i : ℕ) (s n : RecordedStore) (p q : Player) (c : Command) (cs : List Command) → p.head_taken ≡ false → p.commands ≡ c ∷ cs → local_answer p.current c ≡ None → is_commit c ≡ false
@@ -114,7 +131,7 @@ takes_event i s n p q c cs free next event other h rest free_q =
     let to : state_of q ≡ up_to_event q.current cs q.replies = ap (λ (b : Bool). up_to_event (held b q.current) q.commands q.replies) free_q ∙ ap (λ (ds : List Command). up_to_event q.current ds q.replies) rest in
     let one : places_of i p.current c ≡ i ∷ [] = ap (λ (b : Bool). places_with i b (local_answer p.current c)) other ∙ ap (places_with i false) event in
     record {
-      ready = record { current = h.ready.current; held = subst (λ (b : Bool). IsHeld b q.current q.commands) (sym free_q) tt };
+      ready = record { current = h.ready.current; held = subst (λ (b : Bool). IsHeld b q.current q.commands) (sym free_q) tt; kept = subst (λ (b : Bool). KeepsCheck b n q.current q.checked) (sym free_q) tt };
       advances = subst (λ (x : SessionState). Advances i s n x (state_of q)) (sym from) (subst (λ (x : SessionState). Advances i s n (up_to_event p.current (c ∷ cs) p.replies) x) (sym to) (h.advances cs));
       order = h.order ∙ ap (λ (is : List ℕ). order_of s.history ++ is) one;
     }
@@ -123,9 +140,9 @@ takes_event i s n p q c cs free next event other h rest free_q =
 abbrev headed : OpenTransaction → OpenTransaction
 headed w = record w { head_taken = true }
 
-takes_head : (i : ℕ) (s n : RecordedStore) (w : OpenTransaction) (cs : List Command) (replies : List SessionReply) → IsOpened s.state i → IsCurrent s w → HasChange w.transaction.net w.transaction.staged → TakesHead i s n
-    → TakesEvent i s n (player (Commit ∷ cs) (Some w) false replies) (player (Commit ∷ cs) (Some w) true replies)
-takes_head i s n w cs replies o now some h =
+takes_head : (i : ℕ) (s n : RecordedStore) (w : OpenTransaction) (cs : List Command) (was kept : Option CheckedNet) (replies : List SessionReply) → IsOpened s.state i → IsCurrent s w → HasChange w.transaction.net w.transaction.staged → TakesHead i s n → KeepsCheck true n (Some w) kept
+    → TakesEvent i s n (player (Commit ∷ cs) (Some w) false was replies) (player (Commit ∷ cs) (Some w) true kept replies)
+takes_head i s n w cs was kept replies o now some h k =
     let none = local-change w w.transaction.net w.transaction.staged some in
     let none_u = local-change (headed w) w.transaction.net w.transaction.staged some in
     let from = up_to_event-event (Some w) Commit cs replies none in
@@ -134,50 +151,55 @@ takes_head i s n w cs replies o now some h =
     let one : Advances i s n (record { current = Some w; commands = Commit ∷ cs; replies = replies }) (record { current = Some (headed w); commands = Commit ∷ cs; replies = replies }) =
     Advances-event i s n (Some w) Commit cs replies actions.Head (Version h.number) _ o (record { event = head; next = refl }) h.step in
     record {
-      ready = record { current = current_later s n (Some w) (more_step s.limits s.state n.state i actions.Head (Version h.number) h.step.step) now; held = (refl, some) };
+      ready = record { current = current_later s n (Some w) (more_step s.limits s.state n.state i actions.Head (Version h.number) h.step.step) now; held = (refl, some); kept = k };
       advances = subst (λ (x : SessionState). Advances i s n x (up_to_event (Some (headed w)) (Commit ∷ cs) replies)) (sym from)
           (subst (λ (x : SessionState). Advances i s n (record { current = Some w; commands = Commit ∷ cs; replies = replies }) x) (sym to) one);
       order = one_place s n (record { session = i; action = actions.Head; reply = Version h.number }) h.step;
     }
 
 -- the same of any player whose commit is next
-pub takes_version : (i : ℕ) (s n : RecordedStore) (cs : List Command) (current : Option OpenTransaction) (b : Bool) (replies : List SessionReply) → IsOpened s.state i → IsCurrentIn s current → b ≡ false → IsCommitNext current cs → TakesHead i s n → TakesEvent i s n (player cs current b replies) (player cs current true replies)
-takes_version i s n cs None b replies o now e next h = absurd next
-takes_version i s n [] (Some w) b replies o now e next h = absurd next
-takes_version i s n (c ∷ cs) (Some w) b replies o now e next h =
-    subst (λ (x : Bool). TakesEvent i s n (player (c ∷ cs) (Some w) x replies) (player (c ∷ cs) (Some w) true replies)) (sym e)
-    (subst (λ (d : Command). TakesEvent i s n (player (d ∷ cs) (Some w) false replies) (player (d ∷ cs) (Some w) true replies)) (sym next.0) (takes_head i s n w cs replies o now next.1 h))
+takes_version : (i : ℕ) (s n : RecordedStore) (cs : List Command) (current : Option OpenTransaction) (b : Bool) (was kept : Option CheckedNet) (replies : List SessionReply) → IsOpened s.state i → IsCurrentIn s current → b ≡ false → IsCommitNext current cs → TakesHead i s n → KeepsCheck true n current kept
+    → TakesEvent i s n (player cs current b was replies) (player cs current true kept replies)
+takes_version i s n cs None b was kept replies o now e next h k = absurd next
+takes_version i s n [] (Some w) b was kept replies o now e next h k = absurd next
+takes_version i s n (c ∷ cs) (Some w) b was kept replies o now e next h k =
+    subst (λ (x : Bool). TakesEvent i s n (player (c ∷ cs) (Some w) x was replies) (player (c ∷ cs) (Some w) true kept replies)) (sym e)
+    (subst (λ (d : Command). TakesEvent i s n (player (d ∷ cs) (Some w) false was replies) (player (d ∷ cs) (Some w) true kept replies)) (sym next.0) (takes_head i s n w cs was kept replies o now next.1 h k))
 
 -- the commit was answered
-takes_answer : (i : ℕ) (s n : RecordedStore) (w : OpenTransaction) (cs : List Command) (replies : List SessionReply) (reply : SessionReply) → IsOpened s.state i → HasChange w.transaction.net w.transaction.staged → CommitsWith i s n w.transaction reply
-    → TakesEvent i s n (player (Commit ∷ cs) (Some w) true replies) (player cs None false (replies ++ reply ∷ []))
-takes_answer i s n w cs replies reply o some h =
+takes_answer : (i : ℕ) (s n : RecordedStore) (w : OpenTransaction) (cs : List Command) (was : Option CheckedNet) (replies : List SessionReply) (reply : SessionReply) → IsOpened s.state i → w.transaction.verdict ≡ None → HasChange w.transaction.net w.transaction.staged → CommitsWith i s n w.transaction reply
+    → TakesEvent i s n (player (Commit ∷ cs) (Some w) true was replies) (player cs None false None (replies ++ reply ∷ []))
+takes_answer i s n w cs was replies reply o bare some h =
     let none = local-change (headed w) w.transaction.net w.transaction.staged some in
     let from = up_to_event-event (Some (headed w)) Commit cs replies none in
     let one : Advances i s n (record { current = Some (headed w); commands = Commit ∷ cs; replies = replies }) (up_to_event None cs (replies ++ reply ∷ [])) =
-    Advances-event i s n (Some (headed w)) Commit cs replies (actions.Commit w.transaction) h.answer _ o (record { event = refl; next = h.told w.graph cs replies }) h.step in
+    Advances-commit i s n (headed w) cs replies h.verdict h.answer _ o bare refl (h.told w.graph cs replies) h.step in
     record {
-      ready = record { current = tt; held = tt };
+      ready = record { current = tt; held = tt; kept = tt };
       advances = subst (λ (x : SessionState). Advances i s n x (up_to_event None cs (replies ++ reply ∷ []))) (sym from) one;
-      order = one_place s n (record { session = i; action = actions.Commit w.transaction; reply = h.answer }) h.step;
+      order = one_place s n (record { session = i; action = actions.Commit (record w.transaction { verdict = h.verdict }); reply = h.answer }) h.step;
     }
 
-pub takes_commit : (i : ℕ) (s n : RecordedStore) (cs rest : List Command) (current : Option OpenTransaction) (w : OpenTransaction) (b : Bool) (replies : List SessionReply) (reply : SessionReply) → IsOpened s.state i → current ≡ Some w → b ≡ true → ((c : Command) × (cs ≡ c ∷ rest)) → IsHeld b current cs → CommitsWith i s n w.transaction reply
-    → TakesEvent i s n (player cs current b replies) (player rest None false (replies ++ reply ∷ []))
-takes_commit i s n cs rest current w b replies reply o ew eb next hold h =
+takes_commit : (i : ℕ) (s n : RecordedStore) (cs rest : List Command) (current : Option OpenTransaction) (w : OpenTransaction) (b : Bool) (was : Option CheckedNet) (replies : List SessionReply) (reply : SessionReply) → IsOpened s.state i → w.transaction.verdict ≡ None → current ≡ Some w → b ≡ true → ((c : Command) × (cs ≡ c ∷ rest)) → IsHeld b current cs → CommitsWith i s n w.transaction reply
+    → TakesEvent i s n (player cs current b was replies) (player rest None false None (replies ++ reply ∷ []))
+takes_commit i s n cs rest current w b was replies reply o bare ew eb next hold h =
     let waits : IsHeld true (Some w) (next.0 ∷ rest) = subst (λ (x : Bool). IsHeld x (Some w) (next.0 ∷ rest)) eb (subst (λ (x : Option OpenTransaction). IsHeld b x (next.0 ∷ rest)) ew (subst (λ (ds : List Command). IsHeld b current ds) next.1 hold)) in
-    let done = subst (λ (d : Command). TakesEvent i s n (player (d ∷ rest) (Some w) true replies) (player rest None false (replies ++ reply ∷ []))) (sym waits.0) (takes_answer i s n w rest replies reply o waits.1 h) in
-    subst (λ (ds : List Command). TakesEvent i s n (player ds current b replies) (player rest None false (replies ++ reply ∷ []))) (sym next.1)
-    (subst (λ (x : Option OpenTransaction). TakesEvent i s n (player (next.0 ∷ rest) x b replies) (player rest None false (replies ++ reply ∷ []))) (sym ew)
-    (subst (λ (x : Bool). TakesEvent i s n (player (next.0 ∷ rest) (Some w) x replies) (player rest None false (replies ++ reply ∷ []))) (sym eb) done))
+    let done = subst (λ (d : Command). TakesEvent i s n (player (d ∷ rest) (Some w) true was replies) (player rest None false None (replies ++ reply ∷ []))) (sym waits.0) (takes_answer i s n w rest was replies reply o bare waits.1 h) in
+    subst (λ (ds : List Command). TakesEvent i s n (player ds current b was replies) (player rest None false None (replies ++ reply ∷ []))) (sym next.1)
+    (subst (λ (x : Option OpenTransaction). TakesEvent i s n (player (next.0 ∷ rest) x b was replies) (player rest None false None (replies ++ reply ∷ []))) (sym ew)
+    (subst (λ (x : Bool). TakesEvent i s n (player (next.0 ∷ rest) (Some w) x was replies) (player rest None false None (replies ++ reply ∷ []))) (sym eb) done))
 
--- what its commit hands in may be committed
-pub committable_held : (s : RecordedStore) (p v : Player) (rest : List Command) (w : OpenTransaction) → v ≡ p → MayGoOn s p → p.head_taken ≡ true → ((c : Command) × (p.commands ≡ c ∷ rest)) → v.current ≡ Some w → IsCommittable s.state w.transaction × (w.transaction.verdict ≡ None)
-committable_held s p v rest w e ready hold next ew =
+-- its transaction is one of the store
+pub fits_now : (s : RecordedStore) (p v : Player) (w : OpenTransaction) → v ≡ p → MayGoOn s p → v.current ≡ Some w → FitsState w.transaction s.state
+fits_now s p v w e ready ew = let now : IsCurrent s w = subst (IsCurrentIn s) (sym (ap (λ (x : Player). x.current) e) ∙ ew) ready.current in now.fits
+
+-- it changes something or stages shapes, and its commit may hand in what is kept
+pub ready_held : (s : RecordedStore) (p v : Player) (rest : List Command) (w : OpenTransaction) → v ≡ p → MayGoOn s p → p.head_taken ≡ true → ((c : Command) × (p.commands ≡ c ∷ rest)) → v.current ≡ Some w → HasChange w.transaction.net w.transaction.staged × KeepsIn s.limits s.history w.transaction.net v.checked
+ready_held s p v rest w e ready hold next ew =
     let ep : p.current ≡ Some w = sym (ap (λ (x : Player). x.current) e) ∙ ew in
-    let now : IsCurrent s w = subst (IsCurrentIn s) ep ready.current in
+    let kept : KeepsCheck true s (Some w) v.checked = subst (λ (o : Option CheckedNet). KeepsCheck true s (Some w) o) (sym (ap (λ (x : Player). x.checked) e)) (subst (λ (x : Option OpenTransaction). KeepsCheck true s x p.checked) ep (subst (λ (b : Bool). KeepsCheck b s p.current p.checked) hold ready.kept)) in
     let waits : IsHeld true (Some w) (next.0 ∷ rest) = subst (λ (b : Bool). IsHeld b (Some w) (next.0 ∷ rest)) hold (subst (λ (x : Option OpenTransaction). IsHeld p.head_taken x (next.0 ∷ rest)) ep (subst (λ (cs : List Command). IsHeld p.head_taken p.current cs) next.1 ready.held)) in
-    (committable w.transaction s.state now.fits waits.1, now.fits.verdict)
+    (waits.1, kept)
 
 -- a list with an item is its first one and the others
 abbrev pub others : {X : Type 0} → List X → List X
@@ -188,16 +210,23 @@ first_rest [] x some is = absurd (omega (arith, some))
 first_rest (y ∷ ys) x some is = ap (λ z. z ∷ ys) (sym is) ∙ ap (λ zs. x ∷ zs) (sym (take_all (suc (length ys) - 1) ys (omega arith)))
 
 -- the same, where the fields of a player are known by an equation
-pub version_taken : (i : ℕ) (s n : RecordedStore) (p v : Player) → v ≡ p → IsOpened s.state i → MayGoOn s p → p.head_taken ≡ false → IsCommitNext p.current p.commands → TakesHead i s n → TakesEvent i s n p (player v.commands v.current true v.replies)
-version_taken i s n p v e o ready free next h =
-    subst (λ (x : Player). TakesEvent i s n p (player x.commands x.current true x.replies)) (sym e) (takes_version i s n p.commands p.current p.head_taken p.replies o ready.current free next h)
+pub version_taken : (i : ℕ) (s n : RecordedStore) (p v : Player) (w : OpenTransaction) (now : Option OpenTransaction) (kept : Option CheckedNet) → v ≡ p → IsOpened s.state i → MayGoOn s p → p.head_taken ≡ false → IsCommitNext p.current p.commands → TakesHead i s n → v.current ≡ Some w → now ≡ Some w → KeepsIn n.limits n.history w.transaction.net kept
+    → TakesEvent i s n p (player v.commands now true kept v.replies)
+version_taken i s n p v w now kept e o ready free next h ew en k =
+    let ep : p.current ≡ Some w = sym (ap (λ (x : Player). x.current) e) ∙ ew in
+    let done = takes_version i s n p.commands p.current p.head_taken p.checked kept p.replies o ready.current free next h (subst (λ (x : Option OpenTransaction). KeepsCheck true n x kept) (sym ep) k) in
+    subst (λ (x : Option OpenTransaction). TakesEvent i s n p (player v.commands x true kept v.replies)) (sym en)
+    (subst (λ (x : Option OpenTransaction). TakesEvent i s n p (player v.commands x true kept v.replies)) ew
+    (subst (λ (x : Player). TakesEvent i s n p (player x.commands x.current true kept x.replies)) (sym e) done))
 
-pub commit_taken : (i : ℕ) (s n : RecordedStore) (p v : Player) (rest : List Command) (w : OpenTransaction) (now : Option OpenTransaction) (more : List SessionReply) (reply : SessionReply) → v ≡ p → IsOpened s.state i → MayGoOn s p → p.head_taken ≡ true → ((c : Command) × (p.commands ≡ c ∷ rest)) → v.current ≡ Some w → now ≡ None → more ≡ v.replies ++ reply ∷ []
-    → CommitsWith i s n w.transaction reply → TakesEvent i s n p (player rest now false more)
-commit_taken i s n p v rest w now more reply e o ready hold next ew en em h =
-    let done = takes_commit i s n p.commands rest p.current w p.head_taken p.replies reply o (sym (ap (λ (x : Player). x.current) e) ∙ ew) hold next ready.held h in
+pub commit_taken : (i : ℕ) (s n : RecordedStore) (p v : Player) (rest : List Command) (w : OpenTransaction) (now : Option OpenTransaction) (kept : Option CheckedNet) (more : List SessionReply) (reply : SessionReply) → v ≡ p → IsOpened s.state i → MayGoOn s p → p.head_taken ≡ true → ((c : Command) × (p.commands ≡ c ∷ rest)) → v.current ≡ Some w → now ≡ None → more ≡ v.replies ++ reply ∷ []
+    → kept ≡ None → CommitsWith i s n w.transaction reply → TakesEvent i s n p (player rest now false kept more)
+commit_taken i s n p v rest w now kept more reply e o ready hold next ew en em ek h =
+    let bare = (fits_now s p v w e ready ew).verdict in
+    let done = takes_commit i s n p.commands rest p.current w p.head_taken p.checked p.replies reply o bare (sym (ap (λ (x : Player). x.current) e) ∙ ew) hold next ready.held h in
     let told : p.replies ++ reply ∷ [] ≡ more = sym (em ∙ ap (λ (x : Player). x.replies ++ reply ∷ []) e) in
-    subst (λ (x : Option OpenTransaction). TakesEvent i s n p (player rest x false more)) (sym en) (subst (λ (ts : List SessionReply). TakesEvent i s n p (player rest None false ts)) told done)
+    subst (λ (o : Option CheckedNet). TakesEvent i s n p (player rest now false o more)) (sym ek)
+    (subst (λ (x : Option OpenTransaction). TakesEvent i s n p (player rest x false None more)) (sym en) (subst (λ (ts : List SessionReply). TakesEvent i s n p (player rest None false None ts)) told done))
 
 -- the first command of a player and the others
 pub next_command : (p v : Player) (c : Command) → v ≡ p → 1 ≤ length v.commands → c ≡ get_or v.commands 0 c → p.commands ≡ c ∷ others v.commands
@@ -233,7 +262,7 @@ plays_middle i s n before rest p q at ready h =
     subst (λ (is : List ℕ). RunsInOrder s.limits (world s.state (front ++ state_of p ∷ back)) is (world n.state (front ++ state_of q ∷ back))) one (h.advances.runs front back here) in
     let grows : More s.state n.state = more_run s.limits (world s.state (front ++ state_of p ∷ back)) (world n.state (front ++ state_of q ∷ back)) (i ∷ []) run in
     record {
-      ready = all_middle n before rest p q (all_later s n (before ++ p ∷ rest) grows ready) h.ready;
+      ready = all_middle n before rest p q (all_later s n (before ++ p ∷ rest) (record { more = grows; limits = h.advances.limits; events = h.advances.events; history = h.advances.history }) ready) h.ready;
       count = let a : length (before ++ q ∷ rest) ≡ length before + suc (length rest) = length-append before (q ∷ rest) in
           let b : length (before ++ p ∷ rest) ≡ length before + suc (length rest) = length-append before (p ∷ rest) in a ∙ sym b;
       limits = h.advances.limits;
@@ -298,7 +327,7 @@ place_of_opening i k o s n ps a ek eo le h =
     let is : i ≡ k = let f = opened_next s n i h in omega (arith, f, ek, eo) in (
       (
         record {
-          ready = all_later s n ps (more_step s.limits s.state n.state i actions.Open (Session i) h.step) a.ready;
+          ready = all_later s n ps (record { more = more_step s.limits s.state n.state i actions.Open (Session i) h.step; limits = h.limits; events = _; history = h.history }) a.ready;
           count = refl;
           limits = h.limits;
           history = one_place s n (record { session = i; action = actions.Open; reply = Session i }) h ∙ ap (λ (x : ℕ). order_of s.history ++ x ∷ []) is;
@@ -365,7 +394,7 @@ states_start (cs ∷ files) = ap (λ xs. up_to_event None cs [] ∷ xs) (states_
 
 ready_start : (s : RecordedStore) (files : List (List Command)) → AllByRecursion (MayGoOn s) (map new_player files)
 ready_start s [] = tt
-ready_start s (cs ∷ files) = (record { current = tt; held = tt }, ready_start s files)
+ready_start s (cs ∷ files) = (record { current = tt; held = tt; kept = tt }, ready_start s files)
 
 abbrev opening : Limits → RecordedStore
 opening l = record { limits = l; state = empty_store; history = [] }

@@ -6,16 +6,19 @@ use Rattle.session_model.specs.declared.command.Command.{Command}
 use Rattle.session_model.specs.declared.command.Command.TheVariants.{Commit}
 use Rattle.session_model.specs.declared.reply.SessionReply.{SessionReply}
 use Rattle.session_model.specs.Sessions.{OpenTransaction, SessionState, World, local_answer, up_to_event, world, RunsInOrder}
+use Rattle.commit_core.specs.declared.checked.CheckedNet.{CheckedNet}
+use Rattle.session_transaction.specs.Checks.{KeepsIn}
 use Rattle.session_player.specs.Progress.{Advances, order_of}
 use Rattle.session_player.specs.Ready.{IsCurrentIn}
 use Rattle.session_player.specs.Histories.{BreaksOff}
 
 -- A session that is played: the commands that are left, its open transaction, whether the transaction's commit has the
--- newest version already, and what the session was answered.
+-- newest version already, what is kept of a check of it, and what the session was answered.
 pub record Player : Type 0 where
   pub commands : List Command
   pub current : Option OpenTransaction
   pub head_taken : Bool
+  pub checked : Option CheckedNet
   pub replies : List SessionReply
 
 abbrev pub with_head : Option OpenTransaction → Option OpenTransaction
@@ -40,10 +43,18 @@ abbrev pub IsHeld : Bool → Option OpenTransaction → List Command → Type 0
 IsHeld false w cs = Unit {0}
 IsHeld true w cs = IsCommitNext w cs
 
--- its transaction is one of this store, and where its commit has the newest version, that commit is next
+-- what is kept of a check is a verdict of the store's history, once the commit has the newest version
+abbrev pub KeepsCheck : Bool → RecordedStore → Option OpenTransaction → Option CheckedNet → Type 0
+KeepsCheck false s w o = Unit {0}
+KeepsCheck true s None o = Unit {0}
+KeepsCheck true s (Some w) o = KeepsIn s.limits s.history w.transaction.net o
+
+-- Its transaction is one of this store. Where its commit has the newest version, that commit is next, and may hand in what is
+-- kept of the check.
 pub record MayGoOn (s : RecordedStore) (p : Player) : Type 0 where
   pub current : IsCurrentIn s p.current
   pub held : IsHeld p.head_taken p.current p.commands
+  pub kept : KeepsCheck p.head_taken s p.current p.checked
 
 -- whether the command is an event of the store
 abbrev pub IsEvent : Bool → Option OpenTransaction → Command → Type 0
@@ -51,7 +62,7 @@ IsEvent event w c = MatchBool event (local_answer w c ≡ None) (local_answer w 
 
 -- before its first command
 abbrev pub new_player : List Command → Player
-new_player cs = record { commands = cs; current = None; head_taken = false; replies = [] }
+new_player cs = record { commands = cs; current = None; head_taken = false; checked = None; replies = [] }
 
 -- the next command is an event
 abbrev pub IsAtEvent : Option OpenTransaction → List Command → Type 0

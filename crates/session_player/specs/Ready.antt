@@ -5,6 +5,7 @@ use Rattle.store_model.specs.declared.event.Action.TheVariants as actions
 use Rattle.store_model.specs.declared.event.Reply.{Reply}
 use Rattle.store_model.specs.declared.event.Reply.TheVariants as replies
 use Rattle.store_model.specs.declared.commit.Transaction.{Transaction}
+use Rattle.store_model.specs.declared.commit.Verdict.{Verdict}
 use Rattle.session_model.specs.declared.command.Command.{Command}
 use Rattle.session_model.specs.declared.command.Command.TheVariants.{Commit, Begin, Add, BadAdd, Remove, BadRemove, Shapes, BadShapes, BrokenShapes, RefusedPattern, Find, Abort}
 use Rattle.session_model.specs.declared.reply.SessionReply.{SessionReply}
@@ -36,10 +37,12 @@ pub record TakesHead (i : ℕ) (old new : RecordedStore) : Type 0 where
   pub number : ℕ
   pub step : TakesStep old new (record { session = i; action = actions.Head; reply = replies.Version number })
 
--- the store answered the commit of the transaction, and the session tells that answer so, whatever commands are left
+-- The store answered the commit of the transaction, with the verdict of a check or without one, and the session tells that
+-- answer so, whatever commands are left.
 pub record CommitsWith (i : ℕ) (old new : RecordedStore) (x : Transaction) (reply : SessionReply) : Type 0 where
+  pub verdict : Option Verdict
   pub answer : Reply
-  pub step : TakesStep old new (record { session = i; action = actions.Commit x; reply = answer })
+  pub step : TakesStep old new (record { session = i; action = actions.Commit (record x { verdict = verdict }); reply = answer })
   pub told : (graph : List Triple) (cs : List Command) (replies : List SessionReply) → after_reply old.state (Some (record { transaction = x; graph = graph; head_taken = true })) Commit cs replies answer ≡ Some (up_to_event None cs (replies ++ reply ∷ []))
 
 -- a command that is an event is one, but for a commit, which takes the newest version first

@@ -1,13 +1,14 @@
 // What one command does.
 ghost use Rattle.std.specs.Prelude.{◌≡◌, None, IfOk, OnOk};
-ghost use Rattle.store_model.specs.Store.{IsCommittable, IsOpened};
-ghost use Rattle.session_transaction.specs.Transactions.{plain_in};
+ghost use Rattle.store_model.specs.Store.{HasChange, IsOpened};
+ghost use Rattle.session_transaction.specs.Checks.{KeepsIn};
+ghost use Rattle.session_transaction.specs.Transactions.{FitsState, plain, plain_in};
 ghost use Rattle.session_player.specs.Ready.{CommitsWith, IsReady, Performs, TakesHead};
 
 use crate::find::{abort, find};
 use crate::stage::{change, refuse, stage};
 use collections::{Sequence, let_go};
-use commit_core::{Core, Transaction};
+use commit_core::Core;
 use session_model::{Command, SessionReply};
 use session_transaction::{ChangeKind, OpenTransaction, commit, reply_of_commit};
 use shape_eval::Steps;
@@ -38,30 +39,43 @@ pub fn commit_reply<L: Ledger>(
     alloc: Global,
     core: &mut Core,
     session: u32,
-    transaction: Transaction,
+    open: OpenTransaction,
     steps: &mut Steps<L>,
 ) -> Result<SessionReply, AllocError>
     requires opened { IsOpened core.old.state session }
-    requires committable { IsCommittable core.old.state transaction }
-    requires unchecked { transaction.verdict ≡ None }
-    ensures { IfOk result (CommitsWith session core.old core.new transaction) }
+    requires fits { FitsState open.transaction core.old.state }
+    requires change { HasChange open.transaction.net open.transaction.staged }
+    requires kept { KeepsIn core.old.limits core.old.history open.transaction.net open.checked }
+    ensures { IfOk result (CommitsWith session core.old core.new open.transaction) }
 {
-    match commit(alloc, core, session, transaction, steps) {
+    core.recall_consistent();
+    let (handed, snap) = open.into_parts(alloc);
+    let_go(snap);
+    match commit(core, session, handed, steps) {
         Ok(committed) => reply_of_commit(alloc, committed),
-        Err(transaction) => {
-            let_go(transaction);
+        Err(handed) => {
+            let_go(handed);
             Err(AllocError)
         }
     }
 }
 
-// Takes the newest version for a commit.
-pub fn take_head(core: &mut Core, session: u32) -> Result<(), AllocError>
-    requires { IsOpened core.old.state session }
-    ensures { OnOk result (TakesHead session core.old core.new) }
+// Takes the newest version for the commit of the transaction, and checks its changes there.
+pub fn take_head<L: Ledger>(
+    core: &mut Core,
+    session: u32,
+    open: &mut OpenTransaction,
+    steps: &mut Steps<L>,
+) -> Result<(), AllocError>
+    requires opened { IsOpened core.old.state session }
+    requires fits { FitsState open.old.transaction core.old.state }
+    ensures head { OnOk result (TakesHead session core.old core.new) }
+    ensures same { OnOk result (plain open.new ≡ plain open.old) }
+    ensures kept { OnOk result (KeepsIn core.new.limits core.new.history open.old.transaction.net open.new.checked) }
 {
-    let snap = core.head(session)?;
-    let_go(snap);
+    core.recall_consistent();
+    let head = core.head(session)?;
+    open.check(&head, steps)?;
     Ok(())
 }
 
@@ -82,8 +96,9 @@ fn commit_open<L: Ledger>(
     if open.only_reads() {
         return replies.push(SessionReply::ReadOnly(open.base()));
     }
-    take_head(core, session)?;
-    let reply = commit_reply(alloc, core, session, open.into_transaction(), steps)?;
+    let mut open = open;
+    take_head(core, session, &mut open, steps)?;
+    let reply = commit_reply(alloc, core, session, open, steps)?;
     replies.push(reply)?;
     Ok(())
 }

@@ -28,12 +28,13 @@ pub struct Player<'a> {
 }
 
 impl<'a> Model for Player<'a> {
+    ghost use Rattle.session_transaction.specs.Checks.{checked_in};
     ghost use Rattle.session_transaction.specs.Transactions.{plain_in};
     ghost use Rattle.session_player.specs.Players;
 
     ghost Value = { Players.Player };
 
-    ghost view = { λ p. record { commands = p.commands.now; current = plain_in p.current; head_taken = p.head_taken; replies = p.replies } };
+    ghost view = { λ p. record { commands = p.commands.now; current = plain_in p.current; head_taken = p.head_taken; checked = checked_in p.current; replies = p.replies } };
 }
 
 // Written by hand, so that what owns one calls it in place of having it written out.
@@ -138,15 +139,25 @@ fn settle<'a, L: Ledger>(
     Ok(())
 }
 
-// Takes the newest version for the commit of the open transaction, which is the next command.
-fn take_version(core: &mut Core, session: u32, player: &mut Player<'_>) -> Result<(), AllocError>
+// Takes the newest version for the commit of the open transaction, which is the next command, and checks its changes there.
+fn take_version<L: Ledger>(
+    core: &mut Core,
+    session: u32,
+    player: &mut Player<'_>,
+    steps: &mut Steps<L>,
+) -> Result<(), AllocError>
     requires opened { IsOpened core.old.state session }
     requires ready { MayGoOn core.old player.old }
     requires free { player.old.head_taken ≡ false }
     requires next { Players.IsCommitNext player.old.current player.old.commands }
     ensures { OnOk result (TakesEvent session core.old core.new player.old player.new) }
 {
-    take_head(core, session)?;
+    let Some(open) = player.current.take() else {
+        unreachable!()
+    };
+    let mut open = open;
+    take_head(core, session, &mut open, steps)?;
+    player.current = Some(open);
     player.head_taken = true;
     Ok(())
 }
@@ -169,7 +180,7 @@ fn finish_commit<'a, L: Ledger>(
     let Some(open) = player.current.take() else {
         unreachable!()
     };
-    let reply = commit_reply(alloc, core, session, open.into_transaction(), steps)?;
+    let reply = commit_reply(alloc, core, session, open, steps)?;
     player.replies.push(reply)?;
     player.head_taken = false;
     player.commands = rest;
@@ -211,7 +222,7 @@ impl<'a> Player<'a> {
         } else if self.head_taken {
             finish_commit(alloc, core, session, self, rest, steps)?;
         } else {
-            take_version(core, session, self)?;
+            take_version(core, session, self, steps)?;
         }
         Ok(true)
     }

@@ -13,7 +13,7 @@ use Rattle.store_model.specs.Store.{State, Replays, empty_store}
 use Rattle.session_model.specs.declared.command.Command.{Command}
 use Rattle.session_model.specs.declared.reply.SessionReply.{SessionReply}
 use Rattle.session_model.specs.Sessions.{OpenTransaction, SessionState, GoesOn}
-use Rattle.thread_model.specs.Following.{is_opening, OwnCommand, Follows}
+use Rattle.thread_model.specs.Following.{is_opening, unaided, OwnCommand, Follows}
 use Rattle.guard_store.specs.Fronts.{session_of}
 use Rattle.guard_store.proofs.Growing.{replays_one}
 
@@ -53,7 +53,7 @@ follows_others l i s (e ∷ es) p h = λ t step. let n = none_of e (e.session ==
     others_by _ (Follows l i t es p p) (nat_eq e.session i) n.0 (follows_others l i t es p n.1)
 
 -- one own event, which is that of the next command
-pub follows_own : (l : Limits) (i : ℕ) (s : State) (w : Option OpenTransaction) (c : Command) (cs : List Command) (rs : List SessionReply) (a : Action) (r : Reply) (q : SessionState) → is_opening a ≡ false → GoesOn s w c cs rs a r q
+pub follows_own : (l : Limits) (i : ℕ) (s : State) (w : Option OpenTransaction) (c : Command) (cs : List Command) (rs : List SessionReply) (a : Action) (r : Reply) (q : SessionState) → is_opening a ≡ false → GoesOn s w c cs rs (unaided a) r q
     → Follows l i s (record { session = i; action = a; reply = r } ∷ []) (record { current = w; commands = c ∷ cs; replies = rs }) q
 follows_own l i s w c cs rs a r q e on = λ t step. own_by _ _ _ (nat_eq i i) (is_opening a) (eq-eqb i i refl) e (q, on, refl)
 
@@ -79,7 +79,7 @@ played_still l i k h p q own o f =
 
 -- it plays one event more, where all that was seen leads to s
 pub played_on : (l : Limits) (i : ℕ) (h : List Event) (p : SessionState) (w : Option OpenTransaction) (c : Command) (cs : List Command) (rs : List SessionReply) (a : Action) (r : Reply) (q : SessionState) (s : State)
-    → is_opening a ≡ false → GoesOn s w c cs rs a r q → Replays l empty_store h s → Follows l i empty_store h p (record { current = w; commands = c ∷ cs; replies = rs }) → Follows l i empty_store (h ++ record { session = i; action = a; reply = r } ∷ []) p q
+    → is_opening a ≡ false → GoesOn s w c cs rs (unaided a) r q → Replays l empty_store h s → Follows l i empty_store h p (record { current = w; commands = c ∷ cs; replies = rs }) → Follows l i empty_store (h ++ record { session = i; action = a; reply = r } ∷ []) p q
 played_on l i h p w c cs rs a r q s e on replays f =
     let event : Event = record { session = i; action = a; reply = r } in
     let before : SessionState = record { current = w; commands = c ∷ cs; replies = rs } in

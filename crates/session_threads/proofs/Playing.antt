@@ -11,6 +11,7 @@ use Rattle.store_model.specs.declared.event.Action.{Action}
 use Rattle.store_model.specs.declared.event.Action.TheVariants as actions
 use Rattle.store_model.specs.declared.event.Reply.{Reply}
 use Rattle.store_model.specs.declared.event.Reply.TheVariants as replies
+use Rattle.store_model.specs.declared.commit.Transaction.{Transaction}
 use Rattle.store_model.specs.Snapshots.{snapshot_of}
 use Rattle.store_model.specs.Store.{version, HasChange}
 use Rattle.session_model.specs.declared.command.Command.{Command}
@@ -22,7 +23,7 @@ use Rattle.session_model.specs.Sessions.{SessionState, local_answer, answers, ac
 use Rattle.session_model.proofs.Walking.{up_to_event-local, up_to_event-event}
 use Rattle.report_writer.specs.Report.{report_text}
 use Rattle.session_player.proofs.Playing.{local-none, local-change}
-use Rattle.thread_model.specs.Following.{is_opening, first_state}
+use Rattle.thread_model.specs.Following.{is_opening, first_state, unaided}
 use Rattle.guard_store.specs.declared.faults.BeginFault.{BeginFault}
 use Rattle.guard_store.specs.declared.faults.BeginFault.TheVariants as begins
 use Rattle.guard_store.specs.declared.faults.StageFault.{StageFault}
@@ -38,10 +39,13 @@ use Rattle.session_transaction.specs.declared.transaction.OpenTransaction.{OpenT
 use Rattle.guard_store.specs.declared.session.Session.{Session}
 use Rattle.guard_store.specs.Fronts.{SharedStore, Turn}
 use Rattle.guard_store.specs.Callers.{IsCaller, IsSession, FitsIn, HasWork, OnlyReads}
-use Rattle.session_transaction.specs.Transactions.{plain, plain_in, begun_at, with_find}
-use Rattle.guard_store.specs.Answers.{Begins, BeginsNot, Stages, StagesNot, Heads, HeadsNot, Commits, CommitsNot, AnswersCommit, FindsNot, IsOpen, event_of}
+use Rattle.session_transaction.specs.Transactions.{FitsState, plain, plain_in, begun_at, with_find}
+use Rattle.session_transaction.specs.Checks.{committing}
+use Rattle.session_transaction.proofs.Checking.{check_same}
+use Rattle.guard_store.specs.declared.faults.CheckFault.{CheckFault}
+use Rattle.guard_store.specs.Answers.{ChecksHead, ChecksNot, Begins, BeginsNot, Stages, StagesNot, Heads, HeadsNot, Commits, CommitsNot, AnswersCommit, FindsNot, IsOpen, event_of}
 use Rattle.guard_store.proofs.Turning.{front_is}
-use Rattle.guard_store.proofs.Fitting.{session_ended}
+use Rattle.guard_store.proofs.Fitting.{fits_before, found_session, open_fits, session_ended}
 use Rattle.session_transaction.specs.Replies.{IsCommitReply, IsListed, IsRefused, answer_in}
 use Rattle.session_transaction.proofs.Blocks.{IsBlock}
 use Rattle.session_transaction.proofs.Refusing.{refused_by}
@@ -66,7 +70,7 @@ plays_local store old new w v c rs more t is n p ow nv e em = record {
 
 -- a turn of the session's own, with the event of the next command
 played_turn : (store : SharedStore) (i : ℕ) (old new : Caller Event Limits) (file : List Command) (w : Option Sessions.OpenTransaction) (c : Command) (cs : List Command) (rs : List SessionReply) (a : Action) (r : Reply) (q : SessionState)
-    → is_opening a ≡ false → IsCaller store i old → (t : Turn store.limits old new (event_of i a r)) → GoesOn t.before w c cs rs a r q
+    → is_opening a ≡ false → IsCaller store i old → (t : Turn store.limits old new (event_of i a r)) → GoesOn t.before w c cs rs (unaided a) r q
     → HasPlayed store.limits i old.known.front file (record { current = w; commands = c ∷ cs; replies = rs }) → HasPlayed store.limits i new.known.front file q
 played_turn store i old new file w c cs rs a r q e is t on p =
     let l = store.limits in
@@ -76,7 +80,7 @@ played_turn store i old new file w c cs rs a r q e is t on p =
 
 -- a command that is an event; w is the transaction before it, v the one after it
 plays_event : (store : SharedStore) (old new : Session) (w v : Option Sessions.OpenTransaction) (c : Command) (a : Action) (r : Reply) (rs more : List SessionReply) (x : SessionReply) → IsSession store old → IsSession store new → new.number ≡ old.number
-    → plain_in old.current ≡ w → plain_in new.current ≡ v → local_answer w c ≡ None → action_of w c ≡ Some a → is_opening a ≡ false → (t : Turn store.limits old.pass new.pass (event_of old.number a r))
+    → plain_in old.current ≡ w → plain_in new.current ≡ v → local_answer w c ≡ None → action_of w c ≡ Some (unaided a) → is_opening a ≡ false → (t : Turn store.limits old.pass new.pass (event_of old.number a r))
     → ((cs : List Command) → after_reply t.before w c cs rs r ≡ Some (up_to_event v cs (rs ++ x ∷ []))) → more ≡ rs ++ x ∷ [] → Plays store old new c rs more
 plays_event store old new w v c a r rs more x was is n ow nv e action o t by em = record {
   session = is;
@@ -179,41 +183,53 @@ plays_reading store old new (Err commits.Memory) r rs more was is reads b told e
 
 -- the turn of a commit
 committed_turn : (store : SharedStore) (i : ℕ) (mid new : Session) (file : List Command) (w : OpenTransaction) (cs : List Command) (rs : List SessionReply) (r : Reply) (x : SessionReply) → IsCaller store i mid.pass
-    → (t : Turn store.limits mid.pass new.pass (event_of mid.number (actions.Commit w.transaction) r)) → mid.number ≡ i
+    → (t : Turn store.limits mid.pass new.pass (event_of mid.number (actions.Commit (committing w)) r)) → w.transaction.verdict ≡ None → mid.number ≡ i
     → ((cs : List Command) → after_reply t.before (Some (record { transaction = w.transaction; graph = w.snap.graph; head_taken = true })) Commit cs rs r ≡ Some (up_to_event None cs (rs ++ x ∷ [])))
     → HasPlayed store.limits i mid.pass.known.front file (record { current = Some (record { transaction = w.transaction; graph = w.snap.graph; head_taken = true }); commands = Commit ∷ cs; replies = rs })
     → HasPlayed store.limits i new.pass.known.front file (up_to_event None cs (rs ++ x ∷ []))
-committed_turn store i mid new file w cs rs r x caller t same by p =
+committed_turn store i mid new file w cs rs r x caller t bare same by p =
+    let z : Transaction = committing w in
+    let own : record z { verdict = None } ≡ w.transaction = λ j. record w.transaction { verdict = sym bare j } in
     let u : Sessions.OpenTransaction = record { transaction = w.transaction; graph = w.snap.graph; head_taken = true } in
     let l = store.limits in
-    let event : Event = event_of i (actions.Commit w.transaction) r in
-    let seen : new.pass.known.front ≡ t.seen ++ event ∷ [] = front_is l mid.pass new.pass (event_of mid.number (actions.Commit w.transaction) r) t ∙ ap (λ (k : ℕ). t.seen ++ event_of k (actions.Commit w.transaction) r ∷ []) same in
+    let event : Event = event_of i (actions.Commit z) r in
+    let seen : new.pass.known.front ≡ t.seen ++ event ∷ [] = front_is l mid.pass new.pass (event_of mid.number (actions.Commit z) r) t ∙ ap (λ (k : ℕ). t.seen ++ event_of k (actions.Commit z) r ∷ []) same in
     let start : SessionState = record { current = Some u; commands = Commit ∷ cs; replies = rs } in
     let last : SessionState = up_to_event None cs (rs ++ x ∷ []) in
     subst (λ (y : List Event). HasPlayed l i y file last) (sym seen)
-    (played_on l i t.seen (first_state file) (Some u) Commit cs rs (actions.Commit w.transaction) r last t.before refl (record { event = refl; next = by cs }) t.replays
+    (played_on l i t.seen (first_state file) (Some u) Commit cs rs (actions.Commit z) r last t.before refl (record { event = ap (λ (y : Transaction). Some (actions.Commit y)) (sym own); next = by cs }) t.replays
     (played_still l i mid.pass.known t.seen (first_state file) start caller.own t.others p))
 
+-- What a session is after its head and its check: its turn was the head's, and but for what the check keeps, its transaction is
+-- the one before.
+pub record Readies (l : Limits) (old mid : Session) (v : ℕ) : Type 0 where
+  pub number : mid.number ≡ old.number
+  pub turn : Turn l old.pass mid.pass (event_of old.number actions.Head (replies.Version v))
+  pub current : plain_in mid.current ≡ plain_in old.current
+
 -- a commit that is one, after its head
-plays_committed : (store : SharedStore) (old mid new : Session) (w : OpenTransaction) (v : ℕ) (r : Reply) (x : SessionReply) (rs more : List SessionReply) → IsSession store old → IsSession store mid → IsSession store new → IsOpen old w
-    → HasChange w.transaction.net w.transaction.staged → Heads store.limits old mid v → (t : Turn store.limits mid.pass new.pass (event_of mid.number (actions.Commit w.transaction) r))
+plays_committed : (store : SharedStore) (old mid new : Session) (w : OpenTransaction) (v : ℕ) (r : Reply) (x : SessionReply) (rs more : List SessionReply) → IsSession store old → IsSession store mid → IsSession store new → IsOpen mid w
+    → HasChange w.transaction.net w.transaction.staged → Readies store.limits old mid v → (t : Turn store.limits mid.pass new.pass (event_of mid.number (actions.Commit (committing w)) r))
     → ((cs : List Command) → after_reply t.before (Some (record { transaction = w.transaction; graph = w.snap.graph; head_taken = true })) Commit cs rs r ≡ Some (up_to_event None cs (rs ++ x ∷ []))) → new.number ≡ mid.number → new.current ≡ None → more ≡ rs ++ x ∷ []
     → Plays store old new Commit rs more
 plays_committed store old mid new w v r x rs more was mid_is is o change h t by n none em =
     let l = store.limits in
     let i = old.number in
-    let same : mid.number ≡ old.number = ap (λ s. s.number) h.1.1 in
+    let same : mid.number ≡ old.number = h.number in
+    let begun_with : plain_in old.current ≡ Some (plain w) = sym h.current ∙ plain_open mid w o in
+    let e : Event = event_of mid.number (actions.Commit (committing w)) r in
+    let bare : w.transaction.verdict ≡ None = let f : FitsState w.transaction t.before = fits_before l mid.pass new.pass e (Some w) t (open_fits store mid w mid_is o) in f.verdict in
     let u : Sessions.OpenTransaction = record { transaction = w.transaction; graph = w.snap.graph; head_taken = true } in
     let caller : IsCaller store i mid.pass = subst (λ (k : ℕ). IsCaller store k mid.pass) same mid_is.caller in record {
       session = is;
       number = n ∙ same;
       goes = λ file cs p.
-          let one : HasPlayed l i old.pass.known.front file (up_to_event (Some (plain w)) (Commit ∷ cs) rs) = subst (λ (y : Option Sessions.OpenTransaction). HasPlayed l i old.pass.known.front file (up_to_event y (Commit ∷ cs) rs)) (plain_open old w o) p in
+          let one : HasPlayed l i old.pass.known.front file (up_to_event (Some (plain w)) (Commit ∷ cs) rs) = subst (λ (y : Option Sessions.OpenTransaction). HasPlayed l i old.pass.known.front file (up_to_event y (Commit ∷ cs) rs)) begun_with p in
           let two : HasPlayed l i old.pass.known.front file (record { current = Some (plain w); commands = Commit ∷ cs; replies = rs }) =
           subst (HasPlayed l i old.pass.known.front file) (up_to_event-event (Some (plain w)) Commit cs rs (local-change (plain w) w.transaction.net w.transaction.staged change)) one in
           let three : HasPlayed l i mid.pass.known.front file (record { current = Some u; commands = Commit ∷ cs; replies = rs }) =
-          played_turn store i old.pass mid.pass file (Some (plain w)) Commit cs rs actions.Head (replies.Version v) (record { current = Some u; commands = Commit ∷ cs; replies = rs }) refl was.caller h.1.0 (record { event = refl; next = refl }) two in
-          let four : HasPlayed l i new.pass.known.front file (up_to_event None cs (rs ++ x ∷ [])) = committed_turn store i mid new file w cs rs r x caller t same by three in
+          played_turn store i old.pass mid.pass file (Some (plain w)) Commit cs rs actions.Head (replies.Version v) (record { current = Some u; commands = Commit ∷ cs; replies = rs }) refl was.caller h.turn (record { event = refl; next = refl }) two in
+          let four : HasPlayed l i new.pass.known.front file (up_to_event None cs (rs ++ x ∷ [])) = committed_turn store i mid new file w cs rs r x caller t bare same by three in
           let five : HasPlayed l i new.pass.known.front file (up_to_event (plain_in new.current) cs more) =
           subst (λ (y : Option Sessions.OpenTransaction). HasPlayed l i new.pass.known.front file (up_to_event y cs more)) (sym (plain_none new none)) (subst (λ (ts : List SessionReply). HasPlayed l i new.pass.known.front file (up_to_event None cs ts)) (sym em) four) in
           subst (λ (k : ℕ). HasPlayed l k new.pass.known.front file (up_to_event (plain_in new.current) cs more)) (sym (n ∙ same)) five;
@@ -222,29 +238,41 @@ plays_committed store old mid new w v r x rs more was mid_is is o change h t by 
 told_refused : (rows : List _) (shapes : List Triple) (under : List Triple) → shapes ≡ under → said.Refused (length rows) (report_text under rows) ≡ said.Refused (length rows) (report_text shapes rows)
 told_refused rows shapes under e = ap (λ (s : List Triple). said.Refused (length rows) (report_text s rows)) (sym e)
 
--- the open transaction is the same after a head
-still_open : (l : Limits) (old mid : Session) (v : ℕ) (w : OpenTransaction) → Heads l old mid v → IsOpen mid w → IsOpen old w
-still_open l old mid v w h o = sym (ap (λ s. s.current) h.1.1) ∙ o
+-- a check after the head
+readies : (l : Limits) (old head mid : Session) (v : ℕ) (b : Bool) → Heads l old head v → ChecksHead b head mid → Readies l old mid v
+readies l old head mid v b h k =
+    let w = k.0 in
+    let same = check_same b k.2.0 w k.2.2.0 k.2.2.1 in
+    let now : plain k.2.2.0 ≡ plain w = λ i. record { transaction = same.0 i; graph = (same.1 i).graph; head_taken = false } in record {
+      number = ap (λ s. s.number) k.2.2.2 ∙ ap (λ s. s.number) h.1.1;
+      turn = subst (λ (c : Caller Event Limits). Turn l old.pass c (event_of old.number actions.Head (replies.Version v))) (sym (ap (λ s. s.pass) k.2.2.2)) h.1.0;
+      current = ap (λ s. plain_in s.current) k.2.2.2 ∙ (ap Some now ∙ (sym (plain_open head w k.1) ∙ ap (λ s. plain_in s.current) h.1.1));
+    }
 
-work_of : (s : Session) (w : OpenTransaction) → HasWork s.current → IsOpen s w → HasChange w.transaction.net w.transaction.staged
-work_of s w h o = subst HasWork o h
+-- a transaction that changes something does so however much was checked of it
+work_of : (o : Option OpenTransaction) (w : OpenTransaction) → HasWork o → plain_in o ≡ Some (plain w) → HasChange w.transaction.net w.transaction.staged
+work_of None w h e = absurd h
+work_of (Some x) w h e = let same : plain x ≡ plain w = cc e in subst (λ (y : Transaction). HasChange y.net y.staged) (ap (λ (y : Sessions.OpenTransaction). y.transaction) same) h
 
-pub plays_work : (store : SharedStore) (old mid new : Session) (v : ℕ) (a : Result Committed CommitFault) (r : SessionReply) (rs more : List SessionReply) → IsSession store old → IsSession store mid → IsSession store new → HasWork old.current → Heads store.limits old mid v
+no_work_of : (o : Option OpenTransaction) → HasWork o → plain_in o ≡ None → ⊥
+no_work_of None h e = h
+no_work_of (Some x) h e = cc
+
+pub plays_work : (store : SharedStore) (old mid new : Session) (v : ℕ) (a : Result Committed CommitFault) (r : SessionReply) (rs more : List SessionReply) → IsSession store old → IsSession store mid → IsSession store new → HasWork old.current → Readies store.limits old mid v
     → MatchResult a (Commits store.limits mid new) (λ f. CommitsNot f store.limits mid new) → MatchResult a (λ c. IsCommitReply c r) (λ f. (f ≡ commits.NoTransaction) × (r ≡ said.NoTransaction)) → more ≡ rs ++ r ∷ []
     → Plays store old new Commit rs more
-plays_work store old mid new v (Ok (ReadOnly n)) r rs more was mid_is is work h b told em = absurd (no_change b.0 b.2.0 (work_of old b.0 work (still_open store.limits old mid v b.0 h b.1)))
+plays_work store old mid new v (Ok (ReadOnly n)) r rs more was mid_is is work h b told em = absurd (no_change b.0 b.2.0 (work_of old.current b.0 work (sym h.current ∙ plain_open mid b.0 b.1)))
 plays_work store old mid new v (Ok (Done n why)) r rs more was mid_is is work h b told em =
-    plays_committed store old mid new b.0 v (replies.Done n why) (said.Committed n) rs more was mid_is is (still_open store.limits old mid v b.0 h b.1) b.2.0 h b.2.1 (λ cs. refl) (ap (λ s. s.number) b.3) (ap (λ s. s.current) b.3) (em ∙ ap (λ x. rs ++ x ∷ []) told)
+    plays_committed store old mid new b.0 v (replies.Done n why) (said.Committed n) rs more was mid_is is b.1 b.2.0 h b.2.1 (λ cs. refl) (ap (λ s. s.number) b.3) (ap (λ s. s.current) b.3) (em ∙ ap (λ x. rs ++ x ∷ []) told)
 plays_work store old mid new v (Ok (Conflict n t)) r rs more was mid_is is work h b told em =
-    plays_committed store old mid new b.0 v (replies.Conflict n t) (said.Overtaken n t) rs more was mid_is is (still_open store.limits old mid v b.0 h b.1) b.2.0 h b.2.1 (λ cs. refl) (ap (λ s. s.number) b.3) (ap (λ s. s.current) b.3) (em ∙ ap (λ x. rs ++ x ∷ []) told)
+    plays_committed store old mid new b.0 v (replies.Conflict n t) (said.Overtaken n t) rs more was mid_is is b.1 b.2.0 h b.2.1 (λ cs. refl) (ap (λ s. s.number) b.3) (ap (λ s. s.current) b.3) (em ∙ ap (λ x. rs ++ x ∷ []) told)
 plays_work store old mid new v (Ok (FullTriples n)) r rs more was mid_is is work h b told em =
-    plays_committed store old mid new b.0 v (replies.FullTriples n) said.FullGraph rs more was mid_is is (still_open store.limits old mid v b.0 h b.1) b.2.0 h b.2.1 (λ cs. refl) (ap (λ s. s.number) b.3) (ap (λ s. s.current) b.3) (em ∙ ap (λ x. rs ++ x ∷ []) told)
+    plays_committed store old mid new b.0 v (replies.FullTriples n) said.FullGraph rs more was mid_is is b.1 b.2.0 h b.2.1 (λ cs. refl) (ap (λ s. s.number) b.3) (ap (λ s. s.current) b.3) (em ∙ ap (λ x. rs ++ x ∷ []) told)
 plays_work store old mid new v (Ok (Refused rows why shapes)) r rs more was mid_is is work h b told em =
-    plays_committed store old mid new b.0 v (replies.Refused rows why) (said.Refused (length rows) (report_text shapes rows)) rs more was mid_is is (still_open store.limits old mid v b.0 h b.1) b.2.0 h b.2.1.0
+    plays_committed store old mid new b.0 v (replies.Refused rows why) (said.Refused (length rows) (report_text shapes rows)) rs more was mid_is is b.1 b.2.0 h b.2.1.0
     (λ cs. ap (λ (x : SessionReply). Some (up_to_event None cs (rs ++ x ∷ []))) (told_refused rows shapes _ b.2.1.1)) (ap (λ s. s.number) b.3) (ap (λ s. s.current) b.3) (em ∙ ap (λ x. rs ++ x ∷ []) told)
 plays_work store old mid new v (Err commits.NoTransaction) r rs more was mid_is is work h b told em =
-    let none : old.current ≡ None = sym (ap (λ s. s.current) h.1.1) ∙ b.0 in
-    absurd (subst HasWork none work)
+    absurd (no_work_of old.current work (sym h.current ∙ plain_none mid b.0))
 plays_work store old mid new v (Err commits.Memory) r rs more was mid_is is work h b told em = absurd (let z : commits.Memory ≡ commits.NoTransaction = told.0 in cc)
 
 -- the results of a refusal are a listing
@@ -267,18 +295,13 @@ play_step store start mid new file c k rs more lt is g o h =
     let e : drop k file ≡ c ∷ drop (k + 1) file = rw add-one (drop-cons file k c lt ∙ ap (λ z. z ∷ drop (suc k) file) (sym is)) in
     o.goes file (drop (k + 1) file) (subst (λ (ds : List Command). HasPlayed store.limits mid.number mid.pass.known.front file (up_to_event (plain_in mid.current) ds rs)) e (g h))
 
--- the answer of a head
-pub head_taken : (l : Limits) (old new : Session) (a : Result ℕ HeadFault) (v : ℕ) → a ≡ Ok v → MatchResult a (λ v. Heads l old new v) (λ f. HeadsNot f l old new) → Heads l old new v
+-- the answers of a head and of a check
+head_taken : (l : Limits) (old new : Session) (a : Result ℕ HeadFault) (v : ℕ) → a ≡ Ok v → MatchResult a (λ v. Heads l old new v) (λ f. HeadsNot f l old new) → Heads l old new v
 head_taken l old new a v e h = subst (λ x. MatchResult x (λ v. Heads l old new v) (λ f. HeadsNot f l old new)) e h
 
--- a find changes nothing that the store asks of the transaction
-found_session : (store : SharedStore) (old new : Session) (w : OpenTransaction) (p : Pattern) → IsSession store old → IsOpen old w → new ≡ record old { current = Some (with_find w p) } → IsSession store new
-found_session store old new w p is o e = subst (IsSession store) (sym e) (record {
-  caller = is.caller;
-  fits = λ s r.
-      let f : FitsIn (Some w) s = subst (λ (x : Option OpenTransaction). FitsIn x s) o (is.fits s r) in
-      record { base = f.base; net = f.net; staged = f.staged; verdict = f.verdict };
-})
+pub checked_ready : (l : Limits) (old head mid : Session) (a : Result ℕ HeadFault) (v : ℕ) (k : Result Bool CheckFault) (b : Bool) → a ≡ Ok v → MatchResult a (λ v. Heads l old head v) (λ f. HeadsNot f l old head) → k ≡ Ok b
+    → MatchResult k (λ kept. ChecksHead kept head mid) (λ f. ChecksNot f head mid) → Readies l old mid v
+checked_ready l old head mid a v k b ea h ek c = readies l old head mid v b (head_taken l old head a v ea h) (subst (λ x. MatchResult x (λ kept. ChecksHead kept head mid) (λ f. ChecksNot f head mid)) ek c)
 
 pub plays_find : {V : Type 0} (items : V → List Triple) (store : SharedStore) (old new : Session) (p : Pattern) (a : Result V FindFault) (r : SessionReply) (rs more : List SessionReply) → IsSession store old
     → MatchResult a (λ v. (w : OpenTransaction) × IsOpen old w × (items v ≡ found_by (plain w) p) × (new ≡ record old { current = Some (with_find w p) })) (λ f. FindsNot f old new)

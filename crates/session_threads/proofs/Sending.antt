@@ -59,6 +59,7 @@ use Rattle.turn_lock.proofs.turns.Turns.TheSendSync as turns_sent
 use Rattle.session_model.proofs.reply.SessionReply.TheSendSync as reply_sent
 use Rattle.session_model.specs.contracts.command.Command as command
 use Rattle.collections.proofs.sequence.Sequence.TheSendSync as sequence_sent
+use Rattle.commit_core.specs.contracts.checked.CheckedNet as checked
 use Rattle.commit_core.specs.contracts.history.History as history
 use Rattle.commit_core.specs.contracts.snapshot.Snap as snap
 use Rattle.commit_core.specs.contracts.store.Core as core
@@ -137,8 +138,11 @@ shared_send = search (core_send, crosses, sendable) depth 60 fits 20000
 snap_send : IsSend snap.the_row
 snap_send = search (data_graph_send, shapes_send, crosses, sendable) depth 60 fits 20000
 
+checked_send : IsSend checked.the_row
+checked_send = search (verdict_send, row_sent.the_send, sequence_sent.the_send, crosses, sendable) depth 60 fits 20000
+
 open_send : IsSend open_transaction.the_row
-open_send = search (transaction_send, snap_send, crosses, sendable) depth 60 fits 20000
+open_send = search (transaction_send, checked_send, snap_send, crosses, sendable) depth 60 fits 20000
 
 session_send : IsSend session.the_row
 session_send = search (shared_send, pass_sent.the_send, open_send, snap_send, crosses, sendable) depth 60 fits 20000

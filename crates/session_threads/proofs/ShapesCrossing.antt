@@ -26,6 +26,7 @@ use Rattle.rdf_model.specs.contracts.term.Term as term
 use Rattle.shape_ast.specs.contracts.bound.Bound as bound
 use Rattle.focus_affected.specs.contracts.plan.NumberedLook as numbered_look
 use Rattle.focus_affected.specs.contracts.plan.ShapePlan as shape_plan
+use Rattle.focus_affected.specs.contracts.index.IndexedPlans as indexed_plans
 use Rattle.shape_plans.specs.contracts.planned.PlannedShapes as planned
 
 program_send : IsSend program.the_row
@@ -102,8 +103,14 @@ plan_send = search (numbered_look_send, sequence_sent.the_send, crosses, sendabl
 plan_sync : IsSync shape_plan.the_row
 plan_sync = search (numbered_look_sync, sequence_sent.the_sync, crosses, sendable) depth 60 fits 20000
 
+indexed_send : IsSend indexed_plans.the_row
+indexed_send = search (plan_send, crosses, sendable) depth 60 fits 20000
+
+indexed_sync : IsSync indexed_plans.the_row
+indexed_sync = search (plan_sync, crosses, sendable) depth 60 fits 20000
+
 pub planned_send : IsSend planned.the_row
-planned_send = declared_send planned.the_type (bound_send, (search (crosses, sendable) depth 60 fits 20000, (search (plan_send, sequence_sent.the_send, crosses, sendable) depth 60 fits 20000, tt)))
+planned_send = declared_send planned.the_type (bound_send, (search (crosses, sendable) depth 60 fits 20000, (indexed_send, tt)))
 
 pub planned_sync : IsSync planned.the_row
-planned_sync = declared_sync planned.the_type (bound_sync, (search (crosses, sendable) depth 60 fits 20000, (search (plan_sync, sequence_sent.the_sync, crosses, sendable) depth 60 fits 20000, tt)))
+planned_sync = declared_sync planned.the_type (bound_sync, (search (crosses, sendable) depth 60 fits 20000, (indexed_sync, tt)))

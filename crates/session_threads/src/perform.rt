@@ -168,7 +168,7 @@ fn end_reading<L: Ledger, R: Wait>(
     Ok(session)
 }
 
-// Takes the newest version, then commits.
+// Takes the newest version, checks the changes there beside the turns of others, then commits.
 fn commit_work<L: Ledger, R: Wait, G: Gate>(
     rt: &R,
     store: &Store,
@@ -184,6 +184,11 @@ fn commit_work<L: Ledger, R: Wait, G: Gate>(
     let (session, answer) = store.head(rt, session);
     watch.after(answer.is_err(), false);
     let Ok(_) = answer else {
+        return Err(AllocError);
+    };
+    let mut session = session;
+    let checked = session.check(steps);
+    let Ok(_) = checked else {
         return Err(AllocError);
     };
     watch.before(Some(EventKind::Commit));

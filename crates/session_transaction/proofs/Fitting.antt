@@ -1,6 +1,9 @@
 -- A transaction fits its store as long as it is open.
-use Rattle.std.proofs.Common.{◌≡◌, ◌≢◌, ℕ, ◌≤◌, Bool, true, false, List, ◌++◌, Some, sym, subst, arith}
+use Rattle.std.proofs.Common.{◌≡◌, ◌≢◌, ℕ, ◌≤◌, Bool, true, false, List, [], ◌∷◌, ◌++◌, Some, sym, subst, arith}
 use Rattle.std.specs.Prelude.{MatchBool}
+use Rattle.std.specs.List.{AllByRecursion}
+use Rattle.rdf_model.specs.declared.look.Look.{Look}
+use Rattle.rdf_model.specs.declared.look.Look.TheVariants.{Out, In, OutAny}
 use Rattle.rdf_model.specs.declared.term.Term.{Term}
 use Rattle.rdf_model.specs.declared.triple.Triple.{Triple}
 use Rattle.rdf_model.specs.declared.change.Change.{Change}
@@ -9,9 +12,10 @@ use Rattle.store_model.specs.declared.event.Action.TheVariants as actions
 use Rattle.store_model.specs.declared.event.Reply.{Reply}
 use Rattle.store_model.specs.declared.event.Reply.TheVariants.{Named, Full}
 use Rattle.store_model.specs.declared.commit.Transaction.{Transaction}
-use Rattle.store_model.specs.Store.{State, StepOf, version, named_with, NetNamed, StagedNamed, HasChange, IsCommittable, VerdictFits}
+use Rattle.store_model.specs.declared.commit.Verdict.{Verdict}
+use Rattle.store_model.specs.Store.{AreNamed, State, StepOf, version, looked_at, named_with, NetNamed, StagedNamed, HasChange, IsCommittable, VerdictFits}
 use Rattle.session_model.specs.Sessions.{parts_of}
-use Rattle.session_model.proofs.Naming.{NetNamed-more, NetNamed-additions, NetNamed-removals, NetNamed-naming, StagedNamed-more, StagedNamed-naming, StagedNamed-shapes}
+use Rattle.session_model.proofs.Naming.{IsMore, NetNamed-more, NetNamed-additions, NetNamed-removals, NetNamed-naming, StagedNamed-more, StagedNamed-naming, StagedNamed-shapes}
 use Rattle.session_transaction.specs.declared.transaction.ChangeKind.{ChangeKind}
 use Rattle.session_transaction.specs.declared.transaction.ChangeKind.TheVariants.{Addition, Removal}
 use Rattle.session_transaction.specs.Transactions.{FitsState, changes_of}
@@ -28,6 +32,17 @@ state_more x s t m f = record {
 -- one that changes something may be committed
 pub committable : (x : Transaction) (s : State) → FitsState x s → HasChange x.net x.staged → IsCommittable s x
 committable x s f change = record { base = f.base; change = change; net = f.net; staged = f.staged; verdict = subst (VerdictFits s) (sym f.verdict) tt }
+
+-- the looks of a verdict are of named terms still where more are named
+looks_more : (named more : List Term) (ls : List (Look Term)) → IsMore named more → AllByRecursion (λ l. AreNamed named (looked_at l)) ls → AllByRecursion (λ l. AreNamed more (looked_at l)) ls
+looks_more named more [] m a = tt
+looks_more named more (Out x p ∷ ls) m a = ((m x a.0.0, (m p a.0.1.0, tt)), looks_more named more ls m a.1)
+looks_more named more (In p x ∷ ls) m a = ((m p a.0.0, (m x a.0.1.0, tt)), looks_more named more ls m a.1)
+looks_more named more (OutAny x ∷ ls) m a = ((m x a.0.0, tt), looks_more named more ls m a.1)
+
+-- so a verdict of an earlier state fits each later one
+pub verdict_fits : (s t : State) (v : Verdict) → More s t → v.head ≤ version s → AllByRecursion (λ l. AreNamed s.named (looked_at l)) v.looks → VerdictFits t (Some v)
+verdict_fits s t v m le a = (omega (arith, le, m.version), looks_more s.named t.named v.looks m.named a)
 
 -- terms that are named, or are too many
 names_named : (s t : State) (p q : Reply) (m : State) (b : Bool) → p ≢ q → MatchBool b ((q ≡ p) × (t ≡ s)) ((q ≡ q) × (t ≡ m)) → t ≡ m

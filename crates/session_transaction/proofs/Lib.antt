@@ -3,3 +3,4 @@ pub mod Fitting
 pub mod Blocks
 pub mod Refusing
 pub mod Listed
+pub mod Checking

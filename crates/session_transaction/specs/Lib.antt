@@ -1,3 +1,4 @@
 pub mod Transactions
 pub mod Replies
 pub mod Commits
+pub mod Checks

@@ -36,14 +36,15 @@ reply_of Removal count = Removed count
 
 -- the transaction that begins at the snapshot
 abbrev pub begun_at : Snapshot → OpenTransaction
-begun_at n = record { transaction = record { base = n.number; net = []; staged = None; finds = []; verdict = None }; snap = n }
+begun_at n = record { transaction = record { base = n.number; net = []; staged = None; finds = []; verdict = None }; checked = None; snap = n }
 
+-- what was checked before a change counts no more
 abbrev pub with_changes : OpenTransaction → List Change → OpenTransaction
-with_changes w net = record w { transaction = record w.transaction { net = w.transaction.net ++ net } }
+with_changes w net = record w { transaction = record w.transaction { net = w.transaction.net ++ net }; checked = None }
 
 -- the shapes graph that was staged last counts
 abbrev pub with_shapes : OpenTransaction → List Triple → OpenTransaction
-with_shapes w ts = record w { transaction = record w.transaction { staged = Some ts } }
+with_shapes w ts = record w { transaction = record w.transaction { staged = Some ts }; checked = None }
 
 -- a find's pattern is recorded
 abbrev pub with_find : OpenTransaction → Pattern → OpenTransaction
@@ -57,7 +58,8 @@ abbrev pub plain_in : Option OpenTransaction → Option Sessions.OpenTransaction
 plain_in None = None
 plain_in (Some w) = Some (plain w)
 
--- the transaction began at a version of this store, its terms are named, and it has no verdict
+-- The transaction began at a version of this store, its terms are named, and it has no verdict itself: that is kept beside it
+-- until its commit.
 pub record FitsState (x : Transaction) (s : State) : Type 0 where
   pub base : x.base ≤ version s
   pub net : NetNamed s.named x.net

@@ -1,6 +1,7 @@
 //! The commit of a transaction over a core.
-ghost use Rattle.std.specs.Prelude.{◌≡◌, ◌≤◌, None, MatchResult};
+ghost use Rattle.std.specs.Prelude.{◌≡◌, ◌≤◌, MatchResult};
 ghost use Rattle.store_model.specs.Store.{IsCommittable, IsOpened};
+ghost use Rattle.commit_core.specs.Verdicts.{AreOfVerdict};
 ghost use Rattle.session_transaction.specs.Commits.{IsCommitted};
 
 use collections::Sequence;
@@ -9,9 +10,8 @@ use rdf_model::Triple;
 use shape_eval::Steps;
 use shape_model::ResultRow;
 use shapes_graph::ShapesGraph;
-use std::alloc::Global;
 use std::sync::ledger::Ledger;
-use store_model::{Again, Transaction};
+use store_model::Again;
 
 /// What a commit is answered.
 #[derive(Drop)]
@@ -42,21 +42,19 @@ pub enum Committed {
     },
 }
 
-/// Commits a transaction that changes something or stages shapes, of which nothing was checked, and counts its evaluations
-/// in `steps`. Without memory it is handed back, and nothing has happened but what was counted.
+/// Commits a transaction that changes something or stages shapes, with the results of its verdict, if it has one, and counts its
+/// evaluations in `steps`. Without memory it is handed back, and nothing has happened but what was counted.
 pub fn commit<L: Ledger>(
-    alloc: Global,
     core: &mut Core,
     session: u32,
-    transaction: Transaction,
+    checked: CheckedTransaction,
     steps: &mut Steps<L>,
-) -> Result<Committed, Transaction>
+) -> Result<Committed, CheckedTransaction>
     requires opened { IsOpened core.old.state session }
-    requires committable { IsCommittable core.old.state transaction }
-    requires unchecked { transaction.verdict ≡ None }
-    ensures { MatchResult result (IsCommitted core.old core.new session transaction steps.old steps.new) (λ back. (back ≡ transaction) × (core.new ≡ core.old) × (steps.old ≤ steps.new)) }
+    requires committable { IsCommittable core.old.state checked.transaction }
+    requires verdict { AreOfVerdict core.old checked.transaction.net checked.transaction.verdict checked.rows }
+    ensures { MatchResult result (IsCommitted core.old core.new session checked.transaction steps.old steps.new) (λ back. (back ≡ checked) × (core.new ≡ core.old) × (steps.old ≤ steps.new)) }
 {
-    let checked = CheckedTransaction::unchecked(alloc, transaction);
     match core.commit(session, checked, steps) {
         Commit::Done { number, again } => Ok(Committed::Done { number, again }),
         Commit::Conflict { commit, triple } => Ok(Committed::Conflict { commit, triple }),
@@ -70,6 +68,6 @@ pub fn commit<L: Ledger>(
             again,
             shapes,
         }),
-        Commit::Memory(checked) => Err(checked.into_transaction()),
+        Commit::Memory(checked) => Err(checked),
     }
 }

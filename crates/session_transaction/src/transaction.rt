@@ -1,21 +1,27 @@
 //! The open transaction, and what a block does to its triples.
-ghost use Rattle.std.specs.Prelude.{◌≡◌, ◌∷◌, ◌++◌, [], MatchBool, None, Some, IfOk, OnErr, OnOk};
-ghost use Rattle.store_model.specs.Store.{HasChange};
+ghost use Rattle.std.specs.Prelude.{◌≡◌, ◌≤◌, ◌∷◌, ◌++◌, [], MatchBool, None, Some, IfOk, OnErr, OnOk};
+ghost use Rattle.store_model.specs.Store.{HasChange, NetNamed};
 ghost use Rattle.session_model.specs.Sessions.{found_by};
+ghost use Rattle.session_transaction.specs.Checks.{CheckSteps, Checks, checked_of, handed_back, handed_in, rows_of, verdict_of};
 ghost use Rattle.session_transaction.specs.Transactions;
 ghost use Rattle.session_transaction.specs.Transactions.{begun_at, change_of, changes_of, plain};
 
 use collections::Sequence;
-use commit_core::{Snap, Transaction};
+use commit_core::{CheckedNet, CheckedTransaction, Snap, Transaction, Verdict};
 use rdf_model::{Change, Net, Pattern, Triple};
 use session_model::SessionReply;
+use shape_eval::Steps;
+use shape_model::ResultRow;
 use shapes_graph::ShapesGraph;
 use std::alloc::{AllocError, Global};
 use std::mem;
+use std::sync::ledger::Ledger;
 
-/// A session's open transaction, with the snapshot of its begin.
+/// A session's open transaction, with the snapshot of its begin, and with what was checked of its changes since the last of them.
 pub struct OpenTransaction {
+    // It has no verdict itself.
     transaction: Transaction,
+    checked: Option<CheckedNet>,
     snap: Snap,
 }
 
@@ -24,6 +30,7 @@ impl Drop for OpenTransaction {
     fn drop(self) {
         let OpenTransaction {
             transaction: _,
+            checked: _,
             snap: _,
         } = self;
     }
@@ -92,6 +99,29 @@ fn record_find(finds: &mut Sequence<Pattern>, pattern: &Pattern) -> Result<(), A
     Ok(())
 }
 
+// A verdict and its results apart; without one there is no result.
+fn parts_of(alloc: Global, checked: Option<CheckedNet>) -> (Option<Verdict>, Sequence<ResultRow>)
+    ensures { result ≡ (verdict_of checked, rows_of checked) }
+{
+    match checked {
+        Some(checked) => {
+            let (verdict, rows) = checked.into_parts();
+            (Some(verdict), rows)
+        }
+        None => (None, Sequence::new(alloc)),
+    }
+}
+
+// A verdict with its results; without one they count for nothing.
+fn checked_with(verdict: Option<Verdict>, rows: Sequence<ResultRow>) -> Option<CheckedNet>
+    ensures { result ≡ checked_of verdict rows }
+{
+    match verdict {
+        Some(verdict) => Some(CheckedNet { verdict, rows }),
+        None => None,
+    }
+}
+
 impl OpenTransaction {
     /// The transaction that begins at the snapshot.
     pub fn new(alloc: Global, snap: Snap) -> OpenTransaction
@@ -104,7 +134,11 @@ impl OpenTransaction {
             finds: Sequence::new(alloc),
             verdict: None,
         };
-        OpenTransaction { transaction, snap }
+        OpenTransaction {
+            transaction,
+            checked: None,
+            snap,
+        }
     }
 
     /// The version at its begin.
@@ -124,7 +158,23 @@ impl OpenTransaction {
         }
     }
 
-    /// The same with a change of each triple; without the memory for them, as it was.
+    // The same with nothing checked.
+    fn unchecked(self) -> OpenTransaction
+        ensures { result ≡ record self { checked = None } }
+    {
+        let OpenTransaction {
+            transaction,
+            checked: _,
+            snap,
+        } = self;
+        OpenTransaction {
+            transaction,
+            checked: None,
+            snap,
+        }
+    }
+
+    /// The same with a change of each triple, and nothing checked; without the memory for them, as it was.
     pub fn with_changes(
         self,
         alloc: Global,
@@ -136,22 +186,43 @@ impl OpenTransaction {
         let Ok(more) = changes_for(alloc, kind, triples) else {
             return (self, false);
         };
-        let OpenTransaction { transaction, snap } = self;
+        let OpenTransaction {
+            transaction,
+            checked,
+            snap,
+        } = self;
         let mut transaction = transaction;
         let net = mem::replace(&mut transaction.net, Net::new(alloc));
         let (net, grew) = appended(net, more);
         transaction.net = net;
-        (OpenTransaction { transaction, snap }, grew)
+        let open = OpenTransaction {
+            transaction,
+            checked,
+            snap,
+        };
+        if grew {
+            (open.unchecked(), true)
+        } else {
+            (open, false)
+        }
     }
 
-    /// The same with these shapes staged.
+    /// The same with these shapes staged, and nothing checked.
     pub fn with_shapes(self, shapes: ShapesGraph) -> OpenTransaction
         ensures { result ≡ Transactions.with_shapes self shapes }
     {
-        let OpenTransaction { transaction, snap } = self;
+        let OpenTransaction {
+            transaction,
+            checked: _,
+            snap,
+        } = self;
         let mut transaction = transaction;
         transaction.staged = Some(shapes);
-        OpenTransaction { transaction, snap }
+        OpenTransaction {
+            transaction,
+            checked: None,
+            snap,
+        }
     }
 
     /// The triples that the pattern asks for in its graph with its changes, in their order. The pattern is recorded.
@@ -167,29 +238,55 @@ impl OpenTransaction {
         Ok(found)
     }
 
-    /// What its commit hands in, and the snapshot of its begin.
-    pub fn into_parts(self) -> (Transaction, Snap)
-        ensures { result ≡ (self.transaction, self.snap) }
+    /// Checks its changes at the head, a version of the store in which all their terms are named, and keeps the verdict with its
+    /// results until a change is staged. Of a transaction that stages shapes nothing is kept, and false is answered. The
+    /// evaluations are counted in `steps`. After an error it is as it was, and the count is what it was, or more.
+    pub fn check<L: Ledger>(
+        &mut self,
+        head: &Snap,
+        steps: &mut Steps<L>,
+    ) -> Result<bool, AllocError>
+        requires { NetNamed head.now.named self.old.transaction.net }
+        ensures checks { IfOk result (λ kept. Checks kept head.now self.old self.new) }
+        ensures same { OnErr result (self.new ≡ self.old) }
+        ensures steps { OnOk result (CheckSteps head.now self.old.transaction steps.old steps.new) }
+        ensures counted { steps.old ≤ steps.new }
     {
-        let OpenTransaction { transaction, snap } = self;
-        (transaction, snap)
+        if self.transaction.staged.is_some() {
+            self.checked = None;
+            return Ok(false);
+        }
+        let found = head.check(self.transaction.net.as_slice(), steps)?;
+        self.checked = Some(found);
+        Ok(true)
     }
 
-    /// What its commit hands in.
-    pub fn into_transaction(self) -> Transaction
-        ensures { result ≡ self.transaction }
+    /// What its commit hands in, and the snapshot of its begin.
+    pub fn into_parts(self, alloc: Global) -> (CheckedTransaction, Snap)
+        ensures { result ≡ (handed_in self, self.snap) }
     {
         let OpenTransaction {
             transaction,
-            snap: _,
+            checked,
+            snap,
         } = self;
-        transaction
+        let mut transaction = transaction;
+        let (verdict, rows) = parts_of(alloc, checked);
+        transaction.verdict = verdict;
+        (CheckedTransaction { transaction, rows }, snap)
     }
 
-    /// The transaction of these parts.
-    pub fn from_parts(transaction: Transaction, snap: Snap) -> OpenTransaction
-        ensures { result ≡ record { transaction = transaction; snap = snap } }
+    /// The transaction that handed this in, and began at the snapshot.
+    pub fn from_parts(handed: CheckedTransaction, snap: Snap) -> OpenTransaction
+        ensures { result ≡ handed_back handed snap }
     {
-        OpenTransaction { transaction, snap }
+        let (transaction, rows) = handed.into_parts();
+        let mut transaction = transaction;
+        let verdict = transaction.verdict.take();
+        OpenTransaction {
+            transaction,
+            checked: checked_with(verdict, rows),
+            snap,
+        }
     }
 }

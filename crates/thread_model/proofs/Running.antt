@@ -16,7 +16,8 @@ use Rattle.store_model.specs.Store.{State, StepOf, Replays, empty_store}
 use Rattle.session_model.specs.declared.command.Command.{Command}
 use Rattle.session_model.specs.declared.reply.SessionReply.{SessionReply}
 use Rattle.session_model.specs.Sessions.{OpenTransaction, SessionState, World, world, up_to_event, no_session, session_at, RunsOpening, RunsEvent, RunsPlace, RunsInOrder}
-use Rattle.thread_model.specs.Following.{is_opening, OwnCommand, OwnEvent, Follows, first_state, Follow, FollowingRuns}
+use Rattle.thread_model.specs.Following.{is_opening, unaided, OwnCommand, OwnEvent, Follows, first_state, Follow, FollowingRuns}
+use Rattle.thread_model.proofs.Aside.{goes_aside}
 use Rattle.thread_model.proofs.Placing.{Within, within, opening, grows, grows_all}
 
 -- what an event asks of the session k + 1, which goes from p to q
@@ -47,7 +48,7 @@ is_others X Z false e h = h
 own_command : (l : Limits) (s t : State) (i : ℕ) (a : Action) (r : Reply) (ps : List SessionState) (w : Option OpenTransaction) (cs : List Command) (replies : List SessionReply) (F : SessionState → Type 0)
     → StepOf l s i a r t → OwnCommand a s r w cs replies F → (z : SessionState) × RunsEvent l (world s ps) i w cs replies (world t (set ps (i - 1) z)) × F z
 own_command l s t i a r ps w [] replies F h o = absurd o
-own_command l s t i a r ps w (c ∷ cs) replies F h o = (o.0, (a, r, t, o.0, o.1, h, refl), o.2)
+own_command l s t i a r ps w (c ∷ cs) replies F h o = let x = goes_aside l s t i a r w c cs replies o.0 h o.1 in (o.0, (unaided a, x.0, t, o.0, x.1, x.2, refl), o.2)
 
 placed_opening : (l : Limits) (s t : State) (i : ℕ) (a : Action) (r : Reply) (es : List Event) (ps qs : List SessionState) → is_opening a ≡ true → a ≡ Open → i ≡ s.opened + 1 → i ≤ length ps → StepOf l s i a r t
     → ((k : ℕ) → k < length ps → Turn l s t i a r es (get_or ps k no_session) (get_or qs k no_session) k) → Placed l s t i es ps qs

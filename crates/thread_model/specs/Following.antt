@@ -19,10 +19,20 @@ is_opening Head = false
 is_opening (Commit x) = false
 is_opening Void = false
 
--- the event is that of the session's next command, and `more` holds of the session after its reply
+-- the action as the session's file has it: a commit without its verdict
+abbrev pub unaided : Action → Action
+unaided Open = Open
+unaided Begin = Begin
+unaided (Name terms) = Name terms
+unaided Head = Head
+unaided (Commit x) = Commit (record x { verdict = None })
+unaided Void = Void
+
+-- The event is that of the session's next command, and `more` holds of the session after its reply. Whether a commit has a
+-- verdict isn't the file's.
 abbrev pub OwnCommand : Action → State → Reply → Option OpenTransaction → List Command → List SessionReply → (SessionState → Type 0) → Type 0
 OwnCommand a s r w [] replies more = ⊥
-OwnCommand a s r w (c ∷ cs) replies more = (q : SessionState) × GoesOn s w c cs replies a r q × more q
+OwnCommand a s r w (c ∷ cs) replies more = (q : SessionState) × GoesOn s w c cs replies (unaided a) r q × more q
 
 -- an own event: the opening, which moves nothing, or that of the next command
 abbrev pub OwnEvent : Action → State → Reply → SessionState → (SessionState → Type 0) → Type 0

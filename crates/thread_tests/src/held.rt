@@ -140,11 +140,29 @@ remove ntriples
 commit
 ";
 
-// Files, the kinds of their events, an order of the sessions' events, and what is printed where it is forced.
+// The commits of the first and of the second transaction of session 1, and that of session 2.
+const FIRST_OF_1: Event = Event {
+    session: 1,
+    number: 5,
+};
+
+const SECOND_OF_1: Event = Event {
+    session: 1,
+    number: 9,
+};
+
+const FIRST_OF_2: Event = Event {
+    session: 2,
+    number: 5,
+};
+
+// Files, the kinds of their events, an order of the sessions' events, the commits that aren't ready then, and what is printed
+// where it is forced.
 struct Schedule {
     files: &'static [&'static str],
     kinds: &'static [&'static [EventKind]],
     order: &'static [u32],
+    unready: &'static [Event],
     printed: &'static str,
 }
 
@@ -153,6 +171,7 @@ const SCHEDULES: [Schedule; 7] = [
         files: &[FINDS, OVERTAKES],
         kinds: &[COMMITS, COMMITS_TWICE],
         order: &[1, 2, 1, 2, 2, 2, 2, 2, 2, 2, 2, 1, 1, 1],
+        unready: &[FIRST_OF_1],
         printed: "\
 session 1
 begin 0
@@ -173,6 +192,7 @@ history 1 2 1 2 2 2 2 2 2 2 2 1 1 1
         files: &[FINDS_NOT, OVERTAKES],
         kinds: &[COMMITS, COMMITS_TWICE],
         order: &[1, 2, 1, 2, 2, 2, 2, 2, 2, 2, 2, 1, 1, 1],
+        unready: &[],
         printed: "\
 session 1
 begin 0
@@ -192,6 +212,7 @@ history 1 2 1 2 2 2 2 2 2 2 2 1 1 1
         files: &[STAGES, TOUCHES],
         kinds: &[COMMITS_TWICE, COMMITS],
         order: &[1, 2, 1, 1, 1, 1, 1, 1, 1, 2, 2, 2, 2, 1],
+        unready: &[FIRST_OF_1, SECOND_OF_1],
         printed: "\
 session 1
 begin 0
@@ -222,6 +243,7 @@ history 1 2 1 1 1 1 1 1 1 2 2 2 2 1
         files: &[STAGES, ELSEWHERE],
         kinds: &[COMMITS_TWICE, COMMITS],
         order: &[1, 2, 1, 1, 1, 1, 1, 1, 1, 2, 2, 2, 2, 1],
+        unready: &[FIRST_OF_1],
         printed: "\
 session 1
 begin 0
@@ -241,6 +263,7 @@ history 1 2 1 1 1 1 1 1 1 2 2 2 2 1
         files: &[ADDS_AT_A, READS],
         kinds: &[COMMITS, &[Begin]],
         order: &[1, 2, 1, 1, 1, 1, 2],
+        unready: &[],
         printed: "\
 session 1
 begin 0
@@ -258,6 +281,7 @@ history 1 2 1 1 1 1 2
         files: &[ADDS_AT_A, FINDS, ADDS_AT_B],
         kinds: &[COMMITS, COMMITS, COMMITS],
         order: &[1, 2, 3, 2, 1, 3, 3, 1, 2, 1, 3, 2, 3, 2, 1],
+        unready: &[FIRST_OF_2],
         printed: "\
 session 1
 begin 0
@@ -279,6 +303,7 @@ history 1 2 3 2 1 3 3 1 2 1 3 2 3 2 1
         files: &[ANSWERS_ITSELF],
         kinds: &[&[Begin, Begin, Begin, Name, Name, Name, Head, Commit]],
         order: &[1, 1, 1, 1, 1, 1, 1, 1, 1],
+        unready: &[],
         printed: "\
 session 1
 no transaction
@@ -300,11 +325,13 @@ history 1 1 1 1 1 1 1 1 1
     },
 ];
 
-// Files, the kinds of their events, holds, and how what is printed begins; the history's last place is 1.
+// Files, the kinds of their events, holds, the commits that aren't ready, and how what is printed begins; the history's last
+// place is 1.
 struct Held {
     files: &'static [&'static str],
     kinds: &'static [&'static [EventKind]],
     holds: &'static [Hold],
+    unready: &'static [Event],
     printed: &'static str,
 }
 
@@ -336,6 +363,7 @@ const HELD: [Held; 3] = [
                 },
             },
         ],
+        unready: &[],
         printed: "\
 session 1
 begin 0
@@ -374,6 +402,7 @@ history 1 2 ",
                 },
             },
         ],
+        unready: &[FIRST_OF_1],
         printed: "\
 session 1
 begin 0
@@ -404,6 +433,7 @@ history 1 2 1 1 2 2 2 2 2 2 2 2 1 1
                 number: 9,
             },
         }],
+        unready: &[],
         printed: "\
 session 1
 begin 2
@@ -441,18 +471,20 @@ pub fn commands_of(alloc: Global, files: &[&str]) -> Result<Vec<Sequence<Command
     Ok(all)
 }
 
-// Runs the files, held so; each session is to call at each of its places, and no hold to spend its turns.
+// Runs the files, held so; each session is to call at each of its places, each commit ready but these, and no hold to spend its
+// turns.
 fn run_held<R: Threads + Wait + Abort + Sync>(
     rt: &R,
     alloc: Global,
     files: &[Sequence<Command>],
     kinds: &[&[EventKind]],
     holds: &[Hold],
+    unready: &[Event],
 ) -> Result<Run, Fail> {
     if files.len() > 64 {
         return Err(Fail::new("there are few files"));
     }
-    let gate = HoldingGate::new(kinds, holds);
+    let gate = HoldingGate::new(kinds, holds, unready);
     let EndedRun { run, triples: _ } = run_all(rt, alloc, LIMITS, files, &gate)?;
     assert!(rt; gate.is_through());
     Ok(run)
@@ -476,7 +508,7 @@ fn orders_are_forced(rt: HostRuntime) -> Result<(), Fail> {
     for row in &SCHEDULES {
         let files = commands_of(alloc, row.files)?;
         let holds = holds_of(alloc, row.order)?;
-        let run = run_held(&rt, alloc, &files, row.kinds, &holds)?;
+        let run = run_held(&rt, alloc, &files, row.kinds, &holds, row.unready)?;
         assert_eq!(rt; text_of(alloc, &run)?.as_str(), row.printed);
         let again = replayed(alloc, &files, &run.order)?;
         assert_eq!(rt; again.as_str(), row.printed);
@@ -489,7 +521,7 @@ fn sessions_are_held(rt: HostRuntime) -> Result<(), Fail> {
     let alloc = rt.alloc();
     for row in &HELD {
         let files = commands_of(alloc, row.files)?;
-        let run = run_held(&rt, alloc, &files, row.kinds, row.holds)?;
+        let run = run_held(&rt, alloc, &files, row.kinds, row.holds, row.unready)?;
         let text = text_of(alloc, &run)?;
         assert!(rt; text.starts_with(row.printed), "{text}");
         assert_eq!(rt; run.order.last(), Some(&1));

@@ -44,6 +44,8 @@ pub fn holds_of(alloc: Global, order: &[u32]) -> Result<Vec<Hold>, AllocError> {
 pub struct HoldingGate<'a> {
     kinds: &'a [&'a [EventKind]],
     holds: &'a [Hold],
+    // The commits that are to be told as not ready; all others are to be ready.
+    unready: &'a [Event],
     // How often each session called, by its number: twice for each event.
     calls: [AtomicU64; 4],
     // A session called for another place than its next one.
@@ -53,10 +55,15 @@ pub struct HoldingGate<'a> {
 }
 
 impl<'a> HoldingGate<'a> {
-    pub fn new(kinds: &'a [&'a [EventKind]], holds: &'a [Hold]) -> HoldingGate<'a> {
+    pub fn new(
+        kinds: &'a [&'a [EventKind]],
+        holds: &'a [Hold],
+        unready: &'a [Event],
+    ) -> HoldingGate<'a> {
         HoldingGate {
             kinds,
             holds,
+            unready,
             calls: [
                 AtomicU64::new(0),
                 AtomicU64::new(0),
@@ -75,7 +82,16 @@ impl<'a> HoldingGate<'a> {
         }
     }
 
-    // The place of a session's next call; no commit is ready.
+    // Whether the event is to be told as a commit that is ready.
+    fn is_ready(&self, session: u32, number: u64, kind: EventKind) -> bool {
+        let mut ready = kind == EventKind::Commit;
+        for event in self.unready {
+            ready = ready && !(event.session == session && event.number == number);
+        }
+        ready
+    }
+
+    // The place of a session's next call.
     fn next_place(&self, session: u32) -> Option<Place> {
         let calls = self.calls_of(session);
         let kinds = self.kinds.get((session as usize).checked_sub(1)?)?;
@@ -87,7 +103,7 @@ impl<'a> HoldingGate<'a> {
             Some(Place::After {
                 kind,
                 number,
-                ready: false,
+                ready: self.is_ready(session, number, kind),
             })
         }
     }

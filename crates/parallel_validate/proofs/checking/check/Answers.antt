@@ -1,23 +1,19 @@
-use Rattle.std.proofs.Common.{ℕ, List, [], length, sym, subst}
+use Rattle.std.proofs.Common.{ℕ, List, [], sym, subst}
 use Rattle.rdf_model.specs.declared.look.Look.{Look}
-use Rattle.shape_ast.specs.Readings.{named_shapes}
-use Rattle.focus_affected.specs.declared.plan.ShapePlan.{ShapePlan}
-use Rattle.focus_affected.specs.Plans.{AreBoundPlans}
 use Rattle.focus_affected.specs.Touched.{AddsTouchLooks}
-use Rattle.shape_plans.specs.Planned.{ArePlansOf}
 use Rattle.parallel_validate.specs.declared.pairs.CheckedRows.{CheckedRows}
 use Rattle.parallel_validate.specs.PairsResults.{AddsLooksOfPairs, ArePlacedPairs, HaveRows, StepsOfPairs}
 use Rattle.parallel_validate.specs.Verdicts.{KeepsChecked, StandsBeside, WhereChecked}
-use Rattle.parallel_validate.proofs.Verdict.{are_checked, are_counted, beside, is_footprint, placed}
+use Rattle.parallel_validate.proofs.Verdict.{are_bound, are_checked, are_counted, beside, is_footprint, placed}
 use Rattle.parallel_validate.proofs.checking.check.Goals as goal
 
 pub rows_of_pairs-requires-clause-placed : goal.rows_of_pairs-requires-clause-placed
 rows_of_pairs-requires-clause-placed g c =
     let terms = g.N.Names.terms c.args.names.now in
     let shapes = c.args.planned.now.bound.shapes in
-    let plans = c.as_slice.result.now in
-    let bound = subst (λ (ps : List ShapePlan). AreBoundPlans (length terms) ps) (sym c.as_slice.ensures) c.requires.planned.bound_plans in
-    let are = subst (λ (ps : List ShapePlan). ArePlansOf terms (named_shapes terms shapes) ps) (sym c.as_slice.ensures) c.requires.planned.plans in
+    let plans = c.args.planned.now.plans in
+    let bound = c.requires.planned.bound_plans in
+    let are = c.requires.planned.plans in
     subst (λ (ps : List (ℕ × ℕ)). ArePlacedPairs terms shapes ps) (sym c.deref.ensures.value)
     (placed terms (g.R.Triples.triples c.args.before.now) c.args.changed.now shapes plans c.in_ok-pairs.pairs.items c.requires.numbering c.requires.before c.requires.changed bound are c.in_ok-pairs.ensures.placed)
 
@@ -27,9 +23,9 @@ returns g c =
     let before = g.R.Triples.triples c.args.before.now in
     let later = g.S.Triples.triples c.args.later.now in
     let shapes = c.args.planned.now.bound.shapes in
-    let plans = c.as_slice.result.now in
-    let bound = subst (λ (ps : List ShapePlan). AreBoundPlans (length terms) ps) (sym c.as_slice.ensures) c.requires.planned.bound_plans in
-    let are = subst (λ (ps : List ShapePlan). ArePlansOf terms (named_shapes terms shapes) ps) (sym c.as_slice.ensures) c.requires.planned.plans in
+    let plans = c.args.planned.now.plans in
+    let bound = c.requires.planned.bound_plans in
+    let are = c.requires.planned.plans in
     let changed = c.args.changed.now in
     let pairs = c.in_ok-pairs.pairs.items in
     let checked = c.in_ok-checked.checked.items in
@@ -44,6 +40,8 @@ returns g c =
       checked = subst (λ (cs : List CheckedRows). WhereChecked terms before later shapes changed (KeepsChecked terms shapes cs)) (sym c.from_vec.ensures) (are_checked terms before later changed shapes plans pairs checked mid new c.requires.numbering c.requires.before c.requires.changed bound are
           c.in_ok-pairs.ensures.pairs found at have looked);
       looks = is_footprint terms before later changed shapes plans pairs checked mid new c.requires.numbering c.requires.before c.requires.changed bound are
+          c.in_ok-pairs.ensures.pairs found at have looked;
+      bound = are_bound terms before later changed shapes plans pairs checked mid new c.requires.numbering c.requires.before c.requires.changed bound are
           c.in_ok-pairs.ensures.pairs found at have looked;
       beside = subst (λ (cs : List CheckedRows). WhereChecked terms before later shapes changed (StandsBeside terms shapes cs new)) (sym c.from_vec.ensures) (beside terms before later changed shapes plans pairs checked mid new c.requires.numbering c.requires.before c.requires.changed bound are
           c.in_ok-pairs.ensures.pairs found at have looked);

@@ -1,20 +1,29 @@
-use Rattle.std.proofs.Common.{sym, ap, ◌∙◌}
+use Rattle.std.proofs.Common.{Option, sym, ap, ◌∙◌, subst}
+use Rattle.commit_core.specs.declared.checked.CheckedNet.{CheckedNet}
+use Rattle.session_transaction.specs.Checks.{KeepsIn, checked_in}
 use Rattle.session_transaction.specs.Transactions.{plain, plain_in}
-use Rattle.session_player.proofs.Seats.{commit_taken, committable_held}
+use Rattle.session_player.proofs.Seats.{commit_taken, fits_now, ready_held}
 use Rattle.session_player.proofs.player.finish_commit.Goals as goal
 
-pub commit_reply-requires-clause-committable : goal.commit_reply-requires-clause-committable
-commit_reply-requires-clause-committable g c =
+pub commit_reply-requires-clause-fits : goal.commit_reply-requires-clause-fits
+commit_reply-requires-clause-fits g c =
     let t = c.take.ensures in
-    rw c.into_transaction.ensures (committable_held _ _ _ _ (plain c.in-Some.open) c.player.view_is c.requires.ready c.requires.held c.requires.next (ap plain_in (sym t.value ∙ c.in-Some.is))).0
+    fits_now _ _ _ (plain c.in-Some.open) c.player.view_is c.requires.ready (ap plain_in (sym t.value ∙ c.in-Some.is))
 
-pub commit_reply-requires-clause-unchecked : goal.commit_reply-requires-clause-unchecked
-commit_reply-requires-clause-unchecked g c =
+pub commit_reply-requires-clause-change : goal.commit_reply-requires-clause-change
+commit_reply-requires-clause-change g c =
     let t = c.take.ensures in
-    rw c.into_transaction.ensures (committable_held _ _ _ _ (plain c.in-Some.open) c.player.view_is c.requires.ready c.requires.held c.requires.next (ap plain_in (sym t.value ∙ c.in-Some.is))).1
+    (ready_held _ _ _ _ (plain c.in-Some.open) c.player.view_is c.requires.ready c.requires.held c.requires.next (ap plain_in (sym t.value ∙ c.in-Some.is))).0
+
+pub commit_reply-requires-clause-kept : goal.commit_reply-requires-clause-kept
+commit_reply-requires-clause-kept g c =
+    let t = c.take.ensures in
+    let s = c.args.core.now in
+    subst (λ (o : Option CheckedNet). KeepsIn s.limits s.history c.in-Some.open.transaction.net o) (ap checked_in (sym t.value ∙ c.in-Some.is))
+    (ready_held _ _ _ _ (plain c.in-Some.open) c.player.view_is c.requires.ready c.requires.held c.requires.next (ap plain_in (sym t.value ∙ c.in-Some.is))).1
 
 pub returns : goal.returns
 returns g c =
     let e = c.player.view_is in
     let t = c.take.ensures in
-    commit_taken _ _ _ _ _ _ _ _ _ _ e c.requires.opened c.requires.ready c.requires.held c.requires.next (ap plain_in (sym t.value ∙ c.in-Some.is)) (ap plain_in t.after) c.in_ok-push.ensures.ok (rw c.into_transaction.ensures at c.in_ok-reply.ensures)
+    commit_taken _ _ _ _ _ _ _ _ _ _ _ e c.requires.opened c.requires.ready c.requires.held c.requires.next (ap plain_in (sym t.value ∙ c.in-Some.is)) (ap plain_in t.after) c.in_ok-push.ensures.ok (ap checked_in t.after) c.in_ok-reply.ensures

@@ -3,7 +3,7 @@ use Rattle.store_model.specs.Store.{State, RecordedStore, TakesStep}
 use Rattle.session_transaction.specs.Commits.{CountsFor, IsAnswer}
 use Rattle.guard_store.specs.Fronts.{void_of}
 use Rattle.guard_store.proofs.Turning.{may_own, opened_now, turned, turned_with}
-use Rattle.guard_store.proofs.Fitting.{committable_now, unchecked_now}
+use Rattle.guard_store.proofs.Fitting.{committable_now, verdict_now}
 use Rattle.guard_store.proofs.Calling.{turn_commits, turn_counts}
 use Rattle.guard_store.proofs.store.Store.take_commit.Goals as goal
 
@@ -11,10 +11,12 @@ pub commit-requires-clause-opened : goal.commit-requires-clause-opened
 commit-requires-clause-opened g c = opened_now c.args.self.now c.args.number c.args.pass c.start-held.result.0 c.start-held.result.1 c.requires.caller c.start-held.ensures
 
 pub commit-requires-clause-committable : goal.commit-requires-clause-committable
-commit-requires-clause-committable g c = committable_now c.args.self.now.limits c.args.pass c.start-held.result.0 c.start-held.result.1 c.args.transaction c.start-held.ensures c.requires.fits c.requires.change
+commit-requires-clause-committable g c = committable_now c.args.self.now.limits c.args.pass c.start-held.result.0 c.start-held.result.1 c.args.handed.transaction c.start-held.ensures c.requires.committable
 
-pub commit-requires-clause-unchecked : goal.commit-requires-clause-unchecked
-commit-requires-clause-unchecked g c = unchecked_now c.args.self.now.limits c.args.pass c.start-held.result.0 c.start-held.result.1 c.args.transaction c.start-held.ensures c.requires.fits
+pub commit-requires-clause-verdict : goal.commit-requires-clause-verdict
+commit-requires-clause-verdict g c =
+    let x = c.args.handed in
+    verdict_now c.args.self.now.limits c.args.pass c.start-held.result.0 c.start-held.result.1 x.transaction.net x.transaction.verdict x.rows c.start-held.ensures c.requires.kept
 
 pub finish-requires-clause-step : goal.finish-requires-clause-step
 finish-requires-clause-step g c = may_own c.args.self.now.limits c.args.pass c.start-held.result.0 c.start-held.result.1 c.commit.new.core _ c.requires.caller.own c.start-held.ensures c.in-Ok-commit.ensures.step
@@ -22,14 +24,14 @@ finish-requires-clause-step g c = may_own c.args.self.now.limits c.args.pass c.s
 pub returns-in-Ok-commit-clause-commits : goal.returns-in-Ok-commit-clause-commits
 returns-in-Ok-commit-clause-commits g c =
     let done = c.in-Ok-commit.ensures in
-    let t = turned_with c.args.self.now.limits c.args.pass c.start-held.result.0 c.finish.result c.start-held.result.1 c.commit.new.core _ (λ (s : State). IsAnswer s c.args.transaction done.reply c.in-Ok-commit.committed)
+    let t = turned_with c.args.self.now.limits c.args.pass c.start-held.result.0 c.finish.result c.start-held.result.1 c.commit.new.core _ (λ (s : State). IsAnswer s c.args.handed.transaction done.reply c.in-Ok-commit.committed)
     c.start-held.ensures done.step (c.finish.ensures c.args.pass c.start-held.result.1 _ c.start-held.ensures done.step) done.told in
-    turn_commits c.args.self.now.limits c.args.pass c.finish.result c.args.number c.args.transaction done.reply c.in-Ok-commit.committed t.0 t.1
+    turn_commits c.args.self.now.limits c.args.pass c.finish.result c.args.number c.args.handed.transaction done.reply c.in-Ok-commit.committed t.0 t.1
 
 pub returns-in-Ok-commit-clause-steps : goal.returns-in-Ok-commit-clause-steps
 returns-in-Ok-commit-clause-steps g c =
     let done = c.in-Ok-commit.ensures in
-    let x = c.args.transaction in
+    let x = c.args.handed.transaction in
     let t = turned_with c.args.self.now.limits c.args.pass c.start-held.result.0 c.finish.result c.start-held.result.1 c.commit.new.core _
     (λ (s : State). IsAnswer s x done.reply c.in-Ok-commit.committed × CountsFor c.in-Ok-commit.committed s x c.args.steps.now c.commit.new.steps)
     c.start-held.ensures done.step (c.finish.ensures c.args.pass c.start-held.result.1 _ c.start-held.ensures done.step) (done.told, done.counts) in

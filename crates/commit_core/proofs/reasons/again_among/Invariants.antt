@@ -1,6 +1,6 @@
 use Rattle.std.proofs.Common.{◌≡◌, ◌+◌, drop}
 use Rattle.store_model.specs.Store.{again_from}
-use Rattle.commit_core.proofs.reasons.again_after.Given as goal
+use Rattle.commit_core.proofs.reasons.again_among.Given as goal
 
 abbrev pub invariant-loop-accepted : goal.invariant-loop-accepted
 invariant-loop-accepted l = record {
