@@ -21,15 +21,20 @@ pub use run::run_command as run;
 pub use status::Status;
 use std::alloc::{AllocError, Global};
 use std::env;
+use std::io::ErrorKind;
 use std::process::ExitCode;
 
-// The words of the program; words that can't be had as text are none.
+// The words of the program; words that can't be had as text are none, where memory for them didn't run out.
 fn words_of(rt: &HostRuntime, alloc: Global) -> Result<Vec<String>, AllocError> {
     let mut words = Vec::new(alloc);
-    if let Ok(args) = env::args(rt) {
-        for arg in args {
-            words.push(arg)?;
+    match env::args(rt) {
+        Ok(args) => {
+            for arg in args {
+                words.push(arg)?;
+            }
         }
+        Err(error) if error.kind() == ErrorKind::OutOfMemory => return Err(AllocError),
+        Err(_) => {}
     }
     Ok(words)
 }
