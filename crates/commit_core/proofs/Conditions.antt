@@ -16,6 +16,7 @@ use Rattle.store_model.specs.declared.event.Action.{Action}
 use Rattle.store_model.specs.declared.event.Action.TheVariants.{Open, Begin, Name, Head, Commit, Void}
 use Rattle.store_model.specs.declared.event.Limits.{Limits}
 use Rattle.store_model.specs.declared.event.Reply.{Reply}
+use Rattle.store_model.specs.Logs.{IsUnlogged}
 use Rattle.store_model.specs.Store.{AreNamed, HasChange, IsCommittable, IsOpened, OpensNext, OpensNothing, RecordedStore, StagedNamed, State, StepOf, TakesStep, VerdictFits, changed_triple, looked_at, terms_of, version}
 use Rattle.commit_core.specs.Conditions.{change_named, has_change, look_named, may_ask, may_commit, next_session, staged_named, triple_named, verdict_fits, was_opened}
 use Rattle.commit_core.specs.Replaying.{Performs}
@@ -143,13 +144,14 @@ opening l s t i r h = opening_by s t i r (nat_lt s.opened 64) h
 pub asked : (l : Limits) (s t : State) (i : ℕ) (a : Action) (r : Reply) → StepOf l s i a r t → may_ask s i a ≡ true
 asked l s t i Open r h = let e = opening l s t i r h in grind (arith, nat_tests, e)
 asked l s t i Begin r h = is_opened s i h.0
-asked l s t i (Name ts) r h = is_opened s i h.0
+asked l s t i (Name kind ts) r h = is_opened s i h.0
 asked l s t i Head r h = is_opened s i h.0
 asked l s t i (Commit x) r h = joined (was_opened s.opened i) (may_commit (version s) s.named x) (is_opened s i h.0) (may_be_committed s x h.1)
 asked l s t i Void r h = at_most i s.opened h.0
 
-pub performs_opening : (old new : RecordedStore) (i j : ℕ) (r : Reply) → i ≡ next_session old.state.opened → TakesStep old new (record { session = j; action = Open; reply = r }) → Performs old new i Open
-performs_opening old new i j r e h = record {
+pub performs_opening : (old new : RecordedStore) (i j : ℕ) (r : Reply) → IsUnlogged r → i ≡ next_session old.state.opened → TakesStep old new (record { session = j; action = Open; reply = r }) → Performs old new i Open
+performs_opening old new i j r unlogged e h = record {
   reply = r;
+  unlogged = unlogged;
   step = subst (λ (n : ℕ). TakesStep old new (record { session = n; action = Open; reply = r })) (opening old.limits old.state new.state j r h.step ∙ sym e) h;
 }

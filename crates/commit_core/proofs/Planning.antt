@@ -1,5 +1,5 @@
 -- From what the listing makes of a commit to its plan.
-use Rattle.std.proofs.Common.{◌≡◌, ◌<◌, Bool, true, false, List, [], ◌∷◌, length, Option, None, ap, arith, refl}
+use Rattle.std.proofs.Common.{◌≡◌, Bool, true, false, List, [], ◌∷◌, Option, None, ap, arith, refl}
 use Rattle.std.specs.Prelude.{◌↔◌, IfOk, IsTrue, Result, Ok, Err}
 use Rattle.shape_model.specs.declared.result_row.ResultRow.{ResultRow}
 use Rattle.std.specs.declared.alloc.AllocError.{AllocError}
@@ -7,19 +7,23 @@ use Rattle.rdf_model.specs.declared.triple.Triple.{Triple}
 use Rattle.store_model.specs.Store.{shapes_under}
 use Rattle.store_model.specs.declared.commit.Accepted.{Accepted}
 use Rattle.store_model.specs.declared.commit.Transaction.{Transaction}
+use Rattle.store_model.specs.declared.event.BlockMode.{BlockMode}
+use Rattle.store_model.specs.declared.event.BlockMode.TheVariants.{All}
 use Rattle.store_model.specs.declared.event.Limits.{Limits}
+use Rattle.store_model.specs.Blocking.{has_blocking}
+use Rattle.store_model.proofs.Steps.{some_block}
 use Rattle.data_graph.specs.DataGraphs.{NamedGraph, with_changes, with_shapes}
 use Rattle.commit_core.specs.declared.commit.Plan.{Plan}
 use Rattle.commit_core.specs.declared.commit.Plan.TheVariants.{Overtaken, TooLarge, Refuse, Accept}
 use Rattle.commit_core.specs.Commits.{IsJudged, IsPlan, IsWithin, committed_graph}
 
-judged_plan : (l : Limits) (g : NamedGraph) (commits : List Accepted) (x : Transaction) (p : Plan) → IsWithin l g.triples commits x → IsJudged g x p → IsPlan l g commits x p
+judged_plan : (l : Limits) (g : NamedGraph) (commits : List Accepted) (x : Transaction) (p : Plan) → IsWithin l g.triples commits x → IsJudged l.mode g x p → IsPlan l g commits x p
 judged_plan l g commits x (Overtaken o t) w j = absurd j
 judged_plan l g commits x (TooLarge n) w j = absurd j
 judged_plan l g commits x (Refuse p) w j = (w, j)
 judged_plan l g commits x (Accept p) w j = (w, j)
 
-pub judged_result : (l : Limits) (g : NamedGraph) (commits : List Accepted) (x : Transaction) (r : Result Plan AllocError) → IsWithin l g.triples commits x → IfOk r (IsJudged g x) → IfOk r (IsPlan l g commits x)
+pub judged_result : (l : Limits) (g : NamedGraph) (commits : List Accepted) (x : Transaction) (r : Result Plan AllocError) → IsWithin l g.triples commits x → IfOk r (IsJudged l.mode g x) → IfOk r (IsPlan l g commits x)
 judged_result l g commits x (Ok p) w j = judged_plan l g commits x p w j
 judged_result l g commits x (Err e) w j = tt
 
@@ -27,7 +31,7 @@ judged_result l g commits x (Err e) w j = tt
 pub unstaged : (g : NamedGraph) (x : Transaction) → x.staged ≡ None → committed_graph g x ≡ with_changes g x.net
 unstaged g x e = ap (λ (o : Option (List Triple)). with_shapes (with_changes g x.net) (shapes_under g.shapes o)) e
 
--- rows that aren't none
-pub some_rows : (is_none : Bool) (rows : List ResultRow) → (IsTrue is_none ↔ rows ≡ []) → is_none ≡ false → 0 < length rows
-some_rows is_none [] h e = let all : is_none ≡ true = h.1 refl in absurd (cc (all, e))
-some_rows is_none (r ∷ rs) h e = omega arith
+-- where every result blocks, one blocks exactly where there are rows
+pub rows_block : (mode : BlockMode) (shapes : List Triple) (is_none : Bool) (rows : List ResultRow) → mode ≡ All → (IsTrue is_none ↔ rows ≡ []) → is_none ≡ false → has_blocking mode shapes rows ≡ true
+rows_block mode shapes is_none [] all h e = let every : is_none ≡ true = h.1 refl in absurd (cc (every, e))
+rows_block mode shapes is_none (r ∷ rs) all h e = some_block mode shapes (r ∷ rs) all (omega arith)

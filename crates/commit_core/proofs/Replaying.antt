@@ -7,9 +7,10 @@ use Rattle.std.specs.Ordering.{eq_by_cmp, is_eq}
 use Rattle.std.specs.Cmp.{tied_itself}
 use Rattle.std.specs.declared.cmp.Ordering.{Ordering}
 use Rattle.std.specs.declared.cmp.Ordering.TheVariants.{Less, Equal, Greater}
+use Rattle.rdf_model.specs.declared.term.Term.{Term}
 use Rattle.rdf_model.specs.declared.triple.Triple.{Triple}
-use Rattle.rdf_model.specs.Orders.{triple_exact, triple_total}
-use Rattle.rdf_model.specs.Terms.{triple_cmp}
+use Rattle.rdf_model.specs.Orders.{term_exact, term_total, triple_exact, triple_total}
+use Rattle.rdf_model.specs.Terms.{term_cmp, triple_cmp}
 use Rattle.shape_model.specs.declared.result_row.ResultRow.{ResultRow}
 use Rattle.shape_model.specs.Orders.{result_row_exact, result_row_total}
 use Rattle.shape_model.specs.Rows.{result_row_cmp}
@@ -19,8 +20,9 @@ use Rattle.store_model.specs.declared.event.Action.{Action}
 use Rattle.store_model.specs.declared.event.Event.{Event}
 use Rattle.store_model.specs.declared.event.Limits.{Limits}
 use Rattle.store_model.specs.declared.event.Reply.{Reply}
-use Rattle.store_model.specs.declared.event.Reply.TheVariants.{Session, SessionsFull, Version, Named, Full, Conflict, FullTriples, Refused, Done, Nothing}
-use Rattle.store_model.specs.Store.{RecordedStore, Replays, TakesStep, empty_store}
+use Rattle.store_model.specs.declared.event.Reply.TheVariants.{Session, SessionsFull, Version, Named, Unknown, Full, Conflict, FullTriples, Refused, Done, LogFault, Stopped, Nothing}
+use Rattle.store_model.specs.Logs.{HasNoLog}
+use Rattle.store_model.specs.Store.{RecordedStore, Replays, State, TakesStep, empty_store}
 use Rattle.store_model.proofs.Steps.{StepIsDeterministic-holds}
 use Rattle.commit_core.specs.Conditions.{may_ask}
 use Rattle.commit_core.specs.Consistent.{IsConsistent}
@@ -35,6 +37,12 @@ tied : (o : Ordering) → is_eq o ≡ true → o ≡ Equal
 tied Less e = cc
 tied Equal e = refl
 tied Greater e = cc
+
+same_term : (t u : Term) → eq_by_cmp term_cmp t u ≡ true → t ≡ u
+same_term t u h = term_exact t u (tied (term_cmp t u) h)
+
+term_itself : (t : Term) → eq_by_cmp term_cmp t t ≡ true
+term_itself t = ap is_eq (tied_itself term_total t)
 
 same_triple : (t u : Triple) → eq_by_cmp triple_cmp t u ≡ true → t ≡ u
 same_triple t u h = triple_exact t u (tied (triple_cmp t u) h)
@@ -79,6 +87,7 @@ reply_exact (Session i) (Session j) h = ap Session (eqb-true i j h)
 reply_exact SessionsFull SessionsFull h = refl
 reply_exact (Version n) (Version m) h = ap Version (eqb-true n m h)
 reply_exact Named Named h = refl
+reply_exact (Unknown t) (Unknown u) h = ap Unknown (same_term t u h)
 reply_exact (Full n) (Full m) h = ap Full (eqb-true n m h)
 reply_exact (Conflict n t) (Conflict m u) h =
     let p = both (nat_eq n m) (eq_by_cmp triple_cmp t u) h in
@@ -90,6 +99,8 @@ reply_exact (Refused rows a) (Refused rows' b) h =
 reply_exact (Done n a) (Done m b) h =
     let p = both (nat_eq n m) (same_again a b) h in
     ap (λ k. Done k a) (eqb-true n m p.0) ∙ ap (λ x. Done m x) (again_exact a b p.1)
+reply_exact LogFault LogFault h = refl
+reply_exact (Stopped n) (Stopped m) h = ap Stopped (eqb-true n m h)
 reply_exact Nothing Nothing h = refl
 reply_exact a b h = cc
 
@@ -98,11 +109,14 @@ reply_itself (Session i) = number_itself i
 reply_itself SessionsFull = refl
 reply_itself (Version n) = number_itself n
 reply_itself Named = refl
+reply_itself (Unknown t) = term_itself t
 reply_itself (Full n) = number_itself n
 reply_itself (Conflict n t) = joined (nat_eq n n) (eq_by_cmp triple_cmp t t) (number_itself n) (triple_itself t)
 reply_itself (FullTriples n) = number_itself n
 reply_itself (Refused rows a) = joined (pointwise (eq_by_cmp result_row_cmp) rows rows) (same_again a a) (rows_themselves rows) (again_itself a)
 reply_itself (Done n a) = joined (nat_eq n n) (same_again a a) (number_itself n) (again_itself a)
+reply_itself LogFault = refl
+reply_itself (Stopped n) = number_itself n
 reply_itself Nothing = refl
 
 pub newest_of : (es : List Event) (e : Event) (r : Reply) → newest_replied (es ++ e ∷ []) r ≡ same_reply e.reply r
@@ -114,7 +128,8 @@ newest_of (f ∷ g ∷ es) e r = newest_of (g ∷ es) e r
 pub not_asked : (s : RecordedStore) (e : Event) → IsConsistent s → may_ask s.state e.session e.action ≡ false → IsWrongNext s e
 not_asked s e k h = record {
   replays = k.replays;
-  no_step = λ t step. never (may_ask s.state e.session e.action) h (asked s.limits s.state t e.session e.action e.reply step);
+  no_log = k.no_log;
+  no_step = λ t unlogged step. never (may_ask s.state e.session e.action) h (asked s.limits s.state t e.session e.action e.reply step);
 }
 
 by_test : (old new : RecordedStore) (i : ℕ) (a : Action) (r : Reply) (b : Bool) → IsConsistent old → (p : Performs old new i a) → b ≡ same_reply p.reply r
@@ -122,8 +137,9 @@ by_test : (old new : RecordedStore) (i : ℕ) (a : Action) (r : Reply) (b : Bool
 by_test old new i a r true k p e = subst (λ (q : Reply). TakesStep old new (record { session = i; action = a; reply = q })) (reply_exact p.reply r (sym e)) p.step
 by_test old new i a r false k p e = record {
   replays = k.replays;
-  no_step = λ t step.
-      let one = StepIsDeterministic-holds old.limits old.state new.state t i a p.reply r p.step.step step in
+  no_log = k.no_log;
+  no_step = λ t unlogged step.
+      let one = StepIsDeterministic-holds old.limits old.state new.state t i a p.reply r p.unlogged unlogged p.step.step step in
       never (same_reply p.reply r) (sym e) (subst (λ (q : Reply). same_reply p.reply q ≡ true) (sym one.0) (reply_itself p.reply));
 }
 
@@ -134,21 +150,25 @@ replied old new i a r b k p e =
     let mine : Event = record { session = i; action = a; reply = p.reply } in
     by_test old new i a r b k p (e ∙ (ap (λ (es : List Event). newest_replied es r) p.step.history ∙ newest_of old.history mine r))
 
-pub first_wrong : (l : Limits) (events back : List Event) (s : RecordedStore) (e : Event) (k : ℕ) → s.limits ≡ l → s.history ++ e ∷ back ≡ events → k ≡ length s.history + 1 → IsWrongNext s e → IsFirstWrong l events k
-first_wrong l events back s e k el eh ek w = record {
+pub first_wrong : (l : Limits) (events back : List Event) (s : RecordedStore) (e : Event) (k : ℕ) → s.limits ≡ l → s.start ≡ empty_store → s.history ++ e ∷ back ≡ events → k ≡ length s.history + 1 → IsWrongNext s e → IsFirstWrong l events k
+first_wrong l events back s e k el es eh ek w = record {
   front = s.history;
   wrong = e;
   back = back;
   all = sym eh;
   place = ek;
   state = s.state;
-  replays = subst (λ (m : Limits). Replays m empty_store s.history s.state) el w.replays;
+  replays = subst (λ (m : Limits). Replays m empty_store s.history s.state) el (subst (λ (b : State). Replays s.limits b s.history s.state) es w.replays);
+  no_log = w.no_log;
   no_step = subst (λ (m : Limits). IsNoStep m s.state e) el w.no_step;
 }
 
-pub replayed_all : (l : Limits) (events : List Event) (s : RecordedStore) → s.limits ≡ l → s.history ≡ events → IsConsistent s → IsReplayed l events s
-replayed_all l events s el eh k = record {
+pub replayed_all : (l : Limits) (events : List Event) (s : RecordedStore) → s.limits ≡ l → s.start ≡ empty_store → s.history ≡ events → IsConsistent s → IsReplayed l events s
+replayed_all l events s el es eh k = record {
   limits = el;
+  start = es;
   history = eh;
-  replays = subst (λ (m : Limits). Replays m empty_store events s.state) el (subst (λ (es : List Event). Replays s.limits empty_store es s.state) eh k.replays);
+  replays = subst (λ (m : Limits). Replays m empty_store events s.state) el
+      (subst (λ (b : State). Replays s.limits b events s.state) es (subst (λ (fs : List Event). Replays s.limits s.start fs s.state) eh k.replays));
+  no_log = subst (λ (fs : List Event). HasNoLog fs) eh k.no_log;
 }

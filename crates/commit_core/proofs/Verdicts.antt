@@ -23,17 +23,18 @@ use Rattle.store_model.specs.declared.commit.Accepted.{Accepted}
 use Rattle.store_model.specs.declared.commit.Again.{Again}
 use Rattle.store_model.specs.declared.commit.Again.TheVariants.{No, ShapesChanged}
 use Rattle.store_model.specs.declared.commit.Verdict.{Verdict}
+use Rattle.store_model.specs.declared.event.BlockMode.TheVariants.{All}
 use Rattle.store_model.specs.declared.event.Event.{Event}
 use Rattle.store_model.specs.declared.event.Limits.{Limits}
-use Rattle.store_model.specs.Store.{RecordedStore, Replays, State, again, again_from, empty_store, first_read, shapes_under, touched_or, version}
+use Rattle.store_model.specs.Store.{RecordedStore, Replays, State, again, again_from, first_read, shapes_under, touched_or, version}
 use Rattle.store_model.specs.Snapshots.{Snapshot, snapshot_of}
-use Rattle.store_model.proofs.Steps.{StepIsDeterministic-holds}
+use Rattle.store_model.proofs.Steps.{ReplyGivesOneState-holds}
 use Rattle.store_model.proofs.Versions.{Grows, between_is, replayed}
 use Rattle.data_graph.proofs.Tests.{is_equal, or_last, to_list, to_test}
 use Rattle.commit_core.specs.Consistent.{IsConsistent}
 use Rattle.data_graph.specs.Changes.{IsCheckOf}
 use Rattle.commit_core.specs.Verdicts.{AreOfVerdict, AreOfVerdictIn, IsVerdict, IsVerdictIn}
-use Rattle.commit_core.proofs.Consistency.{past_sound}
+use Rattle.commit_core.proofs.Consistency.{no_result, past_sound}
 
 -- a replay in two parts
 split : (l : Limits) (s u : State) (front back : List Event) → Replays l s (front ++ back) u → (m : State) × Replays l s front m × Replays l m back u
@@ -43,13 +44,13 @@ split l s u (e ∷ es) back h = let r = split l h.0 u es back h.2 in (r.0, (h.0,
 one_end : (l : Limits) (s m n : State) (es : List Event) → Replays l s es m → Replays l s es n → n ≡ m
 one_end l s m n [] h k = k ∙ sym h
 one_end l s m n (e ∷ es) h k =
-    let same : k.0 ≡ h.0 = (StepIsDeterministic-holds l s h.0 k.0 e.session e.action e.reply e.reply h.1 k.1).1 in
+    let same : k.0 ≡ h.0 = ReplyGivesOneState-holds l s h.0 k.0 e.session e.action e.reply h.1 k.1 in
     one_end l h.0 m n es h.2 (subst (λ (x : State). Replays l x es n) same k.2)
 
-pub since : (s : RecordedStore) (head : State) (front back : List Event) → Replays s.limits empty_store s.history s.state → s.history ≡ front ++ back → Replays s.limits empty_store front head → Replays s.limits head back s.state
+pub since : (s : RecordedStore) (head : State) (front back : List Event) → Replays s.limits s.start s.history s.state → s.history ≡ front ++ back → Replays s.limits s.start front head → Replays s.limits head back s.state
 since s head front back all e h =
-    let r = split s.limits empty_store s.state front back (subst (λ (es : List Event). Replays s.limits empty_store es s.state) e all) in
-    subst (λ (x : State). Replays s.limits x back s.state) (one_end s.limits empty_store head r.0 front h r.1) r.2
+    let r = split s.limits s.start s.state front back (subst (λ (es : List Event). Replays s.limits s.start es s.state) e all) in
+    subst (λ (x : State). Replays s.limits x back s.state) (one_end s.limits s.start head r.0 front h r.1) r.2
 
 alike : (g h : List Triple) (t : Triple) → has_item triple_cmp t h ≡ has_item triple_cmp t g → Contains g t ↔ Contains h t
 alike g h t e = (λ c. to_list h t (e ∙ to_test g t c), λ c. to_list g t (sym e ∙ to_test h t c))
@@ -93,44 +94,44 @@ looks_read (l ∷ ls) look t c h = elim (has_cases l ls look c) [
 agree : (g h : List Triple) (ls : List (Look Term)) → ((t : Triple) → is_read ls t ≡ true → has_item triple_cmp t h ≡ has_item triple_cmp t g) → Agree g h ls
 agree g h ls same look c t m = alike g h t (same t (looks_read ls look t c ((look_law look t).0 m)))
 
-verdict_stands : (s : RecordedStore) (net : List Change) (v : Verdict) (rows : List ResultRow) → IsConsistent s → IsVerdict s net v rows → again_from (v.head + 1) v.looks (drop v.head s.state.commits) ≡ No → Listing (after s.state.graph net) s.state.shapes rows
-verdict_stands s net v rows k i h =
+verdict_stands : (s : RecordedStore) (net : List Change) (v : Verdict) (rows : List ResultRow) → IsConsistent s → s.limits.mode ≡ All → IsVerdict s net v rows → again_from (v.head + 1) v.looks (drop v.head s.state.commits) ≡ No → Listing (after s.state.graph net) s.state.shapes rows
+verdict_stands s net v rows k all i h =
     let g : Grows i.head s.state = replayed s.limits i.head s.state i.back (since s i.head i.front i.back k.replays i.history i.replays) in
     let later : drop v.head s.state.commits ≡ g.more = ap (λ n. drop n s.state.commits) i.number ∙ between_is i.head s.state g in
     let leave = untouched (v.head + 1) v.looks g.more (subst (λ (cs : List Accepted). again_from (v.head + 1) v.looks cs ≡ No) later h) in
-    let past = past_sound s i.head i.front k i.replays in
+    let past = past_sound s i.head i.front k all i.replays in
     let shapes : s.state.shapes ≡ i.head.shapes = g.shapes leave.0 in
-    let none : NoResult s.state.graph i.head.shapes = subst (λ (ts : List Triple). NoResult s.state.graph ts) shapes k.sound.no_result in
+    let none : NoResult s.state.graph i.head.shapes = subst (λ (ts : List Triple). NoResult s.state.graph ts) shapes (no_result s.limits.mode s.state.graph s.state.shapes all k.sound.no_blocking) in
     subst (λ (ts : List Triple). Listing (after s.state.graph net) ts rows) (sym shapes)
     (checked_listing_law s.state.graph i.head.shapes net i.check.checked rows
     (checked_law i.head.graph s.state.graph i.head.shapes net v.looks i.check.checked past.0 k.sound.ascending i.check.looks i.check.pairs (agree i.head.graph s.state.graph v.looks (λ t r. g.graph t (leave.1 t r))))
     none i.check.listing)
 
-held_listing : (s : RecordedStore) (net : List Change) (staged : Option (List Triple)) (verdict : Option Verdict) (rows : List ResultRow) → IsConsistent s → AreOfVerdict s net verdict rows → again s.state.commits staged verdict ≡ No → Listing (after s.state.graph net) (shapes_under s.state.shapes staged) rows
-held_listing s net (Some shapes) verdict rows k a h = cc
-held_listing s net None None rows k a h = cc
-held_listing s net None (Some v) rows k a h = verdict_stands s net v rows k a h
+held_listing : (s : RecordedStore) (net : List Change) (staged : Option (List Triple)) (verdict : Option Verdict) (rows : List ResultRow) → IsConsistent s → s.limits.mode ≡ All → AreOfVerdict s net verdict rows → again s.state.commits staged verdict ≡ No → Listing (after s.state.graph net) (shapes_under s.state.shapes staged) rows
+held_listing s net (Some shapes) verdict rows k all a h = cc
+held_listing s net None None rows k all a h = cc
+held_listing s net None (Some v) rows k all a h = verdict_stands s net v rows k all a h
 
 -- by the test of the reason
-pub held : (s : RecordedStore) (net : List Change) (staged : Option (List Triple)) (verdict : Option Verdict) (rows : List ResultRow) (why : Again) (b : Bool) → IsConsistent s → AreOfVerdict s net verdict rows → why ≡ again s.state.commits staged verdict → MatchBool b (why ≡ No) (Unit {0})
+pub held : (s : RecordedStore) (net : List Change) (staged : Option (List Triple)) (verdict : Option Verdict) (rows : List ResultRow) (why : Again) (b : Bool) → IsConsistent s → s.limits.mode ≡ All → AreOfVerdict s net verdict rows → why ≡ again s.state.commits staged verdict → MatchBool b (why ≡ No) (Unit {0})
     → MatchBool b (Listing (after s.state.graph net) (shapes_under s.state.shapes staged) rows) (Unit {0})
-held s net staged verdict rows why true k a e h = held_listing s net staged verdict rows k a (sym e ∙ h)
-held s net staged verdict rows why false k a e h = tt
+held s net staged verdict rows why true k all a e h = held_listing s net staged verdict rows k all a (sym e ∙ h)
+held s net staged verdict rows why false k all a e h = tt
 
 -- a check at the version that the events in front lead to is a verdict of each history that begins with them
-pub verdict_at : (l : Limits) (front back : List Event) (head : State) (net : List Change) (v : Verdict) (rows : List ResultRow) → Replays l empty_store front head → v.head ≡ version head → IsCheckOf head.graph head.shapes net v.looks rows
-    → IsVerdictIn l (front ++ back) net v rows
-verdict_at l front back head net v rows replays number check = record { front = front; back = back; history = refl; head = head; replays = replays; number = number; check = check }
+pub verdict_at : (l : Limits) (start : State) (front back : List Event) (head : State) (net : List Change) (v : Verdict) (rows : List ResultRow) → Replays l start front head → v.head ≡ version head → IsCheckOf head.graph head.shapes net v.looks rows
+    → IsVerdictIn l start (front ++ back) net v rows
+verdict_at l start front back head net v rows replays number check = record { front = front; back = back; history = refl; head = head; replays = replays; number = number; check = check }
 
 -- and so is one on the snapshot of that version
-pub verdict_of_snapshot : (l : Limits) (front back : List Event) (head : State) (n : Snapshot) (net : List Change) (v : Verdict) (rows : List ResultRow) → Replays l empty_store front head → n ≡ snapshot_of head → v.head ≡ n.number
-    → IsCheckOf n.graph n.shapes net v.looks rows → IsVerdictIn l (front ++ back) net v rows
-verdict_of_snapshot l front back head n net v rows replays is number check =
-    verdict_at l front back head net v rows replays (number ∙ ap (λ (x : Snapshot). x.number) is) (subst (λ (x : Snapshot). IsCheckOf x.graph x.shapes net v.looks rows) is check)
+pub verdict_of_snapshot : (l : Limits) (start : State) (front back : List Event) (head : State) (n : Snapshot) (net : List Change) (v : Verdict) (rows : List ResultRow) → Replays l start front head → n ≡ snapshot_of head → v.head ≡ n.number
+    → IsCheckOf n.graph n.shapes net v.looks rows → IsVerdictIn l start (front ++ back) net v rows
+verdict_of_snapshot l start front back head n net v rows replays is number check =
+    verdict_at l start front back head net v rows replays (number ∙ ap (λ (x : Snapshot). x.number) is) (subst (λ (x : Snapshot). IsCheckOf x.graph x.shapes net v.looks rows) is check)
 
 -- a verdict stays one where the history grows
-pub verdict_lasts : (l : Limits) (events more : List Event) (net : List Change) (v : Verdict) (rows : List ResultRow) → IsVerdictIn l events net v rows → IsVerdictIn l (events ++ more) net v rows
-verdict_lasts l events more net v rows i = record {
+pub verdict_lasts : (l : Limits) (start : State) (events more : List Event) (net : List Change) (v : Verdict) (rows : List ResultRow) → IsVerdictIn l start events net v rows → IsVerdictIn l start (events ++ more) net v rows
+verdict_lasts l start events more net v rows i = record {
   front = i.front;
   back = i.back ++ more;
   history = ap (λ (es : List Event). es ++ more) i.history ∙ append_assoc i.front i.back more;
@@ -140,6 +141,6 @@ verdict_lasts l events more net v rows i = record {
   check = i.check;
 }
 
-pub rows_last : (l : Limits) (events more : List Event) (net : List Change) (verdict : Option Verdict) (rows : List ResultRow) → AreOfVerdictIn l events net verdict rows → AreOfVerdictIn l (events ++ more) net verdict rows
-rows_last l events more net None rows a = tt
-rows_last l events more net (Some v) rows a = verdict_lasts l events more net v rows a
+pub rows_last : (l : Limits) (start : State) (events more : List Event) (net : List Change) (verdict : Option Verdict) (rows : List ResultRow) → AreOfVerdictIn l start events net verdict rows → AreOfVerdictIn l start (events ++ more) net verdict rows
+rows_last l start events more net None rows a = tt
+rows_last l start events more net (Some v) rows a = verdict_lasts l start events more net v rows a

@@ -1,14 +1,17 @@
 -- What a commit is answered, and what it plans.
-use Rattle.std.specs.Prelude.{◌≡◌, ◌<◌, ◌≤◌, ℕ, List, [], length, Some, None}
+use Rattle.std.specs.Prelude.{◌≡◌, ◌<◌, ◌≤◌, ℕ, true, false, List, length, Some, None}
 use Rattle.rdf_model.specs.declared.triple.Triple.{Triple}
 use Rattle.rdf_model.specs.Graphs.{after, differing}
+use Rattle.shape_model.specs.declared.result_row.ResultRow.{ResultRow}
 use Rattle.shape_model.specs.Validation.{Listing}
+use Rattle.store_model.specs.declared.event.BlockMode.{BlockMode}
 use Rattle.store_model.specs.declared.event.Limits.{Limits}
 use Rattle.store_model.specs.declared.commit.Accepted.{Accepted}
 use Rattle.store_model.specs.declared.commit.Transaction.{Transaction}
 use Rattle.store_model.specs.declared.event.Action.TheVariants as actions
 use Rattle.store_model.specs.declared.event.Reply.{Reply}
 use Rattle.store_model.specs.declared.event.Reply.TheVariants as replies
+use Rattle.store_model.specs.Blocking.{has_blocking}
 use Rattle.store_model.specs.Store.{RecordedStore, TakesStep, is_staged, overtaker, shapes_under}
 use Rattle.data_graph.specs.DataGraphs.{NamedGraph, with_changes, with_shapes}
 use Rattle.commit_core.specs.declared.commit.CheckedTransaction.{CheckedTransaction}
@@ -45,25 +48,27 @@ committed_graph g x = with_shapes (with_changes g x.net) (shapes_under g.shapes 
 abbrev pub IsWithin : Limits → List Triple → List Accepted → Transaction → Type 0
 IsWithin l graph commits x = (overtaker commits x.base x.finds ≡ None) × (length (after graph x.net) ≤ l.triples)
 
--- the graph would have these results
-abbrev pub Refuses : List Triple → List Triple → Transaction → Refusal → Type 0
-Refuses graph shapes x p = (p.shapes ≡ shapes_under shapes x.staged) × Listing (after graph x.net) p.shapes p.rows × (0 < length p.rows) × (p.recorded ≡ p.rows)
+-- the graph would have these results, of which one blocks
+abbrev pub Refuses : BlockMode → List Triple → List Triple → Transaction → Refusal → Type 0
+Refuses mode graph shapes x p = (p.shapes ≡ shapes_under shapes x.staged) × Listing (after graph x.net) p.shapes p.rows × (has_blocking mode p.shapes p.rows ≡ true) × (p.recorded ≡ p.rows)
 
--- the graph has none
-abbrev pub Accepts : NamedGraph → Transaction → Acceptance → Type 0
-Accepts g x p =
-    Listing (after g.triples x.net) (shapes_under g.shapes x.staged) [] × (p.graph ≡ committed_graph g x) × (p.accepted.changed ≡ differing g.triples (after g.triples x.net)) × (p.accepted.staged ≡ is_staged x.staged)
+-- none of the results that the graph would have blocks
+abbrev pub NoneBlocks : BlockMode → NamedGraph → Transaction → Type 0
+NoneBlocks mode g x = (rows : List ResultRow) × Listing (after g.triples x.net) (shapes_under g.shapes x.staged) rows × (has_blocking mode (shapes_under g.shapes x.staged) rows ≡ false)
+
+abbrev pub Accepts : BlockMode → NamedGraph → Transaction → Acceptance → Type 0
+Accepts mode g x p = NoneBlocks mode g x × (p.graph ≡ committed_graph g x) × (p.accepted.changed ≡ differing g.triples (after g.triples x.net)) × (p.accepted.staged ≡ is_staged x.staged)
 
 -- what its listing makes of a commit that nothing overtook and that is within the limit
-abbrev pub IsJudged : NamedGraph → Transaction → Plan → Type 0
-IsJudged g x (Overtaken o t) = ⊥
-IsJudged g x (TooLarge n) = ⊥
-IsJudged g x (Refuse p) = Refuses g.triples g.shapes x p
-IsJudged g x (Accept p) = Accepts g x p
+abbrev pub IsJudged : BlockMode → NamedGraph → Transaction → Plan → Type 0
+IsJudged mode g x (Overtaken o t) = ⊥
+IsJudged mode g x (TooLarge n) = ⊥
+IsJudged mode g x (Refuse p) = Refuses mode g.triples g.shapes x p
+IsJudged mode g x (Accept p) = Accepts mode g x p
 
 -- the first of a commit's answers that applies, and what is needed to carry it out
 abbrev pub IsPlan : Limits → NamedGraph → List Accepted → Transaction → Plan → Type 0
 IsPlan l g commits x (Overtaken o t) = (overtaker commits x.base x.finds ≡ Some o) × (t ≡ o.triple)
 IsPlan l g commits x (TooLarge n) = (overtaker commits x.base x.finds ≡ None) × (l.triples < length (after g.triples x.net)) × (n ≡ length (after g.triples x.net))
-IsPlan l g commits x (Refuse p) = IsWithin l g.triples commits x × Refuses g.triples g.shapes x p
-IsPlan l g commits x (Accept p) = IsWithin l g.triples commits x × Accepts g x p
+IsPlan l g commits x (Refuse p) = IsWithin l g.triples commits x × Refuses l.mode g.triples g.shapes x p
+IsPlan l g commits x (Accept p) = IsWithin l g.triples commits x × Accepts l.mode g x p

@@ -55,7 +55,7 @@ was_opened opened i = nat_lt 0 i && nat_le i opened
 abbrev pub may_ask : State → ℕ → Action → Bool
 may_ask s i Open = nat_eq i (next_session s.opened)
 may_ask s i Begin = was_opened s.opened i
-may_ask s i (Name terms) = was_opened s.opened i
+may_ask s i (Name kind terms) = was_opened s.opened i
 may_ask s i Head = was_opened s.opened i
 may_ask s i (Commit x) = was_opened s.opened i && may_commit (version s) s.named x
 may_ask s i Void = nat_le i s.opened

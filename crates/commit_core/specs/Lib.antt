@@ -3,6 +3,7 @@ pub mod Conditions
 pub mod Consistent
 pub mod Events
 pub mod Faults
+pub mod Naming
 pub mod Replaying
 pub mod Verdicts
 pub mod Work

@@ -7,19 +7,20 @@ ghost use Rattle.commit_core.specs.Replaying.{IsReplayed, IsReplayFault, IsWrong
 
 use crate::asking::may_commit;
 use crate::commit::{CheckedTransaction, Commit};
-use crate::store::{Core, MOST_SESSIONS, NameFault, SessionFault, slip, version_of};
+use crate::naming::NamingFault;
+use crate::store::{Core, MOST_SESSIONS, SessionFault, slip, version_of};
 use collections::let_go;
 use rdf_model::Term;
 use shape_eval::Steps;
 use std::alloc::{AllocError, Global};
 use std::sync::ledger::Ledger;
-use store_model::{Action, Event, Limits, Reply, Transaction};
+use store_model::{Action, BlockMode, Event, Limits, NameKind, Reply, Transaction};
 
 /// Why a history was not replayed.
 #[derive(Clone, Copy, Debug, PartialEq, Eq)]
 pub enum ReplayFault {
-    /// This event, counted from 1, is the first that is no step of the store that the events before
-    /// it lead to.
+    /// This event, counted from 1, is the first that is no step of the store without a log that the
+    /// events before it lead to.
     At(usize),
     Memory,
 }
@@ -59,7 +60,7 @@ impl Core {
     {
         match action {
             Action::Open => session == next_number(self.opened),
-            Action::Begin | Action::Head | Action::Name(_) => is_opened(self.opened, session),
+            Action::Begin | Action::Head | Action::Name(_, _) => is_opened(self.opened, session),
             Action::Commit(transaction) => {
                 is_opened(self.opened, session)
                     && may_commit(version_of(&self.commits), self.graph.names(), transaction)
@@ -111,14 +112,23 @@ impl Core {
         Ok(())
     }
 
-    fn replay_naming(&mut self, session: u32, terms: &[Term]) -> Result<(), AllocError>
+    fn replay_naming(
+        &mut self,
+        session: u32,
+        kind: NameKind,
+        terms: &[Term],
+    ) -> Result<(), AllocError>
         requires { IsOpened self.old.state session }
-        ensures { OnOk result (Performs self.old self.new session (Action.Name terms.now)) }
+        ensures { OnOk result (Performs self.old self.new session (Action.Name kind terms.now)) }
     {
-        match self.name(session, terms) {
+        match self.name(session, kind, terms) {
             Ok(_) => Ok(()),
-            Err(NameFault::Full { count: _ }) => Ok(()),
-            Err(NameFault::Memory) => Err(AllocError),
+            Err(NamingFault::Unknown { node }) => {
+                let_go(node);
+                Ok(())
+            }
+            Err(NamingFault::Full { count: _ }) => Ok(()),
+            Err(NamingFault::Memory) => Err(AllocError),
         }
     }
 
@@ -178,7 +188,7 @@ impl Core {
         match action {
             Action::Open => self.replay_opening(session),
             Action::Begin => self.replay_begin(session),
-            Action::Name(terms) => self.replay_naming(session, terms.as_slice()),
+            Action::Name(kind, terms) => self.replay_naming(session, *kind, terms.as_slice()),
             Action::Head => self.replay_head(session),
             Action::Commit(_) => unreachable!(),
             Action::Void => self.replay_void(session),
@@ -218,15 +228,17 @@ impl Core {
         Ok(self.history.newest_has(&reply))
     }
 
-    /// The store that a history leads to. A commit is evaluated anew, whatever its verdict says; how
-    /// many evaluations `steps` allows for it is not promised.
+    /// The store without a log that a history leads to, in which every result blocks. A commit is
+    /// evaluated anew, whatever its verdict says; how many evaluations `steps` allows for it is not
+    /// promised.
     pub fn replay<L: Ledger>(
         alloc: Global,
         limits: Limits,
         events: Vec<Event>,
         steps: &mut Steps<L>,
     ) -> Result<Core, ReplayFault>
-        requires { limits.terms + 2 < 2 ^ 32 }
+        requires small { limits.terms + 2 < 2 ^ 32 }
+        requires mode { limits.mode ≡ BlockMode.All }
         ensures { MatchResult result (IsReplayed limits events.items) (IsReplayFault limits events.items) }
     {
         let mut core = Core::open(alloc, limits)?;

@@ -27,6 +27,7 @@ pub fn is_same_reply(first: &Reply, second: &Reply) -> bool
         (Reply::SessionsFull, Reply::SessionsFull) => true,
         (Reply::Version(version), Reply::Version(other)) => version == other,
         (Reply::Named, Reply::Named) => true,
+        (Reply::Unknown(node), Reply::Unknown(other)) => node == other,
         (Reply::Full(count), Reply::Full(other)) => count == other,
         (Reply::Conflict(commit, triple), Reply::Conflict(other, overtaken)) => {
             commit == other && triple == overtaken
@@ -38,6 +39,8 @@ pub fn is_same_reply(first: &Reply, second: &Reply) -> bool
         (Reply::Done(number, again), Reply::Done(other, why)) => {
             number == other && is_same_again(again, why)
         }
+        (Reply::LogFault, Reply::LogFault) => true,
+        (Reply::Stopped(version), Reply::Stopped(other)) => version == other,
         (Reply::Nothing, Reply::Nothing) => true,
         _ => false,
     }

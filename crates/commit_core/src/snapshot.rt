@@ -15,7 +15,7 @@ use shape_eval::Steps;
 use std::alloc::{AllocError, Global};
 use std::marker::Model;
 use std::sync::ledger::Ledger;
-use store_model::Verdict;
+use store_model::{BlockMode, Verdict};
 
 /// The store as it was at one version: its number, and its data graph, ascending, which keeps its shapes graph and
 /// its names. Contracts see these four; the graph has no result under the shapes.
@@ -25,6 +25,7 @@ pub struct Snap {
 }
 
 impl Model for Snap {
+    ghost use Rattle.store_model.specs.declared.event.BlockMode.TheVariants as modes;
     ghost use Rattle.store_model.specs.Snapshots.{Snapshot};
     ghost use Rattle.commit_core.specs.Consistent.{IsSound};
 
@@ -32,7 +33,7 @@ impl Model for Snap {
 
     ghost view = { λ s. record { number = s.number; graph = s.graph.triples; shapes = s.graph.shapes; named = s.graph.terms } };
 
-    ghost invariant = { λ s. IsSound (record { number = s.number; graph = s.graph.triples; shapes = s.graph.shapes; named = s.graph.terms }) };
+    ghost invariant = { λ s. IsSound modes.All (record { number = s.number; graph = s.graph.triples; shapes = s.graph.shapes; named = s.graph.terms }) };
 }
 
 // Written by hand, so that what owns one calls it in place of having it written out.
@@ -48,7 +49,7 @@ impl Drop for Snap {
 impl Snap {
     // The snapshot of the graph, which it shares.
     pub(crate) fn sharing(number: u64, graph: &DataGraph) -> Result<Snap, AllocError>
-        requires { IsSound (record { number = number; graph = graph.now.triples; shapes = graph.now.shapes; named = graph.now.terms }) }
+        requires { IsSound BlockMode.All (record { number = number; graph = graph.now.triples; shapes = graph.now.shapes; named = graph.now.terms }) }
         ensures { IfOk result (λ snap. snap ≡ record { number = number; graph = graph.now.triples; shapes = graph.now.shapes; named = graph.now.terms }) }
     {
         Ok(Snap {
@@ -108,7 +109,7 @@ impl Snap {
 
     /// What every snapshot is, for a caller that rests on it. It does nothing.
     pub fn recall_sound(&self)
-        ensures { IsSound self.now }
+        ensures { IsSound BlockMode.All self.now }
     {
         let _ = &self.number;
     }

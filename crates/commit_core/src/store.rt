@@ -1,6 +1,8 @@
 ghost use Rattle.std.specs.Prelude.{false, ◌≡◌, ◌+◌, ◌≤◌, ◌<◌, ◌^◌, [], ◌∷◌, ◌++◌, MatchBool, length, map, IfOk, OnOk, OnErr, MatchResult};
 ghost use Rattle.store_model.specs.Store.{RecordedStore, empty_store, Step, TakesStep, IsOpened, IsCommittable, numbers_of, shapes_under};
 ghost use Rattle.store_model.specs.Snapshots.{snapshot_of};
+ghost use Rattle.store_model.specs.Logs.{IsUnlogged};
+ghost use Rattle.store_model.specs.Nodes.{unknown_by};
 ghost use Rattle.rdf_model.specs.Graphs.{after};
 ghost use Rattle.shape_model.specs.Validation.{Listing};
 ghost use Rattle.data_graph.specs.DataGraphs.{with_changes};
@@ -14,12 +16,14 @@ use crate::commit::{
     Acceptance, CheckedTransaction, Commit, Plan, Reasons, Refusal, accepting, stage_shapes,
 };
 use crate::history::{History, events_back, room_for, sessions_back};
+use crate::naming::{NamingFault, given_after, unknown_node};
 use crate::overtaking::find_overtaker;
 use crate::reasons::{find_reasons, has_held};
 use crate::room::Slip;
 use crate::snapshot::Snap;
 use collections::Sequence;
 use data_graph::DataGraph;
+use page_index::Pages;
 use rdf_model::Term;
 use shape_eval::Steps;
 use shape_model::ResultRow;
@@ -27,7 +31,10 @@ use std::alloc::{AllocError, Global};
 use std::boxed::Box;
 use std::marker::Model;
 use std::sync::ledger::Ledger;
-use store_model::{Accepted, Action, Event, Limits, Overtaker, Reply, Transaction};
+use store_model::{
+    Accepted, Action, BlockMode, Event, Limits, NameKind, Overtaker, Reply, Transaction,
+};
+use term_dict::NameFault;
 
 pub(crate) const MOST_SESSIONS: u32 = 64;
 
@@ -47,25 +54,6 @@ impl From<AllocError> for SessionFault {
 
     fn from(_error: AllocError) -> Self {
         SessionFault::Memory
-    }
-}
-
-/// Why terms were not named.
-#[derive(Clone, Copy, Debug, PartialEq, Eq)]
-pub enum NameFault {
-    /// So many terms would be named, more than the limit.
-    Full { count: usize },
-    Memory,
-}
-
-impl From<AllocError> for NameFault {
-    ghost use Rattle.commit_core.specs.declared.store.NameFault.TheVariants as faults;
-    ghost use Rattle.std.specs.Prelude.{◌≡◌};
-
-    ghost from_gives = { λ _ e. e ≡ faults.Memory };
-
-    fn from(_error: AllocError) -> Self {
-        NameFault::Memory
     }
 }
 
@@ -90,26 +78,31 @@ fn add_commit(commits: &mut Vec<Accepted>, accepted: Accepted) -> Result<(), All
     Ok(())
 }
 
-/// The store with its history. Contracts see its limits, its state and its events. The data graph
-/// keeps the shapes graph, the terms that are named, and their limit.
+/// The store with its history. It has no log, begins empty, and every result blocks. Contracts see its limits, the state that
+/// its history begins at, its state and its events. The data graph keeps the shapes graph, the terms that are named, and their
+/// limit.
 pub struct Core {
     pub(crate) alloc: Global,
     most_triples: usize,
     pub(crate) graph: DataGraph,
     pub(crate) commits: Vec<Accepted>,
+    // The blank nodes that were given out.
+    given: Pages<Term>,
     pub(crate) opened: u32,
     pub(crate) history: History,
 }
 
 impl Model for Core {
-    ghost use Rattle.store_model.specs.Store.{RecordedStore};
+    ghost use Rattle.std.specs.Prelude.{false};
+    ghost use Rattle.store_model.specs.declared.event.BlockMode.TheVariants as modes;
+    ghost use Rattle.store_model.specs.Store.{RecordedStore, empty_store};
     ghost use Rattle.commit_core.specs.Consistent.{IsConsistent};
 
     ghost Value = { RecordedStore };
 
-    ghost view = { λ c. record { limits = record { terms = c.graph.limit; triples = c.most_triples }; state = record { graph = c.graph.triples; shapes = c.graph.shapes; commits = c.commits.items; named = c.graph.terms; opened = c.opened }; history = c.history } };
+    ghost view = { λ c. record { limits = record { terms = c.graph.limit; triples = c.most_triples; mode = modes.All }; start = empty_store; state = record { graph = c.graph.triples; shapes = c.graph.shapes; commits = c.commits.items; named = c.graph.terms; given = c.given; opened = c.opened; stopped = false }; history = c.history } };
 
-    ghost invariant = { λ c. IsConsistent (record { limits = record { terms = c.graph.limit; triples = c.most_triples }; state = record { graph = c.graph.triples; shapes = c.graph.shapes; commits = c.commits.items; named = c.graph.terms; opened = c.opened }; history = c.history }) };
+    ghost invariant = { λ c. IsConsistent (record { limits = record { terms = c.graph.limit; triples = c.most_triples; mode = modes.All }; start = empty_store; state = record { graph = c.graph.triples; shapes = c.graph.shapes; commits = c.commits.items; named = c.graph.terms; given = c.given; opened = c.opened; stopped = false }; history = c.history }) };
 }
 
 // Written by hand, so that what owns a core calls it in place of having it written out.
@@ -120,6 +113,7 @@ impl Drop for Core {
             most_triples: _,
             graph: _,
             commits: _,
+            given: _,
             opened: _,
             history: _,
         } = self;
@@ -127,10 +121,11 @@ impl Drop for Core {
 }
 
 impl Core {
-    /// An empty store.
+    /// An empty store, in which every result blocks.
     pub fn open(alloc: Global, limits: Limits) -> Result<Core, AllocError>
-        requires { limits.terms + 2 < 2 ^ 32 }
-        ensures { IfOk result (λ core. core ≡ record { limits = limits; state = empty_store; history = [] }) }
+        requires small { limits.terms + 2 < 2 ^ 32 }
+        requires mode { limits.mode ≡ BlockMode.All }
+        ensures { IfOk result (λ core. core ≡ record { limits = limits; start = empty_store; state = empty_store; history = [] }) }
     {
         let graph = DataGraph::new(alloc, limits.terms)?;
         Ok(Core {
@@ -138,6 +133,7 @@ impl Core {
             most_triples: limits.triples,
             graph,
             commits: Vec::new(alloc),
+            given: Pages::new(alloc),
             opened: 0,
             history: History::new(),
         })
@@ -228,41 +224,80 @@ impl Core {
         Ok(snap)
     }
 
-    /// Names terms, all or none; a term's number is its place in the order of naming.
-    pub fn name(&mut self, session: u32, terms: &[Term]) -> Result<Vec<u32>, NameFault>
-        requires { IsOpened self.old.state session }
+    // Names the terms of a block for which no blank node stands in the way.
+    fn name_known(
+        &mut self,
+        slip: Slip,
+        session: u32,
+        kind: NameKind,
+        asked: Sequence<Term>,
+    ) -> Result<Vec<u32>, NamingFault>
+        requires opened { IsOpened self.old.state session }
+        requires known { unknown_by kind self.old.state.given asked ≡ [] }
         ensures step { MatchResult result
-            (λ _. TakesStep self.old self.new (record { session = session; action = Action.Name terms.now; reply = Reply.Named }))
-            (λ fault. NamesNone fault self.old self.new session terms.now) }
-        ensures numbers { IfOk result (λ numbers. numbers.items ≡ numbers_of self.new.state.named terms.now) }
+            (λ _. TakesStep self.old self.new (record { session = session; action = Action.Name kind asked; reply = Reply.Named }))
+            (λ fault. NamesNone fault self.old self.new session kind asked) }
+        ensures numbers { IfOk result (λ numbers. numbers.items ≡ numbers_of self.new.state.named asked) }
     {
-        let slip = slip(self.alloc)?;
-        let asked = Sequence::copied_from(self.alloc, terms)?;
-        match self.graph.name_all(terms) {
+        let given = given_after(kind, &self.given, asked.as_slice())?;
+        match self.graph.name_all(asked.as_slice()) {
             Ok(numbers) => {
+                self.given = given;
                 self.history.push(
                     slip.room,
                     Event {
                         session,
-                        action: Action::Name(asked),
+                        action: Action::Name(kind, asked),
                         reply: Reply::Named,
                     },
                 );
                 Ok(numbers)
             }
-            Err(term_dict::NameFault::Full { count }) => {
+            Err(NameFault::Full { count }) => {
                 self.history.push(
                     slip.room,
                     Event {
                         session,
-                        action: Action::Name(asked),
+                        action: Action::Name(kind, asked),
                         reply: Reply::Full(count),
                     },
                 );
-                Err(NameFault::Full { count })
+                Err(NamingFault::Full { count })
             }
-            Err(term_dict::NameFault::Memory) => Err(NameFault::Memory),
+            Err(NameFault::Memory) => Err(NamingFault::Memory),
         }
+    }
+
+    /// Names the terms of a block, all or none; a term's number is its place in the order of naming. The blank nodes of a
+    /// fresh block are given out with it. A block to be attached may have only nodes that were given out: else the answer is
+    /// the least that wasn't, whatever the limit, and nothing is named.
+    pub fn name(
+        &mut self,
+        session: u32,
+        kind: NameKind,
+        terms: &[Term],
+    ) -> Result<Vec<u32>, NamingFault>
+        requires { IsOpened self.old.state session }
+        ensures step { MatchResult result
+            (λ _. TakesStep self.old self.new (record { session = session; action = Action.Name kind terms.now; reply = Reply.Named }))
+            (λ fault. NamesNone fault self.old self.new session kind terms.now) }
+        ensures numbers { IfOk result (λ numbers. numbers.items ≡ numbers_of self.new.state.named terms.now) }
+    {
+        let slip = slip(self.alloc)?;
+        let asked = Sequence::copied_from(self.alloc, terms)?;
+        let Some(node) = unknown_node(self.alloc, kind, &self.given, terms)? else {
+            return self.name_known(slip, session, kind, asked);
+        };
+        let reply = Reply::Unknown(node.clone()?);
+        self.history.push(
+            slip.room,
+            Event {
+                session,
+                action: Action::Name(kind, asked),
+                reply,
+            },
+        );
+        Err(NamingFault::Unknown { node })
     }
 
     // The results of the next graph by an evaluation: all of them under staged shapes, and those of what the changes touch
@@ -322,7 +357,7 @@ impl Core {
         requires committable { IsCommittable self.now.state checked.now.transaction }
         requires next { next ≡ with_changes (data_of self.now) checked.now.transaction.net }
         requires found { MatchBool held (Listing (after self.now.state.graph checked.now.transaction.net) (shapes_under self.now.state.shapes checked.now.transaction.staged) checked.now.rows) (Unit {0}) }
-        ensures judged { IfOk result (IsJudged (data_of self.now) checked.now.transaction) }
+        ensures judged { IfOk result (IsJudged self.now.limits.mode (data_of self.now) checked.now.transaction) }
         ensures steps { IfOk result (PlanSteps held self.now.state checked.now.transaction steps.old steps.new) }
         ensures counted { steps.old ≤ steps.new }
     {
@@ -373,7 +408,8 @@ impl Core {
 
     // Records a commit that changes nothing.
     fn refuse(&mut self, slip: Slip, session: u32, transaction: Transaction, reply: Reply)
-        requires { Step self.old.limits self.old.state (record { session = session; action = Action.Commit transaction; reply = reply }) self.old.state }
+        requires step { Step self.old.limits self.old.state (record { session = session; action = Action.Commit transaction; reply = reply }) self.old.state }
+        requires unlogged { IsUnlogged reply }
         ensures { TakesCommit self.old self.new session transaction reply }
     {
         self.history.push(
@@ -402,6 +438,7 @@ impl Core {
         ensures answer { Answers result self.old self.new session checked }
         ensures by_results { IsByResults reasons.answer result }
     {
+        self.recall_consistent();
         let (rows, recorded, shapes) = refusal.into_parts();
         let (again, why) = reasons.into_parts();
         let reply = Reply::Refused(recorded, why);
@@ -464,6 +501,7 @@ impl Core {
         ensures answer { Answers result self.old self.new session checked }
         ensures steps { AnswerSteps held reasons.answer self.old.state checked.transaction steps.old steps.new result }
     {
+        self.recall_consistent();
         match self.plan(&checked, held, steps) {
             Err(_) => Commit::Memory(checked),
             Ok(Plan::Overtaken(overtaker, triple)) => {
@@ -581,6 +619,7 @@ impl Core {
             most_triples: _,
             graph: _,
             commits: _,
+            given: _,
             opened: _,
             history,
         } = self;

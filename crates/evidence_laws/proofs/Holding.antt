@@ -13,12 +13,14 @@ use Rattle.shape_model.specs.NodeLooks.{IsLook}
 use Rattle.shape_model.specs.Paths.{Path, Predicate, Inverse, Sequence, Alternative, ZeroOrMore, OneOrMore, ZeroOrOne, Paths, Last, Also}
 use Rattle.shape_model.specs.ShapeLooks.{Looks}
 use Rattle.shape_model.specs.Walks.{Chain, Walk, WalkSome, WalkThrough, Walks}
+use Rattle.shape_model.specs.declared.result_row.ResultRow.{ResultRow}
 use Rattle.shape_model.proofs.Covers.{cover_law}
 use Rattle.path_eval.proofs.Mirrors.{mapped_from, mapped_to}
-use Rattle.result_evidence.specs.declared.block.Block.{Block}
-use Rattle.result_evidence.specs.declared.block.ShownLook.{ShownLook}
-use Rattle.result_evidence.specs.Blocks.{Gives, HasTriples, IsEvidence, looks_in}
-use Rattle.evidence_laws.specs.Shown.{EvidenceIsShown, IsShown, LooksAloneDecide, ShownBlocksHold, triples_in}
+use Rattle.evidence_blocks.specs.declared.block.Block.{Block}
+use Rattle.evidence_blocks.specs.declared.block.ShownLook.{ShownLook}
+use Rattle.evidence_blocks.specs.Blocks.{Gives, HasTriples, IsEvidence, looks_in}
+use Rattle.evidence_blocks.specs.Shown.{IsShown, triples_in}
+use Rattle.evidence_laws.specs.Shown.{EvidenceIsShown, LooksAloneDecide, ShownBlocksHold}
 
 -- what stands under some look
 from_looks : (xs : List ShownLook) (t : Triple) → Contains (triples_in xs) t → (x : ShownLook) × Contains xs x × Contains x.triples t
@@ -28,7 +30,7 @@ from_looks (x ∷ xs) t c = elim (Contains-append_cases x.triples (triples_in xs
   | inr d ↦ let k = from_looks xs t d in (k.0, has_tail x xs k.0 k.1, k.2)
 ]
 
-to_looks : (xs : List ShownLook) (t : Triple) (x : ShownLook) → Contains xs x → Contains x.triples t → Contains (triples_in xs) t
+pub to_looks : (xs : List ShownLook) (t : Triple) (x : ShownLook) → Contains xs x → Contains x.triples t → Contains (triples_in xs) t
 to_looks [] t x c d = absurd (omega (arith, c.1))
 to_looks (y ∷ ys) t x c d = elim (has_cases y ys x c) [
   | inl e ↦ Contains-append_left y.triples (triples_in ys) t (subst (λ (z : ShownLook). Contains z.triples t) (sym e) d)
@@ -63,9 +65,19 @@ module _ (g h : List Triple) (more : (t : Triple) → Contains h t → Contains 
   walks_more [] x y w = w
   walks_more (p ∷ ps) x y w = (w.0, walk_more p x w.0 w.1, walks_more ps w.0 y w.2)
 
+  -- and more looks
+  pub look_more : (rows : LookRow → Type 0) (f : Term) (look : Look Term) → IsLook h rows f look → IsLook g rows f look
+  look_more rows f look l = (l.0, l.1, (l.2.0, walks_more l.0.way f l.2.0 l.2.1, l.2.2))
+
+-- graphs with the same triples have the same results
+pub gives_same : (g h s : List Triple) → ((t : Triple) → Contains g t ↔ Contains h t) → (r : ResultRow) (shape f : Term) → Gives g s r shape f ↔ Gives h s r shape f
+gives_same g h s same r shape f =
+    let law = cover_law g h s shape f (λ row k z w t m. same t) in
+    (λ i. (law.0.0 i.0, (law.1 r).0 i.1), λ i. (law.0.1 i.0, (law.1 r).1 i.1))
+
 -- under the looks stand just the triples of the graph that match one of them
 module _ (g : List Triple) (xs : List ShownLook) (each : All (HasTriples g) xs) where
-  within : (t : Triple) → Contains (triples_in xs) t → Contains g t
+  pub within : (t : Triple) → Contains (triples_in xs) t → Contains g t
   within t c =
       let k = from_looks xs t c in
       let m = ((All-contains (HasTriples g) xs k.0 each k.1).members t).0 k.2 in m.0

@@ -1,1 +1,1 @@
-mod Holding
+pub mod Holding

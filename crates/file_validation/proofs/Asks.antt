@@ -1,14 +1,14 @@
 -- What the maker is asked for of the text of the shapes.
-use Rattle.std.proofs.Common.{◌≡◌, ℕ, List, Result, Ok, Err, refl, sym, subst}
+use Rattle.std.proofs.Common.{ℕ, List, Result, Ok, Err, refl, sym, subst}
 use Rattle.rdf_lexical.specs.declared.refusal.RefusalKind.{RefusalKind}
 use Rattle.rdf_model.specs.declared.triple.Triple.{Triple}
 use Rattle.outside.specs.Faults.{Request}
 use Rattle.turtle_reader.specs.Document.{reads}
-use Rattle.shape_reader.specs.Asked.{AsksAll, AsksBeforeFault, AsksSome}
+use Rattle.shape_reader.specs.Asked.{AsksBeforeFault, AsksSome}
 use Rattle.shape_reader.specs.declared.fault.ShapeFault.{ShapeFault}
 use Rattle.shape_reader.specs.declared.fault.ShapeFault.TheVariants as reader
 use Rattle.shape_reader.proofs.Requests.{all_some, asks_nothing}
-use Rattle.file_validation.specs.Asked.{AsksInVain, AsksSomeOf}
+use Rattle.file_validation.specs.Asked.{AsksInVain, AsksOfText, AsksSomeOf}
 use Rattle.file_validation.specs.Validations.{IsRead, input_fault}
 
 pub some_of_none : (r : Result (List Triple × ℕ) (ℕ × RefusalKind)) (xs : List Request) → AsksSomeOf r xs xs
@@ -25,5 +25,5 @@ fault_told text s (reader.Pattern n) old new read h = (s, read, h)
 fault_told text s reader.Memory old new read h = some_of text s old new read h
 
 -- where the results were not listed
-pub all_told : (text : List ℕ) (s : List Triple) (old new : List Request) → IsRead 2 text s → AsksAll s old new → AsksSomeOf (reads text 2 1) old new
-all_told text s old new read h = some_of text s old new read (all_some s old new h)
+pub asked_all : (text : List ℕ) (old new : List Request) → AsksOfText text old new → AsksSomeOf (reads text 2 1) old new
+asked_all text old new h = some_of text h.0 old new h.1 (all_some h.0 old new h.2)

@@ -4,15 +4,17 @@ use Rattle.rdf_lexical.specs.declared.refusal.RefusalKind.{RefusalKind}
 use Rattle.rdf_model.specs.declared.triple.Triple.{Triple}
 use Rattle.turtle_reader.specs.Document.{reads}
 use Rattle.shape_model.specs.declared.result_row.ResultRow.{ResultRow}
-use Rattle.shape_model.specs.Validation.{Listing}
+use Rattle.shape_model.specs.Validation.{Listing, NoResult}
 use Rattle.shape_rules.specs.Broken.{IsLeast, IsWellFormed}
 use Rattle.outside.specs.Faults.{Refusal}
 use Rattle.shape_reader.specs.declared.fault.ShapeFault.{ShapeFault}
 use Rattle.shape_reader.specs.declared.fault.ShapeFault.TheVariants as reader
 use Rattle.shape_reader.specs.Parts.{IsRefused as HasRefused}
 use Rattle.report_writer.specs.Report.{report_text}
+use Rattle.graph_explanation.specs.Explanations.{IsExplanation}
 use Rattle.file_validation.specs.declared.fault.InputFault.{InputFault}
 use Rattle.file_validation.specs.declared.fault.InputFault.TheVariants.{Data, Shapes, Rule, Pattern, Memory}
+use Rattle.file_validation.specs.declared.validating.Explanation.{Explanation}
 use Rattle.file_validation.specs.declared.validating.Validation.{Validation}
 
 -- the text reads to the triples, or is refused; its blank nodes belong to the session, and are numbered from 1
@@ -39,6 +41,25 @@ pub record IsValidation (data_text shapes_text : List ℕ) (v : Validation) : Ty
   pub shapes_read : IsRead 2 shapes_text shapes_graph
   pub well_formed : IsWellFormed shapes_graph
   pub reported : IsReported graph shapes_graph v
+
+-- The blocks are those of exactly the results of validating the graph by the shapes graph (SHACL 3.6), and the graph conforms
+-- where there is none (SHACL 3.6.1.1).
+pub record IsExplained (graph shapes_graph : List Triple) (e : Explanation) : Type 0 where
+  pub explanation : IsExplanation graph shapes_graph e.blocks
+  pub conforms : IsTrue e.conforms ↔ NoResult graph shapes_graph
+
+-- these are the graphs of the two texts, and the shapes are well-formed (SHACL 3.4.2)
+pub record AreRead (data_text shapes_text : List ℕ) (graph shapes_graph : List Triple) : Type 0 where
+  pub data_read : IsRead 1 data_text graph
+  pub shapes_read : IsRead 2 shapes_text shapes_graph
+  pub well_formed : IsWellFormed shapes_graph
+
+-- so the validation of these graphs is explained
+pub record IsExplanationOf (data_text shapes_text : List ℕ) (e : Explanation) : Type 0 where
+  pub graph : List Triple
+  pub shapes_graph : List Triple
+  pub read : AreRead data_text shapes_text graph shapes_graph
+  pub explained : IsExplained graph shapes_graph e
 
 -- the data is read
 abbrev pub HasData : List ℕ → Type 0

@@ -1,7 +1,8 @@
-//! The validation of one data graph by one shapes graph, both Turtle texts, with its report.
+//! The validation of one data graph by one shapes graph, both Turtle texts, with its report or with the evidence of its results.
 //!
 //! `validate` reads the data, then the shapes, compiles the shapes, lists the results (SHACL section 3.6) and writes the
-//! report. It ensures that the report is byte for byte that of exactly those results, and for each fault its cause.
+//! report. It ensures that the report is byte for byte that of exactly those results, and for each fault its cause. `explain`
+//! writes the evidence of each result in place of the report.
 #![tactic(auto)]
 
 mod fault;
@@ -12,4 +13,4 @@ mod validating;
 
 pub use fault::InputFault;
 pub use rdf_lexical::RefusalKind;
-pub use validating::{Validation, validate};
+pub use validating::{Explanation, Validation, explain, validate};

@@ -1,11 +1,13 @@
-ghost use Rattle.std.specs.Prelude.{◌≡◌, ◌<◌, IfOk};
+ghost use Rattle.std.specs.Prelude.{◌≡◌, ◌<◌, IfOk, string_bytes};
 ghost use Rattle.data_graph.specs.DataGraphs.{HaveClassWords};
+ghost use Rattle.graph_explanation.specs.Explanations.{IsExplanation};
 ghost use Rattle.rdf_model.specs.Numbers.{AreNumbered, graph_of};
 ghost use Rattle.shape_model.specs.Validation.{Listing};
 ghost use Rattle.term_validation.specs.Named.{AreNamedTriples};
 
 use crate::naming::{NumberedGraph, numbered};
 use collections::Sequence;
+use graph_explanation::explanation_over;
 use path_eval::ClassWords;
 use rdf_model::Triple;
 use shape_eval::Steps;
@@ -62,4 +64,46 @@ pub(crate) fn listing(
     let numbered = numbered(alloc, graph, shapes.triples())?;
     let rows = listing_in::<Brand>(alloc, &numbered, shapes, Blank::new(1))?;
     Ok(Sequence::from_vec(rows))
+}
+
+// The text that explains the validation, in an own ledger of evaluations.
+fn explanation_in<L: Ledger>(
+    alloc: Global,
+    graph: &NumberedGraph,
+    shapes: &ShapesGraph,
+    blank: Blank,
+) -> Result<String, AllocError>
+    requires words { HaveClassWords graph.now.names.terms }
+    requires graph { AreNumbered graph.now.names.terms graph.now.triples }
+    requires shapes { AreNamedTriples graph.now.names.terms shapes.now }
+    requires name { blank.name ≡ L.name }
+    requires parts { blank.parts ≡ L.parts }
+    requires some { 0 < L.parts }
+    ensures { IfOk result (λ text. IsExplanation (graph_of graph.now.names.terms graph.now.triples) shapes.now (string_bytes text)) }
+{
+    let mut steps = Steps::<L>::begin(blank);
+    let names = &graph.names;
+    names.recall_numbering();
+    let text = explanation_over(
+        alloc,
+        &graph.triples,
+        names,
+        CLASS_WORDS,
+        shapes,
+        &mut steps,
+    )?;
+    Ok(text)
+}
+
+/// The text that explains the validation of the graph by the shapes graph (SHACL section 3.6).
+pub(crate) fn explanation(
+    alloc: Global,
+    graph: &[Triple],
+    shapes: &ShapesGraph,
+) -> Result<String, AllocError>
+    ensures { IfOk result (λ text. IsExplanation graph.now shapes.now (string_bytes text)) }
+{
+    let numbered = numbered(alloc, graph, shapes.triples())?;
+    let text = explanation_in::<Brand>(alloc, &numbered, shapes, Blank::new(1))?;
+    Ok(text)
 }

@@ -1,1 +1,3 @@
 mod Numbered
+mod Keeping
+pub mod Members

@@ -1,7 +1,6 @@
 -- The text that explains a validation: the evidence of each of its results.
-use Rattle.std.specs.Prelude.{◌≡◌, ◌+◌, ℕ, List, [], ◌∷◌, ◌++◌, codes, map}
+use Rattle.std.specs.Prelude.{◌≡◌, ℕ, List, map}
 use Rattle.std.specs.List.{All}
-use Rattle.std.specs.Fmt.{decimal}
 use Rattle.rdf_model.specs.declared.ids.Ids.{Ids}
 use Rattle.rdf_model.specs.declared.term.Term.{Term}
 use Rattle.rdf_model.specs.declared.triple.Triple.{Triple}
@@ -9,19 +8,10 @@ use Rattle.rdf_model.specs.Numbers.{graph_of}
 use Rattle.shape_model.specs.declared.result_row.ResultRow.{ResultRow}
 use Rattle.shape_model.specs.Validation.{Listing}
 use Rattle.shape_ast.specs.declared.shape.Shape.{Shape}
-use Rattle.result_evidence.specs.declared.block.Block.{Block}
-use Rattle.result_evidence.specs.Blocks.{IsEvidence}
-use Rattle.result_evidence.specs.BlockText.{block_text}
+use Rattle.evidence_blocks.specs.declared.block.Block.{Block}
+use Rattle.evidence_blocks.specs.Blocks.{IsEvidence}
+use Rattle.evidence_blocks.specs.BlockText.{numbered_blocks}
 use Rattle.result_evidence.specs.Standing.{ForEach}
-
--- a block behind its number
-abbrev pub numbered_block : ℕ → Block → List ℕ
-numbered_block n b = codes "result " ++ decimal n ++ codes "\n" ++ block_text b
-
--- blocks that are numbered from n
-abbrev pub numbered_blocks : ℕ → List Block → List ℕ
-numbered_blocks n [] = []
-numbered_blocks n (b ∷ bs) = numbered_block n b ++ numbered_blocks (n + 1) bs
 
 abbrev pub rows_of : List Block → List ResultRow
 rows_of blocks = map (λ (b : Block). b.row) blocks

@@ -1,22 +1,22 @@
 //! The text that explains a validation.
-ghost use Rattle.std.specs.Prelude.{◌≡◌, ◌++◌, IfOk, OnOk, codes, string_bytes};
-ghost use Rattle.std.specs.List.{All};
+ghost use Rattle.std.specs.Prelude.{◌≡◌, ◌++◌, ℕ, IfOk, OnOk, codes, string_bytes};
 ghost use Rattle.std.specs.Fmt.{decimal};
 ghost use Rattle.rdf_model.specs.Numbers.{AreNumbered, IsNumbering, graph_of, term_at};
 ghost use Rattle.path_eval.specs.Instances.{AreClassWords};
 ghost use Rattle.shape_ast.specs.Readings.{AreBound};
 ghost use Rattle.shape_ast.specs.Standing.{AreBuilt};
 ghost use Rattle.term_validation.specs.Named.{AreNamedTriples};
-ghost use Rattle.result_evidence.specs.Standing.{IsSomeResult};
-ghost use Rattle.graph_explanation.specs.Explanations.{IsExplanation, IsTextOf};
+ghost use Rattle.result_evidence.specs.AimedRows.{AreAimedRows};
+ghost use Rattle.result_evidence.specs.Standing.{HaveGraph};
+ghost use Rattle.graph_explanation.specs.Explanations.{IsExplanation};
+ghost use Rattle.graph_explanation.specs.Firsts.{IsTextOfEach};
 
-use graph_validation::whole;
+use crate::firsts::is_first;
 use path_eval::ClassWords;
 use rdf_model::{Names, Triples};
-use result_evidence::evidence;
+use result_evidence::{AimedRow, aimed_rows, evidence_at};
 use shape_ast::{Bound, bind};
 use shape_eval::Steps;
-use shape_model::ResultRow;
 use shapes_graph::ShapesGraph;
 use std::alloc::{AllocError, Global};
 use std::sync::ledger::Ledger;
@@ -28,14 +28,14 @@ fn push_block(out: &mut String, number: u64, block: &str) -> Result<(), AllocErr
     write!(out, "result {number}\n{block}")
 }
 
-// The evidence of the rows, each behind its number.
+// The evidence of the rows, of each at the least shape and focus node that give it, behind its number.
 fn blocks_of<R: Triples, N: Names, L: Ledger>(
     alloc: Global,
     graph: &R,
     names: &N,
     words: ClassWords,
     bound: &Bound,
-    rows: &[ResultRow],
+    aimed: &[AimedRow],
     steps: &mut Steps<L>,
 ) -> Result<String, AllocError>
     requires numbering { IsNumbering (N.terms names.now) }
@@ -43,13 +43,18 @@ fn blocks_of<R: Triples, N: Names, L: Ledger>(
     requires words { AreClassWords (N.terms names.now) words }
     requires bound { AreBound (N.terms names.now) bound.now.shapes }
     requires built { AreBuilt (term_at (N.terms names.now)) bound.now.shapes }
-    requires rows { All (IsSomeResult (N.terms names.now) (R.triples graph.now) bound.now.shapes) rows.now }
-    ensures { IfOk result (λ text. IsTextOf (N.terms names.now) (R.triples graph.now) bound.now.shapes rows.now (string_bytes text)) }
+    requires shapes { HaveGraph (N.terms names.now) bound.now.shapes }
+    requires aimed { AreAimedRows (N.terms names.now) (R.triples graph.now) bound.now.shapes aimed.now }
+    ensures { IfOk result (λ text. (n : ℕ) × IsTextOfEach (N.terms names.now) (R.triples graph.now) bound.now.shapes aimed.now n (string_bytes text)) }
 {
     let mut out = String::new(alloc);
-    for (i, row) in rows.iter().enumerate() {
-        let block = evidence(alloc, graph, names, words, bound, row, steps)?;
-        push_block(&mut out, i as u64 + 1, block.as_str())?;
+    let mut number = 0;
+    for (place, row) in aimed.iter().enumerate() {
+        if is_first(aimed, place) {
+            number += 1;
+            let block = evidence_at(alloc, graph, names, words, bound, row, steps)?;
+            push_block(&mut out, number, block.as_str())?;
+        }
     }
     Ok(out)
 }
@@ -57,7 +62,8 @@ fn blocks_of<R: Triples, N: Names, L: Ledger>(
 /// The text that explains the validation of the data graph by the shapes graph (SHACL section 3.6): for each result, in
 /// their order, a line of its number, from 1, and its evidence, which are the looks that decide it with their triples. Where the
 /// graph conforms the text is empty. The graph is given by the numbers of its terms; all terms of the shapes, rdf:type and
-/// rdfs:subClassOf are among the names. Evaluations are counted in `steps`. It fails only for want of memory.
+/// rdfs:subClassOf are among the names. Each shape is evaluated once at each of its targets, and once more for each block;
+/// evaluations are counted in `steps`. It fails only for want of memory.
 pub fn explanation_over<R: Triples, N: Names, L: Ledger>(
     alloc: Global,
     graph: &R,
@@ -73,6 +79,6 @@ pub fn explanation_over<R: Triples, N: Names, L: Ledger>(
     ensures { IfOk result (λ text. IsExplanation (graph_of (N.terms names.now) (R.triples graph.now)) shapes.now (string_bytes text)) }
 {
     let bound = bind(alloc, shapes.shapes(), names)?;
-    let rows = whole(alloc, graph, names, words, &bound, steps)?;
-    blocks_of(alloc, graph, names, words, &bound, rows.as_slice(), steps)
+    let aimed = aimed_rows(alloc, graph, names, words, &bound, steps)?;
+    blocks_of(alloc, graph, names, words, &bound, aimed.as_slice(), steps)
 }

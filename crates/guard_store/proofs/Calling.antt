@@ -1,10 +1,13 @@
 -- What a call of a session is answered, by what its turn gave.
-use Rattle.std.proofs.Common.{◌≡◌, ◌≢◌, ℕ, Result, Ok, Err, MatchResult, List, Some, None, refl, sym, ap, ◌∙◌, subst, inr}
+use Rattle.std.proofs.Common.{◌≡◌, ◌≢◌, ℕ, ◌+◌, ◌-◌, Bool, true, false, nat_lt, Result, Ok, Err, MatchResult, List, [], ◌∷◌, length, Some, None, refl, sym, ap, ◌∙◌, subst, inl, inr, ⊎_elim}
+use Rattle.std.specs.Prelude.{MatchBool, ◌⊎◌}
 use Rattle.turn_lock.specs.Callers.{Caller}
 use Rattle.rdf_model.specs.declared.term.Term.{Term}
 use Rattle.rdf_model.specs.declared.triple.Triple.{Triple}
 use Rattle.rdf_model.specs.Graphs.{after}
 use Rattle.shape_model.specs.Validation.{Listing}
+use Rattle.store_model.specs.declared.event.NameKind.{NameKind}
+use Rattle.store_model.specs.declared.event.NameKind.TheVariants as kinds
 use Rattle.store_model.specs.declared.event.Limits.{Limits}
 use Rattle.store_model.specs.declared.event.Event.{Event}
 use Rattle.store_model.specs.declared.event.Action.TheVariants as actions
@@ -12,12 +15,13 @@ use Rattle.store_model.specs.declared.event.Reply.{Reply}
 use Rattle.store_model.specs.declared.event.Reply.TheVariants as replies
 use Rattle.store_model.specs.declared.commit.Transaction.{Transaction}
 use Rattle.store_model.specs.Snapshots.{Snapshot, snapshot_of}
-use Rattle.store_model.specs.Store.{HasChange, shapes_under}
-use Rattle.session_model.specs.Sessions.{parts_of}
-use Rattle.commit_core.specs.declared.store.NameFault.{NameFault}
-use Rattle.commit_core.specs.declared.store.NameFault.TheVariants as names
+use Rattle.store_model.specs.Store.{State, RecordedStore, HasChange, NamesUnless, Replies, named_with, shapes_under, with_named}
+use Rattle.session_model.specs.Sessions.{additions, parts_of}
+use Rattle.commit_core.specs.declared.naming.NamingFault.{NamingFault}
+use Rattle.commit_core.specs.declared.naming.NamingFault.TheVariants as names
 use Rattle.guard_store.specs.declared.faults.StageFault.{StageFault}
-use Rattle.guard_store.specs.declared.faults.StageFault.TheVariants as stages
+use Rattle.guard_store.specs.declared.faults.AttachFault.{AttachFault}
+use Rattle.guard_store.specs.declared.faults.AttachFault.TheVariants as attaches
 use Rattle.session_transaction.specs.declared.committing.Committed.{Committed}
 use Rattle.session_transaction.specs.declared.committing.Committed.TheVariants.{ReadOnly, Done, Conflict, FullTriples, Refused}
 use Rattle.session_transaction.specs.declared.transaction.OpenTransaction.{OpenTransaction}
@@ -28,88 +32,150 @@ use Rattle.guard_store.specs.Fronts.{SharedStore, Turn, Fails}
 use Rattle.guard_store.specs.Callers.{IsSession}
 use Rattle.session_transaction.specs.Checks.{committing}
 use Rattle.session_transaction.specs.Transactions.{begun_at, changes_of, with_changes}
-use Rattle.guard_store.proofs.Fitting.{stages_session, stages_not_session}
+use Rattle.session_transaction.proofs.Fitting.{after_unnamed, unknown_attaches}
+use Rattle.guard_store.proofs.Cases.{at_ok, at_err}
+use Rattle.guard_store.proofs.Fitting.{stages_session, not_staged_session}
 use Rattle.commit_core.specs.Work.{StepsBy}
 use Rattle.guard_store.specs.declared.faults.CommitFault.{CommitFault}
-use Rattle.guard_store.specs.Answers.{Begins, Heads, NamesFor, NamesNot, Stages, StagesNot, IsOpen, AnswersCommit, CommitCounts, Commits, EndsReading, TurnCommits, TurnCounts, event_of}
+use Rattle.guard_store.specs.Answers.{Attaches, AttachesNot, Begins, Heads, NamesFor, NamesForNot, NamesNot, Stages, StagesNot, IsOpen, AnswersCommit, CommitCounts, Commits, EndsReading, TurnCommits, TurnCounts, attach_answer, attach_fault, event_of, naming_of, unknown_at}
 
-pub begins_now : (l : Limits) (old : Session) (pass : Caller Event Limits) (snap : Snapshot) (v : ℕ) (new : Session) → old.current ≡ None
-    → (t : Turn l old.pass pass (event_of old.number actions.Begin (replies.Version snap.number))) × (snap ≡ snapshot_of t.before) → v ≡ snap.number → new ≡ record old { pass = pass; current = Some (begun_at snap); head = None } → Begins l old new v
-begins_now l old pass snap v new none t ev en =
+pub begins_now : (store : SharedStore) (old : Session) (pass : Caller Event RecordedStore) (snap : Snapshot) (v : ℕ) (new : Session) → old.current ≡ None
+    → (t : Turn store old.pass pass (event_of old.number actions.Begin (replies.Version snap.number))) × (snap ≡ snapshot_of t.before) → v ≡ snap.number → new ≡ record old { pass = pass; current = Some (begun_at snap); head = None } → Begins store old new v
+begins_now store old pass snap v new none t ev en =
     let now : Session = record old { pass = pass; current = Some (begun_at snap); head = None } in
     let same : now ≡ record old { pass = pass; current = Some (begun_at (snapshot_of t.0.before)); head = None } = ap (λ (n : Snapshot). let s : Session = record old { pass = pass; current = Some (begun_at n); head = None } in s) t.1 in
-    subst (λ (s : Session). Begins l old s v) (sym en) (subst (λ (k : ℕ). Begins l old now k) (sym ev) (none, (t.0, same)))
+    subst (λ (s : Session). Begins store old s v) (sym en) (subst (λ (k : ℕ). Begins store old now k) (sym ev) (none, (t.0, same)))
 
-pub heads_now : (l : Limits) (old : Session) (pass : Caller Event Limits) (snap : Snapshot) (v : ℕ) (new : Session) → (w : OpenTransaction) × IsOpen old w
-    → (t : Turn l old.pass pass (event_of old.number actions.Head (replies.Version snap.number))) × (snap ≡ snapshot_of t.before) → v ≡ snap.number → new ≡ record old { pass = pass; head = Some snap } → Heads l old new v
-heads_now l old pass snap v new is t ev en =
+pub heads_now : (store : SharedStore) (old : Session) (pass : Caller Event RecordedStore) (snap : Snapshot) (v : ℕ) (new : Session) → (w : OpenTransaction) × IsOpen old w
+    → (t : Turn store old.pass pass (event_of old.number actions.Head (replies.Version snap.number))) × (snap ≡ snapshot_of t.before) → v ≡ snap.number → new ≡ record old { pass = pass; head = Some snap } → Heads store old new v
+heads_now store old pass snap v new is t ev en =
     let now : Session = record old { pass = pass; head = Some snap } in
     let same : now ≡ record old { pass = pass; head = Some (snapshot_of t.0.before) } = ap (λ (n : Snapshot). let s : Session = record old { pass = pass; head = Some n } in s) t.1 in
-    subst (λ (s : Session). Heads l old s v) (sym en) (subst (λ (k : ℕ). Heads l old now k) (sym ev) (is, (t.0, same)))
+    subst (λ (s : Session). Heads store old s v) (sym en) (subst (λ (k : ℕ). Heads store old now k) (sym ev) (is, (t.0, same)))
 
 -- the turn of a commit, by what the core answered
-pub turn_commits : (l : Limits) (old new : Caller Event Limits) (i : ℕ) (x : Transaction) (r : Reply) (a : Committed) (t : Turn l old new (event_of i (actions.Commit x) r)) → IsAnswer t.before x r a → TurnCommits l old new i x a
-turn_commits l old new i x r (ReadOnly v) t h = absurd h
-turn_commits l old new i x r (Done n why) t h = subst (λ (s : Reply). Turn l old new (event_of i (actions.Commit x) s)) h t
-turn_commits l old new i x r (Conflict n y) t h = subst (λ (s : Reply). Turn l old new (event_of i (actions.Commit x) s)) h t
-turn_commits l old new i x r (FullTriples n) t h = subst (λ (s : Reply). Turn l old new (event_of i (actions.Commit x) s)) h t
-turn_commits l old new i x r (Refused rows why shapes) t h =
-    subst (λ (s : Reply). (u : Turn l old new (event_of i (actions.Commit x) s)) × (shapes ≡ shapes_under u.before.shapes x.staged) × Listing (after u.before.graph x.net) shapes rows) h.0 (t, h.1, h.2)
+pub turn_commits : (store : SharedStore) (old new : Caller Event RecordedStore) (i : ℕ) (x : Transaction) (r : Reply) (a : Committed) (t : Turn store old new (event_of i (actions.Commit x) r)) → IsAnswer t.before x r a → TurnCommits store old new i x a
+turn_commits store old new i x r (ReadOnly v) t h = absurd h
+turn_commits store old new i x r (Done n why) t h = subst (λ (s : Reply). Turn store old new (event_of i (actions.Commit x) s)) h t
+turn_commits store old new i x r (Conflict n y) t h = subst (λ (s : Reply). Turn store old new (event_of i (actions.Commit x) s)) h t
+turn_commits store old new i x r (FullTriples n) t h = subst (λ (s : Reply). Turn store old new (event_of i (actions.Commit x) s)) h t
+turn_commits store old new i x r (Refused rows why shapes) t h =
+    subst (λ (s : Reply). (u : Turn store old new (event_of i (actions.Commit x) s)) × (shapes ≡ shapes_under u.before.shapes x.staged) × Listing (after u.before.graph x.net) shapes rows) h.0 (t, h.1, h.2)
 
 -- and how many evaluations it counted
-pub turn_counts : (l : Limits) (old new : Caller Event Limits) (i : ℕ) (x : Transaction) (r : Reply) (a : Committed) (counted now : ℕ) (t : Turn l old new (event_of i (actions.Commit x) r)) → IsAnswer t.before x r a → CountsFor a t.before x counted now → TurnCounts l old new i x counted now a
-turn_counts l old new i x r (ReadOnly v) counted now t h k = k
-turn_counts l old new i x r (Done n why) counted now t h k = subst (λ (s : Reply). (u : Turn l old new (event_of i (actions.Commit x) s)) × StepsBy why u.before.graph u.before.shapes x counted now) h (t, k)
-turn_counts l old new i x r (Conflict n y) counted now t h k = k
-turn_counts l old new i x r (FullTriples n) counted now t h k = k
-turn_counts l old new i x r (Refused rows why shapes) counted now t h k = subst (λ (s : Reply). (u : Turn l old new (event_of i (actions.Commit x) s)) × StepsBy why u.before.graph u.before.shapes x counted now) h.0 (t, k)
+pub turn_counts : (store : SharedStore) (old new : Caller Event RecordedStore) (i : ℕ) (x : Transaction) (r : Reply) (a : Committed) (counted now : ℕ) (t : Turn store old new (event_of i (actions.Commit x) r)) → IsAnswer t.before x r a → CountsFor a t.before x counted now → TurnCounts store old new i x counted now a
+turn_counts store old new i x r (ReadOnly v) counted now t h k = k
+turn_counts store old new i x r (Done n why) counted now t h k = subst (λ (s : Reply). (u : Turn store old new (event_of i (actions.Commit x) s)) × StepsBy why u.before.graph u.before.shapes x counted now) h (t, k)
+turn_counts store old new i x r (Conflict n y) counted now t h k = k
+turn_counts store old new i x r (FullTriples n) counted now t h k = k
+turn_counts store old new i x r (Refused rows why shapes) counted now t h k = subst (λ (s : Reply). (u : Turn store old new (event_of i (actions.Commit x) s)) × StepsBy why u.before.graph u.before.shapes x counted now) h.0 (t, k)
 
 -- a commit that only reads counts none, nor does that of no transaction
-pub reading_counts : (l : Limits) (old new : Session) (n : ℕ) (r : Result Committed CommitFault) → EndsReading old new r → CommitCounts l old new n n r
-reading_counts l old new n (Ok a) h = (h.0, h.1, subst (λ (b : Committed). TurnCounts l old.pass new.pass old.number (committing h.0) n n b) (sym h.2) refl)
-reading_counts l old new n (Err fault) h = subst (λ (f : CommitFault). CommitCounts l old new n n (Err f)) (sym h.1) refl
+pub reading_counts : (store : SharedStore) (old new : Session) (n : ℕ) (r : Result Committed CommitFault) → EndsReading old new r → CommitCounts store old new n n r
+reading_counts store old new n (Ok a) h = (h.0, h.1, subst (λ (b : Committed). TurnCounts store old.pass new.pass old.number (committing h.0) n n b) (sym h.2) refl)
+reading_counts store old new n (Err fault) h = subst (λ (f : CommitFault). CommitCounts store old new n n (Err f)) (sym h.1) refl
 
-answers_now : (l : Limits) (old : Session) (pass : Caller Event Limits) (w : OpenTransaction) (a : Committed) (new : Session) → new.pass ≡ pass → HasChange w.transaction.net w.transaction.staged → TurnCommits l old.pass pass old.number (committing w) a → AnswersCommit l old new w a
-answers_now l old pass w (ReadOnly v) new e h t = absurd t
-answers_now l old pass w (Done n why) new e h t = (h, subst (λ (c : Caller Event Limits). TurnCommits l old.pass c old.number (committing w) (Done n why)) (sym e) t)
-answers_now l old pass w (Conflict n x) new e h t = (h, subst (λ (c : Caller Event Limits). TurnCommits l old.pass c old.number (committing w) (Conflict n x)) (sym e) t)
-answers_now l old pass w (FullTriples n) new e h t = (h, subst (λ (c : Caller Event Limits). TurnCommits l old.pass c old.number (committing w) (FullTriples n)) (sym e) t)
-answers_now l old pass w (Refused rows why shapes) new e h t = (h, subst (λ (c : Caller Event Limits). TurnCommits l old.pass c old.number (committing w) (Refused rows why shapes)) (sym e) t)
+answers_now : (store : SharedStore) (old : Session) (pass : Caller Event RecordedStore) (w : OpenTransaction) (a : Committed) (new : Session) → new.pass ≡ pass → HasChange w.transaction.net w.transaction.staged → TurnCommits store old.pass pass old.number (committing w) a → AnswersCommit store old new w a
+answers_now store old pass w (ReadOnly v) new e h t = absurd t
+answers_now store old pass w (Done n why) new e h t = (h, subst (λ (c : Caller Event RecordedStore). TurnCommits store old.pass c old.number (committing w) (Done n why)) (sym e) t)
+answers_now store old pass w (Conflict n x) new e h t = (h, subst (λ (c : Caller Event RecordedStore). TurnCommits store old.pass c old.number (committing w) (Conflict n x)) (sym e) t)
+answers_now store old pass w (FullTriples n) new e h t = (h, subst (λ (c : Caller Event RecordedStore). TurnCommits store old.pass c old.number (committing w) (FullTriples n)) (sym e) t)
+answers_now store old pass w (Refused rows why shapes) new e h t = (h, subst (λ (c : Caller Event RecordedStore). TurnCommits store old.pass c old.number (committing w) (Refused rows why shapes)) (sym e) t)
 
-pub commits_now : (l : Limits) (old : Session) (pass : Caller Event Limits) (w : OpenTransaction) (a : Committed) (new : Session) → IsOpen old w → HasChange w.transaction.net w.transaction.staged → TurnCommits l old.pass pass old.number (committing w) a
-    → new ≡ record old { pass = pass; current = None; head = None } → Commits l old new a
-commits_now l old pass w a new o h t e =
-    (w, o, answers_now l old pass w a new (ap (λ s. s.pass) e) h t, e ∙ ap (λ (c : Caller Event Limits). let s : Session = record old { pass = c; current = None; head = None } in s) (sym (ap (λ s. s.pass) e)))
+pub commits_now : (store : SharedStore) (old : Session) (pass : Caller Event RecordedStore) (w : OpenTransaction) (a : Committed) (new : Session) → IsOpen old w → HasChange w.transaction.net w.transaction.staged → TurnCommits store old.pass pass old.number (committing w) a
+    → new ≡ record old { pass = pass; current = None; head = None } → Commits store old new a
+commits_now store old pass w a new o h t e =
+    (w, o, answers_now store old pass w a new (ap (λ s. s.pass) e) h t, e ∙ ap (λ (c : Caller Event RecordedStore). let s : Session = record old { pass = c; current = None; head = None } in s) (sym (ap (λ s. s.pass) e)))
 
 -- once the terms of a block were named, it is staged
-pub stages_now : (l : Limits) (old mid new : Session) (ts : List Triple) (f : OpenTransaction → OpenTransaction) → NamesFor l old mid ts → ((w : OpenTransaction) → mid.current ≡ Some w → new ≡ record mid { current = Some (f w); head = None }) → Stages l old new ts f
-stages_now l old mid new ts f n h =
+pub stages_now : (store : SharedStore) (old mid new : Session) (kind : NameKind) (ts : List Triple) (f : OpenTransaction → OpenTransaction) → NamesFor store old mid kind ts → ((w : OpenTransaction) → mid.current ≡ Some w → new ≡ record mid { current = Some (f w); head = None }) → Stages store old new kind ts f
+stages_now store old mid new kind ts f n h =
     let w = n.0.0 in
     let e = h w (ap (λ s. s.current) n.2 ∙ n.0.1) in
     let same : new.pass ≡ mid.pass = ap (λ s. s.pass) e in
-    let turn : Turn l old.pass new.pass (event_of old.number (actions.Name (parts_of ts)) replies.Named) = subst (λ (c : Caller Event Limits). Turn l old.pass c (event_of old.number (actions.Name (parts_of ts)) replies.Named)) (sym same) n.1 in
+    let turn : Turn store old.pass new.pass (naming_of old.number kind ts replies.Named) = subst (λ (c : Caller Event RecordedStore). Turn store old.pass c (naming_of old.number kind ts replies.Named)) (sym same) n.1 in
     let one : new ≡ record old { pass = mid.pass; current = Some (f w); head = None } = e ∙ ap (λ (s : Session). let t : Session = record s { current = Some (f w); head = None } in t) n.2 in
-    (w, n.0.1, turn, one ∙ ap (λ (c : Caller Event Limits). let t : Session = record old { pass = c; current = Some (f w); head = None } in t) (sym same))
+    (w, n.0.1, turn, one ∙ ap (λ (c : Caller Event RecordedStore). let t : Session = record old { pass = c; current = Some (f w); head = None } in t) (sym same))
 
-not_staged : (l : Limits) (old mid new : Session) (ts : List Triple) → NamesFor l old mid ts → new ≡ mid → StagesNot stages.Memory l old new ts
-not_staged l old mid new ts n e = subst (λ (s : Session). StagesNot stages.Memory l old s ts) (sym e) (n.0, inr n.1, n.2)
+not_staged : (store : SharedStore) (old mid new : Session) (kind : NameKind) (ts : List Triple) → NamesFor store old mid kind ts → new ≡ mid → NamesForNot attaches.Memory store old new kind ts
+not_staged store old mid new kind ts n e = subst (λ (s : Session). NamesForNot attaches.Memory store old s kind ts) (sym e) (n.0, inr n.1, n.2)
 
-pub stage_now : {U : Type 0} (l : Limits) (old mid new : Session) (ts : List Triple) (f : OpenTransaction → OpenTransaction) (r : Result U StageFault) → NamesFor l old mid ts
-    → MatchResult r (λ _. (w : OpenTransaction) → mid.current ≡ Some w → new ≡ record mid { current = Some (f w); head = None }) (λ fault. (fault ≡ stages.Memory) × (new ≡ mid)) → MatchResult r (λ _. Stages l old new ts f) (λ fault. StagesNot fault l old new ts)
-stage_now {U} l old mid new ts f (Ok u) n h = stages_now l old mid new ts f n h
-stage_now {U} l old mid new ts f (Err fault) n h = subst (λ (x : StageFault). StagesNot x l old new ts) (sym h.0) (not_staged l old mid new ts n h.1)
+pub stage_now : {U : Type 0} (store : SharedStore) (old mid new : Session) (kind : NameKind) (ts : List Triple) (f : OpenTransaction → OpenTransaction) (r : Result U AttachFault) → NamesFor store old mid kind ts
+    → MatchResult r (λ _. (w : OpenTransaction) → mid.current ≡ Some w → new ≡ record mid { current = Some (f w); head = None }) (λ fault. (fault ≡ attaches.Memory) × (new ≡ mid)) → MatchResult r (λ _. Stages store old new kind ts f) (λ fault. NamesForNot fault store old new kind ts)
+stage_now {U} store old mid new kind ts f (Ok u) n h = stages_now store old mid new kind ts f n h
+stage_now {U} store old mid new kind ts f (Err fault) n h = subst (λ (x : AttachFault). NamesForNot x store old new kind ts) (sym h.0) (not_staged store old mid new kind ts n h.1)
 
-pub stage_session : {U : Type 0} (store : SharedStore) (old new : Session) (k : ChangeKind) (ts : List Triple) (r : Result U StageFault) → IsSession store old
-    → MatchResult r (λ _. Stages store.limits old new ts (λ w. with_changes w (changes_of k ts))) (λ fault. StagesNot fault store.limits old new ts) → IsSession store new
-stage_session {U} store old new k ts (Ok u) is h = stages_session store old new k ts is h
-stage_session {U} store old new k ts (Err fault) is h = stages_not_session store old new ts fault is h
+pub stage_session : {U : Type 0} (store : SharedStore) (old new : Session) (kind : NameKind) (k : ChangeKind) (ts : List Triple) (r : Result U AttachFault) → IsSession store old
+    → MatchResult r (λ _. Stages store old new kind ts (λ w. with_changes w (changes_of k ts))) (λ fault. NamesForNot fault store old new kind ts) → IsSession store new
+stage_session {U} store old new kind k ts (Ok u) is h = stages_session store old new kind k ts is h
+stage_session {U} store old new kind k ts (Err fault) is h = not_staged_session store old new kind ts fault is h
 
 -- a transaction is open once the terms were named
-pub named_open : (l : Limits) (old mid : Session) (ts : List Triple) → NamesFor l old mid ts → mid.current ≢ None
-named_open l old mid ts n none = let z : Some n.0.0 ≡ None = sym (ap (λ s. s.current) n.2 ∙ n.0.1) ∙ none in cc
+pub named_open : (store : SharedStore) (old mid : Session) (kind : NameKind) (ts : List Triple) → NamesFor store old mid kind ts → mid.current ≢ None
+named_open store old mid kind ts n none = let z : Some n.0.0 ≡ None = sym (ap (λ s. s.current) n.2 ∙ n.0.1) ∙ none in cc
 
-pub names_full : (l : Limits) (old new : Caller Event Limits) (i : ℕ) (ts : List Term) (f : NameFault) (n : ℕ) → f ≡ names.Full n → NamesNot f l old new i ts → Turn l old new (event_of i (actions.Name ts) (replies.Full n))
-names_full l old new i ts f n e h = subst (λ (x : NameFault). NamesNot x l old new i ts) e h
+module _ (store : SharedStore) (old new : Caller Event RecordedStore) (i : ℕ) (kind : NameKind) (ts : List Term) (f : NamingFault) where
+  pub names_unknown : (node : Term) → f ≡ names.Unknown node → NamesNot f store old new i kind ts → Turn store old new (event_of i (actions.Name kind ts) (replies.Unknown node))
+  names_unknown node e h = subst (λ (x : NamingFault). NamesNot x store old new i kind ts) e h
 
-pub names_failed : (l : Limits) (old new : Caller Event Limits) (i : ℕ) (ts : List Term) (f : NameFault) → f ≡ names.Memory → NamesNot f l old new i ts → Fails l old new i
-names_failed l old new i ts f e h = subst (λ (x : NameFault). NamesNot x l old new i ts) e h
+  pub names_full : (n : ℕ) → f ≡ names.Full n → NamesNot f store old new i kind ts → Turn store old new (event_of i (actions.Name kind ts) (replies.Full n))
+  names_full n e h = subst (λ (x : NamingFault). NamesNot x store old new i kind ts) e h
+
+  pub names_failed : f ≡ names.Memory → NamesNot f store old new i kind ts → Fails store old new i
+  names_failed e h = subst (λ (x : NamingFault). NamesNot x store old new i kind ts) e h
+
+-- a block whose blank nodes need not have been given out is never refused for one of them
+none_unknown : (store : SharedStore) (old new : Session) (kind : NameKind) (ts : List Triple) → kind ≢ kinds.Attach → (node : Term) → NamesForNot (attaches.Unknown node) store old new kind ts → ⊥
+none_unknown store old new kind ts other node h = other (unknown_attaches store.limits h.1.before h.1.after old.number kind (parts_of ts) node h.1.step)
+
+pub never_unknown : {U : Type 0} (store : SharedStore) (old new : Session) (kind : NameKind) (ts : List Triple) (P : U → Type 0) (r : Result U AttachFault) → kind ≢ kinds.Attach → MatchResult r P (λ fault. NamesForNot fault store old new kind ts)
+    → (node : Term) → r ≢ Err (attaches.Unknown node)
+never_unknown {U} store old new kind ts P r other h node e = none_unknown store old new kind ts other node (at_err P (λ fault. NamesForNot fault store old new kind ts) r (attaches.Unknown node) e h)
+
+-- what is told of such a block
+pub staged_answer : {U : Type 0} (store : SharedStore) (old new : Session) (kind : NameKind) (ts : List Triple) (P : U → Type 0) (r : Result U AttachFault) (q : Result U StageFault) → r ≡ attach_answer q → MatchResult r P (λ fault. NamesForNot fault store old new kind ts)
+    → MatchResult q P (λ fault. StagesNot fault store old new kind ts)
+staged_answer {U} store old new kind ts P r (Ok u) e h = at_ok P (λ fault. NamesForNot fault store old new kind ts) r u e h
+staged_answer {U} store old new kind ts P r (Err f) e h = at_err P (λ fault. NamesForNot fault store old new kind ts) r (attach_fault f) e h
+
+-- A block is attached where each of its blank nodes was given out. These are three cases of the plain store's step.
+attached_by : (nodes : List Term) (l : Limits) (s t : State) (ts : List Term) (r : Reply) → (r ≡ replies.Named) ⊎ ((n : ℕ) × (r ≡ replies.Full n)) → NamesUnless nodes l s kinds.Attach ts r t → nodes ≡ []
+attached_by [] l s t ts r is h = refl
+attached_by (x ∷ more) l s t ts r is h = absurd (⊎_elim
+    (λ (e : r ≡ replies.Named). let z : replies.Named ≡ replies.Unknown x = sym e ∙ h.0 in let no : ⊥ = cc in no)
+    (λ (e : (n : ℕ) × (r ≡ replies.Full n)). let z : replies.Full e.0 ≡ replies.Unknown x = sym e.1 ∙ h.0 in let no : ⊥ = cc in no) is)
+
+unknown_by_step : (nodes : List Term) (l : Limits) (s t : State) (ts : List Term) (node : Term) → NamesUnless nodes l s kinds.Attach ts (replies.Unknown node) t → (more : List Term) × (nodes ≡ node ∷ more)
+unknown_by_step [] l s t ts node h = absurd (limited (nat_lt (l.terms + 2) (length (named_with s.named ts))) h)
+  where
+    limited : (b : Bool) → MatchBool b (Replies (replies.Full (length (named_with s.named ts) - 2)) s (replies.Unknown node) t) (Replies replies.Named (with_named s kinds.Attach ts) (replies.Unknown node) t) → ⊥
+    limited true h = let z = h.0 in cc
+    limited false h = let z = h.0 in cc
+unknown_by_step (x ∷ more) l s t ts node h = (more, ap (λ y. y ∷ more) (let e : replies.Unknown node ≡ replies.Unknown x = h.0 in let same : x ≡ node = cc in same))
+
+pub attaches_now : (store : SharedStore) (old new : Session) (ts : List Triple) → Stages store old new kinds.Attach ts (λ w. with_changes w (additions ts)) → Attaches store old new ts
+attaches_now store old new ts b =
+    let t = b.2 in
+    (b.0, b.1, (t, attached_by (unknown_at t.before ts) store.limits t.before t.after (parts_of ts) replies.Named (inl refl) t.step.1), b.3)
+
+pub attaches_not : (store : SharedStore) (old new : Session) (ts : List Triple) (f : AttachFault) → NamesForNot f store old new kinds.Attach ts → AttachesNot f store old new ts
+attaches_not store old new ts attaches.NoTransaction b = b
+attaches_not store old new ts (attaches.Unknown node) b =
+    let t = b.1 in
+    (b.0, (t, unknown_by_step (unknown_at t.before ts) store.limits t.before t.after (parts_of ts) node t.step.1, after_unnamed store.limits t.before t.after old.number kinds.Attach (parts_of ts) (replies.Unknown node) (λ e. cc) t.step), b.2)
+attaches_not store old new ts (attaches.Full n) b =
+    let t = b.1 in (
+      b.0,
+      (
+        t,
+        attached_by (unknown_at t.before ts) store.limits t.before t.after (parts_of ts) (replies.Full n) (inr (n, refl)) t.step.1,
+        after_unnamed store.limits t.before t.after old.number kinds.Attach (parts_of ts) (replies.Full n) (λ e. cc) t.step,
+      ),
+      b.2,
+    )
+attaches_not store old new ts attaches.Memory b = b
+
+pub attach_answered : {U : Type 0} (store : SharedStore) (old new : Session) (ts : List Triple) (r : Result U AttachFault)
+    → MatchResult r (λ _. Stages store old new kinds.Attach ts (λ w. with_changes w (additions ts))) (λ fault. NamesForNot fault store old new kinds.Attach ts) → MatchResult r (λ _. Attaches store old new ts) (λ fault. AttachesNot fault store old new ts)
+attach_answered {U} store old new ts (Ok u) h = attaches_now store old new ts h
+attach_answered {U} store old new ts (Err f) h = attaches_not store old new ts f h

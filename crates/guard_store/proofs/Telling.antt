@@ -4,33 +4,32 @@ use Rattle.turn_lock.specs.History.{has_number, reserved, under}
 use Rattle.turn_lock.specs.Callers.{Caller}
 use Rattle.turn_lock.proofs.Added.{reserved_own, under_own}
 use Rattle.turn_lock.proofs.Numbers.{has_among}
-use Rattle.store_model.specs.declared.event.Limits.{Limits}
 use Rattle.store_model.specs.declared.event.Event.{Event}
-use Rattle.store_model.specs.Store.{Replays, empty_store}
+use Rattle.store_model.specs.Store.{RecordedStore, Replays}
 use Rattle.guard_store.specs.Fronts.{session_of}
 use Rattle.guard_store.specs.Laws.{AddsOne, TurnsAddOne, OpeningsAddOne, MeetingsKeepFronts}
 use Rattle.guard_store.proofs.Turning.{front_is, opening_reserved}
 use Rattle.guard_store.proofs.Opening.{open_event, number_made}
 
 pub turns_add_one : TurnsAddOne
-turns_add_one l old new e t =
+turns_add_one store old new e t =
     let b = t.others.begins in record {
       others = b.0;
-      front = front_is l old new e t ∙ ap (λ (x : List Event). x ++ e ∷ []) (sym b.1);
+      front = front_is store old new e t ∙ ap (λ (x : List Event). x ++ e ∷ []) (sym b.1);
       before = t.before;
-      replays = subst (λ (x : List Event). Replays l empty_store x t.before) (sym b.1) t.replays;
+      replays = subst (λ (x : List Event). Replays store.limits store.start x t.before) (sym b.1) t.replays;
       after = t.after;
       step = t.step;
-      own = λ held. ap (under session_of e.session) (front_is l old new e t) ∙ (under_own session_of t.seen e ∙ ap (λ (x : List Event). x ++ e ∷ []) (t.others.own e.session held));
+      own = λ held. ap (under session_of e.session) (front_is store old new e t) ∙ (under_own session_of t.seen e ∙ ap (λ (x : List Event). x ++ e ∷ []) (t.others.own e.session held));
     }
 
 pub openings_add_one : OpeningsAddOne
-openings_add_one l old kept new i first o =
+openings_add_one store old kept new i first o =
     let t = o.turn in
     let e = open_event i in
-    let one = turns_add_one l old o.mid e t in
+    let one = turns_add_one store old o.mid e t in
     let same : kept.known.front ≡ o.mid.known.front = ap (λ c. c.known.front) o.kept_is in
-    let adds : AddsOne l old kept e = record {
+    let adds : AddsOne store old kept e = record {
       others = one.others;
       front = same ∙ one.front;
       before = one.before;
@@ -41,9 +40,9 @@ openings_add_one l old kept new i first o =
     } in record {
       adds = adds;
       same = ap (λ c. c.known.front) o.new_is ∙ sym same;
-      reserved = ap (reserved session_of false) (same ∙ front_is l old o.mid e t)
-          ∙ (reserved_own session_of false t.seen e (opening_reserved l t.seen t.before t.after e t.replays t.step refl) ∙ ap (λ (x : List Event). x ++ e ∷ []) (t.others.first first));
-      own = subst (λ (c : Caller Event Limits). has_number c.known.numbers i ≡ true) (sym o.new_is) (has_among i o.mid.known.numbers (number_made l old o.mid i t));
+      reserved = ap (reserved session_of false) (same ∙ front_is store old o.mid e t)
+          ∙ (reserved_own session_of false t.seen e (opening_reserved store.limits store.start t.seen t.before t.after e t.replays t.step refl) ∙ ap (λ (x : List Event). x ++ e ∷ []) (t.others.first first));
+      own = subst (λ (c : Caller Event RecordedStore). has_number c.known.numbers i ≡ true) (sym o.new_is) (has_among i o.mid.known.numbers (number_made store old o.mid i t));
     }
 
 pub meetings_keep_fronts : MeetingsKeepFronts

@@ -1,7 +1,7 @@
 -- What a turn tells the caller, and what the keeper has at the end.
 use Rattle.std.proofs.Common.{◌≡◌, ◌≢◌, ℕ, ◌+◌, ◌<◌, ◌==◌, Bool, true, false, cond, List, [], ◌∷◌, ◌++◌, length, Option, Some, None, refl, sym, ap, ◌∙◌, subst, inl, inr, ⊎_elim, eq-eqb, ne_eqb, append_assoc, length-append, arith}
 use mathlib.Core.List.{IsPrefix}
-use Rattle.turn_lock.specs.History.{under, is_empty, is_reserved, reserved, MayAdd, known_after, has_number}
+use Rattle.turn_lock.specs.History.{under, is_empty, is_reserved, reserved, MayAdd, OthersAdded, known_after, has_number}
 use Rattle.turn_lock.specs.Meaning.{ComesFrom}
 use Rattle.turn_lock.specs.Callers.{Caller}
 use Rattle.turn_lock.proofs.Added.{reserved_own, reserved_other, reserved_grows}
@@ -9,20 +9,21 @@ use Rattle.turn_lock.proofs.Prefixes.{prefix_length}
 use Rattle.turn_lock.proofs.Numbers.{has_later}
 use Rattle.store_model.specs.declared.event.Limits.{Limits}
 use Rattle.store_model.specs.declared.event.Event.{Event}
+use Rattle.store_model.specs.declared.event.NameKind.{NameKind}
 use Rattle.store_model.specs.declared.event.Action.TheVariants as actions
 use Rattle.store_model.specs.declared.event.Reply.TheVariants as replies
 use Rattle.rdf_model.specs.declared.term.Term.{Term}
-use Rattle.commit_core.specs.declared.store.NameFault.{NameFault}
-use Rattle.commit_core.specs.declared.store.NameFault.TheVariants as names
+use Rattle.commit_core.specs.declared.naming.NamingFault.{NamingFault}
+use Rattle.commit_core.specs.declared.naming.NamingFault.TheVariants as names
 use Rattle.commit_core.specs.declared.store.SessionFault.{SessionFault}
 use Rattle.commit_core.specs.declared.store.SessionFault.TheVariants as sessions
 use Rattle.commit_core.specs.Faults.{NamesNone, OpensNone}
-use Rattle.store_model.specs.Store.{State, RecordedStore, Step, Replays, TakesStep, empty_store, IsOpened}
+use Rattle.store_model.specs.Store.{State, RecordedStore, Step, Replays, TakesStep, IsOpened}
 use Rattle.store_model.proofs.Histories.{Replays-push}
 use Rattle.thread_model.specs.Following.{is_opening}
 use Rattle.thread_model.proofs.Placing.{within, opening, grows, grows_all}
 use Rattle.session_transaction.proofs.Growing.{More}
-use Rattle.guard_store.specs.Fronts.{SharedStore, session_of, turned_pass, Turn, At, Entered, MayLeave}
+use Rattle.guard_store.specs.Fronts.{SharedStore, at_start, opening_of, session_of, turned_pass, Turn, At, Entered, MayLeave}
 use Rattle.guard_store.specs.Callers.{IsCaller}
 use Rattle.guard_store.proofs.Growing.{still_at}
 
@@ -36,19 +37,19 @@ fresh l s t (e ∷ es) j h lt =
     ap (λ b. cond b (e ∷ under session_of j es) (under session_of j es)) (ne_eqb e.session j other) ∙ fresh l h.0 t es j h.2 lt
 
 -- an opening is an entry that the first caller alone makes
-pub opening_reserved : (l : Limits) (f : List Event) (s m : State) (e : Event) → Replays l empty_store f s → Step l s e m → is_opening e.action ≡ true → is_reserved session_of false f e ≡ true
-opening_reserved l f s m e h step o = ⊎_elim
+pub opening_reserved : (l : Limits) (start : State) (f : List Event) (s m : State) (e : Event) → Replays l start f s → Step l s e m → is_opening e.action ≡ true → is_reserved session_of false f e ≡ true
+opening_reserved l start f s m e h step o = ⊎_elim
     (λ (x : (e.session ≡ s.opened + 1) × (m.opened ≡ s.opened + 1)).
     let some : e.session ≢ 0 = λ zero. omega (arith, zero, x.0) in
-    let none : under session_of e.session f ≡ [] = fresh l empty_store s f e.session h (omega (arith, x.0)) in
+    let none : under session_of e.session f ≡ [] = fresh l start s f e.session h (omega (arith, x.0)) in
     ap (λ b. cond b true (is_empty (under session_of e.session f))) (ne_eqb e.session 0 some) ∙ ap is_empty none)
     (λ (x : (e.session ≡ 0) × (m.opened ≡ s.opened)). ap (λ b. cond b true (is_empty (under session_of e.session f))) (eq-eqb e.session 0 x.0))
     (opening l s m e.session e.action e.reply o step).1
 
 -- what others add opens no session
-stays_by : (l : Limits) (f : List Event) (s m : State) (e : Event) (b : Bool) → is_opening e.action ≡ b → is_reserved session_of false f e ≡ false → Replays l empty_store f s → Step l s e m → m.opened ≡ s.opened
-stays_by l f s m e true o un h step = let is = opening_reserved l f s m e h step o in absurd (let z : true ≡ false = sym is ∙ un in cc)
-stays_by l f s m e false o un h step = (within l s m e.session e.action e.reply o step).same
+stays_by : (l : Limits) (start : State) (f : List Event) (s m : State) (e : Event) (b : Bool) → is_opening e.action ≡ b → is_reserved session_of false f e ≡ false → Replays l start f s → Step l s e m → m.opened ≡ s.opened
+stays_by l start f s m e true o un h step = let is = opening_reserved l start f s m e h step o in absurd (let z : true ≡ false = sym is ∙ un in cc)
+stays_by l start f s m e false o un h step = (within l s m e.session e.action e.reply o step).same
 
 unreserved : (f rest : List Event) (e : Event) (b : Bool) → is_reserved session_of false f e ≡ b → reserved session_of false (f ++ e ∷ rest) ≡ reserved session_of false f → b ≡ false
 unreserved f rest e true is same =
@@ -58,33 +59,50 @@ unreserved f rest e true is same =
     absurd (omega (arith, prefix_length _ _ on, ap length own, length-append (reserved session_of false f) (e ∷ []), ap length same))
 unreserved f rest e false is same = refl
 
-pub opened_stays : (l : Limits) (f rest : List Event) (s t : State) → Replays l empty_store f s → Replays l s rest t → reserved session_of false (f ++ rest) ≡ reserved session_of false f → t.opened ≡ s.opened
-opened_stays l f [] s t h r same = ap (λ (z : State). z.opened) r
-opened_stays l f (e ∷ rest) s t h r same =
+pub opened_stays : (l : Limits) (start : State) (f rest : List Event) (s t : State) → Replays l start f s → Replays l s rest t → reserved session_of false (f ++ rest) ≡ reserved session_of false f → t.opened ≡ s.opened
+opened_stays l start f [] s t h r same = ap (λ (z : State). z.opened) r
+opened_stays l start f (e ∷ rest) s t h r same =
     let un = unreserved f rest e (is_reserved session_of false f e) refl same in
     let on : reserved session_of false ((f ++ e ∷ []) ++ rest) ≡ reserved session_of false (f ++ e ∷ []) =
     ap (reserved session_of false) (append_assoc f (e ∷ []) rest) ∙ (same ∙ sym (reserved_other session_of false f e un)) in
-    opened_stays l (f ++ e ∷ []) rest r.0 t (Replays-push l empty_store f s r.0 e h r.1) r.2 on ∙ stays_by l f s r.0 e (is_opening e.action) refl un h r.1
+    opened_stays l start (f ++ e ∷ []) rest r.0 t (Replays-push l start f s r.0 e h r.1) r.2 on ∙ stays_by l start f s r.0 e (is_opening e.action) refl un h r.1
 
--- the limits are those of the start
-pub limits_are : (l now : Limits) (o : Option Limits) → o ≡ Some l → ComesFrom (λ old new. new ≡ old) o now → now ≡ l
-limits_are l now None e h = absurd h
-limits_are l now (Some x) e h = h ∙ cc e
+-- the core that was found begins as the callers do
+opens_as : (o : Option RecordedStore) (first now : RecordedStore) → o ≡ Some first → ComesFrom (λ old new. new ≡ old) o now → now ≡ first
+opens_as None first now e h = absurd h
+opens_as (Some x) first now e h = h ∙ cc e
+
+pub enters : (store : SharedStore) (pass held : Caller Event RecordedStore) (core : RecordedStore) → pass.opening ≡ Some (opening_of store) → held ≡ record pass { known = record pass.known { front = core.history } } → OthersAdded session_of false pass.known core.history
+    → ComesFrom (λ old new. new ≡ old) pass.opening (at_start core) → Replays core.limits core.start core.history core.state → Entered store pass held core
+enters store pass held core o h others comes r =
+    let same = opens_as pass.opening (opening_of store) (at_start core) o comes in record {
+      opening = o;
+      held_is = h;
+      others = others;
+      limits = ap (λ (c : RecordedStore). c.limits) same;
+      start = ap (λ (c : RecordedStore). c.start) same;
+      replays = r;
+    }
+
+-- the history that was found, from the store's start
+pub entered_replays : (store : SharedStore) (pass held : Caller Event RecordedStore) (core : RecordedStore) → Entered store pass held core → Replays store.limits store.start core.history core.state
+entered_replays store pass held core n =
+    subst (λ (s : State). Replays store.limits s core.history core.state) n.start (subst (λ (x : Limits). Replays x core.start core.history core.state) n.limits n.replays)
 
 -- a session's own entry may be added
-pub may_own : (l : Limits) (pass held : Caller Event Limits) (core next : RecordedStore) (e : Event) → has_number pass.known.numbers e.session ≡ true → Entered l pass held core → TakesStep core next e → MayLeave l held next
-may_own l pass held core next e own n t = record {
+pub may_own : (store : SharedStore) (pass held : Caller Event RecordedStore) (core next : RecordedStore) (e : Event) → has_number pass.known.numbers e.session ≡ true → Entered store pass held core → TakesStep core next e → MayLeave store held next
+may_own store pass held core next e own n t = record {
   pass = pass;
   core = core;
   event = e;
   entered = n;
   takes = t;
-  may = inl (subst (λ (h : Caller Event Limits). has_number h.known.numbers e.session ≡ true) (sym n.held_is) own);
+  may = inl (subst (λ (h : Caller Event RecordedStore). has_number h.known.numbers e.session ≡ true) (sym n.held_is) own);
 }
 
 -- the first caller's own, one that is reserved
-pub may_first : (l : Limits) (pass held : Caller Event Limits) (core next : RecordedStore) (e : Event) → pass.known.first ≡ true → is_reserved session_of false core.history e ≡ true → Entered l pass held core → TakesStep core next e → MayLeave l held next
-may_first l pass held core next e first is n t = record {
+pub may_first : (store : SharedStore) (pass held : Caller Event RecordedStore) (core next : RecordedStore) (e : Event) → pass.known.first ≡ true → is_reserved session_of false core.history e ≡ true → Entered store pass held core → TakesStep core next e → MayLeave store held next
+may_first store pass held core next e first is n t = record {
   pass = pass;
   core = core;
   event = e;
@@ -93,47 +111,51 @@ may_first l pass held core next e first is n t = record {
   may = inr (inl (ap (λ h. h.known.first) n.held_is ∙ first, ap (λ h. is_reserved session_of false h.known.front e) n.held_is ∙ is));
 }
 
-pub open_reserved : (l : Limits) (pass held : Caller Event Limits) (core next : RecordedStore) (e : Event) → is_opening e.action ≡ true → Entered l pass held core → TakesStep core next e → is_reserved session_of false core.history e ≡ true
-open_reserved l pass held core next e o n t = opening_reserved core.limits core.history core.state next.state e n.replays t.step o
+pub open_reserved : (store : SharedStore) (pass held : Caller Event RecordedStore) (core next : RecordedStore) (e : Event) → is_opening e.action ≡ true → Entered store pass held core → TakesStep core next e → is_reserved session_of false core.history e ≡ true
+open_reserved store pass held core next e o n t = opening_reserved core.limits core.start core.history core.state next.state e n.replays t.step o
 
 -- what `leave` asks
-pub leaves_entry : (l : Limits) (held : Caller Event Limits) (next : RecordedStore) → MayLeave l held next → (x : Event) × (next.history ≡ held.known.front ++ x ∷ []) × MayAdd session_of false held.known x
-leaves_entry l held next m = (m.event, m.takes.history ∙ ap (λ (h : List Event). h ++ m.event ∷ []) (sym (ap (λ h. h.known.front) m.entered.held_is)), m.may)
+pub leaves_entry : (store : SharedStore) (held : Caller Event RecordedStore) (next : RecordedStore) → MayLeave store held next → (x : Event) × (next.history ≡ held.known.front ++ x ∷ []) × MayAdd session_of false held.known x
+leaves_entry store held next m = (m.event, m.takes.history ∙ ap (λ (h : List Event). h ++ m.event ∷ []) (sym (ap (λ h. h.known.front) m.entered.held_is)), m.may)
 
-pub leaves_limits : (l : Limits) (held : Caller Event Limits) (next : RecordedStore) → MayLeave l held next → ComesFrom (λ old new. new ≡ old) held.opening next.limits
-leaves_limits l held next m = subst (λ (o : Option Limits). ComesFrom (λ old new. new ≡ old) o next.limits) (sym (ap (λ h. h.opening) m.entered.held_is ∙ m.entered.opening)) (m.takes.limits ∙ m.entered.limits)
+pub leaves_opening : (store : SharedStore) (held : Caller Event RecordedStore) (next : RecordedStore) → MayLeave store held next → ComesFrom (λ old new. new ≡ old) held.opening (at_start next)
+leaves_opening store held next m =
+    let limits : next.limits ≡ store.limits = m.takes.limits ∙ m.entered.limits in
+    let start : next.start ≡ store.start = m.takes.start ∙ m.entered.start in
+    subst (λ (o : Option RecordedStore). ComesFrom (λ old new. new ≡ old) o (at_start next)) (sym (ap (λ h. h.opening) m.entered.held_is ∙ m.entered.opening)) (rw (limits, start) refl)
 
 -- what `leave` gives
-pub left : (l : Limits) (pass held after : Caller Event Limits) (core next : RecordedStore) (e : Event) → Entered l pass held core → TakesStep core next e
+pub left : (store : SharedStore) (pass held after : Caller Event RecordedStore) (core next : RecordedStore) (e : Event) → Entered store pass held core → TakesStep core next e
     → ((x : Event) → next.history ≡ held.known.front ++ x ∷ [] → after ≡ record held { known = known_after session_of x next.history held.known })
     → after ≡ turned_pass pass core.history e
-left l pass held after core next e n t given =
+left store pass held after core next e n t given =
     let h : next.history ≡ held.known.front ++ e ∷ [] = t.history ∙ ap (λ (h : List Event). h ++ e ∷ []) (sym (ap (λ h. h.known.front) n.held_is)) in
     given e h
-    ∙ (ap (λ (x : Caller Event Limits). record x { known = known_after session_of e next.history x.known }) n.held_is
+    ∙ (ap (λ (x : Caller Event RecordedStore). record x { known = known_after session_of e next.history x.known }) n.held_is
     ∙ ap (λ (x : List Event). record pass { known = known_after session_of e x pass.known }) t.history)
 
 -- the turn that was taken, from the core that was found
-pub turned : (l : Limits) (pass held after : Caller Event Limits) (core next : RecordedStore) (e : Event) → Entered l pass held core → TakesStep core next e → after ≡ turned_pass pass core.history e → Turn l pass after e
-turned l pass held after core next e n t is = record {
+pub turned : (store : SharedStore) (pass held after : Caller Event RecordedStore) (core next : RecordedStore) (e : Event) → Entered store pass held core → TakesStep core next e → after ≡ turned_pass pass core.history e → Turn store pass after e
+turned store pass held after core next e n t is = record {
   seen = core.history;
   others = n.others;
   before = core.state;
-  replays = subst (λ (x : Limits). Replays x empty_store core.history core.state) n.limits n.replays;
+  replays = entered_replays store pass held core n;
   after = next.state;
   step = subst (λ (x : Limits). Step x core.state e next.state) n.limits t.step;
   caller = is;
 }
 
-pub turned_with : (l : Limits) (pass held after : Caller Event Limits) (core next : RecordedStore) (e : Event) (P : State → Type 0) → Entered l pass held core → TakesStep core next e → after ≡ turned_pass pass core.history e
-    → P core.state → (t : Turn l pass after e) × P t.before
+pub turned_with : (store : SharedStore) (pass held after : Caller Event RecordedStore) (core next : RecordedStore) (e : Event) (P : State → Type 0) → Entered store pass held core → TakesStep core next e → after ≡ turned_pass pass core.history e
+    → P core.state → (t : Turn store pass after e) × P t.before
 unfolding turned
-turned_with l pass held after core next e P n t is p = (turned l pass held after core next e n t is, p)
+turned_with store pass held after core next e P n t is p = (turned store pass held after core next e n t is, p)
 
 -- faults that leave the core as it was
-pub named_nothing : (f : NameFault) (old new : RecordedStore) (i : ℕ) (ts : List Term) → f ≡ names.Memory → NamesNone f old new i ts → new ≡ old
-named_nothing (names.Full n) old new i ts e h = cc
-named_nothing names.Memory old new i ts e h = h
+pub named_nothing : (f : NamingFault) (old new : RecordedStore) (i : ℕ) (kind : NameKind) (ts : List Term) → f ≡ names.Memory → NamesNone f old new i kind ts → new ≡ old
+named_nothing (names.Unknown node) old new i kind ts e h = cc
+named_nothing (names.Full n) old new i kind ts e h = cc
+named_nothing names.Memory old new i kind ts e h = h
 
 pub opened_nothing : (f : SessionFault) (old new : RecordedStore) → f ≡ sessions.Memory → OpensNone f old new → new ≡ old
 opened_nothing sessions.SessionsFull old new e h = cc
@@ -149,32 +171,32 @@ keeps_numbers true c n k ns h = h
 keeps_numbers false true n k ns h = h
 keeps_numbers false false n k ns h = has_later ns n k h
 
-pub front_is : (l : Limits) (old new : Caller Event Limits) (e : Event) (t : Turn l old new e) → new.known.front ≡ t.seen ++ e ∷ []
-front_is l old new e t = ap (λ c. c.known.front) t.caller
+pub front_is : (store : SharedStore) (old new : Caller Event RecordedStore) (e : Event) (t : Turn store old new e) → new.known.front ≡ t.seen ++ e ∷ []
+front_is store old new e t = ap (λ c. c.known.front) t.caller
 
 -- a fact that steps keep, after a turn
-pub turned_at : (l : Limits) (old new : Caller Event Limits) (e : Event) (P : State → Type 0) → ((s t : State) → More s t → P s → P t) → Turn l old new e → At l old.known.front P → At l new.known.front P
-turned_at l old new e P keeps t at =
-    let seen : At l t.seen P = subst (λ (x : List Event). At l x P) t.others.begins.1 (still_at l P keeps old.known.front t.others.begins.0 at) in
-    subst (λ (x : List Event). At l x P) (sym (front_is l old new e t)) (still_at l P keeps t.seen (e ∷ []) seen)
+pub turned_at : (store : SharedStore) (old new : Caller Event RecordedStore) (e : Event) (P : State → Type 0) → ((s t : State) → More s t → P s → P t) → Turn store old new e → At store old.known.front P → At store new.known.front P
+turned_at store old new e P keeps t at =
+    let seen : At store t.seen P = subst (λ (x : List Event). At store x P) t.others.begins.1 (still_at store P keeps old.known.front t.others.begins.0 at) in
+    subst (λ (x : List Event). At store x P) (sym (front_is store old new e t)) (still_at store P keeps t.seen (e ∷ []) seen)
 
 pub opened_more : (i : ℕ) (s t : State) → More s t → IsOpened s i → IsOpened t i
 opened_more i s t m o = (o.0, omega (arith, o.1, m.opened))
 
-pub caller_turned : (store : SharedStore) (i : ℕ) (old new : Caller Event Limits) (e : Event) → IsCaller store i old → Turn store.limits old new e → IsCaller store i new
+pub caller_turned : (store : SharedStore) (i : ℕ) (old new : Caller Event RecordedStore) (e : Event) → IsCaller store i old → Turn store old new e → IsCaller store i new
 caller_turned store i old new e c t = record {
   lock = ap (λ c. c.lock) t.caller ∙ c.lock;
   opening = ap (λ c. c.opening) t.caller ∙ c.opening;
   own = subst (λ k. has_number k.known.numbers i ≡ true) (sym t.caller) (keeps_numbers (e.session == 0) (has_number old.known.numbers e.session) e.session i old.known.numbers c.own);
-  opened = turned_at store.limits old new e (λ s. IsOpened s i) (λ s t m o. opened_more i s t m o) t c.opened;
+  opened = turned_at store old new e (λ s. IsOpened s i) (λ s t m o. opened_more i s t m o) t c.opened;
 }
 
 -- what holds in the turn
-pub now_at : (l : Limits) (c held : Caller Event Limits) (core : RecordedStore) (P : State → Type 0) → ((s t : State) → More s t → P s → P t) → Entered l c held core → At l c.known.front P → P core.state
-now_at l c held core P keeps n at =
-    subst (λ (x : List Event). At l x P) n.others.begins.1 (still_at l P keeps c.known.front n.others.begins.0 at)
-    core.state (subst (λ (x : Limits). Replays x empty_store core.history core.state) n.limits n.replays)
+pub now_at : (store : SharedStore) (c held : Caller Event RecordedStore) (core : RecordedStore) (P : State → Type 0) → ((s t : State) → More s t → P s → P t) → Entered store c held core → At store c.known.front P → P core.state
+now_at store c held core P keeps n at =
+    subst (λ (x : List Event). At store x P) n.others.begins.1 (still_at store P keeps c.known.front n.others.begins.0 at)
+    core.state (entered_replays store c held core n)
 
 -- in its turn a session stands opened
-pub opened_now : (store : SharedStore) (i : ℕ) (c held : Caller Event Limits) (core : RecordedStore) → IsCaller store i c → Entered store.limits c held core → IsOpened core.state i
-opened_now store i c held core is n = now_at store.limits c held core (λ s. IsOpened s i) (λ s t m o. opened_more i s t m o) n is.opened
+pub opened_now : (store : SharedStore) (i : ℕ) (c held : Caller Event RecordedStore) (core : RecordedStore) → IsCaller store i c → Entered store c held core → IsOpened core.state i
+opened_now store i c held core is n = now_at store c held core (λ s. IsOpened s i) (λ s t m o. opened_more i s t m o) n is.opened

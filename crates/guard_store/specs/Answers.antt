@@ -1,11 +1,12 @@
 -- What each call of the store is answered, and what the session or the keeper is then.
-use Rattle.std.specs.Prelude.{◌≡◌, ℕ, ◌+◌, ◌<◌, ◌≤◌, Bool, List, Some, None, Result, Ok, Err, ◌⊎◌}
+use Rattle.std.specs.Prelude.{◌≡◌, ℕ, ◌+◌, ◌<◌, ◌≤◌, Bool, List, [], ◌∷◌, Some, None, Result, Ok, Err, ◌⊎◌}
 use Rattle.rdf_model.specs.declared.term.Term.{Term}
 use Rattle.rdf_model.specs.declared.triple.Triple.{Triple}
 use Rattle.rdf_model.specs.Graphs.{after}
 use Rattle.shape_model.specs.Validation.{Listing}
 use Rattle.turn_lock.specs.Callers.{Caller, kept_caller, new_caller}
-use Rattle.store_model.specs.declared.event.Limits.{Limits}
+use Rattle.store_model.specs.declared.event.NameKind.{NameKind}
+use Rattle.store_model.specs.declared.event.NameKind.TheVariants as kinds
 use Rattle.store_model.specs.declared.event.Event.{Event}
 use Rattle.store_model.specs.declared.event.Action.{Action}
 use Rattle.store_model.specs.declared.event.Action.TheVariants as actions
@@ -13,17 +14,20 @@ use Rattle.store_model.specs.declared.event.Reply.{Reply}
 use Rattle.store_model.specs.declared.event.Reply.TheVariants as replies
 use Rattle.store_model.specs.declared.commit.Transaction.{Transaction}
 use Rattle.store_model.specs.Snapshots.{Snapshot, snapshot_of}
-use Rattle.store_model.specs.Store.{HasChange, shapes_under}
-use Rattle.session_model.specs.Sessions.{parts_of}
+use Rattle.store_model.specs.Nodes.{not_given}
+use Rattle.store_model.specs.Store.{State, RecordedStore, HasChange, shapes_under}
+use Rattle.session_model.specs.Sessions.{additions, parts_of}
 use Rattle.commit_core.specs.Work.{StepsBy}
-use Rattle.commit_core.specs.declared.store.NameFault.{NameFault}
-use Rattle.commit_core.specs.declared.store.NameFault.TheVariants as names
+use Rattle.commit_core.specs.declared.naming.NamingFault.{NamingFault}
+use Rattle.commit_core.specs.declared.naming.NamingFault.TheVariants as names
 use Rattle.guard_store.specs.declared.faults.OpenFault.{OpenFault}
 use Rattle.guard_store.specs.declared.faults.OpenFault.TheVariants as openings
 use Rattle.guard_store.specs.declared.faults.BeginFault.{BeginFault}
 use Rattle.guard_store.specs.declared.faults.BeginFault.TheVariants as begins
 use Rattle.guard_store.specs.declared.faults.StageFault.{StageFault}
 use Rattle.guard_store.specs.declared.faults.StageFault.TheVariants as stages
+use Rattle.guard_store.specs.declared.faults.AttachFault.{AttachFault}
+use Rattle.guard_store.specs.declared.faults.AttachFault.TheVariants as attaches
 use Rattle.guard_store.specs.declared.faults.HeadFault.{HeadFault}
 use Rattle.guard_store.specs.declared.faults.HeadFault.TheVariants as heads
 use Rattle.guard_store.specs.declared.faults.CommitFault.{CommitFault}
@@ -39,7 +43,7 @@ use Rattle.guard_store.specs.declared.session.Session.{Session}
 use Rattle.guard_store.specs.declared.session.Keeper.{Keeper}
 use Rattle.guard_store.specs.Fronts.{SharedStore, Turn, Fails}
 use Rattle.session_transaction.specs.Checks.{CheckSteps, Checks, committing}
-use Rattle.session_transaction.specs.Transactions.{begun_at}
+use Rattle.session_transaction.specs.Transactions.{begun_at, with_changes}
 use Rattle.guard_store.specs.Callers.{IsKeeper, IsSession, OnlyReads}
 
 abbrev pub event_of : ℕ → Action → Reply → Event
@@ -50,23 +54,23 @@ abbrev pub IsOpen : Session → OpenTransaction → Type 0
 IsOpen s w = s.current ≡ Some w
 
 -- The keeper opened session i, and split its caller off; both have seen the same.
-pub record Opens (l : Limits) (old kept new : Caller Event Limits) (i : ℕ) : Type 0 where
-  pub mid : Caller Event Limits
-  pub turn : Turn l old mid (event_of i actions.Open (replies.Session i))
+pub record Opens (store : SharedStore) (old kept new : Caller Event RecordedStore) (i : ℕ) : Type 0 where
+  pub mid : Caller Event RecordedStore
+  pub turn : Turn store old mid (event_of i actions.Open (replies.Session i))
   pub kept_is : kept ≡ kept_caller i mid
   pub new_is : new ≡ new_caller i mid
   pub room : 0 < mid.spare
 
 -- Why no session was opened: 64 were given out, or memory ran out. The entry of such a turn stands under 0.
-abbrev pub OpensNot : OpenFault → Limits → Caller Event Limits → Caller Event Limits → Type 0
-OpensNot openings.SessionsFull l old new = Turn l old new (event_of 0 actions.Open replies.SessionsFull)
-OpensNot openings.Memory l old new = Fails l old new 0
+abbrev pub OpensNot : OpenFault → SharedStore → Caller Event RecordedStore → Caller Event RecordedStore → Type 0
+OpensNot openings.SessionsFull store old new = Turn store old new (event_of 0 actions.Open replies.SessionsFull)
+OpensNot openings.Memory store old new = Fails store old new 0
 
 -- The keeper opened the next session, which has no transaction, and may go on.
 pub record OpensSession (store : SharedStore) (old new : Keeper) (s : Session) : Type 0 where
   pub keeper : IsKeeper store new
   pub session : IsSession store s
-  pub opens : Opens store.limits old.pass new.pass s.pass s.number
+  pub opens : Opens store old.pass new.pass s.pass s.number
   pub number : s.number ≡ old.opened + 1
   pub opened : new.opened ≡ s.number
   pub few : old.opened < 64
@@ -81,88 +85,126 @@ IsFull openings.Memory n = Unit {0}
 -- The keeper opened no session, and may go on.
 pub record OpensNothing (f : OpenFault) (store : SharedStore) (old new : Keeper) : Type 0 where
   pub keeper : IsKeeper store new
-  pub fault : OpensNot f store.limits old.pass new.pass
+  pub fault : OpensNot f store old.pass new.pass
   pub full : IsFull f old.opened
   pub opened : new.opened ≡ old.opened
 
 -- why terms were not named
-abbrev pub NamesNot : NameFault → Limits → Caller Event Limits → Caller Event Limits → ℕ → List Term → Type 0
-NamesNot (names.Full count) l old new i terms = Turn l old new (event_of i (actions.Name terms) (replies.Full count))
-NamesNot names.Memory l old new i terms = Fails l old new i
+abbrev pub NamesNot : NamingFault → SharedStore → Caller Event RecordedStore → Caller Event RecordedStore → ℕ → NameKind → List Term → Type 0
+NamesNot (names.Unknown node) store old new i kind terms = Turn store old new (event_of i (actions.Name kind terms) (replies.Unknown node))
+NamesNot (names.Full count) store old new i kind terms = Turn store old new (event_of i (actions.Name kind terms) (replies.Full count))
+NamesNot names.Memory store old new i kind terms = Fails store old new i
 
 -- the turn of a commit; want of memory hands the transaction back
-abbrev pub TurnCommits : Limits → Caller Event Limits → Caller Event Limits → ℕ → Transaction → Committed → Type 0
-TurnCommits l old new i x (ReadOnly v) = ⊥
-TurnCommits l old new i x (Done n why) = Turn l old new (event_of i (actions.Commit x) (replies.Done n why))
-TurnCommits l old new i x (Conflict n t) = Turn l old new (event_of i (actions.Commit x) (replies.Conflict n t))
-TurnCommits l old new i x (FullTriples n) = Turn l old new (event_of i (actions.Commit x) (replies.FullTriples n))
-TurnCommits l old new i x (Refused rows why shapes) =
-    (t : Turn l old new (event_of i (actions.Commit x) (replies.Refused rows why))) × (shapes ≡ shapes_under t.before.shapes x.staged) × Listing (after t.before.graph x.net) shapes rows
+abbrev pub TurnCommits : SharedStore → Caller Event RecordedStore → Caller Event RecordedStore → ℕ → Transaction → Committed → Type 0
+TurnCommits store old new i x (ReadOnly v) = ⊥
+TurnCommits store old new i x (Done n why) = Turn store old new (event_of i (actions.Commit x) (replies.Done n why))
+TurnCommits store old new i x (Conflict n t) = Turn store old new (event_of i (actions.Commit x) (replies.Conflict n t))
+TurnCommits store old new i x (FullTriples n) = Turn store old new (event_of i (actions.Commit x) (replies.FullTriples n))
+TurnCommits store old new i x (Refused rows why shapes) =
+    (t : Turn store old new (event_of i (actions.Commit x) (replies.Refused rows why))) × (shapes ≡ shapes_under t.before.shapes x.staged) × Listing (after t.before.graph x.net) shapes rows
 
 -- How many evaluations were counted in the turn of a commit, from the one number to the other: by the answer, and by the
 -- graph and the shapes that the turn found.
-abbrev pub TurnCounts : Limits → Caller Event Limits → Caller Event Limits → ℕ → Transaction → ℕ → ℕ → Committed → Type 0
-TurnCounts l old new i x counted now (ReadOnly v) = now ≡ counted
-TurnCounts l old new i x counted now (Done n why) = (t : Turn l old new (event_of i (actions.Commit x) (replies.Done n why))) × StepsBy why t.before.graph t.before.shapes x counted now
-TurnCounts l old new i x counted now (Conflict n t) = now ≡ counted
-TurnCounts l old new i x counted now (FullTriples n) = now ≡ counted
-TurnCounts l old new i x counted now (Refused rows why shapes) = (t : Turn l old new (event_of i (actions.Commit x) (replies.Refused rows why))) × StepsBy why t.before.graph t.before.shapes x counted now
+abbrev pub TurnCounts : SharedStore → Caller Event RecordedStore → Caller Event RecordedStore → ℕ → Transaction → ℕ → ℕ → Committed → Type 0
+TurnCounts store old new i x counted now (ReadOnly v) = now ≡ counted
+TurnCounts store old new i x counted now (Done n why) = (t : Turn store old new (event_of i (actions.Commit x) (replies.Done n why))) × StepsBy why t.before.graph t.before.shapes x counted now
+TurnCounts store old new i x counted now (Conflict n t) = now ≡ counted
+TurnCounts store old new i x counted now (FullTriples n) = now ≡ counted
+TurnCounts store old new i x counted now (Refused rows why shapes) = (t : Turn store old new (event_of i (actions.Commit x) (replies.Refused rows why))) × StepsBy why t.before.graph t.before.shapes x counted now
 
 -- A transaction begins at the version where the history then leads; or one is open, and nothing happens.
-abbrev pub BeginsNot : BeginFault → Limits → Session → Session → Type 0
-BeginsNot begins.AlreadyOpen l old new = ((w : OpenTransaction) × IsOpen old w) × (new ≡ old)
-BeginsNot begins.Memory l old new = (old.current ≡ None) × Fails l old.pass new.pass old.number × (new ≡ record old { pass = new.pass })
+abbrev pub BeginsNot : BeginFault → SharedStore → Session → Session → Type 0
+BeginsNot begins.AlreadyOpen store old new = ((w : OpenTransaction) × IsOpen old w) × (new ≡ old)
+BeginsNot begins.Memory store old new = (old.current ≡ None) × Fails store old.pass new.pass old.number × (new ≡ record old { pass = new.pass })
 
-abbrev pub Begins : Limits → Session → Session → ℕ → Type 0
-Begins l old new v = (old.current ≡ None)
-    × ((t : Turn l old.pass new.pass (event_of old.number actions.Begin (replies.Version v))) × (new ≡ record old { pass = new.pass; current = Some (begun_at (snapshot_of t.before)); head = None }))
+abbrev pub Begins : SharedStore → Session → Session → ℕ → Type 0
+Begins store old new v = (old.current ≡ None)
+    × ((t : Turn store old.pass new.pass (event_of old.number actions.Begin (replies.Version v))) × (new ≡ record old { pass = new.pass; current = Some (begun_at (snapshot_of t.before)); head = None }))
+
+-- the event of a block's terms
+abbrev pub naming_of : ℕ → NameKind → List Triple → Reply → Event
+naming_of i kind ts r = event_of i (actions.Name kind (parts_of ts)) r
 
 -- The terms of a block were named; the transaction is as it was.
-abbrev pub NamesFor : Limits → Session → Session → List Triple → Type 0
-NamesFor l old new ts = ((w : OpenTransaction) × IsOpen old w) × Turn l old.pass new.pass (event_of old.number (actions.Name (parts_of ts)) replies.Named) × (new ≡ record old { pass = new.pass })
+abbrev pub NamesFor : SharedStore → Session → Session → NameKind → List Triple → Type 0
+NamesFor store old new kind ts = ((w : OpenTransaction) × IsOpen old w) × Turn store old.pass new.pass (naming_of old.number kind ts replies.Named) × (new ≡ record old { pass = new.pass })
+
+-- Nothing of a block was staged. Memory may have run out once the terms were named.
+abbrev pub NamesForNot : AttachFault → SharedStore → Session → Session → NameKind → List Triple → Type 0
+NamesForNot attaches.NoTransaction store old new kind ts = (old.current ≡ None) × (new ≡ old)
+NamesForNot (attaches.Unknown node) store old new kind ts = ((w : OpenTransaction) × IsOpen old w) × Turn store old.pass new.pass (naming_of old.number kind ts (replies.Unknown node)) × (new ≡ record old { pass = new.pass })
+NamesForNot (attaches.Full count) store old new kind ts = ((w : OpenTransaction) × IsOpen old w) × Turn store old.pass new.pass (naming_of old.number kind ts (replies.Full count)) × (new ≡ record old { pass = new.pass })
+NamesForNot attaches.Memory store old new kind ts = ((w : OpenTransaction) × IsOpen old w) × (Fails store old.pass new.pass old.number ⊎ Turn store old.pass new.pass (naming_of old.number kind ts replies.Named)) × (new ≡ record old { pass = new.pass })
 
 -- The terms of a block were named, and it is staged: the transaction is `staged` of what it was.
-abbrev pub Stages : Limits → Session → Session → List Triple → (OpenTransaction → OpenTransaction) → Type 0
-Stages l old new ts staged = (w : OpenTransaction) × IsOpen old w × Turn l old.pass new.pass (event_of old.number (actions.Name (parts_of ts)) replies.Named)
-    × (new ≡ record old { pass = new.pass; current = Some (staged w); head = None })
+abbrev pub Stages : SharedStore → Session → Session → NameKind → List Triple → (OpenTransaction → OpenTransaction) → Type 0
+Stages store old new kind ts staged = (w : OpenTransaction) × IsOpen old w × Turn store old.pass new.pass (naming_of old.number kind ts replies.Named) × (new ≡ record old { pass = new.pass; current = Some (staged w); head = None })
 
--- Nothing was staged. Memory may have run out once the terms were named.
-abbrev pub StagesNot : StageFault → Limits → Session → Session → List Triple → Type 0
-StagesNot stages.NoTransaction l old new ts = (old.current ≡ None) × (new ≡ old)
-StagesNot (stages.Full count) l old new ts = ((w : OpenTransaction) × IsOpen old w) × Turn l old.pass new.pass (event_of old.number (actions.Name (parts_of ts)) (replies.Full count)) × (new ≡ record old { pass = new.pass })
-StagesNot stages.Memory l old new ts = ((w : OpenTransaction) × IsOpen old w) × (Fails l old.pass new.pass old.number ⊎ Turn l old.pass new.pass (event_of old.number (actions.Name (parts_of ts)) replies.Named)) × (new ≡ record old { pass = new.pass })
+-- the faults of staging, among those of attaching
+abbrev pub attach_fault : StageFault → AttachFault
+attach_fault stages.NoTransaction = attaches.NoTransaction
+attach_fault (stages.Full count) = attaches.Full count
+attach_fault stages.Memory = attaches.Memory
+
+abbrev pub attach_answer : {U : Type 0} → Result U StageFault → Result U AttachFault
+attach_answer (Ok u) = Ok u
+attach_answer (Err f) = Err (attach_fault f)
+
+-- nothing was staged
+abbrev pub StagesNot : StageFault → SharedStore → Session → Session → NameKind → List Triple → Type 0
+StagesNot f store old new kind ts = NamesForNot (attach_fault f) store old new kind ts
+
+-- the blank nodes of a block that weren't given out before a turn, as a set
+abbrev pub unknown_at : State → List Triple → List Term
+unknown_at before ts = not_given before.given (parts_of ts)
+
+-- The block was attached: an addition of each triple is staged, and each blank node of it had been given out before the turn.
+abbrev pub Attaches : SharedStore → Session → Session → List Triple → Type 0
+Attaches store old new ts = (w : OpenTransaction) × IsOpen old w × ((t : Turn store old.pass new.pass (naming_of old.number kinds.Attach ts replies.Named)) × (unknown_at t.before ts ≡ []))
+    × (new ≡ record old { pass = new.pass; current = Some (with_changes w (additions ts)); head = None })
+
+-- Nothing was attached. Where a blank node of the block wasn't given out before the turn, the least of these is told, and
+-- nothing was named; only else may the limit be passed. Memory may have run out once the terms were named.
+abbrev pub AttachesNot : AttachFault → SharedStore → Session → Session → List Triple → Type 0
+AttachesNot attaches.NoTransaction store old new ts = (old.current ≡ None) × (new ≡ old)
+AttachesNot (attaches.Unknown node) store old new ts = ((w : OpenTransaction) × IsOpen old w)
+    × ((t : Turn store old.pass new.pass (naming_of old.number kinds.Attach ts (replies.Unknown node))) × ((more : List Term) × (unknown_at t.before ts ≡ node ∷ more)) × (t.after ≡ t.before)) × (new ≡ record old { pass = new.pass })
+AttachesNot (attaches.Full count) store old new ts = ((w : OpenTransaction) × IsOpen old w)
+    × ((t : Turn store old.pass new.pass (naming_of old.number kinds.Attach ts (replies.Full count))) × (unknown_at t.before ts ≡ []) × (t.after ≡ t.before)) × (new ≡ record old { pass = new.pass })
+AttachesNot attaches.Memory store old new ts = ((w : OpenTransaction) × IsOpen old w) × (Fails store old.pass new.pass old.number ⊎ Turn store old.pass new.pass (naming_of old.number kinds.Attach ts replies.Named)) × (new ≡ record old { pass = new.pass })
 
 -- The newest version, whose snapshot the session keeps.
-abbrev pub Heads : Limits → Session → Session → ℕ → Type 0
-Heads l old new v = ((w : OpenTransaction) × IsOpen old w)
-    × ((t : Turn l old.pass new.pass (event_of old.number actions.Head (replies.Version v))) × (new ≡ record old { pass = new.pass; head = Some (snapshot_of t.before) }))
+abbrev pub Heads : SharedStore → Session → Session → ℕ → Type 0
+Heads store old new v = ((w : OpenTransaction) × IsOpen old w)
+    × ((t : Turn store old.pass new.pass (event_of old.number actions.Head (replies.Version v))) × (new ≡ record old { pass = new.pass; head = Some (snapshot_of t.before) }))
 
-abbrev pub HeadsNot : HeadFault → Limits → Session → Session → Type 0
-HeadsNot heads.NoTransaction l old new = (old.current ≡ None) × (new ≡ old)
-HeadsNot heads.Memory l old new = ((w : OpenTransaction) × IsOpen old w) × Fails l old.pass new.pass old.number × (new ≡ record old { pass = new.pass })
+abbrev pub HeadsNot : HeadFault → SharedStore → Session → Session → Type 0
+HeadsNot heads.NoTransaction store old new = (old.current ≡ None) × (new ≡ old)
+HeadsNot heads.Memory store old new = ((w : OpenTransaction) × IsOpen old w) × Fails store old.pass new.pass old.number × (new ≡ record old { pass = new.pass })
 
 -- The commit's answer ends the transaction, which was handed in with what is kept of its check. One that only reads is no event.
-abbrev pub AnswersCommit : Limits → Session → Session → OpenTransaction → Committed → Type 0
-AnswersCommit l old new w (ReadOnly v) = OnlyReads (Some w) × (v ≡ w.transaction.base) × (new.pass ≡ old.pass)
-AnswersCommit l old new w (Done n why) = HasChange w.transaction.net w.transaction.staged × TurnCommits l old.pass new.pass old.number (committing w) (Done n why)
-AnswersCommit l old new w (Conflict n t) = HasChange w.transaction.net w.transaction.staged × TurnCommits l old.pass new.pass old.number (committing w) (Conflict n t)
-AnswersCommit l old new w (FullTriples n) = HasChange w.transaction.net w.transaction.staged × TurnCommits l old.pass new.pass old.number (committing w) (FullTriples n)
-AnswersCommit l old new w (Refused rows why shapes) = HasChange w.transaction.net w.transaction.staged × TurnCommits l old.pass new.pass old.number (committing w) (Refused rows why shapes)
+abbrev pub AnswersCommit : SharedStore → Session → Session → OpenTransaction → Committed → Type 0
+AnswersCommit store old new w (ReadOnly v) = OnlyReads (Some w) × (v ≡ w.transaction.base) × (new.pass ≡ old.pass)
+AnswersCommit store old new w (Done n why) = HasChange w.transaction.net w.transaction.staged × TurnCommits store old.pass new.pass old.number (committing w) (Done n why)
+AnswersCommit store old new w (Conflict n t) = HasChange w.transaction.net w.transaction.staged × TurnCommits store old.pass new.pass old.number (committing w) (Conflict n t)
+AnswersCommit store old new w (FullTriples n) = HasChange w.transaction.net w.transaction.staged × TurnCommits store old.pass new.pass old.number (committing w) (FullTriples n)
+AnswersCommit store old new w (Refused rows why shapes) = HasChange w.transaction.net w.transaction.staged × TurnCommits store old.pass new.pass old.number (committing w) (Refused rows why shapes)
 
-abbrev pub Commits : Limits → Session → Session → Committed → Type 0
-Commits l old new answer = (w : OpenTransaction) × IsOpen old w × AnswersCommit l old new w answer × (new ≡ record old { pass = new.pass; current = None; head = None })
+abbrev pub Commits : SharedStore → Session → Session → Committed → Type 0
+Commits store old new answer = (w : OpenTransaction) × IsOpen old w × AnswersCommit store old new w answer × (new ≡ record old { pass = new.pass; current = None; head = None })
 
 -- Want of memory leaves the transaction open.
-abbrev pub CommitsNot : CommitFault → Limits → Session → Session → Type 0
-CommitsNot commits.NoTransaction l old new = (old.current ≡ None) × (new ≡ old)
-CommitsNot commits.Memory l old new = (w : OpenTransaction) × IsOpen old w × HasChange w.transaction.net w.transaction.staged × Fails l old.pass new.pass old.number × (new ≡ record old { pass = new.pass })
+abbrev pub CommitsNot : CommitFault → SharedStore → Session → Session → Type 0
+CommitsNot commits.NoTransaction store old new = (old.current ≡ None) × (new ≡ old)
+CommitsNot commits.Memory store old new = (w : OpenTransaction) × IsOpen old w × HasChange w.transaction.net w.transaction.staged × Fails store old.pass new.pass old.number × (new ≡ record old { pass = new.pass })
 
 -- How many evaluations a session's commit counted: none where it only reads, or where no transaction is open. After want of
 -- memory the count is what it was, or more.
-abbrev pub CommitCounts : Limits → Session → Session → ℕ → ℕ → Result Committed CommitFault → Type 0
-CommitCounts l old new counted now (Ok answer) = (w : OpenTransaction) × IsOpen old w × TurnCounts l old.pass new.pass old.number (committing w) counted now answer
-CommitCounts l old new counted now (Err commits.NoTransaction) = now ≡ counted
-CommitCounts l old new counted now (Err commits.Memory) = counted ≤ now
+abbrev pub CommitCounts : SharedStore → Session → Session → ℕ → ℕ → Result Committed CommitFault → Type 0
+CommitCounts store old new counted now (Ok answer) = (w : OpenTransaction) × IsOpen old w × TurnCounts store old.pass new.pass old.number (committing w) counted now answer
+CommitCounts store old new counted now (Err commits.NoTransaction) = now ≡ counted
+CommitCounts store old new counted now (Err commits.Memory) = counted ≤ now
 
 -- the commit of a transaction that only reads, and of none
 abbrev pub EndsReading : Session → Session → Result Committed CommitFault → Type 0

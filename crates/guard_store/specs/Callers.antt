@@ -2,23 +2,22 @@
 use Rattle.std.specs.Prelude.{◌≡◌, ℕ, ◌+◌, ◌≤◌, true, List, Option, Some, None, []}
 use Rattle.turn_lock.specs.History.{has_number}
 use Rattle.turn_lock.specs.Callers.{Caller}
-use Rattle.store_model.specs.declared.event.Limits.{Limits}
 use Rattle.store_model.specs.declared.event.Event.{Event}
 use Rattle.store_model.specs.Snapshots.{Snapshot}
-use Rattle.store_model.specs.Store.{State, IsOpened, HasChange, NetNamed}
+use Rattle.store_model.specs.Store.{State, RecordedStore, IsOpened, HasChange, NetNamed}
 use Rattle.session_transaction.specs.declared.transaction.OpenTransaction.{OpenTransaction}
 use Rattle.session_transaction.specs.Checks.{IsVersionIn, KeepsIn}
 use Rattle.session_transaction.specs.Transactions.{FitsState}
 use Rattle.guard_store.specs.declared.session.Keeper.{Keeper}
 use Rattle.guard_store.specs.declared.session.Session.{Session}
-use Rattle.guard_store.specs.Fronts.{SharedStore, At}
+use Rattle.guard_store.specs.Fronts.{SharedStore, At, opening_of}
 
 -- a caller of the store, which session i is
-pub record IsCaller (store : SharedStore) (i : ℕ) (c : Caller Event Limits) : Type 0 where
+pub record IsCaller (store : SharedStore) (i : ℕ) (c : Caller Event RecordedStore) : Type 0 where
   pub lock : c.lock ≡ store.id
-  pub opening : c.opening ≡ Some store.limits
+  pub opening : c.opening ≡ Some (opening_of store)
   pub own : has_number c.known.numbers i ≡ true
-  pub opened : At store.limits c.known.front (λ s. IsOpened s i)
+  pub opened : At store c.known.front (λ s. IsOpened s i)
 
 -- the open transaction, if there is one, is one of this store
 abbrev pub FitsIn : Option OpenTransaction → State → Type 0
@@ -26,34 +25,36 @@ FitsIn None s = Unit {0}
 FitsIn (Some w) s = FitsState w.transaction s
 
 -- the open transaction has no verdict itself, and what is kept of a check of it is a verdict of its changes in this history
-abbrev pub KeptIn : Limits → List Event → Option OpenTransaction → Type 0
-KeptIn l front None = Unit {0}
-KeptIn l front (Some w) = (w.transaction.verdict ≡ None) × KeepsIn l front w.transaction.net w.checked
+abbrev pub KeptIn : SharedStore → List Event → Option OpenTransaction → Type 0
+KeptIn store front None = Unit {0}
+KeptIn store front (Some w) = (w.transaction.verdict ≡ None) × KeepsIn store.limits store.start front w.transaction.net w.checked
 
 -- where a transaction is open, the snapshot of the last head is a version of this history in which the terms of its changes are
 -- named
-abbrev pub HeadIn : Limits → List Event → Option OpenTransaction → Option Snapshot → Type 0
-HeadIn l front None head = Unit {0}
-HeadIn l front (Some w) None = Unit {0}
-HeadIn l front (Some w) (Some n) = IsVersionIn l front n × NetNamed n.named w.transaction.net
+abbrev pub HeadIn : SharedStore → List Event → Option OpenTransaction → Option Snapshot → Type 0
+HeadIn store front None head = Unit {0}
+HeadIn store front (Some w) None = Unit {0}
+HeadIn store front (Some w) (Some n) = IsVersionIn store.limits store.start front n × NetNamed n.named w.transaction.net
 
 -- a session of this store
 pub record IsSession (store : SharedStore) (session : Session) : Type 0 where
   pub caller : IsCaller store session.number session.pass
-  pub fits : At store.limits session.pass.known.front (FitsIn session.current)
-  pub kept : KeptIn store.limits session.pass.known.front session.current
-  pub head : HeadIn store.limits session.pass.known.front session.current session.head
+  pub fits : At store session.pass.known.front (FitsIn session.current)
+  pub kept : KeptIn store session.pass.known.front session.current
+  pub head : HeadIn store session.pass.known.front session.current session.head
 
 -- a session of some store
 abbrev pub IsOfStore : Session → Type 0
 IsOfStore session = (store : SharedStore) × IsSession store session
 
--- the keeper of this store, which has seen all openings; it has a place for each of the 64 sessions that isn't open
+-- the keeper of this store, which has seen all openings, none of them before its history; it has a place for each of the 64
+-- sessions that isn't open
 pub record IsKeeper (store : SharedStore) (keeper : Keeper) : Type 0 where
   pub lock : keeper.pass.lock ≡ store.id
-  pub opening : keeper.pass.opening ≡ Some store.limits
+  pub opening : keeper.pass.opening ≡ Some (opening_of store)
   pub first : keeper.pass.known.first ≡ true
-  pub opened : At store.limits keeper.pass.known.front (λ s. s.opened ≡ keeper.opened)
+  pub fresh : store.start.opened ≡ 0
+  pub opened : At store keeper.pass.known.front (λ s. s.opened ≡ keeper.opened)
   pub room : 64 ≤ keeper.pass.spare + keeper.opened
 
 -- a transaction is open that changes a triple or stages shapes

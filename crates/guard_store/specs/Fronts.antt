@@ -7,29 +7,37 @@ use Rattle.store_model.specs.declared.event.Limits.{Limits}
 use Rattle.store_model.specs.declared.event.Event.{Event}
 use Rattle.store_model.specs.declared.event.Action.TheVariants as actions
 use Rattle.store_model.specs.declared.event.Reply.TheVariants as replies
-use Rattle.store_model.specs.Store.{State, RecordedStore, TakesStep, Step, Replays, empty_store}
+use Rattle.store_model.specs.Store.{State, RecordedStore, TakesStep, Step, Replays}
 
--- a store that callers share: which lock it has, and its limits
+-- a store that callers share: which lock it has, its limits, and the state that its history begins at
 pub record SharedStore : Type 0 where
   pub id : TableId
   pub limits : Limits
+  pub start : State
+
+-- a core at the beginning of its history, and the one that callers of a shared store begin with
+abbrev pub at_start : RecordedStore → RecordedStore
+at_start core = record core { state = core.start; history = [] }
+
+abbrev pub opening_of : SharedStore → RecordedStore
+opening_of store = record { limits = store.limits; start = store.start; state = store.start; history = [] }
 
 abbrev pub session_of : Event → ℕ
 session_of e = e.session
 
 -- the caller once its event stands behind what it found in its turn
-abbrev pub turned_pass : Caller Event Limits → List Event → Event → Caller Event Limits
+abbrev pub turned_pass : Caller Event RecordedStore → List Event → Event → Caller Event RecordedStore
 turned_pass old seen e = record old { known = known_after session_of e (seen ++ e ∷ []) old.known }
 
 -- The caller's event stands right behind what was there before it, to which others alone had added; it is the plain
 -- store's step from where that leads.
-pub record Turn (l : Limits) (old new : Caller Event Limits) (e : Event) : Type 0 where
+pub record Turn (store : SharedStore) (old new : Caller Event RecordedStore) (e : Event) : Type 0 where
   pub seen : List Event
   pub others : OthersAdded session_of false old.known seen
   pub before : State
-  pub replays : Replays l empty_store seen before
+  pub replays : Replays store.limits store.start seen before
   pub after : State
-  pub step : Step l before e after
+  pub step : Step store.limits before e after
   pub caller : new ≡ turned_pass old seen e
 
 -- the event of a turn that ran out of memory
@@ -37,26 +45,27 @@ abbrev pub void_of : ℕ → Event
 void_of i = record { session = i; action = actions.Void; reply = replies.Nothing }
 
 -- memory ran out before the turn, which then is none, or inside it
-abbrev pub Fails : Limits → Caller Event Limits → Caller Event Limits → ℕ → Type 0
-Fails l old new i = (new ≡ old) ⊎ Turn l old new (void_of i)
+abbrev pub Fails : SharedStore → Caller Event RecordedStore → Caller Event RecordedStore → ℕ → Type 0
+Fails store old new i = (new ≡ old) ⊎ Turn store old new (void_of i)
 
 -- of the state to which these events lead
-abbrev pub At : Limits → List Event → (State → Type 0) → Type 0
-At l front P = (s : State) → Replays l empty_store front s → P s
+abbrev pub At : SharedStore → List Event → (State → Type 0) → Type 0
+At store front P = (s : State) → Replays store.limits store.start front s → P s
 
 -- The caller has entered its turn: the core stands for what it had seen and what others alone added.
-pub record Entered (l : Limits) (pass held : Caller Event Limits) (core : RecordedStore) : Type 0 where
-  pub opening : pass.opening ≡ Some l
+pub record Entered (store : SharedStore) (pass held : Caller Event RecordedStore) (core : RecordedStore) : Type 0 where
+  pub opening : pass.opening ≡ Some (opening_of store)
   pub held_is : held ≡ record pass { known = record pass.known { front = core.history } }
   pub others : OthersAdded session_of false pass.known core.history
-  pub limits : core.limits ≡ l
-  pub replays : Replays core.limits empty_store core.history core.state
+  pub limits : core.limits ≡ store.limits
+  pub start : core.start ≡ store.start
+  pub replays : Replays core.limits core.start core.history core.state
 
 -- The caller may leave its turn with this core: it took one step, which the caller may add.
-pub record MayLeave (l : Limits) (held : Caller Event Limits) (next : RecordedStore) : Type 0 where
-  pub pass : Caller Event Limits
+pub record MayLeave (store : SharedStore) (held : Caller Event RecordedStore) (next : RecordedStore) : Type 0 where
+  pub pass : Caller Event RecordedStore
   pub core : RecordedStore
   pub event : Event
-  pub entered : Entered l pass held core
+  pub entered : Entered store pass held core
   pub takes : TakesStep core next event
   pub may : MayAdd session_of false held.known event

@@ -3,11 +3,10 @@ use Rattle.std.specs.Prelude.{◌≡◌, ◌⊎◌, ℕ, ◌==◌, ◌||◌, Boo
 use Rattle.std.specs.List.{filter}
 use Rattle.turn_lock.specs.History.{OthersAdded, has_number, reserved, under}
 use Rattle.turn_lock.specs.Callers.{Caller, met_caller}
-use Rattle.store_model.specs.declared.event.Limits.{Limits}
 use Rattle.store_model.specs.declared.event.Event.{Event}
 use Rattle.store_model.specs.declared.event.Action.TheVariants as actions
 use Rattle.store_model.specs.declared.event.Reply.TheVariants as replies
-use Rattle.store_model.specs.Store.{State, Step, Replays, empty_store}
+use Rattle.store_model.specs.Store.{State, RecordedStore, Step, Replays}
 use Rattle.thread_model.specs.Following.{is_opening}
 use Rattle.guard_store.specs.declared.faults.OpenFault.{OpenFault}
 use Rattle.guard_store.specs.declared.faults.OpenFault.TheVariants.{SessionsFull, Memory}
@@ -19,31 +18,31 @@ use Rattle.guard_store.specs.Answers.{Opens, OpensNothing, OpensSession, event_o
 
 -- The new front is the old one, what others added, and this event; the event is the plain store's step from where all
 -- before it leads. Under the number of a caller that holds it stands just this event more.
-pub record AddsOne (l : Limits) (old new : Caller Event Limits) (e : Event) : Type 0 where
+pub record AddsOne (store : SharedStore) (old new : Caller Event RecordedStore) (e : Event) : Type 0 where
   pub others : List Event
   pub front : new.known.front ≡ old.known.front ++ others ++ e ∷ []
   pub before : State
-  pub replays : Replays l empty_store (old.known.front ++ others) before
+  pub replays : Replays store.limits store.start (old.known.front ++ others) before
   pub after : State
-  pub step : Step l before e after
+  pub step : Step store.limits before e after
   pub own : has_number old.known.numbers e.session ≡ true → under session_of e.session new.known.front ≡ under session_of e.session old.known.front ++ e ∷ []
 
 abbrev pub TurnsAddOne : Type 0
-TurnsAddOne = (l : Limits) (old new : Caller Event Limits) (e : Event) → Turn l old new e → AddsOne l old new e
+TurnsAddOne = (store : SharedStore) (old new : Caller Event RecordedStore) (e : Event) → Turn store old new e → AddsOne store old new e
 
 -- Both callers have seen the same. Of the entries that the first caller alone makes, openings and those under 0, they have
 -- seen this one more; the new one holds the number.
-pub record OpensOne (l : Limits) (old kept new : Caller Event Limits) (i : ℕ) : Type 0 where
-  pub adds : AddsOne l old kept (event_of i actions.Open (replies.Session i))
+pub record OpensOne (store : SharedStore) (old kept new : Caller Event RecordedStore) (i : ℕ) : Type 0 where
+  pub adds : AddsOne store old kept (event_of i actions.Open (replies.Session i))
   pub same : new.known.front ≡ kept.known.front
   pub reserved : reserved session_of false kept.known.front ≡ reserved session_of false old.known.front ++ event_of i actions.Open (replies.Session i) ∷ []
   pub own : has_number new.known.numbers i ≡ true
 
 abbrev pub OpeningsAddOne : Type 0
-OpeningsAddOne = (l : Limits) (old kept new : Caller Event Limits) (i : ℕ) → old.known.first ≡ true → Opens l old kept new i → OpensOne l old kept new i
+OpeningsAddOne = (store : SharedStore) (old kept new : Caller Event RecordedStore) (i : ℕ) → old.known.first ≡ true → Opens store old kept new i → OpensOne store old kept new i
 
 -- what both have seen begins the front; it has no opening and no entry under 0 more than the keeper had seen
-pub record MeetsBoth (keeper session after : Caller Event Limits) : Type 0 where
+pub record MeetsBoth (keeper session after : Caller Event RecordedStore) : Type 0 where
   pub added : List Event
   pub front : after.known.front ≡ keeper.known.front ++ added
   pub more : List Event
@@ -52,7 +51,7 @@ pub record MeetsBoth (keeper session after : Caller Event Limits) : Type 0 where
   pub own : (i : ℕ) → has_number session.known.numbers i ≡ true → under session_of i after.known.front ≡ under session_of i session.known.front
 
 abbrev pub MeetingsKeepFronts : Type 0
-MeetingsKeepFronts = (keeper session after : Caller Event Limits) → keeper.known.first ≡ true → OthersAdded session_of false keeper.known after.known.front → OthersAdded session_of false session.known after.known.front → MeetsBoth keeper session after
+MeetingsKeepFronts = (keeper session after : Caller Event RecordedStore) → keeper.known.first ≡ true → OthersAdded session_of false keeper.known after.known.front → OthersAdded session_of false session.known after.known.front → MeetsBoth keeper session after
 
 -- the entries that a keeper alone makes: openings, and those under 0
 abbrev pub is_keepers : Event → Bool
@@ -63,14 +62,14 @@ keepers_entries front = filter is_keepers front
 
 -- The keeper has met session i, whose last front this was: it holds the number, and of the entries under it has seen just
 -- those.
-pub record HasMet (store : SharedStore) (keeper : Caller Event Limits) (i : ℕ) (last : List Event) : Type 0 where
+pub record HasMet (store : SharedStore) (keeper : Caller Event RecordedStore) (i : ℕ) (last : List Event) : Type 0 where
   pub caller : IsCaller store i keeper
   pub entries : under session_of i keeper.known.front ≡ under session_of i last
 
 -- From old to new the keeper has seen these openings and entries under 0 more, and no other. Of each session that it had met
 -- it still has just the entries of that session's last front.
-pub record KeepsEntries (store : SharedStore) (old new : Caller Event Limits) (more : List Event) : Type 0 where
-  pub keepers : At store.limits new.known.front (λ s. keepers_entries new.known.front ≡ keepers_entries old.known.front ++ more)
+pub record KeepsEntries (store : SharedStore) (old new : Caller Event RecordedStore) (more : List Event) : Type 0 where
+  pub keepers : At store new.known.front (λ s. keepers_entries new.known.front ≡ keepers_entries old.known.front ++ more)
   pub met : (i : ℕ) (last : List Event) → HasMet store old i last → HasMet store new i last
 
 -- an opening adds its entry

@@ -1,28 +1,44 @@
 //! The calls of a session that are events.
-ghost use Rattle.std.specs.Prelude.{MatchResult};
+ghost use Rattle.std.specs.Prelude.{◌≡◌, ◌≢◌, Err, MatchResult};
+ghost use Rattle.rdf_model.specs.declared.term.Term.{Term};
 ghost use Rattle.session_model.specs.Sessions.{additions, removals};
 ghost use Rattle.session_transaction.specs.Transactions;
-ghost use Rattle.session_transaction.specs.Transactions.{changes_of};
+ghost use Rattle.session_transaction.specs.Transactions.{changes_of, name_kind_of};
 ghost use Rattle.guard_store.specs.Callers.{HasWork, IsSession};
-ghost use Rattle.guard_store.specs.Answers.{Begins, BeginsNot, CommitCounts, Commits, CommitsNot, Heads, HeadsNot, NamesFor, Stages, StagesNot};
+ghost use Rattle.guard_store.specs.Answers.{Attaches, AttachesNot, Begins, BeginsNot, CommitCounts, Commits, CommitsNot, Heads, HeadsNot, NamesFor, NamesForNot, Stages, StagesNot, attach_answer};
 
-use crate::faults::{BeginFault, CommitFault, HeadFault, StageFault};
+use crate::faults::{AttachFault, BeginFault, CommitFault, HeadFault, StageFault};
 use crate::session::Session;
 use crate::store::Store;
-use commit_core::NameFault;
+use commit_core::NamingFault;
 use rdf_model::Triple;
 use session_transaction::{ChangeKind, Committed, OpenTransaction};
 use shape_eval::Steps;
 use shapes_graph::ShapesGraph;
 use std::sync::Wait;
 use std::sync::ledger::Ledger;
+use store_model::NameKind;
+
+// The answer to a block whose blank nodes need not have been given out.
+fn stage_answer(answer: Result<(), AttachFault>) -> Result<(), StageFault>
+    requires { (node : Term) → answer ≢ Err (AttachFault.Unknown node) }
+    ensures { answer ≡ attach_answer result }
+{
+    match answer {
+        Ok(()) => Ok(()),
+        Err(AttachFault::NoTransaction) => Err(StageFault::NoTransaction),
+        Err(AttachFault::Unknown { node: _ }) => unreachable!(),
+        Err(AttachFault::Full { count }) => Err(StageFault::Full { count }),
+        Err(AttachFault::Memory) => Err(StageFault::Memory),
+    }
+}
 
 impl Store {
     /// Begins a transaction, and answers its version: the newest one. AlreadyOpen comes where one is open; it is no event.
     pub fn begin<R: Wait>(&self, rt: &R, session: Session) -> (Session, Result<u64, BeginFault>)
         requires { IsSession self.now session }
         ensures session { IsSession self.now result.0 }
-        ensures begins { MatchResult result.1 (λ version. Begins self.now.limits session result.0 version) (λ fault. BeginsNot fault self.now.limits session result.0) }
+        ensures begins { MatchResult result.1 (λ version. Begins self.now session result.0 version) (λ fault. BeginsNot fault self.now session result.0) }
     {
         if session.current.is_some() {
             return (session, Err(BeginFault::AlreadyOpen));
@@ -45,28 +61,30 @@ impl Store {
         }
     }
 
-    // Names the terms of the block that the open transaction is to stage.
+    // Names the terms of the block, which is of this kind, that the open transaction is to stage.
     fn name_for<R: Wait>(
         &self,
         rt: &R,
         session: Session,
+        kind: NameKind,
         triples: &[Triple],
-    ) -> (Session, Result<(), StageFault>)
+    ) -> (Session, Result<(), AttachFault>)
         requires { IsSession self.now session }
         ensures { MatchResult result.1
-            (λ _. NamesFor self.now.limits session result.0 triples.now)
-            (λ fault. StagesNot fault self.now.limits session result.0 triples.now) }
+            (λ _. NamesFor self.now session result.0 kind triples.now)
+            (λ fault. NamesForNot fault self.now session result.0 kind triples.now) }
     {
         if !session.is_open() {
-            return (session, Err(StageFault::NoTransaction));
+            return (session, Err(AttachFault::NoTransaction));
         }
         let (pass, number, current, head) = session.into_parts();
-        let (pass, answer) = self.name_parts(rt, pass, number, triples);
+        let (pass, answer) = self.name_parts(rt, pass, number, kind, triples);
         let session = Session::from_parts(pass, number, current, head);
         match answer {
             Ok(()) => (session, Ok(())),
-            Err(NameFault::Full { count }) => (session, Err(StageFault::Full { count })),
-            Err(NameFault::Memory) => (session, Err(StageFault::Memory)),
+            Err(NamingFault::Unknown { node }) => (session, Err(AttachFault::Unknown { node })),
+            Err(NamingFault::Full { count }) => (session, Err(AttachFault::Full { count })),
+            Err(NamingFault::Memory) => (session, Err(AttachFault::Memory)),
         }
     }
 
@@ -77,21 +95,22 @@ impl Store {
         session: Session,
         kind: ChangeKind,
         triples: &[Triple],
-    ) -> (Session, Result<(), StageFault>)
+    ) -> (Session, Result<(), AttachFault>)
         requires { IsSession self.now session }
         ensures session { IsSession self.now result.0 }
         ensures stages { MatchResult result.1
-            (λ _. Stages self.now.limits session result.0 triples.now (λ w. Transactions.with_changes w (changes_of kind triples.now)))
-            (λ fault. StagesNot fault self.now.limits session result.0 triples.now) }
+            (λ _. Stages self.now session result.0 (name_kind_of kind) triples.now (λ w. Transactions.with_changes w (changes_of kind triples.now)))
+            (λ fault. NamesForNot fault self.now session result.0 (name_kind_of kind) triples.now) }
     {
-        let (session, answer) = self.name_for(rt, session, triples);
+        let (session, answer) = self.name_for(rt, session, kind.name_kind(), triples);
         match answer {
             Ok(()) => session.with_changes(self.alloc, kind, triples),
             Err(fault) => (session, Err(fault)),
         }
     }
 
-    /// Stages an addition of each triple, whose terms it names. NoTransaction comes where none is open; it is no event.
+    /// Stages an addition of each triple, whose terms it names and whose blank nodes it gives out. NoTransaction comes where
+    /// none is open; it is no event.
     pub fn stage_add<R: Wait>(
         &self,
         rt: &R,
@@ -101,10 +120,11 @@ impl Store {
         requires { IsSession self.now session }
         ensures session { IsSession self.now result.0 }
         ensures stages { MatchResult result.1
-            (λ _. Stages self.now.limits session result.0 triples.now (λ w. Transactions.with_changes w (additions triples.now)))
-            (λ fault. StagesNot fault self.now.limits session result.0 triples.now) }
+            (λ _. Stages self.now session result.0 NameKind.Fresh triples.now (λ w. Transactions.with_changes w (additions triples.now)))
+            (λ fault. StagesNot fault self.now session result.0 NameKind.Fresh triples.now) }
     {
-        self.stage(rt, session, ChangeKind::Addition, triples)
+        let (session, answer) = self.stage(rt, session, ChangeKind::Addition, triples);
+        (session, stage_answer(answer))
     }
 
     /// Stages a removal of each triple, whose terms it names. NoTransaction comes where none is open; it is no event.
@@ -117,14 +137,32 @@ impl Store {
         requires { IsSession self.now session }
         ensures session { IsSession self.now result.0 }
         ensures stages { MatchResult result.1
-            (λ _. Stages self.now.limits session result.0 triples.now (λ w. Transactions.with_changes w (removals triples.now)))
-            (λ fault. StagesNot fault self.now.limits session result.0 triples.now) }
+            (λ _. Stages self.now session result.0 NameKind.Known triples.now (λ w. Transactions.with_changes w (removals triples.now)))
+            (λ fault. StagesNot fault self.now session result.0 NameKind.Known triples.now) }
     {
-        self.stage(rt, session, ChangeKind::Removal, triples)
+        let (session, answer) = self.stage(rt, session, ChangeKind::Removal, triples);
+        (session, stage_answer(answer))
     }
 
-    /// Stages a shapes graph in place of the store's, and names its terms. Where it is refused, the shapes graph is
-    /// dropped. NoTransaction comes where no transaction is open; it is no event.
+    /// Stages an addition of each triple about blank nodes that were given out, be it to another session that hasn't
+    /// committed, and names its terms. Unknown comes, before Full, exactly where a blank node of the triples wasn't given
+    /// out, and tells the least; then nothing is named. NoTransaction comes where none is open; it is no event. After a
+    /// fault the transaction is as it was.
+    pub fn stage_attach<R: Wait>(
+        &self,
+        rt: &R,
+        session: Session,
+        triples: &[Triple],
+    ) -> (Session, Result<(), AttachFault>)
+        requires { IsSession self.now session }
+        ensures session { IsSession self.now result.0 }
+        ensures attaches { MatchResult result.1 (λ _. Attaches self.now session result.0 triples.now) (λ fault. AttachesNot fault self.now session result.0 triples.now) }
+    {
+        self.stage(rt, session, ChangeKind::Attachment, triples)
+    }
+
+    /// Stages a shapes graph in place of the store's, names its terms, and gives out its blank nodes. Where it is refused,
+    /// the shapes graph is dropped. NoTransaction comes where no transaction is open; it is no event.
     pub fn stage_shapes<R: Wait>(
         &self,
         rt: &R,
@@ -134,11 +172,11 @@ impl Store {
         requires { IsSession self.now session }
         ensures session { IsSession self.now result.0 }
         ensures stages { MatchResult result.1
-            (λ _. Stages self.now.limits session result.0 shapes (λ w. Transactions.with_shapes w shapes))
-            (λ fault. StagesNot fault self.now.limits session result.0 shapes) }
+            (λ _. Stages self.now session result.0 NameKind.Fresh shapes (λ w. Transactions.with_shapes w shapes))
+            (λ fault. StagesNot fault self.now session result.0 NameKind.Fresh shapes) }
     {
-        let (session, answer) = self.name_for(rt, session, shapes.triples());
-        match answer {
+        let (session, answer) = self.name_for(rt, session, NameKind::Fresh, shapes.triples());
+        match stage_answer(answer) {
             Ok(()) => (session.with_shapes(shapes), Ok(())),
             Err(fault) => (session, Err(fault)),
         }
@@ -149,7 +187,7 @@ impl Store {
     pub fn head<R: Wait>(&self, rt: &R, session: Session) -> (Session, Result<u64, HeadFault>)
         requires { IsSession self.now session }
         ensures session { IsSession self.now result.0 }
-        ensures heads { MatchResult result.1 (λ version. Heads self.now.limits session result.0 version) (λ fault. HeadsNot fault self.now.limits session result.0) }
+        ensures heads { MatchResult result.1 (λ version. Heads self.now session result.0 version) (λ fault. HeadsNot fault self.now session result.0) }
     {
         if !session.is_open() {
             return (session, Err(HeadFault::NoTransaction));
@@ -179,8 +217,8 @@ impl Store {
         requires session { IsSession self.now session }
         requires work { HasWork session.current }
         ensures session { IsSession self.now result.0 }
-        ensures commits { MatchResult result.1 (Commits self.now.limits session result.0) (λ fault. CommitsNot fault self.now.limits session result.0) }
-        ensures steps { CommitCounts self.now.limits session result.0 steps.old steps.new result.1 }
+        ensures commits { MatchResult result.1 (Commits self.now session result.0) (λ fault. CommitsNot fault self.now session result.0) }
+        ensures steps { CommitCounts self.now session result.0 steps.old steps.new result.1 }
     {
         let (pass, number, current, head) = session.into_parts();
         let Some(open) = current else { unreachable!() };
@@ -207,8 +245,8 @@ impl Store {
     ) -> (Session, Result<Committed, CommitFault>)
         requires { IsSession self.now session }
         ensures session { IsSession self.now result.0 }
-        ensures commits { MatchResult result.1 (Commits self.now.limits session result.0) (λ fault. CommitsNot fault self.now.limits session result.0) }
-        ensures steps { CommitCounts self.now.limits session result.0 steps.old steps.new result.1 }
+        ensures commits { MatchResult result.1 (Commits self.now session result.0) (λ fault. CommitsNot fault self.now session result.0) }
+        ensures steps { CommitCounts self.now session result.0 steps.old steps.new result.1 }
     {
         if session.has_work() {
             return self.commit_work(rt, session, steps);

@@ -1,3 +1,4 @@
+use rdf_model::Term;
 use std::alloc::AllocError;
 
 /// Why no session was opened.
@@ -20,6 +21,17 @@ pub enum BeginFault {
 #[derive(Clone, Copy, Debug, PartialEq, Eq)]
 pub enum StageFault {
     NoTransaction,
+    /// So many terms would be named, more than the limit.
+    Full { count: usize },
+    Memory,
+}
+
+/// Why nothing was attached.
+#[derive(Debug, Drop)]
+pub enum AttachFault {
+    NoTransaction,
+    /// The least blank node of the block that no session was given.
+    Unknown { node: Term },
     /// So many terms would be named, more than the limit.
     Full { count: usize },
     Memory,

@@ -16,7 +16,7 @@ mod store;
 mod turn;
 
 pub use faults::{
-    BeginFault, CheckFault, CommitFault, FindFault, HeadFault, OpenFault, StageFault,
+    AttachFault, BeginFault, CheckFault, CommitFault, FindFault, HeadFault, OpenFault, StageFault,
 };
 pub use laws::{
     a_failed_opening_keeps_entries, a_meeting_keeps_both_fronts, a_meeting_keeps_entries,

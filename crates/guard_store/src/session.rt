@@ -5,7 +5,7 @@ ghost use Rattle.session_transaction.specs.Transactions.{changes_of};
 ghost use Rattle.guard_store.specs.Callers.{HasWork, OnlyReads};
 ghost use Rattle.guard_store.specs.Answers.{EndsReading};
 
-use crate::faults::{CommitFault, StageFault};
+use crate::faults::{AttachFault, CommitFault};
 use crate::shared::Shared;
 use collections::let_go;
 use commit_core::Snap;
@@ -118,11 +118,11 @@ impl Session {
         alloc: Global,
         kind: ChangeKind,
         triples: &[Triple],
-    ) -> (Session, Result<(), StageFault>)
+    ) -> (Session, Result<(), AttachFault>)
         requires { self.current ≢ None }
         ensures { MatchResult result.1
             (λ _. (w : OpenTransaction) → self.current ≡ Some w → result.0 ≡ record self { current = Some (Transactions.with_changes w (changes_of kind triples.now)); head = None })
-            (λ fault. (fault ≡ StageFault.Memory) × (result.0 ≡ self)) }
+            (λ fault. (fault ≡ AttachFault.Memory) × (result.0 ≡ self)) }
     {
         let (pass, number, current, head) = self.into_parts();
         let Some(open) = current else { unreachable!() };
@@ -131,7 +131,7 @@ impl Session {
             return (Session::from_parts(pass, number, Some(open), None), Ok(()));
         }
         let session = Session::from_parts(pass, number, Some(open), head);
-        (session, Err(StageFault::Memory))
+        (session, Err(AttachFault::Memory))
     }
 
     // Stages a shapes graph in the open transaction.

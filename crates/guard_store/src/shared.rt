@@ -1,9 +1,9 @@
 ghost use Rattle.std.specs.Prelude.{◌≡◌};
-ghost use Rattle.store_model.specs.Store.{Replays, empty_store};
+ghost use Rattle.store_model.specs.Store.{Replays};
 
 use commit_core::Core;
 use std::marker::Model;
-use store_model::{Event, Limits};
+use store_model::Event;
 use turn_lock::Entries;
 
 /// The core that turns pass on. It stands for its history.
@@ -23,11 +23,11 @@ impl Model for Shared {
 impl Entries for Shared {
     ghost use Rattle.std.specs.Prelude.{◌≡◌, false};
     ghost use Rattle.std.proofs.Common.{refl};
-    ghost use Rattle.guard_store.specs.Fronts.{session_of};
+    ghost use Rattle.guard_store.specs.Fronts.{at_start, session_of};
 
     type Entry = Event;
 
-    type Plain = Limits;
+    type Plain = Core;
 
     ghost entries = { λ s. s.history };
 
@@ -35,7 +35,7 @@ impl Entries for Shared {
 
     ghost is_zero_shared = { false };
 
-    ghost plain = { λ s. s.limits };
+    ghost plain = { at_start };
 
     ghost comes = { λ old new. new ≡ old };
 
@@ -52,7 +52,7 @@ impl Shared {
     /// The core, whose history leads to its state.
     pub(crate) fn into_core(self) -> Core
         ensures same { result ≡ self }
-        ensures replays { Replays self.limits empty_store self.history self.state }
+        ensures replays { Replays self.limits self.start self.history self.state }
     {
         let Shared { core } = self;
         core.recall_consistent();

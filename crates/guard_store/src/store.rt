@@ -1,9 +1,8 @@
 ghost use Rattle.std.specs.Prelude.{◌≡◌, ◌+◌, ◌^◌, ◌<◌, false, true, [], None, Some, IfOk, MatchResult};
 ghost use Rattle.turn_lock.specs.History.{OthersAdded};
 ghost use Rattle.turn_lock.specs.Callers.{kept_caller, met_caller, new_caller};
-ghost use Rattle.store_model.specs.declared.event.Limits.{Limits};
 ghost use Rattle.store_model.specs.Store.{RecordedStore, TakesStep, Replays, empty_store};
-ghost use Rattle.guard_store.specs.Fronts.{Entered, MayLeave, Turn, session_of, turned_pass};
+ghost use Rattle.guard_store.specs.Fronts.{Entered, MayLeave, Turn, opening_of, session_of, turned_pass};
 ghost use Rattle.guard_store.specs.Callers.{IsKeeper};
 ghost use Rattle.guard_store.specs.Answers.{OpensNot, OpensNothing, OpensSession, event_of};
 
@@ -13,15 +12,19 @@ use crate::shared::Shared;
 use commit_core::{Core, SessionFault, slip};
 use std::alloc::{AllocError, Global};
 use std::marker::Model;
+use std::snapshot::Snapshot;
 use std::sync::Wait;
-use store_model::{Action, Event, Limits, Reply};
+use store_model::{Action, BlockMode, Event, Limits, Reply};
 use turn_lock::{Held, Pass, Turns};
 
-/// A store that its callers enter in turns. Contracts see which one it is, and its limits.
+/// A store that its callers enter in turns. Contracts see which one it is, its limits, and the state that its history begins
+/// at.
 #[derive(Drop)]
 pub struct Store {
     turns: Turns<Shared>,
     limits: Limits,
+    // The core before its first event.
+    first: Snapshot<Core>,
     pub(crate) alloc: Global,
 }
 
@@ -31,7 +34,7 @@ impl Model for Store {
 
     ghost Value = { SharedStore };
 
-    ghost view = { λ s. record { id = s.turns.id; limits = s.limits } };
+    ghost view = { λ s. record { id = s.turns.id; limits = s.limits; start = s.first.value.start } };
 
     ghost invariant = { λ s. s.turns.seats ≡ 65 };
 }
@@ -39,17 +42,21 @@ impl Model for Store {
 impl Store {
     /// An empty store, and its keeper.
     pub fn new(alloc: Global, limits: Limits) -> Result<(Store, Keeper), AllocError>
-        requires { limits.terms + 2 < 2 ^ 32 }
+        requires small { limits.terms + 2 < 2 ^ 32 }
+        requires mode { limits.mode ≡ BlockMode.All }
         ensures limits { IfOk result (λ r. r.0.limits ≡ limits) }
+        ensures start { IfOk result (λ r. r.0.start ≡ empty_store) }
         ensures keeper { IfOk result (λ r. IsKeeper r.0 r.1) }
         ensures seats { IfOk result (λ r. r.1.pass.spare ≡ 64) }
         ensures opened { IfOk result (λ r. (r.1.opened ≡ 0) × (r.1.pass.known.front ≡ [])) }
     {
         let core = Core::open(alloc, limits)?;
+        let first = Snapshot::of(&core);
         let (turns, pass) = Turns::new(alloc, Shared::new(core), 65)?;
         let store = Store {
             turns,
             limits,
+            first,
             alloc,
         };
         Ok((store, Keeper { pass, opened: 0 }))
@@ -63,8 +70,8 @@ impl Store {
     /// Waits for the caller's turn, and takes the core.
     pub(crate) fn start<R: Wait>(&self, rt: &R, pass: Pass<Shared>) -> (Held<Shared>, Core)
         requires lock { pass.lock ≡ self.now.id }
-        requires opening { pass.opening ≡ Some self.now.limits }
-        ensures { Entered self.now.limits pass result.0 result.1 }
+        requires opening { pass.opening ≡ Some (opening_of self.now) }
+        ensures { Entered self.now pass result.0 result.1 }
     {
         let (held, shared) = self.turns.enter(rt, pass);
         (held, shared.into_core())
@@ -73,8 +80,8 @@ impl Store {
     /// Ends the turn, in which the core took one step.
     pub(crate) fn finish(&self, held: Held<Shared>, core: Core) -> Pass<Shared>
         requires lock { held.lock ≡ self.now.id }
-        requires step { MayLeave self.now.limits held core }
-        ensures { (pass : _) (old : RecordedStore) (e : Event) → Entered self.now.limits pass held old → TakesStep old core e → result ≡ turned_pass pass old.history e }
+        requires step { MayLeave self.now held core }
+        ensures { (pass : _) (old : RecordedStore) (e : Event) → Entered self.now pass held old → TakesStep old core e → result ≡ turned_pass pass old.history e }
     {
         self.turns.leave(held, Shared::new(core))
     }
@@ -86,11 +93,11 @@ impl Store {
         pass: Pass<Shared>,
     ) -> (Pass<Shared>, Result<u32, OpenFault>)
         requires lock { pass.lock ≡ self.now.id }
-        requires opening { pass.opening ≡ Some self.now.limits }
+        requires opening { pass.opening ≡ Some (opening_of self.now) }
         requires first { pass.known.first ≡ true }
         ensures { MatchResult result.1
-            (λ number. Turn self.now.limits pass result.0 (event_of number Action.Open (Reply.Session number)))
-            (λ fault. OpensNot fault self.now.limits pass result.0) }
+            (λ number. Turn self.now pass result.0 (event_of number Action.Open (Reply.Session number)))
+            (λ fault. OpensNot fault self.now pass result.0) }
     {
         let Ok(slip) = slip(self.alloc) else {
             return (pass, Err(OpenFault::Memory));
@@ -170,11 +177,13 @@ impl Store {
         requires all { keeper.pass.spare ≡ 64 }
         ensures history { result.history ≡ keeper.pass.known.front }
         ensures limits { result.limits ≡ self.limits }
-        ensures replays { Replays result.limits empty_store result.history result.state }
+        ensures start { result.start ≡ self.start }
+        ensures replays { Replays result.limits result.start result.history result.state }
     {
         let Store {
             turns,
             limits: _,
+            first: _,
             alloc: _,
         } = self;
         turns.close(keeper.pass).into_core()

@@ -10,14 +10,14 @@ ghost use Rattle.guard_store.specs.Answers.{NamesNot, TurnCommits, TurnCounts, e
 
 use crate::shared::Shared;
 use crate::store::Store;
-use commit_core::{CheckedTransaction, NameFault, Snap, slip};
+use commit_core::{CheckedTransaction, NamingFault, Snap, slip};
 use rdf_model::{Term, Triple};
 use session_transaction::{Committed, commit, terms_in};
 use shape_eval::Steps;
 use std::alloc::AllocError;
 use std::sync::Wait;
 use std::sync::ledger::Ledger;
-use store_model::{Action, Reply};
+use store_model::{Action, NameKind, Reply};
 use turn_lock::Pass;
 
 impl Store {
@@ -30,8 +30,8 @@ impl Store {
     ) -> (Pass<Shared>, Result<Snap, AllocError>)
         requires { IsCaller self.now number pass }
         ensures { MatchResult result.1
-            (λ snap. (t : Turn self.now.limits pass result.0 (event_of number Action.Begin (Reply.Version snap.number))) × (snap ≡ snapshot_of t.before))
-            (λ _. Fails self.now.limits pass result.0 number) }
+            (λ snap. (t : Turn self.now pass result.0 (event_of number Action.Begin (Reply.Version snap.number))) × (snap ≡ snapshot_of t.before))
+            (λ _. Fails self.now pass result.0 number) }
     {
         let Ok(slip) = slip(self.alloc) else {
             return (pass, Err(AllocError));
@@ -55,8 +55,8 @@ impl Store {
     ) -> (Pass<Shared>, Result<Snap, AllocError>)
         requires { IsCaller self.now number pass }
         ensures { MatchResult result.1
-            (λ snap. (t : Turn self.now.limits pass result.0 (event_of number Action.Head (Reply.Version snap.number))) × (snap ≡ snapshot_of t.before))
-            (λ _. Fails self.now.limits pass result.0 number) }
+            (λ snap. (t : Turn self.now pass result.0 (event_of number Action.Head (Reply.Version snap.number))) × (snap ≡ snapshot_of t.before))
+            (λ _. Fails self.now pass result.0 number) }
     {
         let Ok(slip) = slip(self.alloc) else {
             return (pass, Err(AllocError));
@@ -71,52 +71,57 @@ impl Store {
         }
     }
 
-    // Names terms, all or none.
+    // Names terms of a block of this kind, all or none.
     fn take_names<R: Wait>(
         &self,
         rt: &R,
         pass: Pass<Shared>,
         number: u32,
+        kind: NameKind,
         terms: &[Term],
-    ) -> (Pass<Shared>, Result<(), NameFault>)
+    ) -> (Pass<Shared>, Result<(), NamingFault>)
         requires { IsCaller self.now number pass }
         ensures { MatchResult result.1
-            (λ _. Turn self.now.limits pass result.0 (event_of number (Action.Name terms.now) Reply.Named))
-            (λ fault. NamesNot fault self.now.limits pass result.0 number terms.now) }
+            (λ _. Turn self.now pass result.0 (event_of number (Action.Name kind terms.now) Reply.Named))
+            (λ fault. NamesNot fault self.now pass result.0 number kind terms.now) }
     {
         let Ok(slip) = slip(self.alloc) else {
-            return (pass, Err(NameFault::Memory));
+            return (pass, Err(NamingFault::Memory));
         };
         let (held, mut core) = self.start(rt, pass);
-        match core.name(number, terms) {
+        match core.name(number, kind, terms) {
             Ok(_) => (self.finish(held, core), Ok(())),
-            Err(NameFault::Full { count }) => {
-                (self.finish(held, core), Err(NameFault::Full { count }))
+            Err(NamingFault::Unknown { node }) => {
+                (self.finish(held, core), Err(NamingFault::Unknown { node }))
             }
-            Err(NameFault::Memory) => {
+            Err(NamingFault::Full { count }) => {
+                (self.finish(held, core), Err(NamingFault::Full { count }))
+            }
+            Err(NamingFault::Memory) => {
                 core.void(number, slip);
-                (self.finish(held, core), Err(NameFault::Memory))
+                (self.finish(held, core), Err(NamingFault::Memory))
             }
         }
     }
 
-    /// Names the terms of the triples, all or none.
+    /// Names the terms of the triples of a block of this kind, all or none.
     pub(crate) fn name_parts<R: Wait>(
         &self,
         rt: &R,
         pass: Pass<Shared>,
         number: u32,
+        kind: NameKind,
         triples: &[Triple],
-    ) -> (Pass<Shared>, Result<(), NameFault>)
+    ) -> (Pass<Shared>, Result<(), NamingFault>)
         requires { IsCaller self.now number pass }
         ensures { MatchResult result.1
-            (λ _. Turn self.now.limits pass result.0 (event_of number (Action.Name (parts_of triples.now)) Reply.Named))
-            (λ fault. NamesNot fault self.now.limits pass result.0 number (parts_of triples.now)) }
+            (λ _. Turn self.now pass result.0 (event_of number (Action.Name kind (parts_of triples.now)) Reply.Named))
+            (λ fault. NamesNot fault self.now pass result.0 number kind (parts_of triples.now)) }
     {
         let Ok(terms) = terms_in(self.alloc, triples) else {
-            return (pass, Err(NameFault::Memory));
+            return (pass, Err(NamingFault::Memory));
         };
-        self.take_names(rt, pass, number, &terms)
+        self.take_names(rt, pass, number, kind, &terms)
     }
 
     /// Commits a transaction that changes something or stages shapes, with what is kept of its check, and counts its
@@ -130,12 +135,12 @@ impl Store {
         steps: &mut Steps<L>,
     ) -> (Pass<Shared>, Result<Committed, CheckedTransaction>)
         requires caller { IsCaller self.now number pass }
-        requires committable { At self.now.limits pass.known.front (λ s. IsCommittable s handed.transaction) }
-        requires kept { AreOfVerdictIn self.now.limits pass.known.front handed.transaction.net handed.transaction.verdict handed.rows }
+        requires committable { At self.now pass.known.front (λ s. IsCommittable s handed.transaction) }
+        requires kept { AreOfVerdictIn self.now.limits self.now.start pass.known.front handed.transaction.net handed.transaction.verdict handed.rows }
         ensures commits { MatchResult result.1
-            (TurnCommits self.now.limits pass result.0 number handed.transaction)
-            (λ back. (back ≡ handed) × Fails self.now.limits pass result.0 number) }
-        ensures steps { MatchResult result.1 (TurnCounts self.now.limits pass result.0 number handed.transaction steps.old steps.new) (λ _. steps.old ≤ steps.new) }
+            (TurnCommits self.now pass result.0 number handed.transaction)
+            (λ back. (back ≡ handed) × Fails self.now pass result.0 number) }
+        ensures steps { MatchResult result.1 (TurnCounts self.now pass result.0 number handed.transaction steps.old steps.new) (λ _. steps.old ≤ steps.new) }
     {
         let Ok(slip) = slip(self.alloc) else {
             return (pass, Err(handed));

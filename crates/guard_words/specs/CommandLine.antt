@@ -29,6 +29,10 @@ replay = with_rule (with_rule (with_rule (with_rule (new_app (codes "replay")) (
 abbrev pub validate : App
 validate = with_rule (with_rule (new_app (codes "validate")) (name_rule (codes "data"))) (name_rule (codes "shapes"))
 
+-- `explain DATA SHAPES`
+abbrev pub explain : App
+explain = with_rule (with_rule (new_app (codes "explain")) (name_rule (codes "data"))) (name_rule (codes "shapes"))
+
 -- `generate NUMBERS`
 abbrev pub generate : App
 generate = with_rule (new_app (codes "generate")) (name_rule (codes "numbers"))
@@ -37,5 +41,9 @@ generate = with_rule (new_app (codes "generate")) (name_rule (codes "numbers"))
 abbrev pub session_commands : App
 session_commands = with_subcommand (with_subcommand (on_top (λ s. record s { subcommand_required = true }) (new_app (codes "shacl_guard"))) run.top) replay.top
 
+-- and with those that take a data graph and a shapes graph
+abbrev pub file_commands : App
+file_commands = with_subcommand (with_subcommand session_commands validate.top) explain.top
+
 abbrev pub command_line : App
-command_line = with_subcommand (with_subcommand session_commands validate.top) generate.top
+command_line = with_subcommand file_commands generate.top

@@ -1,5 +1,5 @@
 -- Why words are no call.
-use Rattle.std.specs.Prelude.{◌≡◌, Option, None}
+use Rattle.std.specs.Prelude.{◌≡◌, List, ℕ, Option, None}
 use Rattle.guard_words.specs.declared.call.Call.{Call}
 use Rattle.guard_words.specs.declared.call.WordsFault.{WordsFault}
 use Rattle.guard_words.specs.declared.call.WordsFault.TheVariants.{Usage, Memory}
@@ -7,3 +7,8 @@ use Rattle.guard_words.specs.declared.call.WordsFault.TheVariants.{Usage, Memory
 abbrev pub Refuses : WordsFault → Option Call → Type 0
 Refuses Usage call = call ≡ None
 Refuses Memory call = Unit {0}
+
+-- why words lack the names of two files
+abbrev pub Lacks : WordsFault → Option (List ℕ × List ℕ) → Type 0
+Lacks Usage names = names ≡ None
+Lacks Memory names = Unit {0}

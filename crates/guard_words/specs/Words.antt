@@ -6,7 +6,7 @@ use Rattle.clap.specs.Words.{Row, Text, all_of, fault_of, first_of, subcommand_o
 use Rattle.guard_words.specs.CommandLine.{command_line}
 use Rattle.guard_words.specs.declared.call.Limits.{Limits}
 use Rattle.guard_words.specs.declared.call.Call.{Call}
-use Rattle.guard_words.specs.declared.call.Call.TheVariants.{Run, Replay, Validate, Generate}
+use Rattle.guard_words.specs.declared.call.Call.TheVariants.{Run, Replay, Validate, Explain, Generate}
 
 -- The number that a text is the decimal of, without sign or leading zero, from 1 to 2,000,000.
 abbrev pub limit_of : List ℕ → Option ℕ
@@ -44,10 +44,19 @@ replay_of None history files = None
 replay_of (Some limits) None files = None
 replay_of (Some limits) (Some history) None = None
 
-abbrev pub validate_of : Option (List ℕ) → Option (List ℕ) → Option Call
-validate_of (Some graph) (Some shapes) = Some (Validate graph shapes)
-validate_of None shapes = None
-validate_of (Some graph) None = None
+-- the names of a data graph and a shapes graph
+abbrev pub names_of : Option (List ℕ) → Option (List ℕ) → Option (List ℕ × List ℕ)
+names_of (Some graph) (Some shapes) = Some (graph, shapes)
+names_of None shapes = None
+names_of (Some graph) None = None
+
+abbrev pub validate_of : Option (List ℕ × List ℕ) → Option Call
+validate_of None = None
+validate_of (Some names) = Some (Validate names.0 names.1)
+
+abbrev pub explain_of : Option (List ℕ × List ℕ) → Option Call
+explain_of None = None
+explain_of (Some names) = Some (Explain names.0 names.1)
 
 abbrev pub generate_of : Option ℕ → Option Call
 generate_of (Some numbers) = Some (Generate numbers)
@@ -78,7 +87,8 @@ call_in None = None
 call_in (Some p) =
     if bytes_eq p.0 (codes "run") then run_of (limits_in p.1) (files_in p.1)
     else if bytes_eq p.0 (codes "replay") then replay_of (limits_in p.1) (history_in p.1) (files_in p.1)
-    else if bytes_eq p.0 (codes "validate") then validate_of (data_in p.1) (shapes_in p.1)
+    else if bytes_eq p.0 (codes "validate") then validate_of (names_of (data_in p.1) (shapes_in p.1))
+    else if bytes_eq p.0 (codes "explain") then explain_of (names_of (data_in p.1) (shapes_in p.1))
     else generate_of (size_in p.1)
 
 -- The call of words that `clap` takes for the command line, with numbers within their bounds; no other words are one.

@@ -1,7 +1,7 @@
 ghost use Rattle.std.specs.Prelude.{◌≡◌, ◌≢◌, [], IfErr, IfOk, MatchResult, Some, map, option_map};
 ghost use Rattle.clap.specs.Words.{all_of, fault_of, first_of, found_of, kind_of, rows_of, subcommand_of, subcommand_rows_of};
 ghost use Rattle.guard_words.specs.CommandLine;
-ghost use Rattle.guard_words.specs.Faults.{Refuses};
+ghost use Rattle.guard_words.specs.Faults.{Lacks, Refuses};
 ghost use Rattle.guard_words.specs.Words;
 
 use crate::command_line::command_line;
@@ -38,6 +38,11 @@ pub enum Call {
     },
     /// Validates a data graph by a shapes graph.
     Validate {
+        data: Text,
+        shapes: Text,
+    },
+    /// Explains the validation of a data graph by a shapes graph.
+    Explain {
         data: Text,
         shapes: Text,
     },
@@ -150,10 +155,11 @@ fn replay_in(alloc: Global, found: &ArgMatches<'_>) -> Result<Call, WordsFault>
     })
 }
 
-fn validate_in(alloc: Global, found: &ArgMatches<'_>) -> Result<Call, WordsFault>
+// The names of a data graph and a shapes graph.
+fn graphs_in(alloc: Global, found: &ArgMatches<'_>) -> Result<(Text, Text), WordsFault>
     ensures { let rows = rows_of (found_of found.now) in
-        let call = Words.validate_of (Words.data_in rows) (Words.shapes_in rows) in
-        MatchResult result (λ c. call ≡ Some c) (λ fault. Refuses fault call) }
+        let names = Words.names_of (Words.data_in rows) (Words.shapes_in rows) in
+        MatchResult result (λ both. names ≡ Some both) (λ fault. Lacks fault names) }
 {
     let Some(graph) = text_at(found, "data") else {
         return Err(WordsFault::Usage);
@@ -163,10 +169,35 @@ fn validate_in(alloc: Global, found: &ArgMatches<'_>) -> Result<Call, WordsFault
     };
     let graph = Text::new(alloc, graph)?;
     let shapes = Text::new(alloc, shapes)?;
-    Ok(Call::Validate {
-        data: graph,
-        shapes,
-    })
+    Ok((graph, shapes))
+}
+
+fn validate_in(alloc: Global, found: &ArgMatches<'_>) -> Result<Call, WordsFault>
+    ensures { let rows = rows_of (found_of found.now) in
+        let call = Words.validate_of (Words.names_of (Words.data_in rows) (Words.shapes_in rows)) in
+        MatchResult result (λ c. call ≡ Some c) (λ fault. Refuses fault call) }
+{
+    match graphs_in(alloc, found) {
+        Ok((graph, shapes)) => Ok(Call::Validate {
+            data: graph,
+            shapes,
+        }),
+        Err(fault) => Err(fault),
+    }
+}
+
+fn explain_in(alloc: Global, found: &ArgMatches<'_>) -> Result<Call, WordsFault>
+    ensures { let rows = rows_of (found_of found.now) in
+        let call = Words.explain_of (Words.names_of (Words.data_in rows) (Words.shapes_in rows)) in
+        MatchResult result (λ c. call ≡ Some c) (λ fault. Refuses fault call) }
+{
+    match graphs_in(alloc, found) {
+        Ok((graph, shapes)) => Ok(Call::Explain {
+            data: graph,
+            shapes,
+        }),
+        Err(fault) => Err(fault),
+    }
 }
 
 fn generate_in(found: &ArgMatches<'_>) -> Result<Call, WordsFault>
@@ -192,6 +223,8 @@ fn call_in(alloc: Global, name: &str, found: &ArgMatches<'_>) -> Result<Call, Wo
         replay_in(alloc, found)
     } else if name == "validate" {
         validate_in(alloc, found)
+    } else if name == "explain" {
+        explain_in(alloc, found)
     } else {
         generate_in(found)
     }

@@ -60,6 +60,15 @@ fn validate<'a>(alloc: Global) -> Result<Command<'a>, AllocError>
         .arg(name(alloc, "shapes"))
 }
 
+fn explain<'a>(alloc: Global) -> Result<Command<'a>, AllocError>
+    ensures app { IfOk result (λ c. app_of c ≡ CommandLine.explain) }
+    ensures local { IfOk result (λ c. (out-Command c).has_globals ≡ false) }
+{
+    Command::new(alloc, "explain")
+        .arg(name(alloc, "data"))?
+        .arg(name(alloc, "shapes"))
+}
+
 fn generate<'a>(alloc: Global) -> Result<Command<'a>, AllocError>
     ensures app { IfOk result (λ c. app_of c ≡ CommandLine.generate) }
     ensures local { IfOk result (λ c. (out-Command c).has_globals ≡ false) }
@@ -77,11 +86,18 @@ fn session_commands<'a>(alloc: Global) -> Result<Command<'a>, AllocError>
         .subcommand(replay(alloc)?)
 }
 
+// The same with those that take a data graph and a shapes graph.
+fn file_commands<'a>(alloc: Global) -> Result<Command<'a>, AllocError>
+    ensures { IfOk result (λ c. app_of c ≡ CommandLine.file_commands) }
+{
+    session_commands(alloc)?
+        .subcommand(validate(alloc)?)?
+        .subcommand(explain(alloc)?)
+}
+
 /// The command that the words are read for.
 pub fn command_line<'a>(alloc: Global) -> Result<Command<'a>, AllocError>
     ensures { IfOk result (λ c. app_of c ≡ CommandLine.command_line) }
 {
-    session_commands(alloc)?
-        .subcommand(validate(alloc)?)?
-        .subcommand(generate(alloc)?)
+    file_commands(alloc)?.subcommand(generate(alloc)?)
 }

@@ -9,7 +9,7 @@ use Rattle.std.proofs.lemmas.Nat.{mod_below}
 use Rattle.load_maker.specs.Workload.{line, lines_text, node, shapes_lines, type_lines, value_lines, commit_lines, transaction_lines, own_lines, workload}
 use Rattle.session_reader.specs.declared.line.BlockKind.TheVariants as blocks
 use Rattle.session_reader.specs.declared.line.Syntax.TheVariants.{NTriples, Turtle}
-use Rattle.session_reader.specs.SessionFile.{is_block_end, session_of, commands_of, items_after}
+use Rattle.session_reader.specs.SessionFile.{is_block_end, session_of, commands_of, items_of}
 use Rattle.load_command.proofs.Splitting.{all_of, append_no_lf, append_no_lfs, decimal_no_lf, no_lf, no_lfs, split_lines}
 use Rattle.load_command.proofs.Commands.{AreCommands, IsRead, none_left, with_one_block, with_pieces}
 
@@ -124,8 +124,8 @@ file_commands n s =
     subst AreCommands (sym (append_assoc shapes_lines numbers ([] ∷ []))) (with_shapes (numbers ++ [] ∷ []) (with_pieces (own_lines n s) (own_commands n s) (range_with_len 1 n) ([] ∷ []) none_left))
 
 file_read : (n s : ℕ) → 0 < n → n ≤ 100000 → IsRead (session_of s (workload n s))
-unfolding workload
-file_read n s one most = subst (λ (lines : List (List ℕ)). IsRead (commands_of s 1 (items_after 0 1 lines))) (sym (split_lines (lines_of n s) (file_no_lf n s one most))) (file_commands n s s 1 1)
+unfolding workload shapes_lines
+file_read n s one most = subst (λ (lines : List (List ℕ)). IsRead (commands_of s 1 (items_of lines))) (sym (split_lines (lines_of n s) (file_no_lf n s one most))) (file_commands n s s 1 1)
 
 -- a file has no line that is no command
 pub no_bad_line : (n s k : ℕ) → 0 < n → n ≤ 100000 → session_of s (workload n s) ≡ Err k → ⊥
@@ -189,7 +189,7 @@ unfolding shapes_lines
 shapes_le = omega arith
 
 pub short : (n s : ℕ) → 0 < n → n ≤ 100000 → 1 + length (workload n s) < 2 ^ 32
-unfolding workload
+unfolding workload shapes_lines
 short n s one most =
     let numbers = flat_map (own_lines n s) (range_with_len 1 n) in
     let all = lines_le shapes_lines numbers 177 (131 * n) shapes_le (numbers_le n s 1 n (omega arith) (omega arith) one most) in

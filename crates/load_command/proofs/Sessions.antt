@@ -4,6 +4,7 @@ use Rattle.std.specs.Prelude.{IfOk, MatchBool, Result, Ok, Err, nat_eq}
 use Rattle.std.proofs.lemmas.List.{length-map, length-set}
 use Rattle.outside.specs.Faults.{Refusal}
 use Rattle.store_model.specs.declared.event.Limits.{Limits}
+use Rattle.store_model.specs.Store.{State, empty_store}
 use Rattle.session_model.specs.declared.command.Command.{Command}
 use Rattle.session_model.specs.declared.reply.SessionReply.{SessionReply}
 use Rattle.session_model.specs.Sessions.{HasReplies, OpenTransaction, RunsEvent, RunsInOrder, RunsOpening, World, session_at, start}
@@ -23,10 +24,10 @@ order_count l m n [] h = ap (λ (x : World). length x.sessions) h
 order_count l m n (i ∷ order) h =
     order_count l h.0 n order h.2 ∙ place_count l m h.0 i (nat_eq i (m.state.opened + 1)) (session_at m i).current (session_at m i).commands (session_at m i).replies h.1
 
-pub count_of_run : (files : List (List Command)) (l : Limits) (order : List ℕ) (all : List (List SessionReply)) → HasReplies files l order all → length all ≡ length files
-count_of_run files l order all h = ap length h.replies ∙ (length-map h.last.sessions (λ s. s.replies) ∙ (order_count l (start files) h.last order h.runs ∙ length-map files _))
+pub count_of_run : (files : List (List Command)) (l : Limits) (s : State) (order : List ℕ) (all : List (List SessionReply)) → HasReplies files l s order all → length all ≡ length files
+count_of_run files l s order all h = ap length h.replies ∙ (length-map h.last.sessions (λ p. p.replies) ∙ (order_count l (start s files) h.last order h.runs ∙ length-map files _))
 
-pub told : {X E : Type 0} (of : X → List ℕ) (r : Result X E) (n : ℕ) (old new : List Refusal) (all : List (List Command)) (order : List ℕ) (replies given : List (List SessionReply)) (triples : ℕ) → length all ≡ 4 → AreSessions n 1 all old new → HasEnd all load_limits order replies triples
+pub told : {X E : Type 0} (of : X → List ℕ) (r : Result X E) (n : ℕ) (old new : List Refusal) (all : List (List Command)) (order : List ℕ) (replies given : List (List SessionReply)) (triples : ℕ) → length all ≡ 4 → AreSessions n 1 all old new → HasEnd all load_limits empty_store order replies triples
     → given ≡ replies → IfOk r (λ x. of x ≡ load_text n given triples) → IfOk r (λ x. IsLoad n old new (of x))
 told of (Ok x) n old new all order replies given triples four sessions end same is = record {
   all = all;

@@ -2,7 +2,9 @@
 use Rattle.std.specs.Prelude.{◌≡◌, ℕ, ◌+◌, List, [], ◌∷◌, ◌++◌, codes, length}
 use Rattle.std.specs.Fmt.{decimal}
 use Rattle.outside.specs.Faults.{Refusal}
+use Rattle.store_model.specs.declared.event.BlockMode.TheVariants.{All}
 use Rattle.store_model.specs.declared.event.Limits.{Limits}
+use Rattle.store_model.specs.Store.{empty_store}
 use Rattle.session_model.specs.declared.command.Command.{Command}
 use Rattle.session_model.specs.declared.reply.SessionReply.{SessionReply}
 use Rattle.session_model.specs.Print.{line}
@@ -19,7 +21,7 @@ AreSessions n k (commands ∷ all) old new = (mid : List Refusal) × IsSession k
 
 -- as an option that isn't given has them
 abbrev pub load_limits : Limits
-load_limits = record { terms = 1000000; triples = 1000000 }
+load_limits = record { terms = 1000000; triples = 1000000; mode = All }
 
 -- the number of the load, the counts of the replies of two kinds, and the size of the data graph at the end
 abbrev pub load_text : ℕ → List (List SessionReply) → ℕ → List ℕ
@@ -34,5 +36,5 @@ pub record IsLoad (n : ℕ) (old new : List Refusal) (text : List ℕ) : Type 0 
   pub replies : List (List SessionReply)
   pub four : length all ≡ 4
   pub sessions : AreSessions n 1 all old new
-  pub run : HasReplies all load_limits order replies
+  pub run : HasReplies all load_limits empty_store order replies
   pub printed : text ≡ load_text n replies (length run.last.state.graph)

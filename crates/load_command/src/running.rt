@@ -12,12 +12,13 @@ use session_threads::{EndedRun, run_all};
 use std::alloc::{AllocError, Global};
 use std::sync::Wait;
 use std::thread::Threads;
-use store_model::Limits;
+use store_model::{BlockMode, Limits};
 
 // As an option that isn't given has them.
 const LIMITS: Limits = Limits {
     terms: 1_000_000,
     triples: 1_000_000,
+    mode: BlockMode::All,
 };
 
 // What is told of a load that was run.

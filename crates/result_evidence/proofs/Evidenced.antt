@@ -13,9 +13,9 @@ use Rattle.shape_model.specs.ShapeLooks.{Looks}
 use Rattle.shape_ast.specs.declared.shape.Shape.{Shape}
 use Rattle.shape_ast.specs.Readings.{ReadShape, named_shapes, read_shape}
 use Rattle.shape_eval.proofs.Lookups.{at_place, named_place}
-use Rattle.result_evidence.specs.declared.block.ShownLook.{ShownLook}
-use Rattle.result_evidence.specs.Blocks.{HasTriples, IsLeastAim, looks_in}
-use Rattle.result_evidence.specs.LookOrder.{look_cmp}
+use Rattle.evidence_blocks.specs.declared.block.ShownLook.{ShownLook}
+use Rattle.evidence_blocks.specs.Blocks.{HasTriples, IsLeastAim, looks_in}
+use Rattle.evidence_blocks.specs.LookOrder.{look_cmp}
 use Rattle.result_evidence.specs.Standing.{ForShape, IsEvidenceOf}
 
 module _ (terms : List Term) (ids : List Ids) (shapes : List (Shape ℕ)) (place f : ℕ) (within : place < length shapes) where

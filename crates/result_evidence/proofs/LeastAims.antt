@@ -32,14 +32,14 @@ use Rattle.shape_eval.proofs.Lookups.{at_place, got_at, named_place, of_place, o
 use Rattle.target_nodes.specs.ShapeTargets.{AreTargets}
 use Rattle.result_evidence.specs.declared.aims.Aim.{Aim}
 use Rattle.result_evidence.specs.Aims.{GivesNoneBelow, IsFirstAim, IsLeastTarget}
-use Rattle.result_evidence.specs.Blocks.{Gives, IsLeastAim, aim_cmp}
+use Rattle.evidence_blocks.specs.Blocks.{Gives, IsLeastAim, aim_cmp}
 use Rattle.result_evidence.specs.Standing.{AreOf, ForEach, ForShape, IsLeastIn, IsLeastWith, IsSomeResult}
 
 -- the first isn't above what isn't below it, nor above its equal, nor above what one is that is above it
 not_above : (x y : Term) → (term_cmp y x ≡ Less → ⊥) → term_cmp x y ≢ Greater
 not_above x y never gt = never (term_total.antisymm y x ∙ ap ordering_reverse gt)
 
-equal_terms : (x y : Term) → x ≡ y → term_cmp x y ≡ Equal
+pub equal_terms : (x y : Term) → x ≡ y → term_cmp x y ≡ Equal
 equal_terms x y e = subst (λ (z : Term). term_cmp x z ≡ Equal) e (tied_itself term_total x)
 
 not_above_itself : (x y : Term) → x ≡ y → term_cmp x y ≢ Greater
@@ -143,20 +143,20 @@ module _ (terms : List Term) (ids : List Ids) (s : List Triple) (r : ResultRow) 
   }
 
 -- how two numbers stand
-two_ways : (j k : ℕ) → j < k + 1 → (j < k) ⊎ (j ≡ k)
+pub two_ways : (j k : ℕ) → j < k + 1 → (j < k) ⊎ (j ≡ k)
 two_ways zero zero lt = inr refl
 two_ways zero (suc k) lt = inl (omega arith)
 two_ways (suc j) zero lt = absurd (omega (arith, lt))
 two_ways (suc j) (suc k) lt = elim (two_ways j k (omega (arith, lt))) [ inl a ↦ inl (omega (arith, a)) | inr e ↦ inr (ap suc e) ]
 
-three_ways : (j k : ℕ) → (j < k) ⊎ (j ≡ k) ⊎ (k < j)
+pub three_ways : (j k : ℕ) → (j < k) ⊎ (j ≡ k) ⊎ (k < j)
 three_ways zero zero = inr (inl refl)
 three_ways zero (suc k) = inl (omega arith)
 three_ways (suc j) zero = inr (inr (omega arith))
 three_ways (suc j) (suc k) = elim (three_ways j k) [ inl a ↦ inl (omega (arith, a)) | inr (inl e) ↦ inr (inl (ap suc e)) | inr (inr b) ↦ inr (inr (omega (arith, b))) ]
 
 -- an item that stands before another is below it
-above_at : {X : Type 0} → (R : X → X → Ordering) (xs : List X) (i j : ℕ) (x y : X) → IsAscending R xs → i < j → slice_get xs i ≡ Some x → slice_get xs j ≡ Some y → R x y ≡ Less
+pub above_at : {X : Type 0} → (R : X → X → Ordering) (xs : List X) (i j : ℕ) (x y : X) → IsAscending R xs → i < j → slice_get xs i ≡ Some x → slice_get xs j ≡ Some y → R x y ≡ Less
 above_at R [] i j x y asc lt e f = cc
 above_at R (z ∷ zs) i zero x y asc lt e f = absurd (omega (arith, lt))
 above_at R (z ∷ zs) zero (suc j) x y asc lt e f = let is : z ≡ x = only_some (Some z) z x refl e in subst (λ w. R w y ≡ Less) is (below R z zs y asc.0 (of_place zs j y f))
@@ -191,7 +191,7 @@ module _ (terms : List Term) (ids : List Ids) (shapes : List (Shape ℕ)) (r : R
       record { place = lt; below = before s of; target = λ c at. some s c of at }
 
   -- the shape of a result has a place
-  shape_place : (s : List Triple) → AreOf terms shapes s → (shape f : Term) → Gives (graph_of terms ids) s r shape f → (j : ℕ) × (c : ReadShape) × (j < length shapes) × (slice_get (named_shapes terms shapes) j ≡ Some c) × (c.node ≡ shape)
+  pub shape_place : (s : List Triple) → AreOf terms shapes s → (shape f : Term) → Gives (graph_of terms ids) s r shape f → (j : ℕ) × (c : ReadShape) × (j < length shapes) × (slice_get (named_shapes terms shapes) j ≡ Some c) × (c.node ≡ shape)
   shape_place s of shape f gives =
       let k = of.stand.all shape (makes_shape s shape (has_target (graph_of terms ids) s shape f gives.0)) in
       let p = placed (named_shapes terms shapes) k.0 k.1 in

@@ -1,5 +1,6 @@
-mod Looked
-mod Matched
+pub mod Looked
+pub mod Matched
 mod Showing
-mod LeastAims
+pub mod LeastAims
 mod Evidenced
+pub mod Aimed

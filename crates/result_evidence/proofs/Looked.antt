@@ -19,7 +19,7 @@ use Rattle.path_eval.proofs.Mirrors.{mapped_from}
 use Rattle.shape_eval.specs.Looks.{AddsShapeLooks}
 use Rattle.shape_eval.proofs.Lookups.{at_place, named_place}
 use Rattle.target_nodes.specs.ShapeTargets.{AtShape}
-use Rattle.result_evidence.specs.LookOrder.{look_cmp}
+use Rattle.evidence_blocks.specs.LookOrder.{look_cmp}
 use Rattle.result_evidence.specs.Standing.{ForShape, HasNumbers, HaveGraph}
 
 module _ (terms : List Term) (ids : List Ids) (shapes : List (Shape ℕ)) (n f : ℕ) where

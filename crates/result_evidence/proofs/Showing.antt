@@ -6,8 +6,8 @@ use Rattle.std.proofs.lemmas.List.Elements.{All-push}
 use Rattle.rdf_model.specs.declared.term.Term.{Term}
 use Rattle.rdf_model.specs.declared.triple.Triple.{Triple}
 use Rattle.rdf_model.specs.declared.look.Look.{Look}
-use Rattle.result_evidence.specs.declared.block.ShownLook.{ShownLook}
-use Rattle.result_evidence.specs.Blocks.{HasTriples, looks_in}
+use Rattle.evidence_blocks.specs.declared.block.ShownLook.{ShownLook}
+use Rattle.evidence_blocks.specs.Blocks.{HasTriples, looks_in}
 
 module _ (looks : List (Look Term)) (i : ℕ) (old new : List ShownLook) (x : ShownLook) (joined : new ≡ old ++ x ∷ []) where
   pub more_looks : (item : Look Term) → i < length looks → item ≡ get_or looks i item → looks_in old ≡ take i looks → x.look ≡ item → looks_in new ≡ take (i + 1) looks

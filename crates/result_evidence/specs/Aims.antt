@@ -10,7 +10,7 @@ use Rattle.shape_model.specs.declared.result_row.ResultRow.{ResultRow}
 use Rattle.shape_ast.specs.declared.shape.Shape.{Shape}
 use Rattle.shape_ast.specs.Readings.{ReadShape, named_shapes}
 use Rattle.result_evidence.specs.declared.aims.Aim.{Aim}
-use Rattle.result_evidence.specs.Blocks.{Gives}
+use Rattle.evidence_blocks.specs.Blocks.{Gives}
 
 -- the shape gives the result at this target, and at none below it
 pub record IsTargetWith (terms : List Term) (ids : List Ids) (s : List Triple) (r : ResultRow) (shape : Term) (f : ℕ) : Type 0 where

@@ -1,7 +1,5 @@
--- The letters of these files: g, h are data graphs, s is a shapes graph; f is a focus node, r a result, b a block of evidence.
-pub mod LookOrder
-pub mod LookOrders
-pub mod Blocks
-pub mod BlockText
+-- The letters of these files: g is a data graph, s a shapes graph; f is a focus node, r a result, b a block of evidence.
 pub mod Standing
 pub mod Aims
+pub mod AimedOrder
+pub mod AimedRows

@@ -18,8 +18,8 @@ use Rattle.path_eval.specs.Naming.{IsBoundLook, look_of}
 use Rattle.shape_ast.specs.declared.shape.Shape.{Shape}
 use Rattle.shape_ast.specs.Readings.{ReadShape, named_shapes}
 use Rattle.shape_ast.specs.Standing.{StandFor}
-use Rattle.result_evidence.specs.declared.block.Block.{Block}
-use Rattle.result_evidence.specs.Blocks.{IsEvidence}
+use Rattle.evidence_blocks.specs.declared.block.Block.{Block}
+use Rattle.evidence_blocks.specs.Blocks.{IsEvidence}
 
 -- the shapes stand for the shapes graph, in which the references have an end
 pub record AreOf (terms : List Term) (shapes : List (Shape ℕ)) (s : List Triple) : Type 0 where

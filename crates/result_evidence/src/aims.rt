@@ -8,7 +8,7 @@ ghost use Rattle.rdf_model.specs.Numbers.{graph_of, term_at};
 ghost use Rattle.rdf_model.specs.Terms.{term_cmp};
 ghost use Rattle.shape_model.specs.Validation.{At};
 ghost use Rattle.target_nodes.specs.ShapeTargets.{AreTargets, AtShape};
-ghost use Rattle.result_evidence.specs.Blocks.{IsLeastAim};
+ghost use Rattle.evidence_blocks.specs.Blocks.{IsLeastAim};
 ghost use Rattle.result_evidence.specs.Standing.{ForEach, ForShape, IsLeastIn, IsLeastWith, IsSomeResult};
 ghost use Rattle.result_evidence.specs.Aims.{IsAnyAim, IsLeastTarget};
 
@@ -120,8 +120,8 @@ fn least_focus<R: Triples, N: Names, L: Ledger>(
     Ok(least)
 }
 
-// The targets of the shape at the place.
-fn targets_of<R: Triples, N: Names>(
+/// The targets of the shape at the place.
+pub(crate) fn targets_of<R: Triples, N: Names>(
     evaluation: &Evaluation<'_, R, N>,
     place: usize,
 ) -> Result<Vec<u32>, AllocError>

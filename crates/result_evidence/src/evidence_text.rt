@@ -1,19 +1,21 @@
 //! The evidence of a result.
 ghost use Rattle.std.specs.Prelude.{◌≡◌, ◌<◌, IfOk, Some, length, slice_get, string_bytes};
-ghost use Rattle.rdf_model.specs.Numbers.{AreNumbered, IsNumbering, term_at};
+ghost use Rattle.rdf_model.specs.Numbers.{AreNumbered, IsNumbering, graph_of, term_at};
 ghost use Rattle.path_eval.specs.Instances.{AreClassWords};
 ghost use Rattle.shape_ast.specs.Readings.{AreBound, ReadShape, named_shapes};
 ghost use Rattle.shape_ast.specs.Standing.{AreBuilt};
-ghost use Rattle.result_evidence.specs.BlockText.{block_text};
-ghost use Rattle.result_evidence.specs.Standing.{IsEvidenceOf, IsSomeResult};
+ghost use Rattle.result_evidence.specs.AimedRows.{IsLeastAimed};
+ghost use Rattle.evidence_blocks.specs.BlockText.{block_text};
+ghost use Rattle.evidence_blocks.specs.Blocks.{IsLeastAim};
+ghost use Rattle.result_evidence.specs.Standing.{ForShape, HaveGraph, IsEvidenceOf, IsSomeResult};
 
-use crate::Block;
+use crate::AimedRow;
 use crate::aims::{Aim, aim_of};
 use crate::looks::looks_of;
 use crate::shown::shown_looks;
-use crate::text::text_of;
 use collections::both;
 use component_rows::named;
+use evidence_blocks::{Block, write_block};
 use path_eval::ClassWords;
 use rdf_model::{Names, Term, Triples};
 use shape_ast::Bound;
@@ -58,14 +60,18 @@ fn block_of<R: Triples, N: Names, L: Ledger>(
     evaluation: &Evaluation<'_, R, N>,
     names: &N,
     row: &ResultRow,
+    aim: Aim,
     steps: &mut Steps<L>,
 ) -> Result<Block, AllocError>
     requires names { N.terms names.now ≡ evaluation.now.terms }
-    requires row { IsSomeResult evaluation.now.terms evaluation.now.ids evaluation.now.shapes row.now }
+    requires graph { HaveGraph evaluation.now.terms evaluation.now.shapes }
+    requires place { aim.place < length evaluation.now.shapes }
+    requires focus { aim.focus < length evaluation.now.terms }
+    requires least { ForShape evaluation.now.terms evaluation.now.shapes aim.place
+        (λ s shape. IsLeastAim (graph_of evaluation.now.terms evaluation.now.ids) s row.now shape (term_at evaluation.now.terms aim.focus)) }
     ensures { IfOk result (IsEvidenceOf evaluation.now.terms evaluation.now.ids evaluation.now.shapes row.now) }
 {
     evaluation.recall();
-    let aim = aim_of(evaluation, names, row, steps)?;
     let looks = looks_of(evaluation, names, aim.place, aim.focus, steps)?;
     let shown = shown_looks(
         evaluation.alloc(),
@@ -104,6 +110,35 @@ pub fn evidence<R: Triples, N: Names, L: Ledger>(
     ensures { IfOk result (λ text. (block : _) × IsEvidenceOf (N.terms names.now) (R.triples graph.now) bound.now.shapes row.now block × (string_bytes text ≡ block_text block)) }
 {
     let evaluation = Evaluation::new(alloc, graph, names, words, bound);
-    let block = block_of(&evaluation, names, row, steps)?;
-    text_of(alloc, &block)
+    let aim = aim_of(&evaluation, names, row, steps)?;
+    let block = block_of(&evaluation, names, row, aim, steps)?;
+    write_block(alloc, &block)
+}
+
+/// The same, where the least shape and focus node that give the result are known.
+pub fn evidence_at<R: Triples, N: Names, L: Ledger>(
+    alloc: Global,
+    graph: &R,
+    names: &N,
+    words: ClassWords,
+    bound: &Bound,
+    aimed: &AimedRow,
+    steps: &mut Steps<L>,
+) -> Result<String, AllocError>
+    requires numbering { IsNumbering (N.terms names.now) }
+    requires graph { AreNumbered (N.terms names.now) (R.triples graph.now) }
+    requires words { AreClassWords (N.terms names.now) words }
+    requires bound { AreBound (N.terms names.now) bound.now.shapes }
+    requires built { AreBuilt (term_at (N.terms names.now)) bound.now.shapes }
+    requires shapes { HaveGraph (N.terms names.now) bound.now.shapes }
+    requires aimed { IsLeastAimed (N.terms names.now) (R.triples graph.now) bound.now.shapes aimed.now }
+    ensures { IfOk result (λ text. (block : _) × IsEvidenceOf (N.terms names.now) (R.triples graph.now) bound.now.shapes aimed.now.row block × (string_bytes text ≡ block_text block)) }
+{
+    let evaluation = Evaluation::new(alloc, graph, names, words, bound);
+    let aim = Aim {
+        place: aimed.place,
+        focus: aimed.number,
+    };
+    let block = block_of(&evaluation, names, &aimed.row, aim, steps)?;
+    write_block(alloc, &block)
 }

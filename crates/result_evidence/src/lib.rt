@@ -3,18 +3,20 @@
 //!
 //! `evidence` ensures exactly the text of a result's block: the least shape and focus node that give it, the looks of that
 //! shape at that node, ascending, and under each just the triples of the graph that match it. By these looks alone the result
-//! can be found again.
+//! can be found again. `aimed_rows` ensures all results of a graph with each shape and focus node that give them, in order, and
+//! `evidence_at` the same text where the least of these are known.
 #![tactic(auto)]
 
+mod aimed_row;
 mod aims;
-mod block;
 mod evidence_text;
-mod listed_look;
+mod gathering;
 mod looks;
 mod shown;
-mod text;
 mod triples;
 
-pub use block::{Block, ShownLook};
-pub use evidence_text::evidence;
-pub use listed_look::ListedLook;
+pub use aimed_row::AimedRow;
+pub use evidence_text::{evidence, evidence_at};
+pub use gathering::aimed_rows;
+pub use looks::listed_looks;
+pub use triples::triples_under;

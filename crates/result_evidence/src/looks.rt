@@ -8,12 +8,12 @@ ghost use Rattle.shape_model.specs.Readings.{reading};
 ghost use Rattle.shape_model.specs.ShapeLooks.{Looks, TargetLook};
 ghost use Rattle.target_nodes.specs.ShapeTargets.{AtShape};
 ghost use Rattle.path_eval.specs.Naming.{AddsLooks, IsBoundLook, look_of};
-ghost use Rattle.result_evidence.specs.LookOrder.{look_cmp};
+ghost use Rattle.evidence_blocks.specs.LookOrder.{look_cmp};
 ghost use Rattle.result_evidence.specs.Standing.{ForShape, HasNumbers, HaveGraph};
 
-use crate::ListedLook;
 use collections::{both, sorted_once};
 use component_rows::named;
+use evidence_blocks::ListedLook;
 use rdf_model::{Footprint, Look, Names, Triples};
 use shape_eval::{Evaluation, Steps, eval, permit};
 use std::alloc::{AllocError, Global};
@@ -87,8 +87,8 @@ fn listed_look<N: Names>(names: &N, look: &Look<u32>) -> Result<ListedLook, Allo
     }
 }
 
-// Looks by their terms.
-fn listed_looks<N: Names>(
+/// Looks by their terms.
+pub fn listed_looks<N: Names>(
     alloc: Global,
     names: &N,
     looks: &[Look<u32>],

@@ -3,12 +3,12 @@ ghost use Rattle.std.specs.Prelude.{◌≡◌, ◌<◌, IfOk, length};
 ghost use Rattle.std.specs.List.{All, Contains};
 ghost use Rattle.rdf_model.specs.Numbers.{AreNumbered, IsNumbering, graph_of, term_at};
 ghost use Rattle.path_eval.specs.Naming.{IsBoundLook, look_of};
-ghost use Rattle.result_evidence.specs.Blocks.{HasTriples, looks_in};
+ghost use Rattle.evidence_blocks.specs.Blocks.{HasTriples, looks_in};
 ghost use Rattle.result_evidence.specs.Standing.{HasNumbers};
 
 use crate::triples::triples_under;
-use crate::{ListedLook, ShownLook};
 use collections::{Sequence, both};
+use evidence_blocks::{ListedLook, ShownLook};
 use rdf_model::{Look, Names, Term, Triples};
 use std::alloc::{AllocError, Global};
 

@@ -116,7 +116,7 @@ fn triples_at<N: Names>(alloc: Global, names: &N, ids: &[Ids]) -> Result<Vec<Tri
 }
 
 /// The triples of the graph that the look asks for, in the order of triples.
-pub(crate) fn triples_under<R: Triples, N: Names>(
+pub fn triples_under<R: Triples, N: Names>(
     alloc: Global,
     graph: &R,
     names: &N,

@@ -1,6 +1,7 @@
 -- What a run of session files prints. The patterns that were refused are old before the call, and new after.
 use Rattle.std.specs.Prelude.{◌≡◌, ℕ, ◌≤◌, List, ◌∷◌, length, map, Option, Some, None}
 use Rattle.store_model.specs.declared.event.Limits.{Limits}
+use Rattle.store_model.specs.Store.{empty_store}
 use Rattle.session_model.specs.declared.command.Command.{Command}
 use Rattle.session_model.specs.Print.{IsPrint}
 use Rattle.session_player.specs.Histories.{IsFirstBad}
@@ -28,7 +29,7 @@ IsOrderOf held (Some name) order = (bytes : List ℕ) × HoldsText held name byt
 
 -- the text is what a run of the files prints, within the limits, in an order that is valid for them
 abbrev pub IsRun : Option Contents → SessionRun → List Refusal → List Refusal → List ℕ → Type 0
-IsRun held r old new text = (all : List (List Command)) × (order : List ℕ) × HoldSessions held 1 r.files all old new × IsOrderOf held r.history order × IsPrint all r.limits order text
+IsRun held r old new text = (all : List (List Command)) × (order : List ℕ) × HoldSessions held 1 r.files all old new × IsOrderOf held r.history order × IsPrint all r.limits empty_store order text
 
 -- so it is, of at most 64 session files, and all files were loaded
 abbrev pub AreRun : Option Contents → SessionRun → Loads → Loads → List ℕ → Type 0
@@ -37,7 +38,7 @@ AreRun held r before after text = (length r.files ≤ 64) × IsRun held r before
 -- place k of a history is the first that isn't valid; 0 where its text doesn't begin as one
 abbrev pub IsBadPlace : List (List Command) → Limits → Option (List (Option ℕ)) → ℕ → Type 0
 IsBadPlace all l None k = k ≡ 0
-IsBadPlace all l (Some places) k = IsFirstBad all l places k
+IsBadPlace all l (Some places) k = IsFirstBad all l empty_store places k
 
 abbrev pub IsBadHistory : Option Contents → Limits → Option (List ℕ) → List (List ℕ) → ℕ → List Refusal → List Refusal → Type 0
 IsBadHistory held l None names k old new = ⊥

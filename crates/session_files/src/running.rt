@@ -1,4 +1,5 @@
 ghost use Rattle.std.specs.Prelude.{◌≡◌, ℕ, List, None, Some, ◌∷◌, ◌≤◌, IfOk, MatchResult, length, map, string_bytes};
+ghost use Rattle.store_model.specs.Store.{empty_store};
 ghost use Rattle.session_model.specs.Print.{IsPrint};
 ghost use Rattle.history_reader.specs.History.{history_of};
 ghost use Rattle.session_reader.specs.Checking.{OnlyGrows};
@@ -21,7 +22,7 @@ use session_threads::run_all;
 use std::alloc::{AllocError, Global};
 use std::sync::Wait;
 use std::thread::Threads;
-use store_model::Limits;
+use store_model::{BlockMode, Limits};
 
 // So many sessions may run.
 const MOST_FILES: usize = 64;
@@ -35,8 +36,9 @@ fn print_sessions<R: Threads + Wait + Sync, G: Gate>(
     gate: &G,
 ) -> Result<String, AllocError>
     requires terms { limits.terms ≤ 2000000 }
+    requires mode { limits.mode ≡ BlockMode.All }
     requires few { length all.now ≤ 64 }
-    ensures { IfOk result (λ text. (order : List ℕ) × IsPrint all.now limits order (string_bytes text)) }
+    ensures { IfOk result (λ text. (order : List ℕ) × IsPrint all.now limits empty_store order (string_bytes text)) }
 {
     let ended = run_all(rt, alloc, limits, all, gate)?;
     text_of(alloc, &ended.run)
@@ -53,6 +55,7 @@ fn run_sessions<R: Threads + Wait + Sync, F: Files, M: Maker, G: Gate>(
     gate: &G,
 ) -> Result<String, RunFault>
     requires terms { limits.terms ≤ 2000000 }
+    requires mode { limits.mode ≡ BlockMode.All }
     requires few { length names.now ≤ 64 }
     ensures answer { let before : Loads = record { loaded = F.loaded files.old; failed = F.failed files.old; refused = M.refused maker.old } in
         let after : Loads = record { loaded = F.loaded files.new; failed = F.failed files.new; refused = M.refused maker.new } in
@@ -75,8 +78,9 @@ fn print_replay(
     all: &[Sequence<Command>],
 ) -> Result<String, RunFault>
     requires terms { limits.terms ≤ 2000000 }
+    requires mode { limits.mode ≡ BlockMode.All }
     requires few { length all.now ≤ 64 }
-    ensures { MatchResult result (λ text. (order : List ℕ) × (history_of history.now ≡ Some (map Some order)) × IsPrint all.now limits order (string_bytes text))
+    ensures { MatchResult result (λ text. (order : List ℕ) × (history_of history.now ≡ Some (map Some order)) × IsPrint all.now limits empty_store order (string_bytes text))
         (λ fault. Unplayed fault (IsBadPlace all.now limits (history_of history.now))) }
 {
     let places = match read_history(alloc, history) {
@@ -137,6 +141,7 @@ fn replay_sessions<F: Files, M: Maker>(
     maker: &mut M,
 ) -> Result<String, RunFault>
     requires terms { limits.terms ≤ 2000000 }
+    requires mode { limits.mode ≡ BlockMode.All }
     requires few { length names.now ≤ 64 }
     ensures answer { let before : Loads = record { loaded = F.loaded files.old; failed = F.failed files.old; refused = M.refused maker.old } in
         let after : Loads = record { loaded = F.loaded files.new; failed = F.failed files.new; refused = M.refused maker.new } in
@@ -167,7 +172,8 @@ pub fn run_files<R: Threads + Wait + Sync, F: Files, M: Maker, G: Gate>(
     maker: &mut M,
     gate: &G,
 ) -> Result<String, RunFault>
-    requires { run.now.limits.terms ≤ 2000000 }
+    requires terms { run.now.limits.terms ≤ 2000000 }
+    requires mode { run.now.limits.mode ≡ BlockMode.All }
     ensures answer { let before : Loads = record { loaded = F.loaded files.old; failed = F.failed files.old; refused = M.refused maker.old } in
         let after : Loads = record { loaded = F.loaded files.new; failed = F.failed files.new; refused = M.refused maker.new } in
         MatchResult result (λ text. AreRun (F.holds files.old) run.now before after (string_bytes text)) (λ fault. StopsRun fault (F.holds files.old) run.now before after) }

@@ -1,23 +1,20 @@
 -- How the commands of sessions are walked through the store.
-use Rattle.std.proofs.Common.{◌≡◌, ℕ, ◌+◌, ◌-◌, ◌≤◌, Bool, true, false, nat_eq, nat_lt, List, [], ◌∷◌, ◌++◌, length, map, set, get_or, Option, Some, None, refl, sym, ap, ◌∙◌, subst, arith}
-use Rattle.std.specs.Prelude.{MatchBool, MatchOption}
+use Rattle.std.proofs.Common.{◌≡◌, ℕ, ◌+◌, ◌-◌, ◌≤◌, Bool, true, false, nat_eq, nat_lt, List, [], ◌∷◌, ◌++◌, length, map, set, get_or, Option, Some, None, refl, sym, ap, ◌∙◌, subst, arith, inl, inr}
+use Rattle.std.specs.Prelude.{MatchBool}
 use Rattle.std.proofs.lemmas.Bool.Decides.{nat_tests}
 use Rattle.store_model.specs.declared.event.Limits.{Limits}
-use Rattle.rdf_model.specs.declared.term.Term.{Term}
 use Rattle.store_model.specs.declared.event.Action.{Action}
 use Rattle.store_model.specs.declared.event.Action.TheVariants.{Open, Begin, Name, Head, Commit, Void}
-use Rattle.store_model.specs.declared.commit.Overtaker.{Overtaker}
-use Rattle.shape_model.specs.declared.result_row.ResultRow.{ResultRow}
 use Rattle.store_model.specs.declared.commit.Transaction.{Transaction}
 use Rattle.session_model.specs.declared.command.Command.TheVariants as commands
-use Rattle.session_model.specs.declared.command.Command.TheVariants.{Add, BadAdd, Remove, BadRemove, Shapes, BadShapes, BrokenShapes, RefusedPattern, Find, Abort}
-use Rattle.rdf_model.specs.Graphs.{after}
-use Rattle.store_model.proofs.Steps.{StepIsDeterministic-holds}
+use Rattle.session_model.specs.declared.command.Command.TheVariants.{Add, BadAdd, Remove, BadRemove, Attach, BadAttach, Shapes, BadShapes, BrokenShapes, RefusedPattern, Find, Abort}
+use Rattle.store_model.proofs.Outcomes.{outcome}
+use Rattle.store_model.proofs.Steps.{ReplyGivesOneState-holds, StepGivesOneReply-holds}
 use Rattle.store_model.specs.declared.event.Reply.{Reply}
-use Rattle.store_model.specs.declared.event.Reply.TheVariants.{Named, Full, Conflict, FullTriples}
+use Rattle.store_model.specs.declared.event.Reply.TheVariants.{Done, LogFault}
 use Rattle.session_model.specs.declared.command.Command.{Command}
 use Rattle.session_model.specs.declared.reply.SessionReply.{SessionReply}
-use Rattle.store_model.specs.Store.{State, StepOf, IsOpened, Replies, CommitsByRows, CommitsByListing, CommitsWithinLimit, overtaker, named_with}
+use Rattle.store_model.specs.Store.{State, StepOf, IsOpened, OpensNext, OpensNothing, AcceptsOrFails}
 use Rattle.session_model.specs.Sessions.{OpenTransaction, SessionState, World, LocalAnswer, answers, local_answer, up_to_event, up_to_event_by, action_of, commit_action, after_reply, GoesOn, no_session, session_at, world, RunsOpening, RunsEvent, RunsPlace, RunsInOrder, start, HasReplies}
 
 pub RunsInOrder-append : (l : Limits) (m k n : World) (a b : List ℕ) → RunsInOrder l m a k → RunsInOrder l k b n → RunsInOrder l m (a ++ b) n
@@ -55,38 +52,26 @@ turn l s t i w c cs replies a r q before rest g e on h =
     subst (λ (b : Bool). MatchBool b (RunsOpening l m i n) (RunsEvent l m i (session_at m i).current (session_at m i).commands (session_at m i).replies n)) (sym none)
     (subst (λ (x : SessionState). RunsEvent l m i x.current x.commands x.replies n) (sym mine) by)
 
--- only an empty_store gives out a session
-rows_given : (s t : State) (x : Transaction) (r : Reply) (rows : List ResultRow) → CommitsByRows s x rows r t → t.opened ≡ s.opened
-rows_given s t x r [] h = ap (λ (y : State). y.opened) h.1
-rows_given s t x r (row ∷ rows) h = ap (λ (y : State). y.opened) h.1
-
-weighed_given : (s t : State) (x : Transaction) (p r : Reply) (b : Bool) → MatchBool b (Replies p s r t) (CommitsByListing s x r t) → t.opened ≡ s.opened
-weighed_given s t x p r true h = ap (λ (y : State). y.opened) h.1
-weighed_given s t x p r false h = rows_given s t x r h.0 h.2
-
-commit_given : (l : Limits) (s t : State) (x : Transaction) (r : Reply) (o : Option Overtaker) → MatchOption o (CommitsWithinLimit l s x r t) (λ h. Replies (Conflict h.commit h.triple) s r t) → t.opened ≡ s.opened
-commit_given l s t x r None h = weighed_given s t x (FullTriples (length (after s.graph x.net))) r (nat_lt l.triples (length (after s.graph x.net))) h
-commit_given l s t x r (Some y) h = ap (λ (z : State). z.opened) h.1
-
-names_given : (s t : State) (ts : List Term) (p r : Reply) (b : Bool) → MatchBool b (Replies p s r t) (Replies Named (record s { named = named_with s.named ts }) r t) → t.opened ≡ s.opened
-names_given s t ts p r true h = ap (λ (z : State). z.opened) h.1
-names_given s t ts p r false h = ap (λ (z : State). z.opened) h.1
-
+-- only an opening gives out a session
 abbrev pub is_open : Action → Bool
 is_open Open = true
 is_open Begin = false
-is_open (Name ts) = false
+is_open (Name kind ts) = false
 is_open Head = false
 is_open (Commit x) = false
 is_open Void = false
 
+open_itself : (a : Action) → a ≡ Open → is_open a ≡ false → ⊥
+open_itself a e n = let h : is_open Open ≡ false = sym (ap is_open e) ∙ n in cc
+
 pub opened_same : (l : Limits) (s t : State) (i : ℕ) (a : Action) (r : Reply) → is_open a ≡ false → StepOf l s i a r t → t.opened ≡ s.opened
-opened_same l s t i Open r n h = cc
-opened_same l s t i Begin r n h = ap (λ (z : State). z.opened) h.1.1
-opened_same l s t i (Name ts) r n h = names_given s t ts (Full (length (named_with s.named ts) - 2)) r (nat_lt (l.terms + 2) (length (named_with s.named ts))) h.1
-opened_same l s t i Head r n h = ap (λ (z : State). z.opened) h.1.1
-opened_same l s t i (Commit x) r n h = commit_given l s t x r (overtaker s.commits x.base x.finds) h.2
-opened_same l s t i Void r n h = ap (λ (z : State). z.opened) h.1.1
+opened_same l s t i a r n h = elim (outcome l s t i a r h) [
+  | inl e ↦ ap (λ (x : State). x.opened) e.state
+  | inr (inl e) ↦ absurd (open_itself a e.action n)
+  | inr (inr (inl e)) ↦ ap (λ (x : State). x.opened) e.state
+  | inr (inr (inr (inl e))) ↦ ap (λ (x : State). x.opened) e.state
+  | inr (inr (inr (inr e))) ↦ ap (λ (x : State). x.opened) e.state
+]
 
 not_open : (b : Bool) (x : Transaction) → is_open (commit_action b x) ≡ false
 not_open true x = refl
@@ -107,6 +92,10 @@ opens_not None (Remove ts) = refl
 opens_not (Some w) (Remove ts) = refl
 opens_not None (BadRemove n kind) = refl
 opens_not (Some w) (BadRemove n kind) = refl
+opens_not None (Attach ts) = refl
+opens_not (Some w) (Attach ts) = refl
+opens_not None (BadAttach n kind) = refl
+opens_not (Some w) (BadAttach n kind) = refl
 opens_not None (Shapes ts) = refl
 opens_not (Some w) (Shapes ts) = refl
 opens_not None (BadShapes n kind) = refl
@@ -146,6 +135,10 @@ voids_not None (Remove ts) = refl
 voids_not (Some w) (Remove ts) = refl
 voids_not None (BadRemove n kind) = refl
 voids_not (Some w) (BadRemove n kind) = refl
+voids_not None (Attach ts) = refl
+voids_not (Some w) (Attach ts) = refl
+voids_not None (BadAttach n kind) = refl
+voids_not (Some w) (BadAttach n kind) = refl
 voids_not None (Shapes ts) = refl
 voids_not (Some w) (Shapes ts) = refl
 voids_not None (BadShapes n kind) = refl
@@ -168,7 +161,7 @@ never_void w c e = let yes : is_void (Some Void) ≡ false = ap is_void (sym e) 
 pub under_opened : (l : Limits) (s t : State) (i : ℕ) (w : Option OpenTransaction) (c : Command) (a : Action) (r : Reply) → action_of w c ≡ Some a → StepOf l s i a r t → IsOpened s i
 under_opened l s t i w c Open r e h = let no : is_open Open ≡ false = never_open w c Open e in cc
 under_opened l s t i w c Begin r e h = h.0
-under_opened l s t i w c (Name ts) r e h = h.0
+under_opened l s t i w c (Name kind ts) r e h = h.0
 under_opened l s t i w c Head r e h = h.0
 under_opened l s t i w c (Commit x) r e h = h.0
 under_opened l s t i w c Void r e h = absurd (never_void w c e)
@@ -177,18 +170,72 @@ under_opened l s t i w c Void r e h = absurd (never_void w c e)
 some_same : {X : Type 0} (x y : X) → Some x ≡ Some y → x ≡ y
 some_same x y e = cc
 
+-- no session goes on from a fault of the log
+ends_at_fault : (s : State) (w : Option OpenTransaction) (c : Command) (cs : List Command) (replies : List SessionReply) → after_reply s w c cs replies LogFault ≡ None
+ends_at_fault s None commands.Begin cs replies = refl
+ends_at_fault s (Some w) commands.Begin cs replies = refl
+ends_at_fault s None (BadAdd n kind) cs replies = refl
+ends_at_fault s (Some w) (BadAdd n kind) cs replies = refl
+ends_at_fault s None (Add ts) cs replies = refl
+ends_at_fault s (Some w) (Add ts) cs replies = refl
+ends_at_fault s None (Remove ts) cs replies = refl
+ends_at_fault s (Some w) (Remove ts) cs replies = refl
+ends_at_fault s None (BadRemove n kind) cs replies = refl
+ends_at_fault s (Some w) (BadRemove n kind) cs replies = refl
+ends_at_fault s None (Attach ts) cs replies = refl
+ends_at_fault s (Some w) (Attach ts) cs replies = refl
+ends_at_fault s None (BadAttach n kind) cs replies = refl
+ends_at_fault s (Some w) (BadAttach n kind) cs replies = refl
+ends_at_fault s None (Shapes ts) cs replies = refl
+ends_at_fault s (Some w) (Shapes ts) cs replies = refl
+ends_at_fault s None (BadShapes n kind) cs replies = refl
+ends_at_fault s (Some w) (BadShapes n kind) cs replies = refl
+ends_at_fault s None (BrokenShapes rule node) cs replies = refl
+ends_at_fault s (Some w) (BrokenShapes rule node) cs replies = refl
+ends_at_fault s None (RefusedPattern node) cs replies = refl
+ends_at_fault s (Some w) (RefusedPattern node) cs replies = refl
+ends_at_fault s None commands.Commit cs replies = refl
+ends_at_fault s (Some w) commands.Commit cs replies = refl
+ends_at_fault s None (Find p) cs replies = refl
+ends_at_fault s (Some w) (Find p) cs replies = refl
+ends_at_fault s None Abort cs replies = refl
+ends_at_fault s (Some w) Abort cs replies = refl
+
+none_is_some : {X : Type 0} (x : X) (o : Option X) → o ≡ None → o ≡ Some x → ⊥
+none_is_some x o e f = let g : None ≡ Some x = sym e ∙ f in cc
+
+-- two replies from which a session goes on are no fault of the log and an acceptance
+none_fails : (s : State) (w : Option OpenTransaction) (c : Command) (cs : List Command) (replies : List SessionReply) (p q : SessionState) (a b : Reply) → after_reply s w c cs replies a ≡ Some p → after_reply s w c cs replies b ≡ Some q → AcceptsOrFails a b → ⊥
+none_fails s w c cs replies p q (Done n why) LogFault e f h = none_is_some q (after_reply s w c cs replies LogFault) (ends_at_fault s w c cs replies) f
+none_fails s w c cs replies p q LogFault b e f h = none_is_some p (after_reply s w c cs replies LogFault) (ends_at_fault s w c cs replies) e
+none_fails s w c cs replies p q a b e f h = absurd h
+
+-- so a session has one reply to its next command
+one_reply : (l : Limits) (s t u : State) (i : ℕ) (w : Option OpenTransaction) (c : Command) (cs : List Command) (replies : List SessionReply) (a : Action) (p q : SessionState) (r r' : Reply) → GoesOn s w c cs replies a r p → GoesOn s w c cs replies a r' q
+    → StepOf l s i a r t → StepOf l s i a r' u → (r' ≡ r) × (u ≡ t)
+one_reply l s t u i w c cs replies a p q r r' g f h k = elim (StepGivesOneReply-holds l s t u i a r r' h k) [
+  | inl e ↦ (e, ReplyGivesOneState-holds l s t u i a r h (subst (λ (x : Reply). StepOf l s i a x u) e k))
+  | inr e ↦ absurd (none_fails s w c cs replies p q r r' g.next f.next e)
+]
+
 turn_one : (l : Limits) (m n o : World) (i : ℕ) (w : Option OpenTransaction) (cs : List Command) (replies : List SessionReply) → RunsEvent l m i w cs replies n → RunsEvent l m i w cs replies o → o ≡ n
 turn_one l m n o i w [] replies h k = absurd h
 turn_one l m n o i w (c ∷ cs) replies h k =
     let action : k.0 ≡ h.0 = some_same k.0 h.0 (sym k.4.event ∙ h.4.event) in
-    let e = StepIsDeterministic-holds l m.state h.2 k.2 i h.0 h.1 k.1 h.5 (subst (λ (a : Action). StepOf l m.state i a k.1 k.2) action k.5) in
+    let goes : GoesOn m.state w c cs replies h.0 k.1 k.3 = subst (λ (a : Action). GoesOn m.state w c cs replies a k.1 k.3) action k.4 in
+    let e = one_reply l m.state h.2 k.2 i w c cs replies h.0 h.3 k.3 h.1 k.1 h.4 goes h.5 (subst (λ (a : Action). StepOf l m.state i a k.1 k.2) action k.5) in
     let next : k.3 ≡ h.3 = some_same k.3 h.3 (sym k.4.next ∙ (ap (after_reply m.state w c cs replies) e.0 ∙ h.4.next)) in
     k.6 ∙ (ap (λ (q : SessionState). record { state = k.2; sessions = set m.sessions (i - 1) q }) next ∙ (ap (λ (s : State). record { state = s; sessions = set m.sessions (i - 1) h.3 }) e.1 ∙ sym h.6))
 
+-- an opening is answered by the number of sessions
+opening_by : (s t u : State) (i : ℕ) (q r : Reply) (b : Bool) → MatchBool b (OpensNext s i q t) (OpensNothing s i q t) → MatchBool b (OpensNext s i r u) (OpensNothing s i r u) → u ≡ t
+opening_by s t u i q r true h k = k.1.1 ∙ sym h.1.1
+opening_by s t u i q r false h k = k.1.1 ∙ sym h.1.1
+
 place_one : (l : Limits) (m n o : World) (i : ℕ) (b : Bool) → MatchBool b (RunsOpening l m i n) (RunsEvent l m i (session_at m i).current (session_at m i).commands (session_at m i).replies n) → MatchBool b (RunsOpening l m i o) (RunsEvent l m i (session_at m i).current (session_at m i).commands (session_at m i).replies o) → o ≡ n
 place_one l m n o i true h k =
-    let e = StepIsDeterministic-holds l m.state h.1.1 k.1.1 i Open h.1.0 k.1.0 h.1.2 k.1.2 in
-    k.1.3 ∙ (ap (λ (s : State). record { state = s; sessions = m.sessions }) e.1 ∙ sym h.1.3)
+    let e = opening_by m.state h.1.1 k.1.1 i h.1.0 k.1.0 (nat_lt m.state.opened 64) h.1.2 k.1.2 in
+    k.1.3 ∙ (ap (λ (s : State). record { state = s; sessions = m.sessions }) e ∙ sym h.1.3)
 place_one l m n o i false h k = turn_one l m n o i (session_at m i).current (session_at m i).commands (session_at m i).replies h k
 
 pub RunsInOrder-deterministic : (l : Limits) (m n o : World) (order : List ℕ) → RunsInOrder l m order n → RunsInOrder l m order o → o ≡ n
@@ -197,5 +244,5 @@ RunsInOrder-deterministic l m n o (i ∷ order) h k =
     let e = place_one l m h.0 k.0 i (nat_eq i (m.state.opened + 1)) h.1 k.1 in
     RunsInOrder-deterministic l h.0 n o order h.2 (subst (λ (x : World). RunsInOrder l x order o) e k.2)
 
-pub HasReplies-deterministic : (files : List (List Command)) (l : Limits) (order : List ℕ) (a b : List (List SessionReply)) → HasReplies files l order a → HasReplies files l order b → b ≡ a
-HasReplies-deterministic files l order a b h k = k.replies ∙ (ap (λ (m : World). map (λ p. p.replies) m.sessions) (RunsInOrder-deterministic l (start files) h.last k.last order h.runs k.runs) ∙ sym h.replies)
+pub HasReplies-deterministic : (files : List (List Command)) (l : Limits) (s : State) (order : List ℕ) (a b : List (List SessionReply)) → HasReplies files l s order a → HasReplies files l s order b → b ≡ a
+HasReplies-deterministic files l s order a b h k = k.replies ∙ (ap (λ (m : World). map (λ p. p.replies) m.sessions) (RunsInOrder-deterministic l (start s files) h.last k.last order h.runs k.runs) ∙ sym h.replies)

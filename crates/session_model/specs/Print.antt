@@ -4,9 +4,10 @@ use Rattle.std.specs.List.{flat_map}
 use Rattle.std.specs.Fmt.{decimal}
 use Rattle.rdf_model.specs.NTriples.{term_text, triple_text}
 use Rattle.store_model.specs.declared.event.Limits.{Limits}
+use Rattle.store_model.specs.Store.{State}
 use Rattle.session_model.specs.declared.command.Command.{Command}
 use Rattle.session_model.specs.declared.reply.SessionReply.{SessionReply}
-use Rattle.session_model.specs.declared.reply.SessionReply.TheVariants.{AlreadyOpen, NoTransaction, Begun, Added, AddRefused, Removed, RemoveRefused, ShapesStaged, ShapesRefused, ShapesBroken, PatternRefused, FullTerms, Committed, ReadOnly, Overtaken, FullGraph, Refused, Found, Aborted}
+use Rattle.session_model.specs.declared.reply.SessionReply.TheVariants.{AlreadyOpen, NoTransaction, Begun, Added, AddRefused, Removed, RemoveRefused, Attached, AttachRefused, UnknownNode, ShapesStaged, ShapesRefused, ShapesBroken, PatternRefused, FullTerms, Committed, ReadOnly, Overtaken, FullGraph, Refused, Found, Aborted}
 use Rattle.session_model.specs.Sessions.{HasReplies}
 
 -- the line of a reply, without its end; the report of a refusal has lines of its own, and `end` after them; the triples
@@ -19,6 +20,9 @@ reply_text (Added count) = codes "add " ++ decimal count
 reply_text (AddRefused n kind) = codes "bad add " ++ decimal n ++ codes " " ++ decimal kind
 reply_text (Removed count) = codes "remove " ++ decimal count
 reply_text (RemoveRefused n kind) = codes "bad remove " ++ decimal n ++ codes " " ++ decimal kind
+reply_text (Attached count) = codes "attach " ++ decimal count
+reply_text (AttachRefused n kind) = codes "bad attach " ++ decimal n ++ codes " " ++ decimal kind
+reply_text (UnknownNode node) = codes "unknown " ++ term_text node
 reply_text (ShapesStaged count) = codes "shapes " ++ decimal count
 reply_text (ShapesRefused n kind) = codes "bad shapes line " ++ decimal n ++ codes " " ++ decimal kind
 reply_text (ShapesBroken rule node) = codes "bad shapes " ++ decimal rule ++ codes " " ++ term_text node
@@ -48,7 +52,7 @@ sessions_text i (replies ∷ more) = session_text i replies ++ sessions_text (i 
 abbrev pub history_text : List ℕ → List ℕ
 history_text order = line (codes "history" ++ flat_map (λ i. 32 ∷ decimal i) order)
 
--- Print: the text of a run of these files in this order, which is valid.
-abbrev pub IsPrint : List (List Command) → Limits → List ℕ → List ℕ → Type 0
-IsPrint files limits order text =
-    (replies : List (List SessionReply)) × HasReplies files limits order replies × (text ≡ sessions_text 1 replies ++ history_text order)
+-- Print: the text of a run of these files over a store that begins in state s, in this order, which is valid.
+abbrev pub IsPrint : List (List Command) → Limits → State → List ℕ → List ℕ → Type 0
+IsPrint files limits s order text =
+    (replies : List (List SessionReply)) × HasReplies files limits s order replies × (text ≡ sessions_text 1 replies ++ history_text order)

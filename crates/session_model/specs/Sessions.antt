@@ -6,21 +6,22 @@ use Rattle.rdf_model.specs.declared.triple.Triple.{Triple}
 use Rattle.rdf_model.specs.declared.change.Change.{Change}
 use Rattle.rdf_model.specs.declared.change.Change.TheVariants as changes
 use Rattle.store_model.specs.declared.event.Limits.{Limits}
+use Rattle.store_model.specs.declared.event.NameKind.TheVariants as kinds
 use Rattle.store_model.specs.declared.commit.Transaction.{Transaction}
 use Rattle.store_model.specs.declared.event.Action.{Action}
 use Rattle.store_model.specs.declared.event.Action.TheVariants as actions
 use Rattle.store_model.specs.declared.event.Reply.{Reply}
-use Rattle.store_model.specs.declared.event.Reply.TheVariants.{Version, Named, Full, Conflict, FullTriples, Refused, Done}
+use Rattle.store_model.specs.declared.event.Reply.TheVariants.{Version, Named, Full, Unknown, Conflict, FullTriples, Refused, Done}
 use Rattle.session_model.specs.declared.command.Command.{Command}
-use Rattle.session_model.specs.declared.command.Command.TheVariants.{Begin, Add, BadAdd, Remove, BadRemove, Shapes, BadShapes, BrokenShapes, RefusedPattern, Commit, Find, Abort}
+use Rattle.session_model.specs.declared.command.Command.TheVariants.{Begin, Add, BadAdd, Remove, BadRemove, Attach, BadAttach, Shapes, BadShapes, BrokenShapes, RefusedPattern, Commit, Find, Abort}
 use Rattle.session_model.specs.declared.reply.SessionReply.{SessionReply}
-use Rattle.session_model.specs.declared.reply.SessionReply.TheVariants.{AlreadyOpen, NoTransaction, Begun, Added, AddRefused, Removed, RemoveRefused, ShapesStaged, ShapesRefused, ShapesBroken, PatternRefused, FullTerms, Committed, ReadOnly, Overtaken, FullGraph, Refused as RefusedBy, Found, Aborted}
+use Rattle.session_model.specs.declared.reply.SessionReply.TheVariants.{AlreadyOpen, NoTransaction, Begun, Added, AddRefused, Removed, RemoveRefused, Attached, AttachRefused, UnknownNode, ShapesStaged, ShapesRefused, ShapesBroken, PatternRefused, FullTerms, Committed, ReadOnly, Overtaken, FullGraph, Refused as RefusedBy, Found, Aborted}
 use Rattle.rdf_model.specs.declared.pattern.Pattern.{Pattern}
 use Rattle.rdf_model.specs.Graphs.{after}
 use Rattle.rdf_model.specs.NTriples.{triple_text}
 use Rattle.report_writer.specs.Report.{report_text}
 use Rattle.store_model.specs.Finds.{found}
-use Rattle.store_model.specs.Store.{State, StepOf, empty_store, shapes_under, terms_of}
+use Rattle.store_model.specs.Store.{State, StepOf, shapes_under, terms_of}
 
 -- A session's open transaction: what its commit hands in, the data graph at its begin, and whether its commit has the
 -- newest version already.
@@ -90,6 +91,10 @@ local_answer None (Remove ts) = answers NoTransaction None
 local_answer (Some w) (Remove ts) = None
 local_answer None (BadRemove n kind) = answers NoTransaction None
 local_answer (Some w) (BadRemove n kind) = answers (RemoveRefused n kind) (Some w)
+local_answer None (Attach ts) = answers NoTransaction None
+local_answer (Some w) (Attach ts) = None
+local_answer None (BadAttach n kind) = answers NoTransaction None
+local_answer (Some w) (BadAttach n kind) = answers (AttachRefused n kind) (Some w)
 local_answer None (Shapes ts) = answers NoTransaction None
 local_answer (Some w) (Shapes ts) = None
 local_answer None (BadShapes n kind) = answers NoTransaction None
@@ -114,16 +119,18 @@ abbrev pub up_to_event : Option OpenTransaction → List Command → List Sessio
 up_to_event w [] replies = record { current = w; commands = []; replies = replies }
 up_to_event w (c ∷ cs) replies = up_to_event_by (local_answer w c) (record { current = w; commands = c ∷ cs; replies = replies }) (λ v more. up_to_event v cs more)
 
--- The event of a command that is one; a commit takes the newest version first. None for a command that isn't.
+-- The event of a command that is one; a commit takes the newest version first. None for a command that isn't. The blank
+-- nodes of additions and of shapes are the block's own; a removal names nodes of the store, an attachment only such.
 abbrev pub commit_action : Bool → Transaction → Action
 commit_action false x = actions.Head
 commit_action true x = actions.Commit x
 
 abbrev pub action_of : Option OpenTransaction → Command → Option Action
 action_of None Begin = Some actions.Begin
-action_of (Some w) (Add ts) = Some (actions.Name (parts_of ts))
-action_of (Some w) (Remove ts) = Some (actions.Name (parts_of ts))
-action_of (Some w) (Shapes ts) = Some (actions.Name (parts_of ts))
+action_of (Some w) (Add ts) = Some (actions.Name kinds.Fresh (parts_of ts))
+action_of (Some w) (Remove ts) = Some (actions.Name kinds.Known (parts_of ts))
+action_of (Some w) (Attach ts) = Some (actions.Name kinds.Attach (parts_of ts))
+action_of (Some w) (Shapes ts) = Some (actions.Name kinds.Fresh (parts_of ts))
 action_of (Some w) Commit = Some (commit_action w.head_taken w.transaction)
 action_of w c = None
 
@@ -131,14 +138,17 @@ abbrev pub begun : ℕ → List Triple → OpenTransaction
 begun version graph = record { transaction = record { base = version; net = []; staged = None; finds = []; verdict = None }; graph = graph; head_taken = false }
 
 -- The session after the store's reply r to its command c, with cs left, where s was the store before it; None where the
--- store never replies so to that command. A commit that is refused prints the report of its results, under the shapes graph
--- that they break.
+-- store never replies so to that command, or only with a log. A commit that is refused prints the report of its results,
+-- under the shapes graph that they break.
 abbrev pub after_reply : State → Option OpenTransaction → Command → List Command → List SessionReply → Reply → Option SessionState
 after_reply s None Begin cs replies (Version n) = Some (up_to_event (Some (begun n s.graph)) cs (replies ++ Begun n ∷ []))
 after_reply s (Some w) (Add ts) cs replies Named = Some (up_to_event (Some (with_changes w (additions ts))) cs (replies ++ Added (length ts) ∷ []))
 after_reply s (Some w) (Add ts) cs replies (Full n) = Some (up_to_event (Some w) cs (replies ++ FullTerms ∷ []))
 after_reply s (Some w) (Remove ts) cs replies Named = Some (up_to_event (Some (with_changes w (removals ts))) cs (replies ++ Removed (length ts) ∷ []))
 after_reply s (Some w) (Remove ts) cs replies (Full n) = Some (up_to_event (Some w) cs (replies ++ FullTerms ∷ []))
+after_reply s (Some w) (Attach ts) cs replies Named = Some (up_to_event (Some (with_changes w (additions ts))) cs (replies ++ Attached (length ts) ∷ []))
+after_reply s (Some w) (Attach ts) cs replies (Full n) = Some (up_to_event (Some w) cs (replies ++ FullTerms ∷ []))
+after_reply s (Some w) (Attach ts) cs replies (Unknown node) = Some (up_to_event (Some w) cs (replies ++ UnknownNode node ∷ []))
 after_reply s (Some w) (Shapes ts) cs replies Named = Some (up_to_event (Some (with_shapes w ts)) cs (replies ++ ShapesStaged (length ts) ∷ []))
 after_reply s (Some w) (Shapes ts) cs replies (Full n) = Some (up_to_event (Some w) cs (replies ++ FullTerms ∷ []))
 after_reply s (Some w) Commit cs replies (Version n) = Some (record { current = Some (record w { head_taken = true }); commands = Commit ∷ cs; replies = replies })
@@ -185,18 +195,18 @@ abbrev pub RunsInOrder : Limits → World → List ℕ → World → Type 0
 RunsInOrder l m [] n = n ≡ m
 RunsInOrder l m (i ∷ order) n = (k : World) × RunsPlace l m i k × RunsInOrder l k order n
 
--- before the first place, with the commands done that need no event
-abbrev pub start : List (List Command) → World
-start files = record { state = empty_store; sessions = map (λ cs. up_to_event None cs []) files }
+-- before the first place: the store is in state s, and the commands are done that need no event
+abbrev pub start : State → List (List Command) → World
+start s files = record { state = s; sessions = map (λ cs. up_to_event None cs []) files }
 
 -- all sessions were opened, and none has an event left
 pub record IsComplete (m : World) : Type 0 where
   pub opened : m.state.opened ≡ length m.sessions
   pub left : AllByRecursion (λ s. s.commands ≡ []) m.sessions
 
--- The order is valid for these files, and the sessions are answered so.
-pub record HasReplies (files : List (List Command)) (l : Limits) (order : List ℕ) (all : List (List SessionReply)) : Type 0 where
+-- The order is valid for these files and a store that begins in state s, and the sessions are answered so.
+pub record HasReplies (files : List (List Command)) (l : Limits) (s : State) (order : List ℕ) (all : List (List SessionReply)) : Type 0 where
   pub last : World
-  pub runs : RunsInOrder l (start files) order last
+  pub runs : RunsInOrder l (start s files) order last
   pub complete : IsComplete last
   pub replies : all ≡ map (λ s. s.replies) last.sessions

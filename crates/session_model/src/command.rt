@@ -14,6 +14,10 @@ pub enum Command {
     Remove(Sequence<Triple>),
     /// A removal whose block can't be read: the line of the block, from 1, and the number of the refusal's kind.
     BadRemove { line: u64, kind: u8 },
+    /// Adds the triples of its block, each once, ascending, whose blank nodes are stored ones.
+    Attach(Sequence<Triple>),
+    /// An attachment whose block can't be read: the line of the block, from 1, and the number of the refusal's kind.
+    BadAttach { line: u64, kind: u8 },
     /// Stages the shapes graph of its block.
     Shapes(ShapesGraph),
     /// Shapes whose block can't be read: the line of the block, from 1, and the number of the refusal's kind.
@@ -38,6 +42,8 @@ impl Drop for Command {
             Command::BadAdd { line: _, kind: _ } => {}
             Command::Remove(_) => {}
             Command::BadRemove { line: _, kind: _ } => {}
+            Command::Attach(_) => {}
+            Command::BadAttach { line: _, kind: _ } => {}
             Command::Shapes(_) => {}
             Command::BadShapes { line: _, kind: _ } => {}
             Command::BrokenShapes { rule: _, node: _ } => {}

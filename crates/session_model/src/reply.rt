@@ -18,6 +18,12 @@ pub enum SessionReply {
     Removed(usize),
     /// The block of a removal can't be read: its line, from 1, and the number of the refusal's kind.
     RemoveRefused { line: u64, kind: u8 },
+    /// How many triples the block of an attachment had.
+    Attached(usize),
+    /// The block of an attachment can't be read: its line, from 1, and the number of the refusal's kind.
+    AttachRefused { line: u64, kind: u8 },
+    /// The least blank node of an attachment's block that no block of the store was given.
+    UnknownNode(Term),
     /// How many triples the shapes graph has that is staged.
     ShapesStaged(usize),
     /// The block of shapes can't be read: its line, from 1, and the number of the refusal's kind.
@@ -55,6 +61,9 @@ impl Drop for SessionReply {
             SessionReply::AddRefused { line: _, kind: _ } => {}
             SessionReply::Removed(_) => {}
             SessionReply::RemoveRefused { line: _, kind: _ } => {}
+            SessionReply::Attached(_) => {}
+            SessionReply::AttachRefused { line: _, kind: _ } => {}
+            SessionReply::UnknownNode(_) => {}
             SessionReply::ShapesStaged(_) => {}
             SessionReply::ShapesRefused { line: _, kind: _ } => {}
             SessionReply::ShapesBroken { rule: _, node: _ } => {}
@@ -91,6 +100,9 @@ impl fmt::Display for SessionReply {
             SessionReply::AddRefused { line, kind } => write!(f, "bad add {line} {kind}"),
             SessionReply::Removed(count) => write!(f, "remove {count}"),
             SessionReply::RemoveRefused { line, kind } => write!(f, "bad remove {line} {kind}"),
+            SessionReply::Attached(count) => write!(f, "attach {count}"),
+            SessionReply::AttachRefused { line, kind } => write!(f, "bad attach {line} {kind}"),
+            SessionReply::UnknownNode(node) => write!(f, "unknown {node}"),
             SessionReply::ShapesStaged(count) => write!(f, "shapes {count}"),
             SessionReply::ShapesRefused { line, kind } => {
                 write!(f, "bad shapes line {line} {kind}")

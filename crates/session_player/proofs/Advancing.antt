@@ -25,13 +25,14 @@ use Rattle.session_model.proofs.Walking.{RunsInOrder-append, up_to_event-local, 
 
 -- a session that rests
 pub Advances-none : (i : ℕ) (s : RecordedStore) (p : SessionState) → Advances i s s p p
-Advances-none i s p = record { events = []; history = sym (append-nil s.history); limits = refl; opened = refl; runs = λ before rest e. refl }
+Advances-none i s p = record { events = []; history = sym (append-nil s.history); limits = refl; start = refl; opened = refl; runs = λ before rest e. refl }
 
 pub Advances-then : (i : ℕ) (a b c : RecordedStore) (p q r : SessionState) → Advances i a b p q → Advances i b c q r → Advances i a c p r
 Advances-then i a b c p q r g h = record {
   events = g.events ++ h.events;
   history = h.history ∙ (ap (λ es. es ++ h.events) g.history ∙ append_assoc a.history g.events h.events);
   limits = h.limits ∙ g.limits;
+  start = h.start ∙ g.start;
   opened = h.opened ∙ g.opened;
   runs = λ before rest e.
       subst (λ (ns : List ℕ). RunsInOrder a.limits (world a.state (before ++ p ∷ rest)) ns (world c.state (before ++ r ∷ rest))) (sym (map-append (λ (x : Event). x.session) g.events h.events))
@@ -49,6 +50,7 @@ Advances-as i s n w c cs replies a b r u q g on h t = record {
   events = record { session = i; action = b; reply = u } ∷ [];
   history = t.history;
   limits = t.limits;
+  start = t.start;
   opened = opened_same s.limits s.state n.state i a r (never_open w c a on.event) h;
   runs = λ before rest e. (world n.state (before ++ q ∷ rest), turn s.limits s.state n.state i w c cs replies a r q before rest g e on h, refl);
 }
@@ -71,7 +73,7 @@ opened : (s t : State) (i : ℕ) (b : Bool) → MatchBool b (OpensNext s i (Sess
 opened s t i true h = (h.0, ap (λ (x : State). x.opened) h.1.1)
 opened s t i false h = cc
 
--- the next empty_store
+-- the next opening
 pub OpensNext-runs : (s n : RecordedStore) (i : ℕ) (ps : List SessionState) → TakesStep s n (record { session = i; action = Open; reply = Session i }) → s.state.opened < length ps → (RunsInOrder s.limits (world s.state ps) (i ∷ []) (world n.state ps)) × (n.state.opened ≡ s.state.opened + 1)
 OpensNext-runs s n i ps a lt =
     let f = opened s.state n.state i (nat_lt s.state.opened 64) a.step in
@@ -108,18 +110,18 @@ drop-length [] = refl
 drop-length (x ∷ xs) = drop-length xs
 
 -- the next file, from its first command to its last
-pub HasRun-next : (files : List (List Command)) (l : Limits) (c n : RecordedStore) (k i : ℕ) (cs : List Command) (all : List (List SessionReply)) (w : Option OpenTransaction) (replies : List SessionReply) → HasRun files l c k all → i ≡ k + 1 → k < length files → cs ≡ get_or files k cs
-    → Advances i c n (up_to_event None cs []) (record { current = w; commands = []; replies = replies }) → HasRun files l n (k + 1) (all ++ replies ∷ [])
-HasRun-next files l c n k i cs all w replies s at lt is g =
+pub HasRun-next : (files : List (List Command)) (l : Limits) (b : State) (c n : RecordedStore) (k i : ℕ) (cs : List Command) (all : List (List SessionReply)) (w : Option OpenTransaction) (replies : List SessionReply) → HasRun files l b c k all → i ≡ k + 1 → k < length files → cs ≡ get_or files k cs
+    → Advances i c n (up_to_event None cs []) (record { current = w; commands = []; replies = replies }) → HasRun files l b n (k + 1) (all ++ replies ∷ [])
+HasRun-next files l b c n k i cs all w replies s at lt is g =
     let q : SessionState = record { current = w; commands = []; replies = replies } in
     let rest : List SessionState = map (λ ds. up_to_event None ds []) (drop (k + 1) files) in
     let e : drop k files ≡ cs ∷ drop (k + 1) files = rw add-one (drop-cons files k cs lt ∙ ap (λ z. z ∷ drop (suc k) files) (sym is)) in
-    let begun : RunsInOrder l (start files) (map (λ x. x.session) c.history) (world c.state (s.over ++ up_to_event None cs [] ∷ rest)) =
-    subst (λ (ds : List (List Command)). RunsInOrder l (start files) (map (λ x. x.session) c.history) (world c.state (s.over ++ map (λ es. up_to_event None es []) ds))) e s.runs in
+    let begun : RunsInOrder l (start b files) (map (λ x. x.session) c.history) (world c.state (s.over ++ up_to_event None cs [] ∷ rest)) =
+    subst (λ (ds : List (List Command)). RunsInOrder l (start b files) (map (λ x. x.session) c.history) (world c.state (s.over ++ map (λ es. up_to_event None es []) ds))) e s.runs in
     let here : i ≡ length s.over + 1 = omega (arith, at, s.count) in
     let on : RunsInOrder l (world c.state (s.over ++ up_to_event None cs [] ∷ rest)) (map (λ x. x.session) g.events) (world n.state (s.over ++ q ∷ rest)) =
     subst (λ (m : Limits). RunsInOrder m (world c.state (s.over ++ up_to_event None cs [] ∷ rest)) (map (λ x. x.session) g.events) (world n.state (s.over ++ q ∷ rest))) s.limits (g.runs s.over rest here) in
-    let both = RunsInOrder-append l (start files) (world c.state (s.over ++ up_to_event None cs [] ∷ rest)) (world n.state (s.over ++ q ∷ rest)) (map (λ x. x.session) c.history) (map (λ x. x.session) g.events) begun on in
+    let both = RunsInOrder-append l (start b files) (world c.state (s.over ++ up_to_event None cs [] ∷ rest)) (world n.state (s.over ++ q ∷ rest)) (map (λ x. x.session) c.history) (map (λ x. x.session) g.events) begun on in
     let names : map (λ x. x.session) c.history ++ map (λ x. x.session) g.events ≡ map (λ (x : Event). x.session) n.history =
     sym (map-append (λ (x : Event). x.session) c.history g.events) ∙ sym (ap (map (λ (x : Event). x.session)) g.history) in
     record {
@@ -129,12 +131,12 @@ HasRun-next files l c n k i cs all w replies s at lt is g =
       replies = ap (λ ts. ts ++ replies ∷ []) s.replies ∙ sym (map-append (λ (p : SessionState). p.replies) s.over (q ∷ []));
       limits = g.limits ∙ s.limits;
       opened = g.opened ∙ s.opened;
-      runs = subst (λ (ps : List SessionState). RunsInOrder l (start files) (map (λ x. x.session) n.history) (world n.state ps)) (sym (append_assoc s.over (q ∷ []) rest))
-          (subst (λ (ns : List ℕ). RunsInOrder l (start files) ns (world n.state (s.over ++ q ∷ rest))) names both);
+      runs = subst (λ (ps : List SessionState). RunsInOrder l (start b files) (map (λ x. x.session) n.history) (world n.state ps)) (sym (append_assoc s.over (q ∷ []) rest))
+          (subst (λ (ns : List ℕ). RunsInOrder l (start b files) ns (world n.state (s.over ++ q ∷ rest))) names both);
     }
 
 -- all sessions were opened, none was played
-pub HasRun-start : (files : List (List Command)) (l : Limits) (o c : RecordedStore) (n : ℕ) → o ≡ record { limits = l; state = empty_store; history = [] } → n ≡ length files → OpensSessions o c n → HasRun files l c 0 []
+pub HasRun-start : (files : List (List Command)) (l : Limits) (o c : RecordedStore) (n : ℕ) → o ≡ record { limits = l; start = empty_store; state = empty_store; history = [] } → n ≡ length files → OpensSessions o c n → HasRun files l empty_store c 0 []
 HasRun-start files l o c n e en h =
     let g = subst (λ (x : RecordedStore). OpensSessions x c n) e h in
     let opened : c.state.opened ≡ length files = omega (arith, g.opened, en) in
@@ -147,17 +149,17 @@ HasRun-start files l o c n e en h =
       replies = refl;
       limits = g.limits;
       opened = opened;
-      runs = subst (λ (es : List Event). RunsInOrder l (start files) (map (λ x. x.session) es) (world c.state first)) (sym g.history) (g.runs first (omega (arith, opened, count)));
+      runs = subst (λ (es : List Event). RunsInOrder l (start empty_store files) (map (λ x. x.session) es) (world c.state first)) (sym g.history) (g.runs first (omega (arith, opened, count)));
     }
 
 -- all files were played
-pub HasReplies-HasRun : (files : List (List Command)) (l : Limits) (c : RecordedStore) (all : List (List SessionReply)) → HasRun files l c (length files) all → HasReplies files l (map (λ e. e.session) c.history) all
-HasReplies-HasRun files l c all s =
+pub HasReplies-HasRun : (files : List (List Command)) (l : Limits) (b : State) (c : RecordedStore) (all : List (List SessionReply)) → HasRun files l b c (length files) all → HasReplies files l b (map (λ e. e.session) c.history) all
+HasReplies-HasRun files l b c all s =
     let none : map (λ ds. up_to_event None ds []) (drop (length files) files) ≡ [] = ap (map (λ ds. up_to_event None ds [])) (drop-length files) in
     let ps : s.over ++ map (λ ds. up_to_event None ds []) (drop (length files) files) ≡ s.over = ap (λ x. s.over ++ x) none ∙ append-nil s.over in
     record {
       last = world c.state s.over;
-      runs = subst (λ (x : List SessionState). RunsInOrder l (start files) (map (λ e. e.session) c.history) (world c.state x)) ps s.runs;
+      runs = subst (λ (x : List SessionState). RunsInOrder l (start b files) (map (λ e. e.session) c.history) (world c.state x)) ps s.runs;
       complete = record { opened = s.opened ∙ sym s.count; left = s.left };
       replies = s.replies;
     }

@@ -64,8 +64,8 @@ sessions_of l m n (i ∷ order) few h =
     let p = place_is l m h.0 i (nat_eq i (m.state.opened + 1)) refl few h.1 in
     ((p.one, p.most), sessions_of l h.0 n order p.few h.2)
 
-pub order_sessions : (files : List (List Command)) (l : Limits) (order : List ℕ) (all : List (List SessionReply)) → HasReplies files l order all → AllByRecursion (λ i. (1 ≤ i) × (i ≤ 64)) order
-order_sessions files l order all h = sessions_of l (start files) h.last order (omega arith) h.runs
+pub order_sessions : (files : List (List Command)) (l : Limits) (s : State) (order : List ℕ) (all : List (List SessionReply)) → s.opened ≤ 64 → HasReplies files l s order all → AllByRecursion (λ i. (1 ≤ i) × (i ≤ 64)) order
+order_sessions files l s order all few h = sessions_of l (start s files) h.last order few h.runs
 
 RunsInOrder-split : (l : Limits) (m n : World) (a b : List ℕ) → RunsInOrder l m (a ++ b) n → (k : World) × RunsInOrder l m a k × RunsInOrder l k b n
 RunsInOrder-split l m n [] b h = (m, refl, h)
@@ -91,10 +91,10 @@ goes_on l m n [] h c off = off (subst IsComplete h c)
 goes_on l m n (i ∷ b) h c off = off (may_take l m h.0 i h.1)
 
 pub never_both : NeverBoth
-never_both files l places order all k h bad =
+never_both files l s places order all k h bad =
     let cut = places_split order bad.0 bad.1 (sym h.0 ∙ bad.3) in
-    let two = RunsInOrder-split l (start files) h.1.last bad.0 cut.0 (subst (λ (os : List ℕ). RunsInOrder l (start files) os h.1.last) cut.1 h.1.runs) in
-    let same : two.0 ≡ bad.2 = RunsInOrder-deterministic l (start files) bad.2 two.0 bad.0 bad.4 two.1 in
+    let two = RunsInOrder-split l (start s files) h.1.last bad.0 cut.0 (subst (λ (os : List ℕ). RunsInOrder l (start s files) os h.1.last) cut.1 h.1.runs) in
+    let same : two.0 ≡ bad.2 = RunsInOrder-deterministic l (start s files) bad.2 two.0 bad.0 bad.4 two.1 in
     goes_on l bad.2 h.1.last cut.0 (subst (λ (m : World). RunsInOrder l m cut.0 h.1.last) same two.2) h.1.complete (subst (BreaksOff bad.2) cut.2 bad.5)
 
 same_order : (a b : List ℕ) → map Some a ≡ map Some b → b ≡ a
@@ -106,6 +106,6 @@ same_order (x ∷ a) (y ∷ b) e =
     sym (ap (λ z. z ∷ a) first ∙ ap (λ zs. y ∷ zs) (sym (same_order a b (ap (drop 1) e))))
 
 pub replays_again : ReplaysAgain
-replays_again files l order again all told h r =
+replays_again files l s order again all told h r =
     let e = same_order order again r.0 in
-    (e, HasReplies-deterministic files l order all told h (subst (λ (os : List ℕ). HasReplies files l os told) e r.1))
+    (e, HasReplies-deterministic files l s order all told h (subst (λ (os : List ℕ). HasReplies files l s os told) e r.1))

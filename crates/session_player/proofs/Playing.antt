@@ -1,5 +1,5 @@
 -- What each command does to a session.
-use Rattle.std.proofs.Common.{◌≡◌, ℕ, ◌+◌, ◌<◌, ◌≤◌, Bool, true, false, nat_lt, List, [], ◌∷◌, ◌++◌, length, Option, Some, None, refl, sym, ap, ◌∙◌, subst, arith, suc, get_or, drop, add-one, drop-cons, append_assoc}
+use Rattle.std.proofs.Common.{◌≡◌, ◌≢◌, ℕ, ◌+◌, ◌<◌, ◌≤◌, Bool, true, false, nat_lt, List, [], ◌∷◌, ◌++◌, length, Option, Some, None, refl, sym, ap, ◌∙◌, subst, arith, suc, get_or, drop, add-one, drop-cons, append_assoc}
 use Rattle.std.proofs.lemmas.List.{map-append, append-nil}
 use Rattle.store_model.specs.declared.event.Event.{Event}
 use Rattle.std.specs.Prelude.{IfOk, MatchBool, Result, Ok, Err}
@@ -9,28 +9,29 @@ use Rattle.rdf_model.specs.Graphs.{after}
 use Rattle.rdf_model.specs.declared.change.Change.{Change}
 use Rattle.rdf_model.specs.declared.triple.Triple.{Triple}
 use Rattle.store_model.specs.declared.event.Action.TheVariants as actions
+use Rattle.store_model.specs.declared.event.NameKind.{NameKind}
 use Rattle.store_model.specs.declared.event.Reply.{Reply}
-use Rattle.store_model.specs.declared.event.Reply.TheVariants.{Session, SessionsFull, Version, Named, Full, Conflict, FullTriples, Refused}
+use Rattle.store_model.specs.declared.event.Reply.TheVariants.{Session, SessionsFull, Version, Named, Unknown, Full}
 use Rattle.store_model.specs.declared.commit.Transaction.{Transaction}
 use Rattle.store_model.specs.declared.commit.Verdict.{Verdict}
 use Rattle.session_model.specs.declared.command.Command.{Command}
 use Rattle.session_model.specs.declared.command.Command.TheVariants.{Begin, Commit}
 use Rattle.session_model.specs.declared.reply.SessionReply.{SessionReply}
-use Rattle.session_model.specs.declared.reply.SessionReply.TheVariants.{Begun, FullTerms, ReadOnly}
-use Rattle.store_model.specs.Store.{State, RecordedStore, OpensNext, OpensNothing, TakesStep, Replays, IsOpened, HasChange, empty_store, version}
+use Rattle.session_model.specs.declared.reply.SessionReply.TheVariants.{Begun, ReadOnly}
+use Rattle.store_model.specs.Store.{State, RecordedStore, StepOf, OpensNext, OpensNothing, TakesStep, Replays, IsOpened, HasChange, version}
 use Rattle.store_model.specs.Snapshots.{Snapshot, snapshot_of}
 use Rattle.store_model.specs.declared.event.Limits.{Limits}
 use Rattle.session_model.specs.Sessions as Sessions
 use Rattle.session_model.specs.Sessions.{LocalAnswer, answers, local_answer, local_commit, up_to_event, begun, parts_of, action_of, commit_action, after_reply, GoesOn, SessionState}
 use Rattle.session_transaction.specs.declared.transaction.ChangeKind.{ChangeKind}
-use Rattle.session_transaction.specs.declared.transaction.ChangeKind.TheVariants.{Addition, Removal}
+use Rattle.session_transaction.specs.declared.transaction.ChangeKind.TheVariants.{Addition, Removal, Attachment}
 use Rattle.session_transaction.specs.declared.transaction.OpenTransaction.{OpenTransaction}
 use Rattle.session_transaction.specs.Transactions.{FitsState, command_of, plain}
 use Rattle.session_transaction.specs.declared.committing.Committed.{Committed}
 use Rattle.session_transaction.specs.declared.committing.Committed.TheVariants as committeds
 use Rattle.session_transaction.specs.Commits.{IsAnswer, IsCommitted}
 use Rattle.session_transaction.specs.Replies.{IsCommitReply, IsRefused, answer_in}
-use Rattle.session_transaction.proofs.Fitting.{after_full, after_named}
+use Rattle.session_transaction.proofs.Fitting.{after_named, after_unnamed, unknown_attaches}
 use Rattle.session_transaction.proofs.Blocks.{IsBlock}
 use Rattle.session_transaction.proofs.Checking.{check_keeps, version_now}
 use Rattle.session_transaction.specs.Checks.{Checks, KeepsIn}
@@ -39,7 +40,7 @@ use Rattle.thread_model.proofs.Placing.{within}
 use Rattle.session_player.specs.Progress.{Advances, order_of}
 use Rattle.session_player.proofs.Advancing.{Advances-then, Advances-local, Advances-event, Advances-commit}
 use Rattle.session_model.proofs.Walking.{up_to_event-event}
-use Rattle.session_player.specs.Ready.{CommitsWith, IsReady, Performs, TakesHead, is_commit, places_with, places_of}
+use Rattle.session_player.specs.Ready.{CommitsWith, IsNamingRefusal, IsReady, Performs, TakesHead, is_commit, places_with, places_of}
 
 -- a step is one place more
 pub one_place : (s n : RecordedStore) (e : Event) → TakesStep s n e → order_of n.history ≡ order_of s.history ++ e.session ∷ []
@@ -71,52 +72,63 @@ performs_begin i s n replies more v graph g a eg em =
           (Advances-event i s n None Begin cs replies actions.Begin (Version v) _ g (record { event = refl; next = refl }) a));
     }
 
-block_order : (i : ℕ) (s n : RecordedStore) (c : Command) (ts : List Triple) (staged : OpenTransaction → OpenTransaction) (done : SessionReply) (w : OpenTransaction) (r : Reply) → IsBlock c ts staged done → is_commit c ≡ false
-    → TakesStep s n (record { session = i; action = actions.Name (parts_of ts); reply = r }) → order_of n.history ≡ order_of s.history ++ places_of i (Some (plain w)) c
-block_order i s n c ts staged done w r k other a =
+block_order : (i : ℕ) (s n : RecordedStore) (c : Command) (kind : NameKind) (ts : List Triple) (staged : OpenTransaction → OpenTransaction) (done : SessionReply) (w : OpenTransaction) (r : Reply) → IsBlock c kind ts staged done → is_commit c ≡ false
+    → TakesStep s n (record { session = i; action = actions.Name kind (parts_of ts); reply = r }) → order_of n.history ≡ order_of s.history ++ places_of i (Some (plain w)) c
+block_order i s n c kind ts staged done w r k other a =
     let one : places_of i (Some (plain w)) c ≡ i ∷ [] = ap (λ (b : Bool). places_with i b (local_answer (Some (plain w)) c)) other ∙ ap (places_with i false) (k.event (plain w)) in
-    one_place s n (record { session = i; action = actions.Name (parts_of ts); reply = r }) a ∙ sym (ap (λ (is : List ℕ). order_of s.history ++ is) one)
+    one_place s n (record { session = i; action = actions.Name kind (parts_of ts); reply = r }) a ∙ sym (ap (λ (is : List ℕ). order_of s.history ++ is) one)
 
-block_advances : (i : ℕ) (s n : RecordedStore) (c : Command) (ts : List Triple) (staged : OpenTransaction → OpenTransaction) (done : SessionReply) (w : OpenTransaction) (r : Reply) (cs : List Command) (replies : List SessionReply) (q : SessionState) → IsBlock c ts staged done → IsOpened s.state i
-    → TakesStep s n (record { session = i; action = actions.Name (parts_of ts); reply = r }) → after_reply s.state (Some (plain w)) c cs replies r ≡ Some q → Advances i s n (up_to_event (Some (plain w)) (c ∷ cs) replies) q
-block_advances i s n c ts staged done w r cs replies q k g a after =
-    let on : GoesOn s.state (Some (plain w)) c cs replies (actions.Name (parts_of ts)) r q = record { event = k.action (plain w); next = after } in
+block_advances : (i : ℕ) (s n : RecordedStore) (c : Command) (kind : NameKind) (ts : List Triple) (staged : OpenTransaction → OpenTransaction) (done : SessionReply) (w : OpenTransaction) (r : Reply) (cs : List Command) (replies : List SessionReply) (q : SessionState) → IsBlock c kind ts staged done → IsOpened s.state i
+    → TakesStep s n (record { session = i; action = actions.Name kind (parts_of ts); reply = r }) → after_reply s.state (Some (plain w)) c cs replies r ≡ Some q → Advances i s n (up_to_event (Some (plain w)) (c ∷ cs) replies) q
+block_advances i s n c kind ts staged done w r cs replies q k g a after =
+    let on : GoesOn s.state (Some (plain w)) c cs replies (actions.Name kind (parts_of ts)) r q = record { event = k.action (plain w); next = after } in
     subst (λ (p : SessionState). Advances i s n p q) (sym (up_to_event-event (Some (plain w)) c cs replies (k.event (plain w))))
-    (Advances-event i s n (Some (plain w)) c cs replies (actions.Name (parts_of ts)) r q g on a)
+    (Advances-event i s n (Some (plain w)) c cs replies (actions.Name kind (parts_of ts)) r q g on a)
 
 -- a block whose terms were named
-pub performs_block : (i : ℕ) (s n : RecordedStore) (c : Command) (ts : List Triple) (staged : OpenTransaction → OpenTransaction) (done : SessionReply) (w : OpenTransaction) (replies more : List SessionReply) → IsBlock c ts staged done → is_commit c ≡ false → IsReady s i (Some (plain w))
-    → TakesStep s n (record { session = i; action = actions.Name (parts_of ts); reply = Named }) → more ≡ replies ++ done ∷ [] → Performs i s n (Some (plain w)) (Some (plain (staged w))) c replies more
-performs_block i s n c ts staged done w replies more k other r a em =
-    let state = after_named s.limits s.state n.state i ts a.step in
+pub performs_block : (i : ℕ) (s n : RecordedStore) (c : Command) (kind : NameKind) (ts : List Triple) (staged : OpenTransaction → OpenTransaction) (done : SessionReply) (w : OpenTransaction) (replies more : List SessionReply) → IsBlock c kind ts staged done → is_commit c ≡ false → IsReady s i (Some (plain w))
+    → TakesStep s n (record { session = i; action = actions.Name kind (parts_of ts); reply = Named }) → more ≡ replies ++ done ∷ [] → Performs i s n (Some (plain w)) (Some (plain (staged w))) c replies more
+performs_block i s n c kind ts staged done w replies more k other r a em =
+    let state = after_named s.limits s.state n.state i kind ts a.step in
     record {
       ready = record {
         opened = subst (λ (x : State). IsOpened x i) (sym state) r.opened;
         current = record { fits = k.fits w s.state n.state state r.current.fits; head_taken = refl };
       };
-      order = block_order i s n c ts staged done w Named k other a;
+      order = block_order i s n c kind ts staged done w Named k other a;
       advances = λ cs. subst (λ (x : List SessionReply). Advances i s n (up_to_event (Some (plain w)) (c ∷ cs) replies) (up_to_event (Some (plain (staged w))) cs x)) (sym em)
-          (block_advances i s n c ts staged done w Named cs replies _ k r.opened a (k.named s.state w cs replies));
+          (block_advances i s n c kind ts staged done w Named cs replies _ k r.opened a (k.named s.state w cs replies));
     }
 
--- and one with too many, which changes nothing
-pub performs_full : (i : ℕ) (s n : RecordedStore) (c : Command) (ts : List Triple) (staged : OpenTransaction → OpenTransaction) (done : SessionReply) (w : OpenTransaction) (count : ℕ) (replies more : List SessionReply) → IsBlock c ts staged done → is_commit c ≡ false → IsReady s i (Some (plain w))
-    → TakesStep s n (record { session = i; action = actions.Name (parts_of ts); reply = Full count }) → more ≡ replies ++ FullTerms ∷ [] → Performs i s n (Some (plain w)) (Some (plain w)) c replies more
-performs_full i s n c ts staged done w count replies more k other r a em =
-    let state : n.state ≡ s.state = after_full s.limits s.state n.state i count ts a.step in
+-- one whose terms weren't named
+refusal_unnamed : (r : Reply) (reply : SessionReply) → IsNamingRefusal r reply → r ≢ Named
+refusal_unnamed r reply h e = subst (λ (x : Reply). IsNamingRefusal x reply) e h
+
+after_refusal : (l : Limits) (s t : State) (i : ℕ) (c : Command) (kind : NameKind) (ts : List Triple) (staged : OpenTransaction → OpenTransaction) (done : SessionReply) (w : OpenTransaction) (r : Reply) (reply : SessionReply) (cs : List Command) (replies : List SessionReply) → IsBlock c kind ts staged done
+    → StepOf l s i (actions.Name kind (parts_of ts)) r t → IsNamingRefusal r reply → after_reply s (Some (plain w)) c cs replies r ≡ Some (up_to_event (Some (plain w)) cs (replies ++ reply ∷ []))
+after_refusal l s t i c kind ts staged done w (Unknown node) reply cs replies k a h = rw h (k.unknown s w node cs replies (unknown_attaches l s t i kind (parts_of ts) node a))
+after_refusal l s t i c kind ts staged done w (Full n) reply cs replies k a h = rw h (k.full s w n cs replies)
+after_refusal l s t i c kind ts staged done w r reply cs replies k a h = absurd h
+
+-- it changes nothing
+pub performs_refusal : (i : ℕ) (s n : RecordedStore) (c : Command) (kind : NameKind) (ts : List Triple) (staged : OpenTransaction → OpenTransaction) (done : SessionReply) (w : OpenTransaction) (r : Reply) (reply : SessionReply) (replies more : List SessionReply) → IsBlock c kind ts staged done → is_commit c ≡ false → IsReady s i (Some (plain w))
+    → TakesStep s n (record { session = i; action = actions.Name kind (parts_of ts); reply = r }) → IsNamingRefusal r reply → more ≡ replies ++ reply ∷ [] → Performs i s n (Some (plain w)) (Some (plain w)) c replies more
+performs_refusal i s n c kind ts staged done w r reply replies more k other g a h em =
+    let state : n.state ≡ s.state = after_unnamed s.limits s.state n.state i kind (parts_of ts) r (refusal_unnamed r reply h) a.step in
     record {
       ready = record {
-        opened = subst (λ (x : State). IsOpened x i) (sym state) r.opened;
-        current = record { fits = subst (FitsState w.transaction) (sym state) r.current.fits; head_taken = refl };
+        opened = subst (λ (x : State). IsOpened x i) (sym state) g.opened;
+        current = record { fits = subst (FitsState w.transaction) (sym state) g.current.fits; head_taken = refl };
       };
-      order = block_order i s n c ts staged done w (Full count) k other a;
+      order = block_order i s n c kind ts staged done w r k other a;
       advances = λ cs. subst (λ (x : List SessionReply). Advances i s n (up_to_event (Some (plain w)) (c ∷ cs) replies) (up_to_event (Some (plain w)) cs x)) (sym em)
-          (block_advances i s n c ts staged done w (Full count) cs replies _ k r.opened a (k.full s.state w count cs replies));
+          (block_advances i s n c kind ts staged done w r cs replies _ k g.opened a (after_refusal s.limits s.state n.state i c kind ts staged done w r reply cs replies k a.step h));
     }
 
 pub no_commit : (k : ChangeKind) (ts : List Triple) → is_commit (command_of k ts) ≡ false
 no_commit Addition ts = refl
 no_commit Removal ts = refl
+no_commit Attachment ts = refl
 
 -- a command whose block is refused
 pub performs_refused : (i : ℕ) (s : RecordedStore) (w : Option Sessions.OpenTransaction) (c : Command) (reply : SessionReply) (replies more : List SessionReply) → IsRefused c reply → IsReady s i w → more ≡ replies ++ answer_in w reply ∷ [] → Performs i s s w w c replies more
@@ -183,10 +195,12 @@ pub fits_after : (i : ℕ) (s m : RecordedStore) (x : Transaction) → FitsState
 fits_after i s m x f h = subst (FitsState x) (sym h.step.step.1.1) f
 
 -- what a check at the head keeps is a verdict of the store's history
-pub head_keeps : (s n : RecordedStore) (e : Event) (head : Snapshot) (b : Bool) (old new : OpenTransaction) → Replays s.limits empty_store s.history s.state → TakesStep s n e → head ≡ snapshot_of s.state → Checks b head old new → KeepsIn n.limits n.history old.transaction.net new.checked
+pub head_keeps : (s n : RecordedStore) (e : Event) (head : Snapshot) (b : Bool) (old new : OpenTransaction) → Replays s.limits s.start s.history s.state → TakesStep s n e → head ≡ snapshot_of s.state → Checks b head old new → KeepsIn n.limits n.start n.history old.transaction.net new.checked
 head_keeps s n e head b old new replays t is h =
-    subst (λ (l : Limits). KeepsIn l n.history old.transaction.net new.checked) (sym t.limits) (subst (λ (es : List Event). KeepsIn s.limits es old.transaction.net new.checked) (sym t.history)
-    (check_keeps s.limits (s.history ++ e ∷ []) b head old new (version_now s.limits s.history (e ∷ []) s.state head replays is) h))
+    subst (λ (l : Limits). KeepsIn l n.start n.history old.transaction.net new.checked) (sym t.limits)
+    (subst (λ (x : State). KeepsIn s.limits x n.history old.transaction.net new.checked) (sym t.start)
+    (subst (λ (es : List Event). KeepsIn s.limits s.start es old.transaction.net new.checked) (sym t.history)
+    (check_keeps s.limits s.start (s.history ++ e ∷ []) b head old new (version_now s.limits s.start s.history (e ∷ []) s.state head replays is) h)))
 
 -- what the session tells of a commit's answer
 told_commit : (s : State) (x : Transaction) (o : Option Verdict) (r : Reply) (a : Committed) (reply : SessionReply) (graph : List Triple) (cs : List Command) (replies : List SessionReply) → IsAnswer s (record x { verdict = o }) r a → IsCommitReply a reply

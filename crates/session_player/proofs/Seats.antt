@@ -53,6 +53,7 @@ current_later s t (Some w) g h = record { fits = state_more w.transaction s.stat
 pub record IsLater (s t : RecordedStore) : Type 0 where
   pub more : More s.state t.state
   pub limits : t.limits ≡ s.limits
+  pub start : t.start ≡ s.start
   pub events : List Event
   pub history : t.history ≡ s.history ++ events
 
@@ -60,7 +61,9 @@ kept_later : (s t : RecordedStore) (b : Bool) (w : Option OpenTransaction) (o : 
 kept_later s t false w o g h = tt
 kept_later s t true None o g h = tt
 kept_later s t true (Some w) o g h =
-    subst (λ (l : Limits). KeepsIn l t.history w.transaction.net o) (sym g.limits) (subst (λ (es : List Event). KeepsIn s.limits es w.transaction.net o) (sym g.history) (keeps_last s.limits s.history g.events w.transaction.net o h))
+    subst (λ (l : Limits). KeepsIn l t.start t.history w.transaction.net o) (sym g.limits)
+    (subst (λ (b : State). KeepsIn s.limits b t.history w.transaction.net o) (sym g.start)
+    (subst (λ (es : List Event). KeepsIn s.limits s.start es w.transaction.net o) (sym g.history) (keeps_last s.limits s.start s.history g.events w.transaction.net o h)))
 
 -- players may go on, whatever the others did
 go_on_later : (s t : RecordedStore) (p : Player) → IsLater s t → MayGoOn s p → MayGoOn t p
@@ -93,8 +96,9 @@ still i s n p q g some none =
     let state : n.state ≡ s.state = ap (λ (m : World). m.state) run in
     let history : n.history ≡ s.history = g.history ∙ (ap (λ (es : List Event). s.history ++ es) (no_events g.events none) ∙ append-nil s.history) in
     let limits = g.limits in
+    let start = g.start in
     let at : q ≡ p = sym (get-middle before [] q no_session) ∙ (ap (λ (m : World). get_or m.sessions (length before) no_session) run ∙ get-middle before [] p no_session) in
-    (λ j. record { limits = limits j; state = state j; history = history j }, at)
+    (λ j. record { limits = limits j; start = start j; state = state j; history = history j }, at)
 
 -- the events of a command are its places
 places : (i : ℕ) (s n : RecordedStore) (p q : SessionState) (g : Advances i s n p q) (is : List ℕ) → order_of n.history ≡ order_of s.history ++ is → order_of g.events ≡ is
@@ -194,7 +198,7 @@ pub fits_now : (s : RecordedStore) (p v : Player) (w : OpenTransaction) → v �
 fits_now s p v w e ready ew = let now : IsCurrent s w = subst (IsCurrentIn s) (sym (ap (λ (x : Player). x.current) e) ∙ ew) ready.current in now.fits
 
 -- it changes something or stages shapes, and its commit may hand in what is kept
-pub ready_held : (s : RecordedStore) (p v : Player) (rest : List Command) (w : OpenTransaction) → v ≡ p → MayGoOn s p → p.head_taken ≡ true → ((c : Command) × (p.commands ≡ c ∷ rest)) → v.current ≡ Some w → HasChange w.transaction.net w.transaction.staged × KeepsIn s.limits s.history w.transaction.net v.checked
+pub ready_held : (s : RecordedStore) (p v : Player) (rest : List Command) (w : OpenTransaction) → v ≡ p → MayGoOn s p → p.head_taken ≡ true → ((c : Command) × (p.commands ≡ c ∷ rest)) → v.current ≡ Some w → HasChange w.transaction.net w.transaction.staged × KeepsIn s.limits s.start s.history w.transaction.net v.checked
 ready_held s p v rest w e ready hold next ew =
     let ep : p.current ≡ Some w = sym (ap (λ (x : Player). x.current) e) ∙ ew in
     let kept : KeepsCheck true s (Some w) v.checked = subst (λ (o : Option CheckedNet). KeepsCheck true s (Some w) o) (sym (ap (λ (x : Player). x.checked) e)) (subst (λ (x : Option OpenTransaction). KeepsCheck true s x p.checked) ep (subst (λ (b : Bool). KeepsCheck b s p.current p.checked) hold ready.kept)) in
@@ -210,7 +214,7 @@ first_rest [] x some is = absurd (omega (arith, some))
 first_rest (y ∷ ys) x some is = ap (λ z. z ∷ ys) (sym is) ∙ ap (λ zs. x ∷ zs) (sym (take_all (suc (length ys) - 1) ys (omega arith)))
 
 -- the same, where the fields of a player are known by an equation
-pub version_taken : (i : ℕ) (s n : RecordedStore) (p v : Player) (w : OpenTransaction) (now : Option OpenTransaction) (kept : Option CheckedNet) → v ≡ p → IsOpened s.state i → MayGoOn s p → p.head_taken ≡ false → IsCommitNext p.current p.commands → TakesHead i s n → v.current ≡ Some w → now ≡ Some w → KeepsIn n.limits n.history w.transaction.net kept
+pub version_taken : (i : ℕ) (s n : RecordedStore) (p v : Player) (w : OpenTransaction) (now : Option OpenTransaction) (kept : Option CheckedNet) → v ≡ p → IsOpened s.state i → MayGoOn s p → p.head_taken ≡ false → IsCommitNext p.current p.commands → TakesHead i s n → v.current ≡ Some w → now ≡ Some w → KeepsIn n.limits n.start n.history w.transaction.net kept
     → TakesEvent i s n p (player v.commands now true kept v.replies)
 version_taken i s n p v w now kept e o ready free next h ew en k =
     let ep : p.current ≡ Some w = sym (ap (λ (x : Player). x.current) e) ∙ ew in
@@ -262,7 +266,7 @@ plays_middle i s n before rest p q at ready h =
     subst (λ (is : List ℕ). RunsInOrder s.limits (world s.state (front ++ state_of p ∷ back)) is (world n.state (front ++ state_of q ∷ back))) one (h.advances.runs front back here) in
     let grows : More s.state n.state = more_run s.limits (world s.state (front ++ state_of p ∷ back)) (world n.state (front ++ state_of q ∷ back)) (i ∷ []) run in
     record {
-      ready = all_middle n before rest p q (all_later s n (before ++ p ∷ rest) (record { more = grows; limits = h.advances.limits; events = h.advances.events; history = h.advances.history }) ready) h.ready;
+      ready = all_middle n before rest p q (all_later s n (before ++ p ∷ rest) (record { more = grows; limits = h.advances.limits; start = h.advances.start; events = h.advances.events; history = h.advances.history }) ready) h.ready;
       count = let a : length (before ++ q ∷ rest) ≡ length before + suc (length rest) = length-append before (q ∷ rest) in
           let b : length (before ++ p ∷ rest) ≡ length before + suc (length rest) = length-append before (p ∷ rest) in a ∙ sym b;
       limits = h.advances.limits;
@@ -327,7 +331,7 @@ place_of_opening i k o s n ps a ek eo le h =
     let is : i ≡ k = let f = opened_next s n i h in omega (arith, f, ek, eo) in (
       (
         record {
-          ready = all_later s n ps (record { more = more_step s.limits s.state n.state i actions.Open (Session i) h.step; limits = h.limits; events = _; history = h.history }) a.ready;
+          ready = all_later s n ps (record { more = more_step s.limits s.state n.state i actions.Open (Session i) h.step; limits = h.limits; start = h.start; events = _; history = h.history }) a.ready;
           count = refl;
           limits = h.limits;
           history = one_place s n (record { session = i; action = actions.Open; reply = Session i }) h ∙ ap (λ (x : ℕ). order_of s.history ++ x ∷ []) is;
@@ -397,28 +401,28 @@ ready_start s [] = tt
 ready_start s (cs ∷ files) = (record { current = tt; held = tt; kept = tt }, ready_start s files)
 
 abbrev opening : Limits → RecordedStore
-opening l = record { limits = l; state = empty_store; history = [] }
+opening l = record { limits = l; start = empty_store; state = empty_store; history = [] }
 
 pub are_ready_start : (l : Limits) (s : RecordedStore) (ps : List Player) (files : List (List Command)) → s ≡ opening l → ps ≡ map new_player files → length files ≤ 64 → AreReady s ps
 are_ready_start l s ps files es ep few =
     subst (λ (x : RecordedStore). AreReady x ps) (sym es) (subst (λ (x : List Player). AreReady (opening l) x) (sym ep)
     (let count = length-map files new_player in record { ready = ready_start (opening l) files; few = omega (arith, count, few); opened = omega arith }))
 
-runs_start : (l : Limits) (s : RecordedStore) (ps : List Player) (files : List (List Command)) (order : List ℕ) (m : World) → s ≡ opening l → ps ≡ map new_player files → RunsInOrder s.limits (world s.state (states_of ps)) order m → RunsInOrder l (start files) order m
+runs_start : (l : Limits) (s : RecordedStore) (ps : List Player) (files : List (List Command)) (order : List ℕ) (m : World) → s ≡ opening l → ps ≡ map new_player files → RunsInOrder s.limits (world s.state (states_of ps)) order m → RunsInOrder l (start empty_store files) order m
 runs_start l s ps files order m es ep h =
     subst (λ (xs : List SessionState). RunsInOrder l (world empty_store xs) order m) (ap states_of ep ∙ states_start files) (subst (λ (x : RecordedStore). RunsInOrder x.limits (world x.state (states_of ps)) order m) es h)
 
-pub stops_start : (l : Limits) (s : RecordedStore) (ps : List Player) (files : List (List Command)) (places : List (Option ℕ)) (fault : ReplayFault) → s ≡ opening l → ps ≡ map new_player files → RefusesFrom s ps places fault → RefusesHistory files l places fault
+pub stops_start : (l : Limits) (s : RecordedStore) (ps : List Player) (files : List (List Command)) (places : List (Option ℕ)) (fault : ReplayFault) → s ≡ opening l → ps ≡ map new_player files → RefusesFrom s ps places fault → RefusesHistory files l empty_store places fault
 stops_start l s ps files places (Place k) es ep h = (h.0, h.1, h.2, h.3, runs_start l s ps files h.0 h.2 es ep h.4, h.5, h.6)
 stops_start l s ps files places Memory es ep h = tt
 
 -- the places end before the sessions do
-ends : (l : Limits) (s m : RecordedStore) (ps qs : List Player) (files : List (List Command)) (places : List (Option ℕ)) → s ≡ opening l → ps ≡ map new_player files → PlaysAll places s m ps qs → (IsComplete (world m.state (states_of qs)) → ⊥) → IsFirstBad files l places (length places + 1)
+ends : (l : Limits) (s m : RecordedStore) (ps qs : List Player) (files : List (List Command)) (places : List (Option ℕ)) → s ≡ opening l → ps ≡ map new_player files → PlaysAll places s m ps qs → (IsComplete (world m.state (states_of qs)) → ⊥) → IsFirstBad files l empty_store places (length places + 1)
 ends l s m ps qs files places es ep g more =
     let count = ap length g.taken ∙ length-map g.order Some in
     (g.order, [], world m.state (states_of qs), g.taken ∙ sym (append-nil (map Some g.order)), runs_start l s ps files g.order (world m.state (states_of qs)) es ep g.plays.runs, more, omega (arith, count))
 
-pub ends_unopened : (l : Limits) (s m : RecordedStore) (ps qs : List Player) (files : List (List Command)) (places : List (Option ℕ)) (o : ℕ) → s ≡ opening l → ps ≡ map new_player files → PlaysAll places s m ps qs → o ≡ m.state.opened → o < length files → IsFirstBad files l places (length places + 1)
+pub ends_unopened : (l : Limits) (s m : RecordedStore) (ps qs : List Player) (files : List (List Command)) (places : List (Option ℕ)) (o : ℕ) → s ≡ opening l → ps ≡ map new_player files → PlaysAll places s m ps qs → o ≡ m.state.opened → o < length files → IsFirstBad files l empty_store places (length places + 1)
 ends_unopened l s m ps qs files places o es ep g eo lt =
     ends l s m ps qs files places es ep g (λ c.
     let a = c.opened in
@@ -427,7 +431,7 @@ ends_unopened l s m ps qs files places o es ep g eo lt =
     let e = ap length ep ∙ length-map files new_player in
     absurd (omega (arith, eo, lt, a, b, d, e)))
 
-pub ends_unfinished : (l : Limits) (s m : RecordedStore) (ps qs : List Player) (files : List (List Command)) (places : List (Option ℕ)) → s ≡ opening l → ps ≡ map new_player files → PlaysAll places s m ps qs → (AllByRecursion (λ x. x.commands ≡ []) (states_of qs) → ⊥) → IsFirstBad files l places (length places + 1)
+pub ends_unfinished : (l : Limits) (s m : RecordedStore) (ps qs : List Player) (files : List (List Command)) (places : List (Option ℕ)) → s ≡ opening l → ps ≡ map new_player files → PlaysAll places s m ps qs → (AllByRecursion (λ x. x.commands ≡ []) (states_of qs) → ⊥) → IsFirstBad files l empty_store places (length places + 1)
 ends_unfinished l s m ps qs files places es ep g more = ends l s m ps qs files places es ep g (λ c. more c.left)
 
 pub all_opened : (l : Limits) (s m : RecordedStore) (ps qs : List Player) (files : List (List Command)) (places : List (Option ℕ)) (o : ℕ) → ps ≡ map new_player files → PlaysAll places s m ps qs → o ≡ m.state.opened → length files ≤ o → m.state.opened ≡ length qs
@@ -438,10 +442,10 @@ all_opened l s m ps qs files places o ep g eo le =
     omega (arith, eo, le, d, e, f)
 
 pub replayed : (l : Limits) (s m n : RecordedStore) (ps qs : List Player) (files : List (List Command)) (places : List (Option ℕ)) (all : List (List SessionReply)) (order : List ℕ) → s ≡ opening l → ps ≡ map new_player files → PlaysAll places s m ps qs → m.state.opened ≡ length qs → EndsAll (states_of qs) all → n ≡ m → order ≡ map (λ (e : Event). e.session) n.history
-    → IsReplayed files l places order all
+    → IsReplayed files l empty_store places order all
 replayed l s m n ps qs files places all order es ep g opened h en eo =
     let is : order ≡ g.order = eo ∙ (ap (λ (x : RecordedStore). order_of x.history) en ∙ (g.plays.history ∙ ap (λ (x : RecordedStore). order_of x.history ++ g.order) es)) in
-    subst (λ (os : List ℕ). IsReplayed files l places os all) (sym is) (
+    subst (λ (os : List ℕ). IsReplayed files l empty_store places os all) (sym is) (
       g.taken,
       record {
         last = world m.state (states_of qs);

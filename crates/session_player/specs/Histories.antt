@@ -2,6 +2,7 @@
 -- none where its text is no number of a session.
 use Rattle.std.specs.Prelude.{◌≡◌, ◌≢◌, ℕ, ◌+◌, ◌≤◌, List, [], ◌∷◌, ◌++◌, length, map, Option, Some, None, nat_eq, MatchBool}
 use Rattle.store_model.specs.declared.event.Limits.{Limits}
+use Rattle.store_model.specs.Store.{State}
 use Rattle.session_model.specs.declared.command.Command.{Command}
 use Rattle.session_model.specs.declared.reply.SessionReply.{SessionReply}
 use Rattle.session_model.specs.Sessions.{World, IsComplete, RunsInOrder, HasReplies, session_at, start}
@@ -19,10 +20,11 @@ abbrev pub BreaksOff : World → List (Option ℕ) → Type 0
 BreaksOff m [] = IsComplete m → ⊥
 BreaksOff m (place ∷ more) = IsBadPlace m place
 
--- Place k is the first that isn't valid; where the places end early, it is the one after the last.
-abbrev pub IsFirstBad : List (List Command) → Limits → List (Option ℕ) → ℕ → Type 0
-IsFirstBad files l places k = (order : List ℕ) × (rest : List (Option ℕ)) × (m : World) × (places ≡ map Some order ++ rest) × RunsInOrder l (start files) order m × BreaksOff m rest × (k ≡ length order + 1)
+-- Place k is the first that isn't valid, over a store that begins in state s; where the places end early, it is the one after
+-- the last.
+abbrev pub IsFirstBad : List (List Command) → Limits → State → List (Option ℕ) → ℕ → Type 0
+IsFirstBad files l s places k = (order : List ℕ) × (rest : List (Option ℕ)) × (m : World) × (places ≡ map Some order ++ rest) × RunsInOrder l (start s files) order m × BreaksOff m rest × (k ≡ length order + 1)
 
 -- All places are valid, and the sessions are answered so.
-abbrev pub IsReplayed : List (List Command) → Limits → List (Option ℕ) → List ℕ → List (List SessionReply) → Type 0
-IsReplayed files l places order all = (places ≡ map Some order) × HasReplies files l order all
+abbrev pub IsReplayed : List (List Command) → Limits → State → List (Option ℕ) → List ℕ → List (List SessionReply) → Type 0
+IsReplayed files l s places order all = (places ≡ map Some order) × HasReplies files l s order all

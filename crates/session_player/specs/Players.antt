@@ -47,7 +47,7 @@ IsHeld true w cs = IsCommitNext w cs
 abbrev pub KeepsCheck : Bool → RecordedStore → Option OpenTransaction → Option CheckedNet → Type 0
 KeepsCheck false s w o = Unit {0}
 KeepsCheck true s None o = Unit {0}
-KeepsCheck true s (Some w) o = KeepsIn s.limits s.history w.transaction.net o
+KeepsCheck true s (Some w) o = KeepsIn s.limits s.start s.history w.transaction.net o
 
 -- Its transaction is one of this store. Where its commit has the newest version, that commit is next, and may hand in what is
 -- kept of the check.

@@ -2,13 +2,15 @@
 use Rattle.std.specs.Prelude.{◌≡◌, ℕ, Bool, true, false, Option, Some, None, List, [], ◌∷◌, ◌++◌}
 use Rattle.rdf_model.specs.declared.triple.Triple.{Triple}
 use Rattle.store_model.specs.declared.event.Action.TheVariants as actions
+use Rattle.store_model.specs.declared.event.NameKind.{NameKind}
 use Rattle.store_model.specs.declared.event.Reply.{Reply}
 use Rattle.store_model.specs.declared.event.Reply.TheVariants as replies
 use Rattle.store_model.specs.declared.commit.Transaction.{Transaction}
 use Rattle.store_model.specs.declared.commit.Verdict.{Verdict}
 use Rattle.session_model.specs.declared.command.Command.{Command}
-use Rattle.session_model.specs.declared.command.Command.TheVariants.{Commit, Begin, Add, BadAdd, Remove, BadRemove, Shapes, BadShapes, BrokenShapes, RefusedPattern, Find, Abort}
+use Rattle.session_model.specs.declared.command.Command.TheVariants.{Commit, Begin, Add, BadAdd, Remove, BadRemove, Attach, BadAttach, Shapes, BadShapes, BrokenShapes, RefusedPattern, Find, Abort}
 use Rattle.session_model.specs.declared.reply.SessionReply.{SessionReply}
+use Rattle.session_model.specs.declared.reply.SessionReply.TheVariants.{UnknownNode, FullTerms}
 use Rattle.store_model.specs.Store.{RecordedStore, TakesStep, IsOpened, version}
 use Rattle.session_model.specs.Sessions.{OpenTransaction, LocalAnswer, local_answer, after_reply, parts_of, up_to_event}
 use Rattle.session_transaction.specs.Transactions.{FitsState}
@@ -27,10 +29,16 @@ pub record IsReady (s : RecordedStore) (session : ℕ) (w : Option OpenTransacti
   pub opened : IsOpened s.state session
   pub current : IsCurrentIn s w
 
--- the terms of the triples were named, or were too many
-abbrev pub NamesAll : Bool → RecordedStore → RecordedStore → ℕ → List Triple → Type 0
-NamesAll true old new i ts = TakesStep old new (record { session = i; action = actions.Name (parts_of ts); reply = replies.Named })
-NamesAll false old new i ts = (n : ℕ) × TakesStep old new (record { session = i; action = actions.Name (parts_of ts); reply = replies.Full n })
+-- what a session is told where the terms of its block weren't named
+abbrev pub IsNamingRefusal : Reply → SessionReply → Type 0
+IsNamingRefusal (replies.Unknown node) told = told ≡ UnknownNode node
+IsNamingRefusal (replies.Full n) told = told ≡ FullTerms
+IsNamingRefusal r told = ⊥
+
+-- the terms of the triples of a block of this kind were named; or they weren't, and the session is told so
+abbrev pub NamesAll : Option SessionReply → RecordedStore → RecordedStore → ℕ → NameKind → List Triple → Type 0
+NamesAll None old new i kind ts = TakesStep old new (record { session = i; action = actions.Name kind (parts_of ts); reply = replies.Named })
+NamesAll (Some told) old new i kind ts = (r : Reply) × IsNamingRefusal r told × TakesStep old new (record { session = i; action = actions.Name kind (parts_of ts); reply = r })
 
 -- the session has the newest version for its commit
 pub record TakesHead (i : ℕ) (old new : RecordedStore) : Type 0 where
@@ -53,6 +61,8 @@ is_commit (Add ts) = false
 is_commit (BadAdd n kind) = false
 is_commit (Remove ts) = false
 is_commit (BadRemove n kind) = false
+is_commit (Attach ts) = false
+is_commit (BadAttach n kind) = false
 is_commit (Shapes ts) = false
 is_commit (BadShapes n kind) = false
 is_commit (BrokenShapes rule node) = false

@@ -1,7 +1,7 @@
 -- Why a history gave no run.
 use Rattle.std.specs.Prelude.{ℕ, List, Option}
 use Rattle.store_model.specs.declared.event.Limits.{Limits}
-use Rattle.store_model.specs.Store.{RecordedStore}
+use Rattle.store_model.specs.Store.{RecordedStore, State}
 use Rattle.session_model.specs.declared.command.Command.{Command}
 use Rattle.session_player.specs.declared.replay.ReplayFault.{ReplayFault}
 use Rattle.session_player.specs.declared.replay.ReplayFault.TheVariants.{Place, Memory}
@@ -12,6 +12,6 @@ abbrev pub RefusesFrom : RecordedStore → List Player → List (Option ℕ) →
 RefusesFrom s ps places (Place k) = StopsAt s ps places k
 RefusesFrom s ps places Memory = Unit {0}
 
-abbrev pub RefusesHistory : List (List Command) → Limits → List (Option ℕ) → ReplayFault → Type 0
-RefusesHistory files l places (Place k) = IsFirstBad files l places k
-RefusesHistory files l places Memory = Unit {0}
+abbrev pub RefusesHistory : List (List Command) → Limits → State → List (Option ℕ) → ReplayFault → Type 0
+RefusesHistory files l s places (Place k) = IsFirstBad files l s places k
+RefusesHistory files l s places Memory = Unit {0}

@@ -45,7 +45,7 @@ pub fn commit_reply<L: Ledger>(
     requires opened { IsOpened core.old.state session }
     requires fits { FitsState open.transaction core.old.state }
     requires change { HasChange open.transaction.net open.transaction.staged }
-    requires kept { KeepsIn core.old.limits core.old.history open.transaction.net open.checked }
+    requires kept { KeepsIn core.old.limits core.old.start core.old.history open.transaction.net open.checked }
     ensures { IfOk result (CommitsWith session core.old core.new open.transaction) }
 {
     core.recall_consistent();
@@ -71,7 +71,7 @@ pub fn take_head<L: Ledger>(
     requires fits { FitsState open.old.transaction core.old.state }
     ensures head { OnOk result (TakesHead session core.old core.new) }
     ensures same { OnOk result (plain open.new ≡ plain open.old) }
-    ensures kept { OnOk result (KeepsIn core.new.limits core.new.history open.old.transaction.net open.new.checked) }
+    ensures kept { OnOk result (KeepsIn core.new.limits core.new.start core.new.history open.old.transaction.net open.new.checked) }
 {
     core.recall_consistent();
     let head = core.head(session)?;
@@ -126,6 +126,10 @@ pub fn perform<L: Ledger>(
             let kind = ChangeKind::Removal;
             change(alloc, core, session, current, kind, triples, replies)
         }
+        Command::Attach(triples) => {
+            let kind = ChangeKind::Attachment;
+            change(alloc, core, session, current, kind, triples, replies)
+        }
         Command::Shapes(shapes) => stage(alloc, core, session, current, shapes, replies),
         Command::Commit => {
             commit_open(alloc, core, session, current, replies, steps)?;
@@ -138,6 +142,7 @@ pub fn perform<L: Ledger>(
         }
         Command::BadAdd { line: _, kind: _ }
         | Command::BadRemove { line: _, kind: _ }
+        | Command::BadAttach { line: _, kind: _ }
         | Command::BadShapes { line: _, kind: _ }
         | Command::BrokenShapes { rule: _, node: _ }
         | Command::RefusedPattern { node: _ } => refuse(core, session, current, command, replies),

@@ -54,11 +54,12 @@ fn is_event_within(transaction: &OpenTransaction, command: &Command) -> bool
     ensures { IsEvent result (Some (plain transaction.now)) command.now }
 {
     match command {
-        Command::Add(_) | Command::Remove(_) | Command::Shapes(_) => true,
+        Command::Add(_) | Command::Remove(_) | Command::Attach(_) | Command::Shapes(_) => true,
         Command::Commit => !transaction.only_reads(),
         Command::Begin
         | Command::BadAdd { .. }
         | Command::BadRemove { .. }
+        | Command::BadAttach { .. }
         | Command::BadShapes { .. }
         | Command::BrokenShapes { .. }
         | Command::RefusedPattern { .. }

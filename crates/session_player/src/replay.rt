@@ -3,7 +3,7 @@ ghost use Rattle.std.specs.Prelude.{◌≡◌, ◌∷◌, [], ◌+◌, ◌≤◌
 ghost use Rattle.std.specs.List.{AllByRecursion};
 ghost use Rattle.store_model.specs.declared.event.Action.{Action};
 ghost use Rattle.store_model.specs.declared.event.Reply.{Reply};
-ghost use Rattle.store_model.specs.Store.{TakesStep};
+ghost use Rattle.store_model.specs.Store.{TakesStep, empty_store};
 ghost use Rattle.session_model.specs.Sessions.{world};
 ghost use Rattle.session_player.specs.Histories.{IsReplayed, MayTake};
 ghost use Rattle.session_player.specs.Players.{AreReady, EndsAll, Plays, PlaysAll, new_player, states_of};
@@ -12,7 +12,7 @@ ghost use Rattle.session_player.specs.Refused.{RefusesFrom, RefusesHistory};
 use crate::player::Player;
 use crate::run::Run;
 use collections::Sequence;
-use commit_core::{Core, Limits, SessionFault};
+use commit_core::{BlockMode, Core, Limits, SessionFault};
 use session_model::{Command, SessionReply};
 use shape_eval::Steps;
 use std::alloc::{AllocError, Global};
@@ -151,11 +151,12 @@ fn replay_in<L: Ledger>(
     blank: Blank,
 ) -> Result<Run, ReplayFault>
     requires small { limits.terms + 2 < 2 ^ 32 }
+    requires mode { limits.mode ≡ BlockMode.All }
     requires few { length files.now ≤ 64 }
     requires name { blank.name ≡ L.name }
     requires parts { blank.parts ≡ L.parts }
     requires some { 0 < L.parts }
-    ensures { MatchResult result (λ run. IsReplayed files.now limits places.now run.order.items run.replies.items) (RefusesHistory files.now limits places.now) }
+    ensures { MatchResult result (λ run. IsReplayed files.now limits empty_store places.now run.order.items run.replies.items) (RefusesHistory files.now limits empty_store places.now) }
 {
     let mut core = Core::open(alloc, limits)?;
     let mut steps = Steps::<L>::begin(blank);
@@ -189,8 +190,9 @@ pub fn replay_all(
     places: &[Option<u32>],
 ) -> Result<Run, ReplayFault>
     requires small { limits.terms + 2 < 2 ^ 32 }
+    requires mode { limits.mode ≡ BlockMode.All }
     requires few { length files.now ≤ 64 }
-    ensures { MatchResult result (λ run. IsReplayed files.now limits places.now run.order.items run.replies.items) (RefusesHistory files.now limits places.now) }
+    ensures { MatchResult result (λ run. IsReplayed files.now limits empty_store places.now run.order.items run.replies.items) (RefusesHistory files.now limits empty_store places.now) }
 {
     replay_in::<Brand>(alloc, limits, files, places, Blank::new(1))
 }

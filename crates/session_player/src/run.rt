@@ -1,12 +1,12 @@
 ghost use Rattle.std.specs.Prelude.{◌≡◌, [], ◌+◌, ◌≤◌, ◌<◌, ◌^◌, length, IfOk, OnOk};
-ghost use Rattle.store_model.specs.Store.{IsOpened};
+ghost use Rattle.store_model.specs.Store.{IsOpened, empty_store};
 ghost use Rattle.session_model.specs.Sessions.{HasReplies};
 ghost use Rattle.session_player.specs.Progress.{HasRun, OpensSessions};
 ghost use Rattle.session_player.specs.Ready.{PerformsAll};
 
 use crate::perform::perform;
 use collections::Sequence;
-use commit_core::{Core, Limits, SessionFault};
+use commit_core::{BlockMode, Core, Limits, SessionFault};
 use session_model::{Command, SessionReply};
 use shape_eval::Steps;
 use std::alloc::{AllocError, Global};
@@ -61,9 +61,9 @@ fn play_all<L: Ledger>(
     files: &[Sequence<Command>],
     steps: &mut Steps<L>,
 ) -> Result<Vec<Sequence<SessionReply>>, AllocError>
-    requires opened { HasRun files.now core.old.limits core.old 0 [] }
+    requires opened { HasRun files.now core.old.limits empty_store core.old 0 [] }
     requires few { length files.now ≤ 64 }
-    ensures { IfOk result (λ all. HasRun files.now core.old.limits core.new (length files.now) all.items) }
+    ensures { IfOk result (λ all. HasRun files.now core.old.limits empty_store core.new (length files.now) all.items) }
 {
     let mut all = Vec::new(alloc);
     let mut session = 0;
@@ -83,11 +83,12 @@ fn run_in<L: Ledger>(
     blank: Blank,
 ) -> Result<Run, AllocError>
     requires small { limits.terms + 2 < 2 ^ 32 }
+    requires mode { limits.mode ≡ BlockMode.All }
     requires few { length files.now ≤ 64 }
     requires name { blank.name ≡ L.name }
     requires parts { blank.parts ≡ L.parts }
     requires some { 0 < L.parts }
-    ensures { IfOk result (λ run. HasReplies files.now limits run.order.items run.replies.items) }
+    ensures { IfOk result (λ run. HasReplies files.now limits empty_store run.order.items run.replies.items) }
 {
     let mut core = Core::open(alloc, limits)?;
     let mut steps = Steps::<L>::begin(blank);
@@ -104,8 +105,9 @@ pub fn run_all(
     files: &[Sequence<Command>],
 ) -> Result<Run, AllocError>
     requires small { limits.terms + 2 < 2 ^ 32 }
+    requires mode { limits.mode ≡ BlockMode.All }
     requires few { length files.now ≤ 64 }
-    ensures { IfOk result (λ run. HasReplies files.now limits run.order.items run.replies.items) }
+    ensures { IfOk result (λ run. HasReplies files.now limits empty_store run.order.items run.replies.items) }
 {
     run_in::<Brand>(alloc, limits, files, Blank::new(1))
 }

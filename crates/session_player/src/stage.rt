@@ -6,32 +6,34 @@ ghost use Rattle.session_transaction.specs.Transactions.{command_of, plain_in};
 ghost use Rattle.session_player.specs.Ready.{IsReady, NamesAll, Performs};
 
 use collections::Sequence;
-use commit_core::{Core, NameFault};
+use commit_core::{Core, NameKind, NamingFault};
 use rdf_model::Triple;
 use session_model::{Command, SessionReply};
 use session_transaction::{ChangeKind, OpenTransaction, block_refusal, terms_in};
 use shapes_graph::ShapesGraph;
 use std::alloc::{AllocError, Global};
 
-// Names the terms of the triples, unless they are too many.
+// Names the terms of the triples of a block of this kind, or gives the reply to one whose terms may not be named.
 fn name_terms(
     alloc: Global,
     core: &mut Core,
     session: u32,
+    kind: NameKind,
     triples: &[Triple],
-) -> Result<bool, AllocError>
+) -> Result<Option<SessionReply>, AllocError>
     requires { IsOpened core.old.state session }
-    ensures { IfOk result (λ named. NamesAll named core.old core.new session triples.now) }
+    ensures { IfOk result (λ refusal. NamesAll refusal core.old core.new session kind triples.now) }
 {
     let terms = terms_in(alloc, triples)?;
-    match core.name(session, &terms) {
-        Ok(_) => Ok(true),
-        Err(NameFault::Full { count: _ }) => Ok(false),
-        Err(NameFault::Memory) => Err(AllocError),
+    match core.name(session, kind, &terms) {
+        Ok(_) => Ok(None),
+        Err(NamingFault::Unknown { node }) => Ok(Some(SessionReply::UnknownNode(node))),
+        Err(NamingFault::Full { count: _ }) => Ok(Some(SessionReply::FullTerms)),
+        Err(NamingFault::Memory) => Err(AllocError),
     }
 }
 
-/// Adds the triples in the open transaction, or removes them.
+/// Adds the triples in the open transaction, removes them, or attaches them to stored blank nodes.
 pub fn change(
     alloc: Global,
     core: &mut Core,
@@ -48,8 +50,9 @@ pub fn change(
         replies.push(SessionReply::NoTransaction)?;
         return Ok(None);
     };
-    if !name_terms(alloc, core, session, triples.as_slice())? {
-        replies.push(SessionReply::FullTerms)?;
+    let refusal = name_terms(alloc, core, session, kind.name_kind(), triples.as_slice())?;
+    if let Some(reply) = refusal {
+        replies.push(reply)?;
         return Ok(Some(open));
     }
     let (open, staged) = open.with_changes(alloc, kind, triples.as_slice());
@@ -76,8 +79,9 @@ pub fn stage(
         replies.push(SessionReply::NoTransaction)?;
         return Ok(None);
     };
-    if !name_terms(alloc, core, session, shapes.triples())? {
-        replies.push(SessionReply::FullTerms)?;
+    let refusal = name_terms(alloc, core, session, NameKind::Fresh, shapes.triples())?;
+    if let Some(reply) = refusal {
+        replies.push(reply)?;
         return Ok(Some(open));
     }
     let copy = shapes.share()?;

@@ -4,7 +4,7 @@ use Rattle.outside.specs.Faults.{Refusal, Request}
 use Rattle.shape_reader.proofs.Requests.{asks_nothing}
 use Rattle.session_model.specs.declared.command.Command.{Command}
 use Rattle.session_reader.specs.declared.read_command.ReadCommand.{ReadCommand}
-use Rattle.session_reader.specs.declared.read_command.ReadCommand.TheVariants.{Begin, Add, BadAdd, Remove, BadRemove, Shapes, BadShapes, Commit, Find, Abort}
+use Rattle.session_reader.specs.declared.read_command.ReadCommand.TheVariants.{Begin, Add, BadAdd, Remove, BadRemove, Attach, BadAttach, Shapes, BadShapes, Commit, Find, Abort}
 use Rattle.session_reader.specs.declared.prepare_fault.PrepareFault.{PrepareFault}
 use Rattle.session_reader.specs.declared.prepare_fault.PrepareFault.TheVariants.{Line, Memory}
 use Rattle.session_reader.specs.Asked.{AsksFirst, AsksFirstOf, AsksInVain, AsksOf, AsksOfEach, AsksPart}
@@ -17,6 +17,8 @@ part_none (Add ts) xs = refl
 part_none (BadAdd n kind) xs = refl
 part_none (Remove ts) xs = refl
 part_none (BadRemove n kind) xs = refl
+part_none (Attach ts) xs = refl
+part_none (BadAttach n kind) xs = refl
 part_none (Shapes ts) xs = asks_nothing ts xs
 part_none (BadShapes n kind) xs = refl
 part_none Commit xs = refl

@@ -5,6 +5,7 @@ use Rattle.std.specs.Option.{option_map}
 use Rattle.std.proofs.Math.ListN.{drop_of_length-le}
 use Rattle.std.proofs.lemmas.List.{drop-drop}
 use Rattle.session_reader.specs.declared.line.BlockKind.{BlockKind}
+use Rattle.session_reader.specs.declared.line.Language.{Language}
 use Rattle.session_reader.specs.declared.line.LineKind.{LineKind}
 use Rattle.session_reader.specs.declared.line.LineKind.TheVariants.{Block}
 use Rattle.session_reader.specs.declared.prepare_fault.PrepareFault.{PrepareFault}
@@ -19,10 +20,11 @@ with_commands-push cs c (Ok ds) = ap Ok (sym (append_assoc cs (c ∷ []) ds))
 with_commands-push cs c (Err n) = refl
 
 -- the items behind so many lines of an item
-pub items_behind : (taken n : ℕ) (texts : List (List ℕ)) → items_after taken n texts ≡ items_after 0 (n + taken) (drop taken texts)
-items_behind zero n texts = let same : n ≡ n + 0 = omega arith in ap (λ m. items_after 0 m texts) same
-items_behind (suc taken) n [] = refl
-items_behind (suc taken) n (line ∷ texts) = let same : n + 1 + taken ≡ n + suc taken = omega arith in items_behind taken (n + 1) texts ∙ ap (λ m. items_after 0 m (drop taken texts)) same
+pub items_behind : (language : Language) (taken n : ℕ) (texts : List (List ℕ)) → items_after language taken n texts ≡ items_after language 0 (n + taken) (drop taken texts)
+items_behind language zero n texts = let same : n ≡ n + 0 = omega arith in ap (λ m. items_after language 0 m texts) same
+items_behind language (suc taken) n [] = refl
+items_behind language (suc taken) n (line ∷ texts) =
+    let same : n + 1 + taken ≡ n + suc taken = omega arith in items_behind language taken (n + 1) texts ∙ ap (λ m. items_after language 0 m (drop taken texts)) same
 
 -- how many lines stand before the end of a block, counted from a line further on
 pub counted_end : (count : ℕ) (line : List ℕ) (texts : List (List ℕ)) → is_block_end line ≡ true → option_map (λ n. count + n) (block_length (line ∷ texts)) ≡ Some count
@@ -44,42 +46,54 @@ no_command (Err n) = refl
 line_there : (texts : List (List ℕ)) (i : ℕ) → i < length texts → drop i texts ≡ get_or texts i [] ∷ drop (i + 1) texts
 line_there texts i lt = rw add-one (drop-cons texts i [] lt)
 
-abbrev pub from : ℕ → ℕ → ℕ → List (List ℕ) → Result (List ReadCommand) ℕ
-from s next n texts = commands_of s next (items_after 0 n texts)
+abbrev pub from : Language → ℕ → ℕ → ℕ → List (List ℕ) → Result (List ReadCommand) ℕ
+from language s next n texts = commands_of s next (items_after language 0 n texts)
+
+-- behind the header, if there is one
+pub behind_header : (language : Language) (s next taken : ℕ) (texts : List (List ℕ)) → from language s next (taken + 1) (drop taken texts) ≡ commands_of s next (items_after language taken 1 texts)
+behind_header language s next taken texts =
+    let same : 1 + taken ≡ taken + 1 = omega arith in
+    sym (ap (commands_of s next) (items_behind language taken 1 texts) ∙ ap (λ n. from language s next n (drop taken texts)) same)
 
 -- the item whose first line has the index i
-abbrev pub item : List (List ℕ) → ℕ → Item
-item texts i = item_at (i + 1) (get_or texts i []) (drop (i + 1) texts)
+abbrev pub item : Language → List (List ℕ) → ℕ → Item
+item language texts i = item_at language (i + 1) (get_or texts i []) (drop (i + 1) texts)
 
-abbrev pub behind_item : ℕ → List (List ℕ) → ℕ → ℕ → Result (List ReadCommand) ℕ
-behind_item s texts i next = commands_of s next (items_after (lines_of_block (item texts i).block) (i + 1 + 1) (drop (i + 1) texts))
+abbrev pub behind_item : Language → ℕ → List (List ℕ) → ℕ → ℕ → Result (List ReadCommand) ℕ
+behind_item language s texts i next = commands_of s next (items_after language (lines_of_block (item language texts i).block) (i + 1 + 1) (drop (i + 1) texts))
 
-pub first_item : (s next : ℕ) (texts : List (List ℕ)) (i : ℕ) → i < length texts → from s next (i + 1) (drop i texts) ≡ with_item s next (i + 1) (item texts i).kind (item texts i).block (behind_item s texts i)
-first_item s next texts i lt = ap (λ ls. from s next (i + 1) ls) (line_there texts i lt)
+-- the commands from an item on
+abbrev pub from_item : Language → ℕ → ℕ → List (List ℕ) → ℕ → Result (List ReadCommand) ℕ
+from_item language s next texts i = with_item s next (i + 1) (item language texts i).kind (item language texts i).block (behind_item language s texts i)
+
+pub first_item : (language : Language) (s next : ℕ) (texts : List (List ℕ)) (i : ℕ) → i < length texts → from language s next (i + 1) (drop i texts) ≡ from_item language s next texts i
+first_item language s next texts i lt = ap (λ ls. from language s next (i + 1) ls) (line_there texts i lt)
 
 -- behind an item
-pub next_item : (s next : ℕ) (texts : List (List ℕ)) (i taken : ℕ) → taken ≡ lines_of_block (item texts i).block → behind_item s texts i next ≡ from s next (i + (1 + taken) + 1) (drop (i + (1 + taken)) texts)
-next_item s next texts i taken is =
+pub next_item : (language : Language) (s next : ℕ) (texts : List (List ℕ)) (i taken : ℕ) → taken ≡ lines_of_block (item language texts i).block
+    → behind_item language s texts i next ≡ from language s next (i + (1 + taken) + 1) (drop (i + (1 + taken)) texts)
+next_item language s next texts i taken is =
     let at : i + 1 + taken ≡ i + (1 + taken) = omega arith in
     let number : i + 1 + 1 + taken ≡ i + (1 + taken) + 1 = omega arith in
-    ap (λ k. commands_of s next (items_after k (i + 1 + 1) (drop (i + 1) texts))) (sym is)
-    ∙ ap (commands_of s next) (items_behind taken (i + 1 + 1) (drop (i + 1) texts))
-    ∙ ap (λ ls. from s next (i + 1 + 1 + taken) ls) (drop-drop taken (i + 1) texts ∙ ap (λ k. drop k texts) at)
-    ∙ ap (λ n. from s next n (drop (i + (1 + taken)) texts)) number
+    ap (λ k. commands_of s next (items_after language k (i + 1 + 1) (drop (i + 1) texts))) (sym is)
+    ∙ ap (commands_of s next) (items_behind language taken (i + 1 + 1) (drop (i + 1) texts))
+    ∙ ap (λ ls. from language s next (i + 1 + 1 + taken) ls) (drop-drop taken (i + 1) texts ∙ ap (λ k. drop k texts) at)
+    ∙ ap (λ n. from language s next n (drop (i + (1 + taken)) texts)) number
 
-pub item_read : (s old new : ℕ) (texts : List (List ℕ)) (i taken : ℕ) (cs ds : List ReadCommand) (whole : Result (List ReadCommand) ℕ) → i < length texts
-    → taken ≡ lines_of_block (item texts i).block → with_commands cs (with_item s old (i + 1) (item texts i).kind (item texts i).block (behind_item s texts i)) ≡ with_commands ds (behind_item s texts i new)
-    → with_commands cs (from s old (i + 1) (drop i texts)) ≡ whole → with_commands ds (from s new (i + (1 + taken) + 1) (drop (i + (1 + taken)) texts)) ≡ whole
-item_read s old new texts i taken cs ds whole lt is step before =
-    sym (ap (with_commands ds) (next_item s new texts i taken is)) ∙ sym step ∙ sym (ap (with_commands cs) (first_item s old texts i lt)) ∙ before
+pub item_read : (language : Language) (s old new : ℕ) (texts : List (List ℕ)) (i taken : ℕ) (cs ds : List ReadCommand) (whole : Result (List ReadCommand) ℕ) → i < length texts
+    → taken ≡ lines_of_block (item language texts i).block → with_commands cs (from_item language s old texts i) ≡ with_commands ds (behind_item language s texts i new)
+    → with_commands cs (from language s old (i + 1) (drop i texts)) ≡ whole → with_commands ds (from language s new (i + (1 + taken) + 1) (drop (i + (1 + taken)) texts)) ≡ whole
+item_read language s old new texts i taken cs ds whole lt is step before =
+    sym (ap (with_commands ds) (next_item language s new texts i taken is)) ∙ sym step ∙ sym (ap (with_commands cs) (first_item language s old texts i lt)) ∙ before
 
-pub item_fails : (e : PrepareFault) (s old : ℕ) (texts : List (List ℕ)) (i : ℕ) (cs : List ReadCommand) (whole : Result (List ReadCommand) ℕ) → i < length texts
-    → Fails e (with_commands cs (with_item s old (i + 1) (item texts i).kind (item texts i).block (behind_item s texts i))) → with_commands cs (from s old (i + 1) (drop i texts)) ≡ whole → Fails e whole
-item_fails e s old texts i cs whole lt h before = subst (Fails e) (sym (ap (with_commands cs) (first_item s old texts i lt)) ∙ before) h
+pub item_fails : (e : PrepareFault) (language : Language) (s old : ℕ) (texts : List (List ℕ)) (i : ℕ) (cs : List ReadCommand) (whole : Result (List ReadCommand) ℕ) → i < length texts
+    → Fails e (with_commands cs (from_item language s old texts i)) → with_commands cs (from language s old (i + 1) (drop i texts)) ≡ whole → Fails e whole
+item_fails e language s old texts i cs whole lt h before = subst (Fails e) (sym (ap (with_commands cs) (first_item language s old texts i lt)) ∙ before) h
 
-pub all_read : (s next : ℕ) (texts : List (List ℕ)) (i n : ℕ) (cs : List ReadCommand) (whole : Result (List ReadCommand) ℕ) → length texts ≤ i → with_commands cs (from s next n (drop i texts)) ≡ whole → whole ≡ Ok cs
-all_read s next texts i n cs whole most before =
-    sym before ∙ ap (λ ls. with_commands cs (from s next n ls)) (drop_of_length-le texts most) ∙ ap (λ x. Ok x) (append-nil cs)
+pub all_read : (language : Language) (s next : ℕ) (texts : List (List ℕ)) (i n : ℕ) (cs : List ReadCommand) (whole : Result (List ReadCommand) ℕ) → length texts ≤ i
+    → with_commands cs (from language s next n (drop i texts)) ≡ whole → whole ≡ Ok cs
+all_read language s next texts i n cs whole most before =
+    sym before ∙ ap (λ ls. with_commands cs (from language s next n ls)) (drop_of_length-le texts most) ∙ ap (λ x. Ok x) (append-nil cs)
 
 -- the end of a block, by how many lines stand before it
 pub block_ends : (k : BlockKind) (texts : List (List ℕ)) (n : ℕ) → block_length texts ≡ Some n → block_after (Block k) texts ≡ Some (take n texts)
@@ -93,10 +107,10 @@ abbrev pub Means : ℕ → ℕ → ℕ → ℕ → List ReadCommand → List Rea
 Means s old n new cs ds more r kind texts =
     MatchResult r (λ taken. (taken ≡ lines_of_block (block_after kind texts)) × (with_commands cs (with_item s old n kind (block_after kind texts) more) ≡ with_commands ds (more new))) (λ fault. Fails fault (with_commands cs (with_item s old n kind (block_after kind texts) more)))
 
-pub item_of_kind : (r : Result ℕ PrepareFault) (s old n new : ℕ) (k : LineKind) (line there : List ℕ) (xs texts : List (List ℕ)) (cs ds : List ReadCommand) (more : ℕ → Result (List ReadCommand) ℕ)
-    → k ≡ kind_of (command_text line xs) → line ≡ there → xs ≡ texts → Means s old n new cs ds more r k xs → Means s old n new cs ds more r (kind_of (command_text there texts)) texts
-item_of_kind r s old n new k line there xs texts cs ds more is here same h =
-    let kind : k ≡ kind_of (command_text there texts) = is ∙ ap (λ x. kind_of (command_text x xs)) here ∙ ap (λ ls. kind_of (command_text there ls)) same in
+pub item_of_kind : (r : Result ℕ PrepareFault) (language : Language) (s old n new : ℕ) (k : LineKind) (line there : List ℕ) (xs texts : List (List ℕ)) (cs ds : List ReadCommand) (more : ℕ → Result (List ReadCommand) ℕ)
+    → k ≡ kind_of language (command_text line xs) → line ≡ there → xs ≡ texts → Means s old n new cs ds more r k xs → Means s old n new cs ds more r (kind_of language (command_text there texts)) texts
+item_of_kind r language s old n new k line there xs texts cs ds more is here same h =
+    let kind : k ≡ kind_of language (command_text there texts) = is ∙ ap (λ x. kind_of language (command_text x xs)) here ∙ ap (λ ls. kind_of language (command_text there ls)) same in
     subst (λ (x : LineKind). Means s old n new cs ds more r x texts) kind (subst (λ (x : List (List ℕ)). Means s old n new cs ds more r k x) same h)
 
 -- an item of one line

@@ -5,7 +5,7 @@ use Rattle.std.proofs.lemmas.List.{take-append-drop, drop-drop}
 use Rattle.session_reader.specs.SessionFile.{block_text}
 
 -- each list has a first part
-split-cons : (p : ℕ → Bool) (xs : List ℕ) → (y : List ℕ) × (ys : List (List ℕ)) × (slice_split p xs ≡ y ∷ ys)
+pub split-cons : (p : ℕ → Bool) (xs : List ℕ) → (y : List ℕ) × (ys : List (List ℕ)) × (slice_split p xs ≡ y ∷ ys)
 split-cons p [] = ([], [], refl)
 split-cons p (x ∷ xs) = elim (p x) as (λ b. (y : List ℕ) × (ys : List (List ℕ)) × (cond b ([] ∷ slice_split p xs) (onto_first x (slice_split p xs)) ≡ y ∷ ys)) [
   | true ↦ ([], slice_split p xs, refl)
@@ -40,6 +40,10 @@ one_fewer texts n =
     let parts = part_length (take 1 (drop n texts)) (drop 1 (drop n texts)) (drop n texts) (take-append-drop 1 (drop n texts)) in
     let same : length (block_text (drop 1 (drop n texts))) ≡ length (block_text (drop (n + 1) texts)) = ap (λ ls. length (block_text ls)) (drop-drop 1 n texts) in
     omega arith
+
+-- the lines behind the first few are no longer than all
+pub rest_short : (texts : List (List ℕ)) (n : ℕ) → length (block_text (drop n texts)) ≤ length (block_text texts)
+rest_short texts n = omega (arith, part_length (take n texts) (drop n texts) texts (take-append-drop n texts))
 
 -- a block is no longer than the lines that it begins
 pub block_within : (texts : List (List ℕ)) (n : ℕ) → length (block_text (take n texts)) ≤ length (block_text texts)

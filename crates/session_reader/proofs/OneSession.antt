@@ -10,7 +10,7 @@ use Rattle.shape_reader.specs.Parts.{IsRefused}
 use Rattle.session_model.specs.declared.command.Command.{Command}
 use Rattle.session_model.specs.declared.command.Command.TheVariants as commands
 use Rattle.session_reader.specs.declared.read_command.ReadCommand.{ReadCommand}
-use Rattle.session_reader.specs.declared.read_command.ReadCommand.TheVariants.{Begin, Add, BadAdd, Remove, BadRemove, Shapes, BadShapes, Commit, Find, Abort}
+use Rattle.session_reader.specs.declared.read_command.ReadCommand.TheVariants.{Begin, Add, BadAdd, Remove, BadRemove, Attach, BadAttach, Shapes, BadShapes, Commit, Find, Abort}
 use Rattle.session_reader.specs.Checking.{AreChecked, IsChecked, IsCheckedGraph, OnlyGrows}
 use Rattle.session_reader.specs.Laws.{FileHasOneSession}
 use Rattle.session_reader.proofs.Checks.{command_grows, commands_grow}
@@ -47,6 +47,8 @@ command_one (Add ts) c d old other h k = k.0 ∙ sym h.0
 command_one (BadAdd n kind) c d old other h k = k.0 ∙ sym h.0
 command_one (Remove ts) c d old other h k = k.0 ∙ sym h.0
 command_one (BadRemove n kind) c d old other h k = k.0 ∙ sym h.0
+command_one (Attach ts) c d old other h k = k.0 ∙ sym h.0
+command_one (BadAttach n kind) c d old other h k = k.0 ∙ sym h.0
 command_one (Shapes ts) c d old other h k = graph_one ts c d old other h k
 command_one (BadShapes n kind) c d old other h k = k.0 ∙ sym h.0
 command_one Commit c d old other h k = k.0 ∙ sym h.0

@@ -1,6 +1,6 @@
 -- The triples of each shapes graph of a session file ascend.
-use Rattle.std.proofs.Common.{◌≡◌, ℕ, ◌==◌, List, [], ◌∷◌, Option, Some, None, Result, Ok, Err, refl, subst}
-use Rattle.std.specs.List.{AllByRecursion, slice_split}
+use Rattle.std.proofs.Common.{◌≡◌, ℕ, List, [], ◌∷◌, Option, Some, None, Result, Ok, Err, refl, subst}
+use Rattle.std.specs.List.{AllByRecursion}
 use Rattle.collections.specs.Ordered.{IsAscending}
 use Rattle.rdf_model.specs.declared.triple.Triple.{Triple}
 use Rattle.rdf_model.specs.Terms.{triple_cmp}
@@ -16,7 +16,7 @@ use Rattle.session_reader.specs.declared.line.LineKind.TheVariants.{Skipped, Beg
 use Rattle.session_reader.specs.declared.read_command.ReadCommand.{ReadCommand}
 use Rattle.session_reader.specs.declared.read_command.ReadCommand.TheVariants.{Begin, Commit, Find, Abort}
 use Rattle.session_reader.specs.Checking.{IsOrdered}
-use Rattle.session_reader.specs.SessionFile.{Item, add_of, remove_of, shapes_of, block_command, block_reading, block_text, commands_of, items_after, new_reading, next_after, session_of, with_command, with_item}
+use Rattle.session_reader.specs.SessionFile.{Item, add_of, remove_of, attach_of, shapes_of, block_command, block_reading, block_text, commands_of, file_lines, items_of, new_reading, next_after, session_of, with_command, with_item}
 
 -- what a reading in one of the languages gives
 new_ascends : (syntax : Syntax) (text : List ℕ) (s first next : ℕ) (ts : List Triple) → new_reading syntax text s first ≡ Ok (ts, next) → IsAscending triple_cmp ts
@@ -32,6 +32,10 @@ remove_ordered : (reading : Result (List Triple × ℕ) (ℕ × RefusalKind)) �
 remove_ordered (Ok r) = tt
 remove_ordered (Err e) = tt
 
+attach_ordered : (reading : Result (List Triple × ℕ) (ℕ × RefusalKind)) → IsOrdered (attach_of reading)
+attach_ordered (Ok r) = tt
+attach_ordered (Err e) = tt
+
 shapes_ordered : (reading : Result (List Triple × ℕ) (ℕ × RefusalKind)) → ((ts : List Triple) (next : ℕ) → reading ≡ Ok (ts, next) → IsAscending triple_cmp ts) → IsOrdered (shapes_of reading)
 shapes_ordered (Ok r) ascends = ascends r.0 r.1 refl
 shapes_ordered (Err e) ascends = tt
@@ -39,6 +43,7 @@ shapes_ordered (Err e) ascends = tt
 block_ordered : (k : BlockKind) (text : List ℕ) (s first : ℕ) → IsOrdered (block_command k (block_reading k text s first))
 block_ordered (blocks.Add syntax) text s first = add_ordered (block_reading (blocks.Add syntax) text s first)
 block_ordered blocks.Remove text s first = remove_ordered (block_reading blocks.Remove text s first)
+block_ordered blocks.Attach text s first = attach_ordered (block_reading blocks.Attach text s first)
 block_ordered (blocks.Shapes syntax) text s first = shapes_ordered (new_reading syntax text s first) (λ ts next h. new_ascends syntax text s first next ts h)
 
 -- one command before the others
@@ -67,4 +72,4 @@ items_ordered s first [] all h = let is : [] ≡ all = cc in subst (λ (xs : Lis
 items_ordered s first (i ∷ items) all h = item_ordered s first i.number i.kind i.block (λ next. commands_of s next items) all (λ next cs e. items_ordered s next items cs e) h
 
 pub session_ordered : (s : ℕ) (bytes : List ℕ) (all : List ReadCommand) → session_of s bytes ≡ Ok all → AllByRecursion IsOrdered all
-session_ordered s bytes all h = items_ordered s 1 (items_after 0 1 (slice_split (λ c. c == 10) bytes)) all h
+session_ordered s bytes all h = items_ordered s 1 (items_of (file_lines bytes)) all h

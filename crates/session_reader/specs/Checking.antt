@@ -11,7 +11,7 @@ use Rattle.shape_reader.specs.Parts.{IsRefused}
 use Rattle.session_model.specs.declared.command.Command.{Command}
 use Rattle.session_model.specs.declared.command.Command.TheVariants as commands
 use Rattle.session_reader.specs.declared.read_command.ReadCommand.{ReadCommand}
-use Rattle.session_reader.specs.declared.read_command.ReadCommand.TheVariants.{Begin, Add, BadAdd, Remove, BadRemove, Shapes, BadShapes, Commit, Find, Abort}
+use Rattle.session_reader.specs.declared.read_command.ReadCommand.TheVariants.{Begin, Add, BadAdd, Remove, BadRemove, Attach, BadAttach, Shapes, BadShapes, Commit, Find, Abort}
 
 -- the patterns that were refused are those that had been, and perhaps others after them
 abbrev pub OnlyGrows : List Refusal → List Refusal → Type 0
@@ -45,6 +45,8 @@ IsChecked (Add ts) c old new = IsSame (commands.Add ts) c old new
 IsChecked (BadAdd n kind) c old new = IsSame (commands.BadAdd n kind) c old new
 IsChecked (Remove ts) c old new = IsSame (commands.Remove ts) c old new
 IsChecked (BadRemove n kind) c old new = IsSame (commands.BadRemove n kind) c old new
+IsChecked (Attach ts) c old new = IsSame (commands.Attach ts) c old new
+IsChecked (BadAttach n kind) c old new = IsSame (commands.BadAttach n kind) c old new
 IsChecked (Shapes ts) c old new = IsCheckedGraph ts c old new
 IsChecked (BadShapes n kind) c old new = IsSame (commands.BadShapes n kind) c old new
 IsChecked Commit c old new = IsSame commands.Commit c old new

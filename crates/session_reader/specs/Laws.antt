@@ -1,9 +1,30 @@
 -- Laws of session files.
-use Rattle.std.specs.Prelude.{◌≡◌, ℕ, List}
+use Rattle.std.specs.Prelude.{◌≡◌, Bool, true, false, ℕ, List, ◌∷◌, ◌++◌, Ok, codes}
+use Rattle.std.specs.List.{AllByRecursion}
 use Rattle.outside.specs.Faults.{Refusal}
 use Rattle.session_model.specs.declared.command.Command.{Command}
-use Rattle.session_reader.specs.SessionFile.{IsSession}
+use Rattle.session_reader.specs.declared.line.Language.TheVariants.{One}
+use Rattle.session_reader.specs.declared.read_command.ReadCommand.{ReadCommand}
+use Rattle.session_reader.specs.declared.read_command.ReadCommand.TheVariants.{Attach, BadAttach}
+use Rattle.session_reader.specs.SessionFile.{IsSession, file_lines, language_of, session_of}
 
 -- a file of which no pattern is refused has one list of commands
 abbrev pub FileHasOneSession : Type 0
 FileHasOneSession = (s : ℕ) (bytes : List ℕ) (cs ds : List Command) (old other : List Refusal) → IsSession s bytes cs old old → IsSession s bytes ds other other → ds ≡ cs
+
+-- the file without a header has these commands
+abbrev pub ReadsWithoutHeader : ℕ → List ℕ → List ReadCommand → Type 0
+ReadsWithoutHeader s bytes read = (language_of (file_lines bytes) ≡ One) × (session_of s bytes ≡ Ok read)
+
+-- behind a header it has the same
+abbrev pub HeaderKeepsCommands : Type 0
+HeaderKeepsCommands = (s : ℕ) (bytes : List ℕ) (read : List ReadCommand) → ReadsWithoutHeader s bytes read → session_of s (codes "%session 2" ++ 10 ∷ bytes) ≡ Ok read
+
+abbrev pub is_attachment : ReadCommand → Bool
+is_attachment (Attach ts) = true
+is_attachment (BadAttach n kind) = true
+is_attachment _ = false
+
+-- and none of them is an attachment
+abbrev pub AttachmentsNeedHeader : Type 0
+AttachmentsNeedHeader = (s : ℕ) (bytes : List ℕ) (read : List ReadCommand) → ReadsWithoutHeader s bytes read → AllByRecursion (λ c. is_attachment c ≡ false) read

@@ -7,6 +7,8 @@ use Rattle.rdf_model.specs.declared.triple.Triple.{Triple}
 use Rattle.rdf_model.specs.declared.pattern.Pattern.{Pattern}
 use Rattle.outside.specs.Faults.{Refusal}
 use Rattle.session_model.specs.declared.command.Command.{Command}
+use Rattle.session_reader.specs.declared.line.Language.{Language}
+use Rattle.session_reader.specs.declared.line.Language.TheVariants.{One, Two}
 use Rattle.session_reader.specs.declared.line.Syntax.{Syntax}
 use Rattle.session_reader.specs.declared.line.Syntax.TheVariants.{NTriples, Turtle}
 use Rattle.session_reader.specs.declared.line.BlockKind.{BlockKind}
@@ -14,7 +16,7 @@ use Rattle.session_reader.specs.declared.line.BlockKind.TheVariants as blocks
 use Rattle.session_reader.specs.declared.line.LineKind.{LineKind}
 use Rattle.session_reader.specs.declared.line.LineKind.TheVariants.{Skipped, BeginCommand, CommitCommand, AbortCommand, FindCommand, Block, Other}
 use Rattle.session_reader.specs.declared.read_command.ReadCommand.{ReadCommand}
-use Rattle.session_reader.specs.declared.read_command.ReadCommand.TheVariants.{Begin, Add, BadAdd, Remove, BadRemove, Shapes, BadShapes, Commit, Find, Abort}
+use Rattle.session_reader.specs.declared.read_command.ReadCommand.TheVariants.{Begin, Add, BadAdd, Remove, BadRemove, Attach, BadAttach, Shapes, BadShapes, Commit, Find, Abort}
 use Rattle.rdf_lexical.specs.declared.refusal.RefusalKind.{RefusalKind}
 use Rattle.ntriples_text.specs.Document.{reads, reads_named}
 use Rattle.turtle_reader.specs.Document.{reads as turtle_reads}
@@ -31,17 +33,40 @@ abbrev pub command_text : List ℕ → List (List ℕ) → List ℕ
 command_text line [] = line
 command_text line (next ∷ lines) = without_cr line
 
+-- the lines of a file
+abbrev pub file_lines : List ℕ → List (List ℕ)
+file_lines bytes = slice_split (λ c. c == 10) bytes
+
+-- The language of a file by its first line: 2 where that is the header `%session 2`, else 1.
+abbrev pub language_by : List ℕ → Language
+language_by line = if bytes_eq line (codes "%session 2") then Two else One
+
+-- the language of a file with these lines
+abbrev pub language_of : List (List ℕ) → Language
+language_of [] = One
+language_of (line ∷ lines) = language_by (command_text line lines)
+
+-- how many lines a file of this language has before those of its commands: its header, where it has one
+abbrev pub header_lines : Language → ℕ
+header_lines One = 0
+header_lines Two = 1
+
 -- nothing, or a comment
 abbrev pub is_skipped : List ℕ → Bool
 is_skipped line = length line == 0 || slice_index line 0 == 35
 
--- the kind of block that follows a line, if one does
-abbrev pub block_kind : List ℕ → Option BlockKind
-block_kind line = if bytes_eq line (codes "add ntriples") then Some (blocks.Add NTriples) else
+-- the kind of block that follows a line in each language, if one does
+abbrev pub common_block_kind : List ℕ → Option BlockKind
+common_block_kind line = if bytes_eq line (codes "add ntriples") then Some (blocks.Add NTriples) else
     (if bytes_eq line (codes "add turtle") then Some (blocks.Add Turtle) else
     (if bytes_eq line (codes "remove ntriples") then Some blocks.Remove else
     (if bytes_eq line (codes "shapes ntriples") then Some (blocks.Shapes NTriples) else
     (if bytes_eq line (codes "shapes turtle") then Some (blocks.Shapes Turtle) else None))))
+
+-- the kind of block that follows a line, if one does; language 2 has one more
+abbrev pub block_kind : Language → List ℕ → Option BlockKind
+block_kind One line = common_block_kind line
+block_kind Two line = if bytes_eq line (codes "attach ntriples") then Some blocks.Attach else common_block_kind line
 
 -- a line that isn't a single word: the command of a block, a find, or no command
 abbrev pub find_or_other : Option Pattern → LineKind
@@ -53,11 +78,11 @@ kind_of_words (Some kind) pattern = Block kind
 kind_of_words None pattern = find_or_other pattern
 
 -- what a line between commands is
-abbrev pub kind_of : List ℕ → LineKind
-kind_of line = if is_skipped line then Skipped else
+abbrev pub kind_of : Language → List ℕ → LineKind
+kind_of language line = if is_skipped line then Skipped else
     (if bytes_eq line (codes "begin") then BeginCommand else
     (if bytes_eq line (codes "commit") then CommitCommand else
-    (if bytes_eq line (codes "abort") then AbortCommand else kind_of_words (block_kind line) (find_of line))))
+    (if bytes_eq line (codes "abort") then AbortCommand else kind_of_words (block_kind language line) (find_of line))))
 
 -- the end of a block is `%%`, or that and a CR
 abbrev pub is_block_end : List ℕ → Bool
@@ -82,6 +107,11 @@ abbrev pub remove_of : Result (List Triple × ℕ) (ℕ × RefusalKind) → Read
 remove_of (Ok r) = Remove r.0
 remove_of (Err e) = BadRemove e.0 (number_of e.1)
 
+-- what a reading of an attachment's block makes of it: its triples, or its refusal
+abbrev pub attach_of : Result (List Triple × ℕ) (ℕ × RefusalKind) → ReadCommand
+attach_of (Ok r) = Attach r.0
+attach_of (Err e) = BadAttach e.0 (number_of e.1)
+
 -- what a reading of the block of shapes makes of it: its shapes graph, or its refusal
 abbrev pub shapes_of : Result (List Triple × ℕ) (ℕ × RefusalKind) → ReadCommand
 shapes_of (Ok r) = Shapes r.0
@@ -91,6 +121,7 @@ shapes_of (Err e) = BadShapes e.0 (number_of e.1)
 abbrev pub block_command : BlockKind → Result (List Triple × ℕ) (ℕ × RefusalKind) → ReadCommand
 block_command (blocks.Add syntax) reading = add_of reading
 block_command blocks.Remove reading = remove_of reading
+block_command blocks.Attach reading = attach_of reading
 block_command (blocks.Shapes syntax) reading = shapes_of reading
 
 -- a reading in one of the languages, where each label is a new blank node
@@ -104,10 +135,11 @@ numbering_none first (Ok ts) = Ok (ts, first)
 numbering_none first (Err e) = Err e
 
 -- The reading of a block of this kind, for session s, whose next blank node has the number first. The labels of a removal
--- are those of the store.
+-- and of an attachment are those of the store.
 abbrev pub block_reading : BlockKind → List ℕ → ℕ → ℕ → Result (List Triple × ℕ) (ℕ × RefusalKind)
 block_reading (blocks.Add syntax) text s first = new_reading syntax text s first
 block_reading blocks.Remove text s first = numbering_none first (reads_named text)
+block_reading blocks.Attach text s first = numbering_none first (reads_named text)
 block_reading (blocks.Shapes syntax) text s first = new_reading syntax text s first
 
 -- the next number of a blank node after a reading; a refused text uses none
@@ -137,14 +169,18 @@ abbrev pub lines_of_block : Option (List (List ℕ)) → ℕ
 lines_of_block None = 0
 lines_of_block (Some lines) = suc (length lines)
 
-abbrev pub item_at : ℕ → List ℕ → List (List ℕ) → Item
-item_at n line lines = let kind = kind_of (command_text line lines) in record { number = n; kind = kind; block = block_after kind lines }
+abbrev pub item_at : Language → ℕ → List ℕ → List (List ℕ) → Item
+item_at language n line lines = let kind = kind_of language (command_text line lines) in record { number = n; kind = kind; block = block_after kind lines }
 
 -- The items of the lines from number n on, after so many lines that belong to the item before.
-abbrev pub items_after : ℕ → ℕ → List (List ℕ) → List Item
-items_after skip n [] = []
-items_after (suc skip) n (line ∷ lines) = items_after skip (n + 1) lines
-items_after zero n (line ∷ lines) = item_at n line lines ∷ items_after (lines_of_block (item_at n line lines).block) (n + 1) lines
+abbrev pub items_after : Language → ℕ → ℕ → List (List ℕ) → List Item
+items_after language skip n [] = []
+items_after language (suc skip) n (line ∷ lines) = items_after language skip (n + 1) lines
+items_after language zero n (line ∷ lines) = item_at language n line lines ∷ items_after language (lines_of_block (item_at language n line lines).block) (n + 1) lines
+
+-- The items of the lines of a file. They stand behind its header, which counts as line 1.
+abbrev pub items_of : List (List ℕ) → List Item
+items_of lines = items_after (language_of lines) (header_lines (language_of lines)) 1 lines
 
 -- What an item adds to the commands, where `more` is what the items after it give from the session's next blank node on.
 -- A block that doesn't end is refused at its command.
@@ -166,7 +202,7 @@ commands_of s first (item ∷ items) = with_item s first item.number item.kind i
 
 -- The commands of session s as they are read, whose lines end with LF; or its first line that is no command.
 abbrev pub session_of : ℕ → List ℕ → Result (List ReadCommand) ℕ
-session_of s bytes = commands_of s 1 (items_after 0 1 (slice_split (λ c. c == 10) bytes))
+session_of s bytes = commands_of s 1 (items_of (file_lines bytes))
 
 -- The commands of session s in this file, where the patterns that were refused are old before they are made, and new after.
 abbrev pub IsSession : ℕ → List ℕ → List Command → List Refusal → List Refusal → Type 0

@@ -56,6 +56,8 @@ fn check_command<M: Maker>(
         ReadCommand::BadAdd { line, kind } => Ok(Command::BadAdd { line, kind }),
         ReadCommand::Remove(triples) => Ok(Command::Remove(triples)),
         ReadCommand::BadRemove { line, kind } => Ok(Command::BadRemove { line, kind }),
+        ReadCommand::Attach(triples) => Ok(Command::Attach(triples)),
+        ReadCommand::BadAttach { line, kind } => Ok(Command::BadAttach { line, kind }),
         ReadCommand::Shapes(triples) => check_graph(alloc, maker, triples),
         ReadCommand::BadShapes { line, kind } => Ok(Command::BadShapes { line, kind }),
         ReadCommand::Commit => Ok(Command::Commit),

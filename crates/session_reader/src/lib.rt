@@ -1,7 +1,8 @@
 //! Reads session files.
 //!
 //! `prepare` gives exactly the commands of a file, or exactly the number of its first line that is no
-//! command; `specs/SessionFile.antt` and `specs/FindLine.antt` say which those are. Blocks are read as N-Triples or as Turtle, and those of
+//! command; `specs/SessionFile.antt` and `specs/FindLine.antt` say which those are. A file whose first line is `%session 2` is of the
+//! second language, which can attach triples to stored blank nodes. Blocks are read as N-Triples or as Turtle, and those of
 //! shapes as shapes graphs; one that can't be read, or breaks a rule, is a command of its own, which
 //! tells its refusal.
 #![tactic(auto)]

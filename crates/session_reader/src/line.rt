@@ -7,6 +7,15 @@ use crate::find_line::find_pattern;
 use rdf_model::Pattern;
 use std::alloc::{AllocError, Global};
 
+/// The language of a session file.
+#[derive(Clone, Copy, Debug, PartialEq, Eq)]
+pub enum Language {
+    /// That of a file without a header.
+    One,
+    /// That of a file with the header `%session 2`: it has `attach ntriples` too.
+    Two,
+}
+
 /// The language of a block.
 #[derive(Clone, Copy, Debug, PartialEq, Eq)]
 pub enum Syntax {
@@ -21,6 +30,8 @@ pub enum BlockKind {
     Add(Syntax),
     /// The triples of `remove ntriples`.
     Remove,
+    /// The triples of `attach ntriples`.
+    Attach,
     /// The shapes graph of `shapes ntriples` or `shapes turtle`.
     Shapes(Syntax),
 }
@@ -58,9 +69,32 @@ fn is_empty_or_comment(line: &[u8]) -> bool
     line.is_empty() || line[0] == b'#'
 }
 
-// The kind of block that follows a line, if one does.
-fn block_kind(line: &[u8]) -> Option<BlockKind>
-    ensures { result ≡ SessionFile.block_kind line.now }
+impl Language {
+    /// The language of a file by its first line, without the CR before its LF.
+    pub fn of_first_line(line: &[u8]) -> Language
+        ensures { result ≡ SessionFile.language_by line.now }
+    {
+        if line == b"%session 2".as_slice() {
+            Language::Two
+        } else {
+            Language::One
+        }
+    }
+
+    /// How many lines a file of this language has before those of its commands.
+    pub fn header_lines(self) -> usize
+        ensures { result ≡ SessionFile.header_lines self }
+    {
+        match self {
+            Language::One => 0,
+            Language::Two => 1,
+        }
+    }
+}
+
+// The kind of block that follows a line in each language, if one does.
+fn common_block_kind(line: &[u8]) -> Option<BlockKind>
+    ensures { result ≡ SessionFile.common_block_kind line.now }
 {
     if line == b"add ntriples".as_slice() {
         Some(BlockKind::Add(Syntax::NTriples))
@@ -77,6 +111,22 @@ fn block_kind(line: &[u8]) -> Option<BlockKind>
     }
 }
 
+// The kind of block that follows a line, if one does.
+fn block_kind(language: Language, line: &[u8]) -> Option<BlockKind>
+    ensures { result ≡ SessionFile.block_kind language line.now }
+{
+    match language {
+        Language::One => common_block_kind(line),
+        Language::Two => {
+            if line == b"attach ntriples".as_slice() {
+                Some(BlockKind::Attach)
+            } else {
+                common_block_kind(line)
+            }
+        }
+    }
+}
+
 // A line that no block follows, and that is no single word: a find, or no command.
 fn find_or_other(alloc: Global, line: &[u8]) -> Result<LineKind, AllocError>
     ensures { IfOk result (λ kind. kind ≡ SessionFile.find_or_other (find_of line.now)) }
@@ -88,18 +138,18 @@ fn find_or_other(alloc: Global, line: &[u8]) -> Result<LineKind, AllocError>
 }
 
 // A line with more than one word.
-fn kind_of_words(alloc: Global, line: &[u8]) -> Result<LineKind, AllocError>
-    ensures { IfOk result (λ kind. kind ≡ SessionFile.kind_of_words (SessionFile.block_kind line.now) (find_of line.now)) }
+fn kind_of_words(alloc: Global, language: Language, line: &[u8]) -> Result<LineKind, AllocError>
+    ensures { IfOk result (λ kind. kind ≡ SessionFile.kind_of_words (SessionFile.block_kind language line.now) (find_of line.now)) }
 {
-    match block_kind(line) {
+    match block_kind(language, line) {
         Some(kind) => Ok(LineKind::Block(kind)),
         None => find_or_other(alloc, line),
     }
 }
 
-/// What a line between commands is, without its end.
-pub fn kind_of(alloc: Global, line: &[u8]) -> Result<LineKind, AllocError>
-    ensures { IfOk result (λ kind. kind ≡ SessionFile.kind_of line.now) }
+/// What a line between commands is in a language, without its end.
+pub fn kind_of(alloc: Global, language: Language, line: &[u8]) -> Result<LineKind, AllocError>
+    ensures { IfOk result (λ kind. kind ≡ SessionFile.kind_of language line.now) }
 {
     if is_empty_or_comment(line) {
         Ok(LineKind::Skipped)
@@ -110,7 +160,7 @@ pub fn kind_of(alloc: Global, line: &[u8]) -> Result<LineKind, AllocError>
     } else if line == b"abort".as_slice() {
         Ok(LineKind::AbortCommand)
     } else {
-        kind_of_words(alloc, line)
+        kind_of_words(alloc, language, line)
     }
 }
 

@@ -13,6 +13,10 @@ pub enum ReadCommand {
     Remove(Sequence<Triple>),
     /// A removal whose block can't be read: the line of the block, from 1, and the number of the refusal's kind.
     BadRemove { line: u64, kind: u8 },
+    /// An attachment of these triples.
+    Attach(Sequence<Triple>),
+    /// An attachment whose block can't be read: the line of the block, from 1, and the number of the refusal's kind.
+    BadAttach { line: u64, kind: u8 },
     /// A shapes graph, well-formed or not.
     Shapes(Sequence<Triple>),
     /// Shapes whose block can't be read: the line of the block, from 1, and the number of the refusal's kind.

@@ -4,14 +4,14 @@ ghost use Rattle.rdf_lexical.specs.Refusals.{Refuses};
 ghost use Rattle.session_reader.specs.declared.line.LineKind.TheVariants as kinds;
 ghost use Rattle.session_reader.specs.declared.read_command.ReadCommand.{ReadCommand as CommandData};
 ghost use Rattle.session_reader.specs.SessionFile;
-ghost use Rattle.session_reader.specs.SessionFile.{IsSession, session_of, block_command, block_reading, new_reading, block_text, next_after, block_after, item_at, lines_of_block, with_command, with_item, commands_of, items_after};
+ghost use Rattle.session_reader.specs.SessionFile.{IsSession, session_of, block_command, block_reading, new_reading, block_text, next_after, block_after, header_lines, item_at, lines_of_block, with_command, with_item, commands_of, items_of};
 ghost use Rattle.session_reader.specs.Progress.{with_commands};
 ghost use Rattle.session_reader.specs.Asked.{AsksInVain, AsksOfSession};
 ghost use Rattle.session_reader.specs.Checking.{OnlyGrows};
 ghost use Rattle.session_reader.specs.Faults.{Fails, MakesNone};
 
 use crate::checking::check_commands;
-use crate::line::{BlockKind, LineKind, Syntax, is_block_end, kind_of, trimmed};
+use crate::line::{BlockKind, Language, LineKind, Syntax, is_block_end, kind_of, trimmed};
 use crate::prepare_fault::PrepareFault;
 use crate::read_command::ReadCommand;
 use collections::Sequence;
@@ -47,6 +47,7 @@ fn accepted_block(kind: BlockKind, triples: Sequence<Triple>) -> ReadCommand
     match kind {
         BlockKind::Add(_) => ReadCommand::Add(triples),
         BlockKind::Remove => ReadCommand::Remove(triples),
+        BlockKind::Attach => ReadCommand::Attach(triples),
         BlockKind::Shapes(_) => ReadCommand::Shapes(triples),
     }
 }
@@ -59,6 +60,7 @@ fn refused_block(kind: BlockKind, line: u64, refusal: RefusalKind) -> ReadComman
     match kind {
         BlockKind::Add(_) => ReadCommand::BadAdd { line, kind: number },
         BlockKind::Remove => ReadCommand::BadRemove { line, kind: number },
+        BlockKind::Attach => ReadCommand::BadAttach { line, kind: number },
         BlockKind::Shapes(_) => ReadCommand::BadShapes { line, kind: number },
     }
 }
@@ -85,7 +87,8 @@ fn read_new(
     }
 }
 
-// The triples of a block of this kind. A removal's blank nodes are those of the store; those of the others are new.
+// The triples of a block of this kind. The blank nodes of a removal and of an attachment are those of the store; those of
+// the others are new.
 fn read_triples(
     alloc: Global,
     session: u32,
@@ -102,7 +105,7 @@ fn read_triples(
     ensures room { (next.old ≤ next.new) × (next.new ≤ next.old + length text.now) }
 {
     match block {
-        BlockKind::Remove => ntriples_text::read_named(alloc, text),
+        BlockKind::Remove | BlockKind::Attach => ntriples_text::read_named(alloc, text),
         BlockKind::Add(syntax) | BlockKind::Shapes(syntax) => {
             read_new(alloc, session, next, syntax, text)
         }
@@ -139,6 +142,17 @@ fn command_text<'a>(line: &'a [u8], after: &[&[u8]]) -> &'a [u8]
     match after {
         [] => line,
         [_, ..] => trimmed(line),
+    }
+}
+
+// The language of a file with these lines.
+fn language_of(lines: &[&[u8]]) -> Language
+    ensures language { result ≡ SessionFile.language_of (map (λ l. l.now) lines.now) }
+    ensures header { header_lines result ≤ length lines.now }
+{
+    match lines {
+        [] => Language::One,
+        [first, after @ ..] => Language::of_first_line(command_text(first, after)),
     }
 }
 
@@ -242,6 +256,7 @@ fn read_item(
     alloc: Global,
     session: u32,
     next: &mut u32,
+    language: Language,
     lines: &[&[u8]],
     i: usize,
     commands: &mut Sequence<ReadCommand>,
@@ -250,17 +265,17 @@ fn read_item(
     requires next { 1 ≤ next.old }
     requires within { i < length lines.now }
     requires room { next.old + length (block_text (drop (i + 1) (map (λ l. l.now) lines.now))) < 2 ^ 32 }
-    ensures item { (more : ℕ → Result (List CommandData) ℕ) → let texts = map (λ l. l.now) lines.now in let item = item_at (i + 1) (slice_index_or texts i []) (drop (i + 1) texts) in
+    ensures item { (more : ℕ → Result (List CommandData) ℕ) → let texts = map (λ l. l.now) lines.now in let item = item_at language (i + 1) (slice_index_or texts i []) (drop (i + 1) texts) in
         let before = with_commands commands.old (with_item session next.old (i + 1) item.kind item.block more) in
         MatchResult result (λ taken. (taken ≡ lines_of_block item.block) × (before ≡ with_commands commands.new (more next.new))) (λ fault. Fails fault before) }
     ensures next { IfOk result (λ taken. (next.old ≤ next.new) × (i + 1 + taken ≤ length lines.now) × (next.new + length (block_text (drop (i + 1 + taken) (map (λ l. l.now) lines.now))) ≤ next.old + length (block_text (drop (i + 1) (map (λ l. l.now) lines.now))))) }
 {
     let (_, after) = lines.split_at(i + 1);
-    let kind = kind_of(alloc, command_text(line_at(lines, i), after))?;
+    let kind = kind_of(alloc, language, command_text(line_at(lines, i), after))?;
     read_item_of(alloc, session, next, i as u64 + 1, kind, after, commands)
 }
 
-// The commands of the items of these lines, in their order.
+// The commands of the items of a file with these lines, in their order.
 fn read_items(
     alloc: Global,
     session: u32,
@@ -268,14 +283,15 @@ fn read_items(
 ) -> Result<Sequence<ReadCommand>, PrepareFault>
     requires session { (1 ≤ session) × (session ≤ 64) }
     requires room { length (block_text (map (λ l. l.now) lines.now)) < 2 ^ 32 }
-    ensures { let reading = commands_of session 1 (items_after 0 1 (map (λ l. l.now) lines.now)) in
+    ensures { let reading = commands_of session 1 (items_of (map (λ l. l.now) lines.now)) in
         MatchResult result (λ commands. reading ≡ Ok commands) (λ fault. Fails fault reading) }
 {
+    let language = language_of(lines);
     let mut commands = Sequence::new(alloc);
     let mut next = 1;
-    let mut i = 0;
+    let mut i = language.header_lines();
     while i < lines.len() {
-        let taken = read_item(alloc, session, &mut next, lines, i, &mut commands)?;
+        let taken = read_item(alloc, session, &mut next, language, lines, i, &mut commands)?;
         i += 1 + taken;
     }
     Ok(commands)
@@ -295,7 +311,8 @@ fn read_session(
     read_items(alloc, session, &lines)
 }
 
-/// The commands of the file of a session, 1 to 64. A block that can't be read in its language,
+/// The commands of the file of a session, 1 to 64. A file whose first line is `%session 2` is of language 2, which has
+/// `attach ntriples`; any other is of language 1, which hasn't. A block that can't be read in its language,
 /// N-Triples 1.1 or Turtle 1.1, gives a command that tells its refusal, and so does a shapes graph that isn't well-formed (SHACL section
 /// 3.4.2), by the broken rule that is reported, or that has a pattern which the maker refuses (SHACL section 4.4.3). The
 /// numbers of blank nodes go on from block to block.

@@ -6,9 +6,8 @@ use native.Mathlib.Decide.{ℕ_discrete}
 use Rattle.std.specs.List.{AllByRecursion}
 use Rattle.turn_lock.specs.History.{OthersAdded, has_number, reserved, under}
 use Rattle.turn_lock.specs.Callers.{Caller, met_caller}
-use Rattle.store_model.specs.declared.event.Limits.{Limits}
 use Rattle.store_model.specs.declared.event.Event.{Event}
-use Rattle.store_model.specs.Store.{RecordedStore, Replays, State, empty_store}
+use Rattle.store_model.specs.Store.{RecordedStore, Replays, State}
 use Rattle.session_model.specs.declared.command.Command.{Command}
 use Rattle.session_model.specs.declared.reply.SessionReply.{SessionReply}
 use Rattle.session_model.specs.Sessions.{SessionState, no_session}
@@ -37,46 +36,48 @@ pub sound_opened : (store : SharedStore) (old new : Keeper) (s : Session) → Is
 sound_opened store old new s is o =
     let some : 0 < s.number = omega (arith, o.number) in record {
       keeper = o.keeper;
-      numbered = subst (AllByRecursion (λ e. 0 < e.session)) (sym (openings_add_one store.limits old.pass new.pass s.pass s.number is.keeper.first o.opens).reserved)
+      numbered = subst (AllByRecursion (λ e. 0 < e.session)) (sym (openings_add_one store old.pass new.pass s.pass s.number is.keeper.first o.opens).reserved)
           (all_end (reserved session_of false old.pass.known.front) (open_event s.number) is.numbered some);
     }
 
 -- the new session stands before its first event
-stands_opened : (l : Limits) (old kept : Caller Event Limits) (s : Session) → Opens l old kept s.pass s.number → (p : SessionState) → Follows l s.number empty_store s.pass.known.front p p
-stands_opened l old kept s o p =
+stands_opened : (store : SharedStore) (old kept : Caller Event RecordedStore) (s : Session) → Opens store old kept s.pass s.number → (p : SessionState) → Follows store.limits s.number store.start s.pass.known.front p p
+stands_opened store old kept s o p =
+    let l = store.limits in
+    let start = store.start in
     let t = o.turn in
     let i = s.number in
     let e = open_event i in
     let here = next_number l t.before t.after i t.step in
-    let front : s.pass.known.front ≡ t.seen ++ e ∷ [] = ap (λ c. c.known.front) o.new_is ∙ front_is l old o.mid e t in
-    let none : under session_of i t.seen ≡ [] = fresh l empty_store t.before t.seen i t.replays (omega (arith, here.0)) in
-    subst (λ (x : List Event). Follows l i empty_store x p p) (sym front)
-    (follows_append l i empty_store t.seen (e ∷ []) p p p (follows_others l i empty_store t.seen p none) (λ m r. follows_opening l i m e p refl))
+    let front : s.pass.known.front ≡ t.seen ++ e ∷ [] = ap (λ c. c.known.front) o.new_is ∙ front_is store old o.mid e t in
+    let none : under session_of i t.seen ≡ [] = fresh l start t.before t.seen i t.replays (omega (arith, here.0)) in
+    subst (λ (x : List Event). Follows l i start x p p) (sym front)
+    (follows_append l i start t.seen (e ∷ []) p p p (follows_others l i start t.seen p none) (λ m r. follows_opening l i m e p refl))
 
 pub starting_opened : (store : SharedStore) (files : ℕ) (old kept : Keeper) (s : Session) (n : ℕ) → OpensSession store old kept s → old.opened < files → n ≡ s.number → IsStarting store files (record { session = Some s; number = n; replies = None })
 starting_opened store files old kept s n o lt is =
     let count : s.number ≡ old.opened + 1 = o.number in
     subst (λ (k : ℕ). IsStarting store files (record { session = Some s; number = k; replies = None })) (sym is)
-    (omega (arith, count), omega (arith, count, lt), refl, (refl, o.session, o.none, stands_opened store.limits old.pass kept.pass s o.opens))
+    (omega (arith, count), omega (arith, count, lt), refl, (refl, o.session, o.none, stands_opened store old.pass kept.pass s o.opens))
 
-pub met_none : (files : List (List Command)) (l : Limits) (c : Caller Event Limits) → Met files l (length files) c []
-met_none files l c = record { over = []; count = omega arith; left = tt; replies = refl; each = λ j n e lt. absurd (omega (arith, lt)) }
+pub met_none : (files : List (List Command)) (store : SharedStore) (c : Caller Event RecordedStore) → Met files store (length files) c []
+met_none files store c = record { over = []; count = omega arith; left = tt; replies = refl; each = λ j n e lt. absurd (omega (arith, lt)) }
 
-met_each : (store : SharedStore) (files : List (List Command)) (k : ℕ) (c after : Caller Event Limits) (s : Session) (all : List (List SessionReply)) (replies : List SessionReply) (m : Met files store.limits (k + 1) c all)
+met_each : (store : SharedStore) (files : List (List Command)) (k : ℕ) (c after : Caller Event RecordedStore) (s : Session) (all : List (List SessionReply)) (replies : List SessionReply) (m : Met files store (k + 1) c all)
     → after ≡ met_caller c s.pass → OthersAdded session_of false c.known after.known.front → OthersAdded session_of false s.pass.known after.known.front → (o : IsOver store (k + 1) (get_or files k []) replies s)
     → (j n : ℕ) → n ≡ k + j → j < length (record { current = o.current; commands = []; replies = replies } ∷ m.over)
-    → HasAll store.limits (n + 1) (first_state (get_or files n [])) (get_or (record { current = o.current; commands = []; replies = replies } ∷ m.over) j no_session) after
+    → HasAll store (n + 1) (first_state (get_or files n [])) (get_or (record { current = o.current; commands = []; replies = replies } ∷ m.over) j no_session) after
 met_each store files k c after s all replies m is this that o zero n e lt =
     let q : SessionState = record { current = o.current; commands = []; replies = replies } in
     let here : k ≡ n = omega (arith, e) in
-    subst (λ (x : ℕ). HasAll store.limits (x + 1) (first_state (get_or files x [])) q after) here
-    (now_has store.limits (k + 1) (first_state (get_or files k [])) q c s.pass after is that (record { own = subst (λ (x : ℕ). has_number s.pass.known.numbers x ≡ true) o.number o.session.caller.own; follows = o.played }))
+    subst (λ (x : ℕ). HasAll store (x + 1) (first_state (get_or files x [])) q after) here
+    (now_has store (k + 1) (first_state (get_or files k [])) q c s.pass after is that (record { own = subst (λ (x : ℕ). has_number s.pass.known.numbers x ≡ true) o.number o.session.caller.own; follows = o.played }))
 met_each store files k c after s all replies m is this that o (suc j) n e lt =
-    still_has store.limits (n + 1) (first_state (get_or files n [])) (get_or m.over j no_session) c s.pass after is this (m.each j n (omega (arith, e)) (omega (arith, lt)))
+    still_has store (n + 1) (first_state (get_or files n [])) (get_or m.over j no_session) c s.pass after is this (m.each j n (omega (arith, e)) (omega (arith, lt)))
 
-pub met_next : (store : SharedStore) (files : List (List Command)) (k : ℕ) (c after : Caller Event Limits) (s : Session) (all : List (List SessionReply)) (replies : List SessionReply) → Met files store.limits (k + 1) c all
+pub met_next : (store : SharedStore) (files : List (List Command)) (k : ℕ) (c after : Caller Event RecordedStore) (s : Session) (all : List (List SessionReply)) (replies : List SessionReply) → Met files store (k + 1) c all
     → after ≡ met_caller c s.pass → OthersAdded session_of false c.known after.known.front → OthersAdded session_of false s.pass.known after.known.front → IsOver store (k + 1) (get_or files k []) replies s
-    → Met files store.limits k after (replies ∷ all)
+    → Met files store k after (replies ∷ all)
 met_next store files k c after s all replies m is this that o =
     let q : SessionState = record { current = o.current; commands = []; replies = replies } in record {
       over = q ∷ m.over;
@@ -87,14 +88,14 @@ met_next store files k c after s all replies m is this that o =
     }
 
 -- all were met, and the store was closed, with so many triples
-pub runs : (store : SharedStore) (files : List (List Command)) (k : Keeper) (core : RecordedStore) (all : List (List SessionReply)) (triples : ℕ) → IsSound store k → k.opened ≡ length files → Met files store.limits 0 k.pass all → core.history ≡ k.pass.known.front → core.limits ≡ store.limits
-    → Replays core.limits empty_store core.history core.state → triples ≡ length core.state.graph → HasEnd files store.limits (map (λ e. e.session) core.history) all triples
-runs store files k core all triples sound n m is limits replays size =
+pub runs : (store : SharedStore) (files : List (List Command)) (k : Keeper) (core : RecordedStore) (all : List (List SessionReply)) (triples : ℕ) → IsSound store k → k.opened ≡ length files → Met files store 0 k.pass all → core.history ≡ k.pass.known.front → core.limits ≡ store.limits → core.start ≡ store.start
+    → Replays core.limits core.start core.history core.state → triples ≡ length core.state.graph → HasEnd files store.limits store.start (map (λ e. e.session) core.history) all triples
+runs store files k core all triples sound n m is limits begins replays size =
     let count : length m.over ≡ length files = omega (arith, m.count) in
-    let follow = closes store files k core m.over sound n is limits replays count (λ i lt. m.each i i (omega arith) (omega (arith, lt, count))) m.left in
-    let run = following_runs files store.limits core.history (map (λ s. s.replies) m.over) follow.0 in
+    let follow = closes store files k core m.over sound n is limits begins replays count (λ i lt. m.each i i (omega arith) (omega (arith, lt, count))) m.left in
+    let run = following_runs files store.limits store.start core.history (map (λ s. s.replies) m.over) follow.0 in
     let ends : run.0.last.state ≡ core.state = run.1 ∙ follow.1 in
-    subst (λ (rs : List (List SessionReply)). HasEnd files store.limits (map (λ e. e.session) core.history) rs triples) (sym m.replies)
+    subst (λ (rs : List (List SessionReply)). HasEnd files store.limits store.start (map (λ e. e.session) core.history) rs triples) (sym m.replies)
     (run.0, size ∙ ap (λ (s : State). length s.graph) (sym ends))
 
 -- of a list that lost its last item, or got one
@@ -156,6 +157,6 @@ over_now store i file old new replies h p =
       session = p.session;
       number = same;
       current = p.current;
-      played = subst (λ (k : ℕ). HasPlayed store.limits k new.pass.known.front file (record { current = p.current; commands = []; replies = replies })) same
-          (p.goes (subst (λ (k : ℕ). HasPlayed store.limits k old.pass.known.front file (first_state file)) (sym h.0) (h.3 (first_state file))));
+      played = subst (λ (k : ℕ). HasPlayed store k new.pass.known.front file (record { current = p.current; commands = []; replies = replies })) same
+          (p.goes (subst (λ (k : ℕ). HasPlayed store k old.pass.known.front file (first_state file)) (sym h.0) (h.3 (first_state file))));
     }

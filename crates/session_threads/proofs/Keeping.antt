@@ -9,7 +9,7 @@ use Rattle.store_model.specs.declared.event.Limits.{Limits}
 use Rattle.store_model.specs.declared.event.Event.{Event}
 use Rattle.store_model.specs.declared.event.Action.{Action}
 use Rattle.store_model.specs.declared.event.Reply.{Reply}
-use Rattle.store_model.specs.Store.{State, Replays, empty_store}
+use Rattle.store_model.specs.Store.{State, Replays}
 use Rattle.session_model.specs.declared.command.Command.{Command}
 use Rattle.session_model.specs.declared.reply.SessionReply.{SessionReply}
 use Rattle.session_model.specs.Sessions.{OpenTransaction, SessionState, GoesOn}
@@ -72,16 +72,16 @@ none_under k i rest own q = append_cancel_left (under session_of i k.front) (und
     (sym (under_append session_of i k.front rest) ∙ (q.own i own ∙ sym (append-nil (under session_of i k.front))))
 
 -- a session has played as far when others have added theirs
-pub played_still : (l : Limits) (i : ℕ) (k : Known Event) (h : List Event) (p q : SessionState) → has_number k.numbers i ≡ true → OthersAdded session_of false k h → Follows l i empty_store k.front p q → Follows l i empty_store h p q
-played_still l i k h p q own o f =
+pub played_still : (l : Limits) (start : State) (i : ℕ) (k : Known Event) (h : List Event) (p q : SessionState) → has_number k.numbers i ≡ true → OthersAdded session_of false k h → Follows l i start k.front p q → Follows l i start h p q
+played_still l start i k h p q own o f =
     let none = none_under k i o.begins.0 own (subst (λ (x : List Event). OthersAdded session_of false k x) (sym o.begins.1) o) in
-    subst (λ (x : List Event). Follows l i empty_store x p q) o.begins.1 (follows_append l i empty_store k.front o.begins.0 p q q f (λ m r. follows_others l i m o.begins.0 q none))
+    subst (λ (x : List Event). Follows l i start x p q) o.begins.1 (follows_append l i start k.front o.begins.0 p q q f (λ m r. follows_others l i m o.begins.0 q none))
 
 -- it plays one event more, where all that was seen leads to s
-pub played_on : (l : Limits) (i : ℕ) (h : List Event) (p : SessionState) (w : Option OpenTransaction) (c : Command) (cs : List Command) (rs : List SessionReply) (a : Action) (r : Reply) (q : SessionState) (s : State)
-    → is_opening a ≡ false → GoesOn s w c cs rs (unaided a) r q → Replays l empty_store h s → Follows l i empty_store h p (record { current = w; commands = c ∷ cs; replies = rs }) → Follows l i empty_store (h ++ record { session = i; action = a; reply = r } ∷ []) p q
-played_on l i h p w c cs rs a r q s e on replays f =
+pub played_on : (l : Limits) (start : State) (i : ℕ) (h : List Event) (p : SessionState) (w : Option OpenTransaction) (c : Command) (cs : List Command) (rs : List SessionReply) (a : Action) (r : Reply) (q : SessionState) (s : State)
+    → is_opening a ≡ false → GoesOn s w c cs rs (unaided a) r q → Replays l start h s → Follows l i start h p (record { current = w; commands = c ∷ cs; replies = rs }) → Follows l i start (h ++ record { session = i; action = a; reply = r } ∷ []) p q
+played_on l start i h p w c cs rs a r q s e on replays f =
     let event : Event = record { session = i; action = a; reply = r } in
     let before : SessionState = record { current = w; commands = c ∷ cs; replies = rs } in
-    follows_append l i empty_store h (event ∷ []) p before q f
-    (λ m g. subst (λ (x : State). Follows l i x (event ∷ []) before q) (sym (replays_one l empty_store s m h replays g)) (follows_own l i s w c cs rs a r q e on))
+    follows_append l i start h (event ∷ []) p before q f
+    (λ m g. subst (λ (x : State). Follows l i x (event ∷ []) before q) (sym (replays_one l start s m h replays g)) (follows_own l i s w c cs rs a r q e on))

@@ -5,7 +5,8 @@ use Rattle.turn_lock.specs.Callers.{Caller}
 use Rattle.rdf_model.specs.declared.triple.Triple.{Triple}
 use Rattle.rdf_model.specs.declared.change.Change.{Change}
 use Rattle.rdf_model.specs.declared.pattern.Pattern.{Pattern}
-use Rattle.store_model.specs.declared.event.Limits.{Limits}
+use Rattle.store_model.specs.declared.event.NameKind.{NameKind}
+use Rattle.store_model.specs.declared.event.NameKind.TheVariants as kinds
 use Rattle.store_model.specs.declared.event.Event.{Event}
 use Rattle.store_model.specs.declared.event.Action.{Action}
 use Rattle.store_model.specs.declared.event.Action.TheVariants as actions
@@ -13,13 +14,13 @@ use Rattle.store_model.specs.declared.event.Reply.{Reply}
 use Rattle.store_model.specs.declared.event.Reply.TheVariants as replies
 use Rattle.store_model.specs.declared.commit.Transaction.{Transaction}
 use Rattle.store_model.specs.Snapshots.{snapshot_of}
-use Rattle.store_model.specs.Store.{version, HasChange}
+use Rattle.store_model.specs.Store.{RecordedStore, version, HasChange}
 use Rattle.session_model.specs.declared.command.Command.{Command}
-use Rattle.session_model.specs.declared.command.Command.TheVariants.{Begin, Commit, Find, Abort}
+use Rattle.session_model.specs.declared.command.Command.TheVariants.{Attach, Begin, Commit, Find, Abort}
 use Rattle.session_model.specs.declared.reply.SessionReply.{SessionReply}
 use Rattle.session_model.specs.declared.reply.SessionReply.TheVariants as said
 use Rattle.session_model.specs.Sessions as Sessions
-use Rattle.session_model.specs.Sessions.{SessionState, local_answer, answers, action_of, after_reply, GoesOn, up_to_event, begun, parts_of, found_by}
+use Rattle.session_model.specs.Sessions.{SessionState, local_answer, answers, action_of, after_reply, GoesOn, up_to_event, additions, begun, parts_of, found_by}
 use Rattle.session_model.proofs.Walking.{up_to_event-local, up_to_event-event}
 use Rattle.report_writer.specs.Report.{report_text}
 use Rattle.session_player.proofs.Playing.{local-none, local-change}
@@ -27,7 +28,8 @@ use Rattle.thread_model.specs.Following.{is_opening, first_state, unaided}
 use Rattle.guard_store.specs.declared.faults.BeginFault.{BeginFault}
 use Rattle.guard_store.specs.declared.faults.BeginFault.TheVariants as begins
 use Rattle.guard_store.specs.declared.faults.StageFault.{StageFault}
-use Rattle.guard_store.specs.declared.faults.StageFault.TheVariants as stages
+use Rattle.guard_store.specs.declared.faults.AttachFault.{AttachFault}
+use Rattle.guard_store.specs.declared.faults.AttachFault.TheVariants as attaches
 use Rattle.guard_store.specs.declared.faults.FindFault.{FindFault}
 use Rattle.guard_store.specs.declared.faults.FindFault.TheVariants as finds
 use Rattle.guard_store.specs.declared.faults.HeadFault.{HeadFault}
@@ -36,20 +38,22 @@ use Rattle.guard_store.specs.declared.faults.CommitFault.TheVariants as commits
 use Rattle.session_transaction.specs.declared.committing.Committed.{Committed}
 use Rattle.session_transaction.specs.declared.committing.Committed.TheVariants.{ReadOnly, Done, Conflict, FullTriples, Refused}
 use Rattle.session_transaction.specs.declared.transaction.OpenTransaction.{OpenTransaction}
+use Rattle.session_transaction.specs.declared.transaction.ChangeKind.TheVariants.{Attachment}
 use Rattle.guard_store.specs.declared.session.Session.{Session}
 use Rattle.guard_store.specs.Fronts.{SharedStore, Turn}
 use Rattle.guard_store.specs.Callers.{IsCaller, IsSession, FitsIn, HasWork, OnlyReads}
-use Rattle.session_transaction.specs.Transactions.{FitsState, plain, plain_in, begun_at, with_find}
+use Rattle.session_transaction.specs.Transactions.{FitsState, plain, plain_in, begun_at, with_changes, with_find}
 use Rattle.session_transaction.specs.Checks.{committing}
 use Rattle.session_transaction.proofs.Checking.{check_same}
 use Rattle.guard_store.specs.declared.faults.CheckFault.{CheckFault}
-use Rattle.guard_store.specs.Answers.{ChecksHead, ChecksNot, Begins, BeginsNot, Stages, StagesNot, Heads, HeadsNot, Commits, CommitsNot, AnswersCommit, FindsNot, IsOpen, event_of}
+use Rattle.guard_store.specs.Answers.{Attaches, AttachesNot, ChecksHead, ChecksNot, Begins, BeginsNot, NamesForNot, Stages, StagesNot, Heads, HeadsNot, Commits, CommitsNot, AnswersCommit, FindsNot, IsOpen, attach_fault, event_of}
 use Rattle.guard_store.proofs.Turning.{front_is}
 use Rattle.guard_store.proofs.Fitting.{fits_before, found_session, open_fits, session_ended}
 use Rattle.session_transaction.specs.Replies.{IsCommitReply, IsListed, IsRefused, answer_in}
-use Rattle.session_transaction.proofs.Blocks.{IsBlock}
+use Rattle.session_transaction.proofs.Blocks.{IsBlock, block_change}
+use Rattle.session_transaction.proofs.Fitting.{unknown_attaches}
 use Rattle.session_transaction.proofs.Refusing.{refused_by}
-use Rattle.session_threads.specs.Replies.{IsBeginReply, IsStageReply, IsFindRefusal, IsAbortReply}
+use Rattle.session_threads.specs.Replies.{IsAttachReply, IsBeginReply, IsBlockRefusal, IsStageReply, IsFindRefusal, IsAbortReply}
 use Rattle.session_threads.specs.Playing.{HasPlayed, Plays, PlaysAll}
 use Rattle.session_threads.proofs.Keeping.{played_still, played_on}
 
@@ -60,41 +64,39 @@ plays_local store old new w v c rs more t is n p ow nv e em = record {
   session = is;
   number = n;
   goes = λ file cs h.
-      let one : HasPlayed store.limits old.number old.pass.known.front file (up_to_event w (c ∷ cs) rs) = subst (λ (x : Option Sessions.OpenTransaction). HasPlayed store.limits old.number old.pass.known.front file (up_to_event x (c ∷ cs) rs)) ow h in
-      let two : HasPlayed store.limits old.number old.pass.known.front file (up_to_event v cs (rs ++ t ∷ [])) = subst (HasPlayed store.limits old.number old.pass.known.front file) (up_to_event-local w v c cs rs t e) one in
-      let three : HasPlayed store.limits old.number old.pass.known.front file (up_to_event (plain_in new.current) cs more) =
-      subst (λ (x : Option Sessions.OpenTransaction). HasPlayed store.limits old.number old.pass.known.front file (up_to_event x cs more)) (sym nv) (subst (λ (ts : List SessionReply). HasPlayed store.limits old.number old.pass.known.front file (up_to_event v cs ts)) (sym em) two) in
-      subst (λ (i : ℕ). HasPlayed store.limits i new.pass.known.front file (up_to_event (plain_in new.current) cs more)) (sym n)
-      (subst (λ (x : Caller Event Limits). HasPlayed store.limits old.number x.known.front file (up_to_event (plain_in new.current) cs more)) (sym p) three);
+      let one : HasPlayed store old.number old.pass.known.front file (up_to_event w (c ∷ cs) rs) = subst (λ (x : Option Sessions.OpenTransaction). HasPlayed store old.number old.pass.known.front file (up_to_event x (c ∷ cs) rs)) ow h in
+      let two : HasPlayed store old.number old.pass.known.front file (up_to_event v cs (rs ++ t ∷ [])) = subst (HasPlayed store old.number old.pass.known.front file) (up_to_event-local w v c cs rs t e) one in
+      let three : HasPlayed store old.number old.pass.known.front file (up_to_event (plain_in new.current) cs more) =
+      subst (λ (x : Option Sessions.OpenTransaction). HasPlayed store old.number old.pass.known.front file (up_to_event x cs more)) (sym nv) (subst (λ (ts : List SessionReply). HasPlayed store old.number old.pass.known.front file (up_to_event v cs ts)) (sym em) two) in
+      subst (λ (i : ℕ). HasPlayed store i new.pass.known.front file (up_to_event (plain_in new.current) cs more)) (sym n)
+      (subst (λ (x : Caller Event RecordedStore). HasPlayed store old.number x.known.front file (up_to_event (plain_in new.current) cs more)) (sym p) three);
 }
 
 -- a turn of the session's own, with the event of the next command
-played_turn : (store : SharedStore) (i : ℕ) (old new : Caller Event Limits) (file : List Command) (w : Option Sessions.OpenTransaction) (c : Command) (cs : List Command) (rs : List SessionReply) (a : Action) (r : Reply) (q : SessionState)
-    → is_opening a ≡ false → IsCaller store i old → (t : Turn store.limits old new (event_of i a r)) → GoesOn t.before w c cs rs (unaided a) r q
-    → HasPlayed store.limits i old.known.front file (record { current = w; commands = c ∷ cs; replies = rs }) → HasPlayed store.limits i new.known.front file q
+played_turn : (store : SharedStore) (i : ℕ) (old new : Caller Event RecordedStore) (file : List Command) (w : Option Sessions.OpenTransaction) (c : Command) (cs : List Command) (rs : List SessionReply) (a : Action) (r : Reply) (q : SessionState)
+    → is_opening a ≡ false → IsCaller store i old → (t : Turn store old new (event_of i a r)) → GoesOn t.before w c cs rs (unaided a) r q
+    → HasPlayed store i old.known.front file (record { current = w; commands = c ∷ cs; replies = rs }) → HasPlayed store i new.known.front file q
 played_turn store i old new file w c cs rs a r q e is t on p =
-    let l = store.limits in
     let event : Event = event_of i a r in
-    subst (λ (x : List Event). HasPlayed l i x file q) (sym (front_is l old new event t))
-    (played_on l i t.seen (first_state file) w c cs rs a r q t.before e on t.replays (played_still l i old.known t.seen (first_state file) (record { current = w; commands = c ∷ cs; replies = rs }) is.own t.others p))
+    subst (λ (x : List Event). HasPlayed store i x file q) (sym (front_is store old new event t))
+    (played_on store.limits store.start i t.seen (first_state file) w c cs rs a r q t.before e on t.replays (played_still store.limits store.start i old.known t.seen (first_state file) (record { current = w; commands = c ∷ cs; replies = rs }) is.own t.others p))
 
 -- a command that is an event; w is the transaction before it, v the one after it
 plays_event : (store : SharedStore) (old new : Session) (w v : Option Sessions.OpenTransaction) (c : Command) (a : Action) (r : Reply) (rs more : List SessionReply) (x : SessionReply) → IsSession store old → IsSession store new → new.number ≡ old.number
-    → plain_in old.current ≡ w → plain_in new.current ≡ v → local_answer w c ≡ None → action_of w c ≡ Some (unaided a) → is_opening a ≡ false → (t : Turn store.limits old.pass new.pass (event_of old.number a r))
+    → plain_in old.current ≡ w → plain_in new.current ≡ v → local_answer w c ≡ None → action_of w c ≡ Some (unaided a) → is_opening a ≡ false → (t : Turn store old.pass new.pass (event_of old.number a r))
     → ((cs : List Command) → after_reply t.before w c cs rs r ≡ Some (up_to_event v cs (rs ++ x ∷ []))) → more ≡ rs ++ x ∷ [] → Plays store old new c rs more
 plays_event store old new w v c a r rs more x was is n ow nv e action o t by em = record {
   session = is;
   number = n;
   goes = λ file cs h.
-      let l = store.limits in
       let i = old.number in
-      let one : HasPlayed l i old.pass.known.front file (up_to_event w (c ∷ cs) rs) = subst (λ (y : Option Sessions.OpenTransaction). HasPlayed l i old.pass.known.front file (up_to_event y (c ∷ cs) rs)) ow h in
-      let two : HasPlayed l i old.pass.known.front file (record { current = w; commands = c ∷ cs; replies = rs }) = subst (HasPlayed l i old.pass.known.front file) (up_to_event-event w c cs rs e) one in
-      let three : HasPlayed l i new.pass.known.front file (up_to_event v cs (rs ++ x ∷ [])) =
+      let one : HasPlayed store i old.pass.known.front file (up_to_event w (c ∷ cs) rs) = subst (λ (y : Option Sessions.OpenTransaction). HasPlayed store i old.pass.known.front file (up_to_event y (c ∷ cs) rs)) ow h in
+      let two : HasPlayed store i old.pass.known.front file (record { current = w; commands = c ∷ cs; replies = rs }) = subst (HasPlayed store i old.pass.known.front file) (up_to_event-event w c cs rs e) one in
+      let three : HasPlayed store i new.pass.known.front file (up_to_event v cs (rs ++ x ∷ [])) =
       played_turn store i old.pass new.pass file w c cs rs a r (up_to_event v cs (rs ++ x ∷ [])) o was.caller t (record { event = action; next = by cs }) two in
-      let four : HasPlayed l i new.pass.known.front file (up_to_event (plain_in new.current) cs more) =
-      subst (λ (y : Option Sessions.OpenTransaction). HasPlayed l i new.pass.known.front file (up_to_event y cs more)) (sym nv) (subst (λ (ts : List SessionReply). HasPlayed l i new.pass.known.front file (up_to_event v cs ts)) (sym em) three) in
-      subst (λ (k : ℕ). HasPlayed l k new.pass.known.front file (up_to_event (plain_in new.current) cs more)) (sym n) four;
+      let four : HasPlayed store i new.pass.known.front file (up_to_event (plain_in new.current) cs more) =
+      subst (λ (y : Option Sessions.OpenTransaction). HasPlayed store i new.pass.known.front file (up_to_event y cs more)) (sym nv) (subst (λ (ts : List SessionReply). HasPlayed store i new.pass.known.front file (up_to_event v cs ts)) (sym em) three) in
+      subst (λ (k : ℕ). HasPlayed store k new.pass.known.front file (up_to_event (plain_in new.current) cs more)) (sym n) four;
 }
 
 plain_none : (s : Session) → s.current ≡ None → plain_in s.current ≡ None
@@ -104,7 +106,7 @@ plain_open : (s : Session) (w : OpenTransaction) → s.current ≡ Some w → pl
 plain_open s w e = ap plain_in e
 
 pub plays_begin : (store : SharedStore) (old new : Session) (a : Result ℕ BeginFault) (r : SessionReply) (rs more : List SessionReply) → IsSession store old → IsSession store new
-    → MatchResult a (λ v. Begins store.limits old new v) (λ f. BeginsNot f store.limits old new) → IsBeginReply a r → more ≡ rs ++ r ∷ [] → Plays store old new Begin rs more
+    → MatchResult a (λ v. Begins store old new v) (λ f. BeginsNot f store old new) → IsBeginReply a r → more ≡ rs ++ r ∷ [] → Plays store old new Begin rs more
 plays_begin store old new (Ok v) r rs more was is b told em =
     let t = b.1.0 in
     let h = b.1.1 in
@@ -116,20 +118,48 @@ plays_begin store old new (Err begins.AlreadyOpen) r rs more was is b told em =
     (em ∙ ap (λ x. rs ++ x ∷ []) told)
 plays_begin store old new (Err begins.Memory) r rs more was is b told em = absurd told
 
-pub plays_stage : {U : Type 0} (store : SharedStore) (old new : Session) (c : Command) (ts : List Triple) (staged : OpenTransaction → OpenTransaction) (done : SessionReply) → IsBlock c ts staged done
-    → (a : Result U StageFault) (r : SessionReply) (rs more : List SessionReply) → IsSession store old → IsSession store new
-    → MatchResult a (λ _. Stages store.limits old new ts staged) (λ f. StagesNot f store.limits old new ts) → IsStageReply a done r → more ≡ rs ++ r ∷ [] → Plays store old new c rs more
-plays_stage {U} store old new c ts staged done k (Ok u) r rs more was is b told em =
+not_attached : (store : SharedStore) (old new : Session) (ts : List Triple) (f : AttachFault) → AttachesNot f store old new ts → NamesForNot f store old new kinds.Attach ts
+not_attached store old new ts attaches.NoTransaction b = b
+not_attached store old new ts (attaches.Unknown node) b = (b.0, b.1.0, b.2)
+not_attached store old new ts (attaches.Full n) b = (b.0, b.1.0, b.2)
+not_attached store old new ts attaches.Memory b = b
+
+-- a block that was staged, and one that wasn't
+plays_staged : (store : SharedStore) (old new : Session) (c : Command) (kind : NameKind) (ts : List Triple) (staged : OpenTransaction → OpenTransaction) (done : SessionReply) → IsBlock c kind ts staged done
+    → (rs more : List SessionReply) → IsSession store old → IsSession store new → Stages store old new kind ts staged → more ≡ rs ++ done ∷ [] → Plays store old new c rs more
+plays_staged store old new c kind ts staged done k rs more was is b em =
     let w = b.0 in
-    plays_event store old new (Some (plain w)) (Some (plain (staged w))) c (actions.Name (parts_of ts)) replies.Named rs more done was is (ap (λ s. s.number) b.3) (plain_open old w b.1) (plain_open new (staged w) (ap (λ s. s.current) b.3)) (k.event (plain w)) (k.action (plain w)) refl
-    b.2 (λ cs. k.named b.2.before w cs rs) (em ∙ ap (λ x. rs ++ x ∷ []) told)
-plays_stage {U} store old new c ts staged done k (Err stages.NoTransaction) r rs more was is b told em =
+    plays_event store old new (Some (plain w)) (Some (plain (staged w))) c (actions.Name kind (parts_of ts)) replies.Named rs more done was is (ap (λ s. s.number) b.3) (plain_open old w b.1) (plain_open new (staged w) (ap (λ s. s.current) b.3)) (k.event (plain w)) (k.action (plain w)) refl
+    b.2 (λ cs. k.named b.2.before w cs rs) em
+
+plays_not_staged : (store : SharedStore) (old new : Session) (c : Command) (kind : NameKind) (ts : List Triple) (staged : OpenTransaction → OpenTransaction) (done : SessionReply) → IsBlock c kind ts staged done
+    → (f : AttachFault) (r : SessionReply) (rs more : List SessionReply) → IsSession store old → IsSession store new → NamesForNot f store old new kind ts → IsBlockRefusal f r → more ≡ rs ++ r ∷ [] → Plays store old new c rs more
+plays_not_staged store old new c kind ts staged done k attaches.NoTransaction r rs more was is b told em =
     plays_local store old new None None c rs more said.NoTransaction is (ap (λ s. s.number) b.1) (ap (λ s. s.pass) b.1) (plain_none old b.0) (plain_none new (ap (λ s. s.current) b.1 ∙ b.0)) k.free (em ∙ ap (λ x. rs ++ x ∷ []) told)
-plays_stage {U} store old new c ts staged done k (Err (stages.Full n)) r rs more was is b told em =
+plays_not_staged store old new c kind ts staged done k (attaches.Unknown node) r rs more was is b told em =
     let w = b.0.0 in
-    plays_event store old new (Some (plain w)) (Some (plain w)) c (actions.Name (parts_of ts)) (replies.Full n) rs more said.FullTerms was is (ap (λ s. s.number) b.2) (plain_open old w b.0.1) (plain_open new w (ap (λ s. s.current) b.2 ∙ b.0.1)) (k.event (plain w)) (k.action (plain w)) refl
+    let t = b.1 in
+    let attach : kind ≡ kinds.Attach = unknown_attaches store.limits t.before t.after old.number kind (parts_of ts) node t.step in
+    plays_event store old new (Some (plain w)) (Some (plain w)) c (actions.Name kind (parts_of ts)) (replies.Unknown node) rs more (said.UnknownNode node) was is (ap (λ s. s.number) b.2) (plain_open old w b.0.1) (plain_open new w (ap (λ s. s.current) b.2 ∙ b.0.1)) (k.event (plain w)) (k.action (plain w)) refl
+    t (λ cs. k.unknown t.before w node cs rs attach) (em ∙ ap (λ x. rs ++ x ∷ []) told)
+plays_not_staged store old new c kind ts staged done k (attaches.Full n) r rs more was is b told em =
+    let w = b.0.0 in
+    plays_event store old new (Some (plain w)) (Some (plain w)) c (actions.Name kind (parts_of ts)) (replies.Full n) rs more said.FullTerms was is (ap (λ s. s.number) b.2) (plain_open old w b.0.1) (plain_open new w (ap (λ s. s.current) b.2 ∙ b.0.1)) (k.event (plain w)) (k.action (plain w)) refl
     b.1 (λ cs. k.full b.1.before w n cs rs) (em ∙ ap (λ x. rs ++ x ∷ []) told)
-plays_stage {U} store old new c ts staged done k (Err stages.Memory) r rs more was is b told em = absurd told
+plays_not_staged store old new c kind ts staged done k attaches.Memory r rs more was is b told em = absurd told
+
+pub plays_stage : {U : Type 0} (store : SharedStore) (old new : Session) (c : Command) (kind : NameKind) (ts : List Triple) (staged : OpenTransaction → OpenTransaction) (done : SessionReply) → IsBlock c kind ts staged done
+    → (a : Result U StageFault) (r : SessionReply) (rs more : List SessionReply) → IsSession store old → IsSession store new
+    → MatchResult a (λ _. Stages store old new kind ts staged) (λ f. StagesNot f store old new kind ts) → IsStageReply a done r → more ≡ rs ++ r ∷ [] → Plays store old new c rs more
+plays_stage {U} store old new c kind ts staged done k (Ok u) r rs more was is b told em = plays_staged store old new c kind ts staged done k rs more was is b (em ∙ ap (λ x. rs ++ x ∷ []) told)
+plays_stage {U} store old new c kind ts staged done k (Err f) r rs more was is b told em = plays_not_staged store old new c kind ts staged done k (attach_fault f) r rs more was is b told em
+
+pub plays_attach : {U : Type 0} (store : SharedStore) (old new : Session) (ts : List Triple) (a : Result U AttachFault) (r : SessionReply) (rs more : List SessionReply) → IsSession store old → IsSession store new
+    → MatchResult a (λ _. Attaches store old new ts) (λ f. AttachesNot f store old new ts) → IsAttachReply a (said.Attached (length ts)) r → more ≡ rs ++ r ∷ [] → Plays store old new (Attach ts) rs more
+plays_attach {U} store old new ts (Ok u) r rs more was is b told em =
+    plays_staged store old new (Attach ts) kinds.Attach ts (λ w. with_changes w (additions ts)) (said.Attached (length ts)) (block_change Attachment ts) rs more was is (b.0, b.1, b.2.0, b.3) (em ∙ ap (λ x. rs ++ x ∷ []) told)
+plays_attach {U} store old new ts (Err f) r rs more was is b told em =
+    plays_not_staged store old new (Attach ts) kinds.Attach ts (λ w. with_changes w (additions ts)) (said.Attached (length ts)) (block_change Attachment ts) f r rs more was is (not_attached store old new ts f b) told em
 
 -- a command whose block is refused
 pub plays_refused : (store : SharedStore) (s : Session) (c : Command) (r : SessionReply) (rs more : List SessionReply) → IsSession store s → IsRefused c r → more ≡ rs ++ answer_in (plain_in s.current) r ∷ [] → Plays store s s c rs more
@@ -165,7 +195,7 @@ no_work : (s : Session) (w : OpenTransaction) → IsOpen s w → OnlyReads s.cur
 no_work s w o reads h = no_change w (subst OnlyReads o reads) h
 
 pub plays_reading : (store : SharedStore) (old new : Session) (a : Result Committed CommitFault) (r : SessionReply) (rs more : List SessionReply) → IsSession store old → IsSession store new → OnlyReads old.current
-    → MatchResult a (Commits store.limits old new) (λ f. CommitsNot f store.limits old new) → MatchResult a (λ c. IsCommitReply c r) (λ f. (f ≡ commits.NoTransaction) × (r ≡ said.NoTransaction)) → more ≡ rs ++ r ∷ []
+    → MatchResult a (Commits store old new) (λ f. CommitsNot f store old new) → MatchResult a (λ c. IsCommitReply c r) (λ f. (f ≡ commits.NoTransaction) × (r ≡ said.NoTransaction)) → more ≡ rs ++ r ∷ []
     → Plays store old new Commit rs more
 plays_reading store old new (Ok (ReadOnly v)) r rs more was is reads b told em =
     let w = b.0 in
@@ -183,69 +213,67 @@ plays_reading store old new (Err commits.Memory) r rs more was is reads b told e
 
 -- the turn of a commit
 committed_turn : (store : SharedStore) (i : ℕ) (mid new : Session) (file : List Command) (w : OpenTransaction) (cs : List Command) (rs : List SessionReply) (r : Reply) (x : SessionReply) → IsCaller store i mid.pass
-    → (t : Turn store.limits mid.pass new.pass (event_of mid.number (actions.Commit (committing w)) r)) → w.transaction.verdict ≡ None → mid.number ≡ i
+    → (t : Turn store mid.pass new.pass (event_of mid.number (actions.Commit (committing w)) r)) → w.transaction.verdict ≡ None → mid.number ≡ i
     → ((cs : List Command) → after_reply t.before (Some (record { transaction = w.transaction; graph = w.snap.graph; head_taken = true })) Commit cs rs r ≡ Some (up_to_event None cs (rs ++ x ∷ [])))
-    → HasPlayed store.limits i mid.pass.known.front file (record { current = Some (record { transaction = w.transaction; graph = w.snap.graph; head_taken = true }); commands = Commit ∷ cs; replies = rs })
-    → HasPlayed store.limits i new.pass.known.front file (up_to_event None cs (rs ++ x ∷ []))
+    → HasPlayed store i mid.pass.known.front file (record { current = Some (record { transaction = w.transaction; graph = w.snap.graph; head_taken = true }); commands = Commit ∷ cs; replies = rs })
+    → HasPlayed store i new.pass.known.front file (up_to_event None cs (rs ++ x ∷ []))
 committed_turn store i mid new file w cs rs r x caller t bare same by p =
     let z : Transaction = committing w in
     let own : record z { verdict = None } ≡ w.transaction = λ j. record w.transaction { verdict = sym bare j } in
     let u : Sessions.OpenTransaction = record { transaction = w.transaction; graph = w.snap.graph; head_taken = true } in
-    let l = store.limits in
     let event : Event = event_of i (actions.Commit z) r in
-    let seen : new.pass.known.front ≡ t.seen ++ event ∷ [] = front_is l mid.pass new.pass (event_of mid.number (actions.Commit z) r) t ∙ ap (λ (k : ℕ). t.seen ++ event_of k (actions.Commit z) r ∷ []) same in
+    let seen : new.pass.known.front ≡ t.seen ++ event ∷ [] = front_is store mid.pass new.pass (event_of mid.number (actions.Commit z) r) t ∙ ap (λ (k : ℕ). t.seen ++ event_of k (actions.Commit z) r ∷ []) same in
     let start : SessionState = record { current = Some u; commands = Commit ∷ cs; replies = rs } in
     let last : SessionState = up_to_event None cs (rs ++ x ∷ []) in
-    subst (λ (y : List Event). HasPlayed l i y file last) (sym seen)
-    (played_on l i t.seen (first_state file) (Some u) Commit cs rs (actions.Commit z) r last t.before refl (record { event = ap (λ (y : Transaction). Some (actions.Commit y)) (sym own); next = by cs }) t.replays
-    (played_still l i mid.pass.known t.seen (first_state file) start caller.own t.others p))
+    subst (λ (y : List Event). HasPlayed store i y file last) (sym seen)
+    (played_on store.limits store.start i t.seen (first_state file) (Some u) Commit cs rs (actions.Commit z) r last t.before refl (record { event = ap (λ (y : Transaction). Some (actions.Commit y)) (sym own); next = by cs }) t.replays
+    (played_still store.limits store.start i mid.pass.known t.seen (first_state file) start caller.own t.others p))
 
 -- What a session is after its head and its check: its turn was the head's, and but for what the check keeps, its transaction is
 -- the one before.
-pub record Readies (l : Limits) (old mid : Session) (v : ℕ) : Type 0 where
+pub record Readies (store : SharedStore) (old mid : Session) (v : ℕ) : Type 0 where
   pub number : mid.number ≡ old.number
-  pub turn : Turn l old.pass mid.pass (event_of old.number actions.Head (replies.Version v))
+  pub turn : Turn store old.pass mid.pass (event_of old.number actions.Head (replies.Version v))
   pub current : plain_in mid.current ≡ plain_in old.current
 
 -- a commit that is one, after its head
 plays_committed : (store : SharedStore) (old mid new : Session) (w : OpenTransaction) (v : ℕ) (r : Reply) (x : SessionReply) (rs more : List SessionReply) → IsSession store old → IsSession store mid → IsSession store new → IsOpen mid w
-    → HasChange w.transaction.net w.transaction.staged → Readies store.limits old mid v → (t : Turn store.limits mid.pass new.pass (event_of mid.number (actions.Commit (committing w)) r))
+    → HasChange w.transaction.net w.transaction.staged → Readies store old mid v → (t : Turn store mid.pass new.pass (event_of mid.number (actions.Commit (committing w)) r))
     → ((cs : List Command) → after_reply t.before (Some (record { transaction = w.transaction; graph = w.snap.graph; head_taken = true })) Commit cs rs r ≡ Some (up_to_event None cs (rs ++ x ∷ []))) → new.number ≡ mid.number → new.current ≡ None → more ≡ rs ++ x ∷ []
     → Plays store old new Commit rs more
 plays_committed store old mid new w v r x rs more was mid_is is o change h t by n none em =
-    let l = store.limits in
     let i = old.number in
     let same : mid.number ≡ old.number = h.number in
     let begun_with : plain_in old.current ≡ Some (plain w) = sym h.current ∙ plain_open mid w o in
     let e : Event = event_of mid.number (actions.Commit (committing w)) r in
-    let bare : w.transaction.verdict ≡ None = let f : FitsState w.transaction t.before = fits_before l mid.pass new.pass e (Some w) t (open_fits store mid w mid_is o) in f.verdict in
+    let bare : w.transaction.verdict ≡ None = let f : FitsState w.transaction t.before = fits_before store mid.pass new.pass e (Some w) t (open_fits store mid w mid_is o) in f.verdict in
     let u : Sessions.OpenTransaction = record { transaction = w.transaction; graph = w.snap.graph; head_taken = true } in
     let caller : IsCaller store i mid.pass = subst (λ (k : ℕ). IsCaller store k mid.pass) same mid_is.caller in record {
       session = is;
       number = n ∙ same;
       goes = λ file cs p.
-          let one : HasPlayed l i old.pass.known.front file (up_to_event (Some (plain w)) (Commit ∷ cs) rs) = subst (λ (y : Option Sessions.OpenTransaction). HasPlayed l i old.pass.known.front file (up_to_event y (Commit ∷ cs) rs)) begun_with p in
-          let two : HasPlayed l i old.pass.known.front file (record { current = Some (plain w); commands = Commit ∷ cs; replies = rs }) =
-          subst (HasPlayed l i old.pass.known.front file) (up_to_event-event (Some (plain w)) Commit cs rs (local-change (plain w) w.transaction.net w.transaction.staged change)) one in
-          let three : HasPlayed l i mid.pass.known.front file (record { current = Some u; commands = Commit ∷ cs; replies = rs }) =
+          let one : HasPlayed store i old.pass.known.front file (up_to_event (Some (plain w)) (Commit ∷ cs) rs) = subst (λ (y : Option Sessions.OpenTransaction). HasPlayed store i old.pass.known.front file (up_to_event y (Commit ∷ cs) rs)) begun_with p in
+          let two : HasPlayed store i old.pass.known.front file (record { current = Some (plain w); commands = Commit ∷ cs; replies = rs }) =
+          subst (HasPlayed store i old.pass.known.front file) (up_to_event-event (Some (plain w)) Commit cs rs (local-change (plain w) w.transaction.net w.transaction.staged change)) one in
+          let three : HasPlayed store i mid.pass.known.front file (record { current = Some u; commands = Commit ∷ cs; replies = rs }) =
           played_turn store i old.pass mid.pass file (Some (plain w)) Commit cs rs actions.Head (replies.Version v) (record { current = Some u; commands = Commit ∷ cs; replies = rs }) refl was.caller h.turn (record { event = refl; next = refl }) two in
-          let four : HasPlayed l i new.pass.known.front file (up_to_event None cs (rs ++ x ∷ [])) = committed_turn store i mid new file w cs rs r x caller t bare same by three in
-          let five : HasPlayed l i new.pass.known.front file (up_to_event (plain_in new.current) cs more) =
-          subst (λ (y : Option Sessions.OpenTransaction). HasPlayed l i new.pass.known.front file (up_to_event y cs more)) (sym (plain_none new none)) (subst (λ (ts : List SessionReply). HasPlayed l i new.pass.known.front file (up_to_event None cs ts)) (sym em) four) in
-          subst (λ (k : ℕ). HasPlayed l k new.pass.known.front file (up_to_event (plain_in new.current) cs more)) (sym (n ∙ same)) five;
+          let four : HasPlayed store i new.pass.known.front file (up_to_event None cs (rs ++ x ∷ [])) = committed_turn store i mid new file w cs rs r x caller t bare same by three in
+          let five : HasPlayed store i new.pass.known.front file (up_to_event (plain_in new.current) cs more) =
+          subst (λ (y : Option Sessions.OpenTransaction). HasPlayed store i new.pass.known.front file (up_to_event y cs more)) (sym (plain_none new none)) (subst (λ (ts : List SessionReply). HasPlayed store i new.pass.known.front file (up_to_event None cs ts)) (sym em) four) in
+          subst (λ (k : ℕ). HasPlayed store k new.pass.known.front file (up_to_event (plain_in new.current) cs more)) (sym (n ∙ same)) five;
     }
 
 told_refused : (rows : List _) (shapes : List Triple) (under : List Triple) → shapes ≡ under → said.Refused (length rows) (report_text under rows) ≡ said.Refused (length rows) (report_text shapes rows)
 told_refused rows shapes under e = ap (λ (s : List Triple). said.Refused (length rows) (report_text s rows)) (sym e)
 
 -- a check after the head
-readies : (l : Limits) (old head mid : Session) (v : ℕ) (b : Bool) → Heads l old head v → ChecksHead b head mid → Readies l old mid v
-readies l old head mid v b h k =
+readies : (store : SharedStore) (old head mid : Session) (v : ℕ) (b : Bool) → Heads store old head v → ChecksHead b head mid → Readies store old mid v
+readies store old head mid v b h k =
     let w = k.0 in
     let same = check_same b k.2.0 w k.2.2.0 k.2.2.1 in
     let now : plain k.2.2.0 ≡ plain w = λ i. record { transaction = same.0 i; graph = (same.1 i).graph; head_taken = false } in record {
       number = ap (λ s. s.number) k.2.2.2 ∙ ap (λ s. s.number) h.1.1;
-      turn = subst (λ (c : Caller Event Limits). Turn l old.pass c (event_of old.number actions.Head (replies.Version v))) (sym (ap (λ s. s.pass) k.2.2.2)) h.1.0;
+      turn = subst (λ (c : Caller Event RecordedStore). Turn store old.pass c (event_of old.number actions.Head (replies.Version v))) (sym (ap (λ s. s.pass) k.2.2.2)) h.1.0;
       current = ap (λ s. plain_in s.current) k.2.2.2 ∙ (ap Some now ∙ (sym (plain_open head w k.1) ∙ ap (λ s. plain_in s.current) h.1.1));
     }
 
@@ -258,8 +286,8 @@ no_work_of : (o : Option OpenTransaction) → HasWork o → plain_in o ≡ None 
 no_work_of None h e = h
 no_work_of (Some x) h e = cc
 
-pub plays_work : (store : SharedStore) (old mid new : Session) (v : ℕ) (a : Result Committed CommitFault) (r : SessionReply) (rs more : List SessionReply) → IsSession store old → IsSession store mid → IsSession store new → HasWork old.current → Readies store.limits old mid v
-    → MatchResult a (Commits store.limits mid new) (λ f. CommitsNot f store.limits mid new) → MatchResult a (λ c. IsCommitReply c r) (λ f. (f ≡ commits.NoTransaction) × (r ≡ said.NoTransaction)) → more ≡ rs ++ r ∷ []
+pub plays_work : (store : SharedStore) (old mid new : Session) (v : ℕ) (a : Result Committed CommitFault) (r : SessionReply) (rs more : List SessionReply) → IsSession store old → IsSession store mid → IsSession store new → HasWork old.current → Readies store old mid v
+    → MatchResult a (Commits store mid new) (λ f. CommitsNot f store mid new) → MatchResult a (λ c. IsCommitReply c r) (λ f. (f ≡ commits.NoTransaction) × (r ≡ said.NoTransaction)) → more ≡ rs ++ r ∷ []
     → Plays store old new Commit rs more
 plays_work store old mid new v (Ok (ReadOnly n)) r rs more was mid_is is work h b told em = absurd (no_change b.0 b.2.0 (work_of old.current b.0 work (sym h.current ∙ plain_open mid b.0 b.1)))
 plays_work store old mid new v (Ok (Done n why)) r rs more was mid_is is work h b told em =
@@ -276,32 +304,32 @@ plays_work store old mid new v (Err commits.NoTransaction) r rs more was mid_is 
 plays_work store old mid new v (Err commits.Memory) r rs more was mid_is is work h b told em = absurd (let z : commits.Memory ≡ commits.NoTransaction = told.0 in cc)
 
 -- the results of a refusal are a listing
-listed_by : (l : Limits) (old new : Session) (w : OpenTransaction) (a : Committed) → AnswersCommit l old new w a → IsListed a
-listed_by l old new w (ReadOnly v) b = tt
-listed_by l old new w (Done n why) b = tt
-listed_by l old new w (Conflict n t) b = tt
-listed_by l old new w (FullTriples n) b = tt
-listed_by l old new w (Refused rows why shapes) b = (_, b.1.2)
+listed_by : (store : SharedStore) (old new : Session) (w : OpenTransaction) (a : Committed) → AnswersCommit store old new w a → IsListed a
+listed_by store old new w (ReadOnly v) b = tt
+listed_by store old new w (Done n why) b = tt
+listed_by store old new w (Conflict n t) b = tt
+listed_by store old new w (FullTriples n) b = tt
+listed_by store old new w (Refused rows why shapes) b = (_, b.1.2)
 
-pub listed : (l : Limits) (old new : Session) (a : Result Committed CommitFault) → MatchResult a (Commits l old new) (λ f. CommitsNot f l old new) → IfOk a IsListed
-listed l old new (Ok a) b = listed_by l old new b.0 a b.2
-listed l old new (Err f) b = tt
+pub listed : (store : SharedStore) (old new : Session) (a : Result Committed CommitFault) → MatchResult a (Commits store old new) (λ f. CommitsNot f store old new) → IfOk a IsListed
+listed store old new (Ok a) b = listed_by store old new b.0 a b.2
+listed store old new (Err f) b = tt
 
 -- the next command of the file
 pub play_step : (store : SharedStore) (start mid new : Session) (file : List Command) (c : Command) (k : ℕ) (rs more : List SessionReply) → k < length file → c ≡ get_or file k c
-    → (HasPlayed store.limits start.number start.pass.known.front file (first_state file) → HasPlayed store.limits mid.number mid.pass.known.front file (up_to_event (plain_in mid.current) (drop k file) rs)) → Plays store mid new c rs more
-    → HasPlayed store.limits start.number start.pass.known.front file (first_state file) → HasPlayed store.limits new.number new.pass.known.front file (up_to_event (plain_in new.current) (drop (k + 1) file) more)
+    → (HasPlayed store start.number start.pass.known.front file (first_state file) → HasPlayed store mid.number mid.pass.known.front file (up_to_event (plain_in mid.current) (drop k file) rs)) → Plays store mid new c rs more
+    → HasPlayed store start.number start.pass.known.front file (first_state file) → HasPlayed store new.number new.pass.known.front file (up_to_event (plain_in new.current) (drop (k + 1) file) more)
 play_step store start mid new file c k rs more lt is g o h =
     let e : drop k file ≡ c ∷ drop (k + 1) file = rw add-one (drop-cons file k c lt ∙ ap (λ z. z ∷ drop (suc k) file) (sym is)) in
-    o.goes file (drop (k + 1) file) (subst (λ (ds : List Command). HasPlayed store.limits mid.number mid.pass.known.front file (up_to_event (plain_in mid.current) ds rs)) e (g h))
+    o.goes file (drop (k + 1) file) (subst (λ (ds : List Command). HasPlayed store mid.number mid.pass.known.front file (up_to_event (plain_in mid.current) ds rs)) e (g h))
 
 -- the answers of a head and of a check
-head_taken : (l : Limits) (old new : Session) (a : Result ℕ HeadFault) (v : ℕ) → a ≡ Ok v → MatchResult a (λ v. Heads l old new v) (λ f. HeadsNot f l old new) → Heads l old new v
-head_taken l old new a v e h = subst (λ x. MatchResult x (λ v. Heads l old new v) (λ f. HeadsNot f l old new)) e h
+head_taken : (store : SharedStore) (old new : Session) (a : Result ℕ HeadFault) (v : ℕ) → a ≡ Ok v → MatchResult a (λ v. Heads store old new v) (λ f. HeadsNot f store old new) → Heads store old new v
+head_taken store old new a v e h = subst (λ x. MatchResult x (λ v. Heads store old new v) (λ f. HeadsNot f store old new)) e h
 
-pub checked_ready : (l : Limits) (old head mid : Session) (a : Result ℕ HeadFault) (v : ℕ) (k : Result Bool CheckFault) (b : Bool) → a ≡ Ok v → MatchResult a (λ v. Heads l old head v) (λ f. HeadsNot f l old head) → k ≡ Ok b
-    → MatchResult k (λ kept. ChecksHead kept head mid) (λ f. ChecksNot f head mid) → Readies l old mid v
-checked_ready l old head mid a v k b ea h ek c = readies l old head mid v b (head_taken l old head a v ea h) (subst (λ x. MatchResult x (λ kept. ChecksHead kept head mid) (λ f. ChecksNot f head mid)) ek c)
+pub checked_ready : (store : SharedStore) (old head mid : Session) (a : Result ℕ HeadFault) (v : ℕ) (k : Result Bool CheckFault) (b : Bool) → a ≡ Ok v → MatchResult a (λ v. Heads store old head v) (λ f. HeadsNot f store old head) → k ≡ Ok b
+    → MatchResult k (λ kept. ChecksHead kept head mid) (λ f. ChecksNot f head mid) → Readies store old mid v
+checked_ready store old head mid a v k b ea h ek c = readies store old head mid v b (head_taken store old head a v ea h) (subst (λ x. MatchResult x (λ kept. ChecksHead kept head mid) (λ f. ChecksNot f head mid)) ek c)
 
 pub plays_find : {V : Type 0} (items : V → List Triple) (store : SharedStore) (old new : Session) (p : Pattern) (a : Result V FindFault) (r : SessionReply) (rs more : List SessionReply) → IsSession store old
     → MatchResult a (λ v. (w : OpenTransaction) × IsOpen old w × (items v ≡ found_by (plain w) p) × (new ≡ record old { current = Some (with_find w p) })) (λ f. FindsNot f old new)
@@ -317,10 +345,10 @@ drop_none (x ∷ xs) (suc k) h = drop_none xs k (omega (arith, h))
 
 -- all commands were done
 pub plays_all : (store : SharedStore) (old new : Session) (file : List Command) (k : ℕ) (rs : List SessionReply) → length file ≤ k → IsSession store new → new.number ≡ old.number
-    → (HasPlayed store.limits old.number old.pass.known.front file (first_state file) → HasPlayed store.limits new.number new.pass.known.front file (up_to_event (plain_in new.current) (drop k file) rs)) → PlaysAll store old new file rs
+    → (HasPlayed store old.number old.pass.known.front file (first_state file) → HasPlayed store new.number new.pass.known.front file (up_to_event (plain_in new.current) (drop k file) rs)) → PlaysAll store old new file rs
 plays_all store old new file k rs lt is n g = record {
   current = plain_in new.current;
   session = is;
   number = n;
-  goes = λ h. subst (λ (cs : List Command). HasPlayed store.limits new.number new.pass.known.front file (up_to_event (plain_in new.current) cs rs)) (drop_none file k lt) (g h);
+  goes = λ h. subst (λ (cs : List Command). HasPlayed store new.number new.pass.known.front file (up_to_event (plain_in new.current) cs rs)) (drop_none file k lt) (g h);
 }

@@ -24,6 +24,10 @@ use Rattle.rdf_model.proofs.triple.Triple.TheSendSync as triple_sent
 use Rattle.rdf_model.proofs.change.Change.TheSendSync as change_sent
 use Rattle.rdf_model.proofs.pattern.Pattern.TheSendSync as pattern_sent
 use Rattle.rdf_model.proofs.look.Look.TheSendSync as look_sent
+use Rattle.rdf_model.specs.contracts.term.Term as term
+use Rattle.rdf_model.specs.contracts.term.TermOrd.TheImpl as term_order
+use Rattle.rdf_model.specs.contracts.term.TermPartialEq.TheImpl as term_equality
+use Rattle.rdf_model.specs.contracts.term.TermPartialOrd.TheImpl as term_comparison
 use Rattle.rdf_model.specs.contracts.triple.Triple as triple
 use Rattle.rdf_model.specs.contracts.triple.TripleOrd.TheImpl as triple_order
 use Rattle.rdf_model.specs.contracts.triple.TriplePartialEq.TheImpl as triple_equality
@@ -84,6 +88,9 @@ shapes_sync = search (content_send, content_sync, crosses, sendable) depth 60 fi
 triples_send : IsSend (pages.the_row triple.the_row triple_order.ghosts triple_equality.ghosts triple_comparison.ghosts)
 triples_send = search (page_knot.crosses, triple_sent.the_send, triple_sent.the_sync, crosses, sendable) depth 60 fits 20000
 
+given_send : IsSend (pages.the_row term.the_row term_order.ghosts term_equality.ghosts term_comparison.ghosts)
+given_send = search (page_knot.crosses, term_sent.the_send, term_sent.the_sync, crosses, sendable) depth 60 fits 20000
+
 names_send : IsSend (growing.the_row named.the_row)
 names_send = search (named_sent.the_send, named_sent.the_sync, crosses, sendable) depth 60 fits 20000
 
@@ -121,7 +128,7 @@ again_send : IsSend (again.the_field).row
 again_send = search (crosses, sendable) depth 60 fits 20000
 
 answer_send : IsSend (answer.the_field).row
-answer_send = search (triple_send, again_send, row_sent.the_send, sequence_sent.the_send, crosses, sendable) depth 60 fits 20000
+answer_send = search (triple_send, again_send, term_sent.the_send, row_sent.the_send, sequence_sent.the_send, crosses, sendable) depth 60 fits 20000
 
 event_send : IsSend (event.the_field).row
 event_send = search (action_send, answer_send, crosses, sendable) depth 60 fits 20000
@@ -130,7 +137,7 @@ history_send : IsSend history.the_row
 history_send = search (event_send, history_knot.crosses, crosses, sendable) depth 60 fits 20000
 
 core_send : IsSend core.the_row
-core_send = search (data_graph_send, shapes_send, accepted_sent.the_send, history_send, crosses, sendable) depth 60 fits 20000
+core_send = search (data_graph_send, shapes_send, given_send, accepted_sent.the_send, history_send, crosses, sendable) depth 60 fits 20000
 
 shared_send : IsSend shared.the_row
 shared_send = search (core_send, crosses, sendable) depth 60 fits 20000

@@ -5,6 +5,9 @@ use denote.Param.Send.{IsSend, IsSync, sendable}
 use denote.Param.SendFields.{as_row_send, as_row_sync, declared_send, declared_sync}
 use denote.RattleType.{RattleType}
 use Rattle.std.specs.Borrow.{u32 as word}
+use Rattle.std.specs.contracts.prelude.U32Ord.TheImpl as word_order
+use Rattle.std.specs.contracts.prelude.U32PartialEq.TheImpl as word_equality
+use Rattle.std.specs.contracts.prelude.U32PartialOrd.TheImpl as word_comparison
 use Rattle.regex.specs.contracts.pattern.Pattern as regex_pattern
 use Rattle.regex.specs.contracts.string.regex.Regex as regex
 use Rattle.regex_meta.specs.contracts.program.Program as program
@@ -19,10 +22,14 @@ use Rattle.compiled_paths.proofs.path.Path.TheLaws.TheKnot as path_knot
 use Rattle.compiled_paths.specs.contracts.path.Path as path
 use Rattle.shape_ast.proofs.target.Target.TheSendSync as target_sent
 use Rattle.shape_ast.proofs.constraint.Constraint.TheSendSync as constraint_sent
+use Rattle.shape_ast.proofs.members.Members.TheSendSync as members_sent
 use Rattle.shape_ast.specs.contracts.pattern.Pattern as pattern
 use Rattle.shape_ast.specs.contracts.shape.Shape as shape
 use Rattle.shape_ast.specs.contracts.shape.Shapes as shapes
 use Rattle.rdf_model.specs.contracts.term.Term as term
+use Rattle.rdf_model.specs.contracts.term.TermOrd.TheImpl as term_order
+use Rattle.rdf_model.specs.contracts.term.TermPartialEq.TheImpl as term_equality
+use Rattle.rdf_model.specs.contracts.term.TermPartialOrd.TheImpl as term_comparison
 use Rattle.shape_ast.specs.contracts.bound.Bound as bound
 use Rattle.focus_affected.specs.contracts.plan.NumberedLook as numbered_look
 use Rattle.focus_affected.specs.contracts.plan.ShapePlan as shape_plan
@@ -59,11 +66,11 @@ pattern_send = search (regex_send, regex_sync, term_sent.the_send, crosses, send
 pattern_sync : IsSync (pattern.the_row term.the_row)
 pattern_sync = search (regex_send, regex_sync, term_sent.the_sync, crosses, sendable) depth 60 fits 20000
 
-shape_send : IsSend (shape.the_row term.the_row)
-shape_send = search (pattern_send, path_send, term_sent.the_send, target_sent.the_send, constraint_sent.the_send, sequence_sent.the_send, crosses, sendable) depth 60 fits 20000
+shape_send : IsSend (shape.the_row term.the_row term_order.ghosts term_equality.ghosts term_comparison.ghosts)
+shape_send = search (pattern_send, path_send, term_sent.the_send, target_sent.the_send, constraint_sent.the_send, members_sent.the_send, sequence_sent.the_send, crosses, sendable) depth 60 fits 20000
 
-shape_sync : IsSync (shape.the_row term.the_row)
-shape_sync = search (pattern_sync, path_sync, term_sent.the_sync, target_sent.the_sync, constraint_sent.the_sync, sequence_sent.the_sync, crosses, sendable) depth 60 fits 20000
+shape_sync : IsSync (shape.the_row term.the_row term_order.ghosts term_equality.ghosts term_comparison.ghosts)
+shape_sync = search (pattern_sync, path_sync, term_sent.the_sync, target_sent.the_sync, constraint_sent.the_sync, members_sent.the_sync, sequence_sent.the_sync, crosses, sendable) depth 60 fits 20000
 
 pub shapes_send : IsSend shapes.the_row
 shapes_send = search (shape_send, sequence_sent.the_send, crosses, sendable) depth 60 fits 20000
@@ -78,10 +85,10 @@ pattern_by_number_send = search (regex_send, regex_sync, crosses, sendable) dept
 pattern_by_number_sync : IsSync (pattern.the_row word)
 pattern_by_number_sync = search (regex_send, regex_sync, crosses, sendable) depth 60 fits 20000
 
-shape_by_number_send : IsSend (shape.the_row word)
+shape_by_number_send : IsSend (shape.the_row word word_order.ghosts word_equality.ghosts word_comparison.ghosts)
 shape_by_number_send = search (pattern_by_number_send, path_send, target_sent.the_send, constraint_sent.the_send, sequence_sent.the_send, crosses, sendable) depth 60 fits 20000
 
-shape_by_number_sync : IsSync (shape.the_row word)
+shape_by_number_sync : IsSync (shape.the_row word word_order.ghosts word_equality.ghosts word_comparison.ghosts)
 shape_by_number_sync = search (pattern_by_number_sync, path_sync, target_sent.the_sync, constraint_sent.the_sync, sequence_sent.the_sync, crosses, sendable) depth 60 fits 20000
 
 -- shapes by number with their plans

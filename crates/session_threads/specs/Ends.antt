@@ -1,10 +1,12 @@
 -- What a run of session files ends with.
 use Rattle.std.specs.Prelude.{◌≡◌, ℕ, List, length}
 use Rattle.store_model.specs.declared.event.Limits.{Limits}
+use Rattle.store_model.specs.Store.{State}
 use Rattle.session_model.specs.declared.command.Command.{Command}
 use Rattle.session_model.specs.declared.reply.SessionReply.{SessionReply}
 use Rattle.session_model.specs.Sessions.{HasReplies}
 
--- The order is valid for these files, the sessions are answered so, and the data graph has so many triples at the end.
-abbrev pub HasEnd : List (List Command) → Limits → List ℕ → List (List SessionReply) → ℕ → Type 0
-HasEnd files l order all triples = (run : HasReplies files l order all) × (triples ≡ length run.last.state.graph)
+-- The order is valid for these files and a store that begins in state s, the sessions are answered so, and the data graph has
+-- so many triples at the end.
+abbrev pub HasEnd : List (List Command) → Limits → State → List ℕ → List (List SessionReply) → ℕ → Type 0
+HasEnd files l s order all triples = (run : HasReplies files l s order all) × (triples ≡ length run.last.state.graph)

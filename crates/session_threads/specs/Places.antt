@@ -15,7 +15,7 @@ use Rattle.session_transaction.specs.declared.committing.Committed.TheVariants.{
 abbrev pub kind_of : Action → EventKind
 kind_of actions.Open = kinds.Open
 kind_of actions.Begin = kinds.Begin
-kind_of (actions.Name ts) = kinds.Name
+kind_of (actions.Name kind ts) = kinds.Name
 kind_of actions.Head = kinds.Head
 kind_of (actions.Commit x) = kinds.Commit
 kind_of actions.Void = kinds.Void

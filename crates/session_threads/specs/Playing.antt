@@ -1,8 +1,6 @@
 -- How far a session has played its file, in what its caller has seen.
 use Rattle.std.specs.Prelude.{◌≡◌, ℕ, Option, List, [], ◌∷◌}
-use Rattle.store_model.specs.declared.event.Limits.{Limits}
 use Rattle.store_model.specs.declared.event.Event.{Event}
-use Rattle.store_model.specs.Store.{empty_store}
 use Rattle.session_model.specs.declared.command.Command.{Command}
 use Rattle.session_model.specs.declared.reply.SessionReply.{SessionReply}
 use Rattle.session_model.specs.Sessions.{OpenTransaction, SessionState, up_to_event}
@@ -13,19 +11,19 @@ use Rattle.guard_store.specs.Callers.{IsSession}
 use Rattle.session_transaction.specs.Transactions.{plain_in}
 
 -- session i came from the beginning of its file to q
-abbrev pub HasPlayed : Limits → ℕ → List Event → List Command → SessionState → Type 0
-HasPlayed l i front file q = Follows l i empty_store front (first_state file) q
+abbrev pub HasPlayed : SharedStore → ℕ → List Event → List Command → SessionState → Type 0
+HasPlayed store i front file q = Follows store.limits i store.start front (first_state file) q
 
 -- The session did the command, whatever commands follow it and whatever others do, and may go on.
 pub record Plays (store : SharedStore) (old new : Session) (c : Command) (replies more : List SessionReply) : Type 0 where
   pub session : IsSession store new
   pub number : new.number ≡ old.number
-  pub goes : (file cs : List Command) → HasPlayed store.limits old.number old.pass.known.front file (up_to_event (plain_in old.current) (c ∷ cs) replies)
-      → HasPlayed store.limits new.number new.pass.known.front file (up_to_event (plain_in new.current) cs more)
+  pub goes : (file cs : List Command) → HasPlayed store old.number old.pass.known.front file (up_to_event (plain_in old.current) (c ∷ cs) replies)
+      → HasPlayed store new.number new.pass.known.front file (up_to_event (plain_in new.current) cs more)
 
 -- The session did all commands of its file; a transaction that is left open is dropped.
 pub record PlaysAll (store : SharedStore) (old new : Session) (cs : List Command) (replies : List SessionReply) : Type 0 where
   pub current : Option OpenTransaction
   pub session : IsSession store new
   pub number : new.number ≡ old.number
-  pub goes : HasPlayed store.limits old.number old.pass.known.front cs (first_state cs) → HasPlayed store.limits new.number new.pass.known.front cs (record { current = current; commands = []; replies = replies })
+  pub goes : HasPlayed store old.number old.pass.known.front cs (first_state cs) → HasPlayed store new.number new.pass.known.front cs (record { current = current; commands = []; replies = replies })

@@ -5,20 +5,31 @@ use Rattle.session_model.specs.declared.reply.SessionReply.TheVariants as told
 use Rattle.guard_store.specs.declared.faults.BeginFault.{BeginFault}
 use Rattle.guard_store.specs.declared.faults.BeginFault.TheVariants as begins
 use Rattle.guard_store.specs.declared.faults.StageFault.{StageFault}
-use Rattle.guard_store.specs.declared.faults.StageFault.TheVariants as stages
+use Rattle.guard_store.specs.declared.faults.AttachFault.{AttachFault}
+use Rattle.guard_store.specs.declared.faults.AttachFault.TheVariants as attaches
 use Rattle.guard_store.specs.declared.faults.FindFault.{FindFault}
 use Rattle.guard_store.specs.declared.faults.FindFault.TheVariants as finds
+use Rattle.guard_store.specs.Answers.{attach_fault}
 
 abbrev pub IsBeginReply : Result ℕ BeginFault → SessionReply → Type 0
 IsBeginReply (Ok version) r = r ≡ told.Begun version
 IsBeginReply (Err begins.AlreadyOpen) r = r ≡ told.AlreadyOpen
 IsBeginReply (Err begins.Memory) r = ⊥
 
+-- the reply to a block that wasn't staged
+abbrev pub IsBlockRefusal : AttachFault → SessionReply → Type 0
+IsBlockRefusal attaches.NoTransaction r = r ≡ told.NoTransaction
+IsBlockRefusal (attaches.Unknown node) r = r ≡ told.UnknownNode node
+IsBlockRefusal (attaches.Full count) r = r ≡ told.FullTerms
+IsBlockRefusal attaches.Memory r = ⊥
+
 abbrev pub IsStageReply : {U : Type 0} → Result U StageFault → SessionReply → SessionReply → Type 0
 IsStageReply (Ok u) done r = r ≡ done
-IsStageReply (Err stages.NoTransaction) done r = r ≡ told.NoTransaction
-IsStageReply (Err (stages.Full count)) done r = r ≡ told.FullTerms
-IsStageReply (Err stages.Memory) done r = ⊥
+IsStageReply (Err f) done r = IsBlockRefusal (attach_fault f) r
+
+abbrev pub IsAttachReply : {U : Type 0} → Result U AttachFault → SessionReply → SessionReply → Type 0
+IsAttachReply (Ok u) done r = r ≡ done
+IsAttachReply (Err f) done r = IsBlockRefusal f r
 
 abbrev pub IsFindRefusal : FindFault → SessionReply → Type 0
 IsFindRefusal finds.NoTransaction r = r ≡ told.NoTransaction

@@ -3,9 +3,8 @@ use Rattle.std.specs.Prelude.{◌≡◌, ℕ, ◌+◌, ◌-◌, ◌<◌, ◌≤�
 use Rattle.std.specs.List.{AllByRecursion}
 use Rattle.turn_lock.specs.History.{has_number, reserved}
 use Rattle.turn_lock.specs.Callers.{Caller}
-use Rattle.store_model.specs.declared.event.Limits.{Limits}
 use Rattle.store_model.specs.declared.event.Event.{Event}
-use Rattle.store_model.specs.Store.{empty_store}
+use Rattle.store_model.specs.Store.{RecordedStore}
 use Rattle.session_model.specs.declared.command.Command.{Command}
 use Rattle.session_model.specs.declared.reply.SessionReply.{SessionReply}
 use Rattle.session_model.specs.Sessions.{OpenTransaction, SessionState, no_session}
@@ -23,14 +22,14 @@ pub record IsSound (store : SharedStore) (k : Keeper) : Type 0 where
   pub numbered : AllByRecursion (λ e. 0 < e.session) (reserved session_of false k.pass.known.front)
 
 -- the caller has all events of session i, which came from p to q
-pub record HasAll (l : Limits) (i : ℕ) (p q : SessionState) (c : Caller Event Limits) : Type 0 where
+pub record HasAll (store : SharedStore) (i : ℕ) (p q : SessionState) (c : Caller Event RecordedStore) : Type 0 where
   pub own : has_number c.known.numbers i ≡ true
-  pub follows : Follows l i empty_store c.known.front p q
+  pub follows : Follows store.limits i store.start c.known.front p q
 
 -- before its first event
 abbrev pub Stands : SharedStore → ℕ → Option Session → Type 0
 Stands store i None = ⊥
-Stands store i (Some s) = (s.number ≡ i) × IsSession store s × (s.current ≡ None) × ((p : SessionState) → Follows store.limits i empty_store s.pass.known.front p p)
+Stands store i (Some s) = (s.number ≡ i) × IsSession store s × (s.current ≡ None) × ((p : SessionState) → Follows store.limits i store.start s.pass.known.front p p)
 
 abbrev pub IsStarting : SharedStore → ℕ → Player → Type 0
 IsStarting store files p = (0 < p.number) × (p.number ≤ files) × (p.replies ≡ None) × Stands store p.number p.session
@@ -40,7 +39,7 @@ pub record IsOver (store : SharedStore) (i : ℕ) (file : List Command) (replies
   pub session : IsSession store s
   pub number : s.number ≡ i
   pub current : Option OpenTransaction
-  pub played : HasPlayed store.limits i s.pass.known.front file (record { current = current; commands = []; replies = replies })
+  pub played : HasPlayed store i s.pass.known.front file (record { current = current; commands = []; replies = replies })
 
 abbrev pub EndsWith : SharedStore → ℕ → List Command → Option (List SessionReply) → Option Session → Type 0
 EndsWith store i file None s = Unit {0}
@@ -55,9 +54,9 @@ abbrev pub AreNumbered : List Player → Type 0
 AreNumbered players = (i : ℕ) (d : Player) → i < length players → (slice_index_or players i d).number ≡ i + 1
 
 -- the keeper met the sessions from the last down to number k + 1
-pub record Met (files : List (List Command)) (l : Limits) (k : ℕ) (c : Caller Event Limits) (all : List (List SessionReply)) : Type 0 where
+pub record Met (files : List (List Command)) (store : SharedStore) (k : ℕ) (c : Caller Event RecordedStore) (all : List (List SessionReply)) : Type 0 where
   pub over : List SessionState
   pub count : length over + k ≡ length files
   pub left : AllByRecursion (λ s. s.commands ≡ []) over
   pub replies : all ≡ map (λ s. s.replies) over
-  pub each : (j n : ℕ) → n ≡ k + j → j < length over → HasAll l (n + 1) (first_state (get_or files n [])) (get_or over j no_session) c
+  pub each : (j n : ℕ) → n ≡ k + j → j < length over → HasAll store (n + 1) (first_state (get_or files n [])) (get_or over j no_session) c

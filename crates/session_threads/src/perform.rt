@@ -5,10 +5,12 @@ ghost use Rattle.guard_store.specs.Callers.{HasWork, IsSession, OnlyReads};
 ghost use Rattle.session_transaction.specs.Replies.{IsRefusedBlock, answer_in};
 ghost use Rattle.session_threads.specs.Playing.{Plays};
 
-use crate::replies::{abort_reply, begin_reply, commit_reply, find_reply, stage_reply};
+use crate::replies::{
+    abort_reply, attach_reply, begin_reply, commit_reply, find_reply, stage_reply,
+};
 use crate::watch::{Watch, is_ready, next_event};
 use collections::Sequence;
-use guard_store::{BeginFault, CommitFault, Session, StageFault, Store};
+use guard_store::{AttachFault, BeginFault, CommitFault, Session, StageFault, Store};
 use outside::{EventKind, Gate};
 use rdf_model::{Pattern, Triple};
 use session_model::{Command, SessionReply};
@@ -68,6 +70,25 @@ fn remove<R: Wait, G: Gate>(
     let (session, answer) = store.stage_remove(rt, session, triples.as_slice());
     watch.after(answer == Err(StageFault::Memory), false);
     let reply = stage_reply(answer, SessionReply::Removed(triples.len()))?;
+    replies.push(reply)?;
+    Ok(session)
+}
+
+fn attach<R: Wait, G: Gate>(
+    rt: &R,
+    store: &Store,
+    watch: &mut Watch<G>,
+    session: Session,
+    triples: &Sequence<Triple>,
+    replies: &mut Sequence<SessionReply>,
+) -> Result<Session, AllocError>
+    requires { IsSession store.now session }
+    ensures { IfOk result (λ next. Plays store.now session next (Command.Attach triples.now) replies.old replies.new) }
+{
+    let (session, answer) = store.stage_attach(rt, session, triples.as_slice());
+    let ran_out = matches!(&answer, Err(AttachFault::Memory));
+    watch.after(ran_out, false);
+    let reply = attach_reply(answer, SessionReply::Attached(triples.len()))?;
     replies.push(reply)?;
     Ok(session)
 }
@@ -253,12 +274,14 @@ pub fn perform<L: Ledger, R: Wait, G: Gate>(
         Command::Begin => begin(rt, store, watch, session, replies),
         Command::Add(triples) => add(rt, store, watch, session, triples, replies),
         Command::Remove(triples) => remove(rt, store, watch, session, triples, replies),
+        Command::Attach(triples) => attach(rt, store, watch, session, triples, replies),
         Command::Shapes(shapes) => stage(rt, store, watch, session, shapes, replies),
         Command::Commit => commit(rt, store, watch, session, replies, steps),
         Command::Find(pattern) => find(store, session, pattern, replies),
         Command::Abort => abort(store, session, replies),
         Command::BadAdd { line: _, kind: _ }
         | Command::BadRemove { line: _, kind: _ }
+        | Command::BadAttach { line: _, kind: _ }
         | Command::BadShapes { line: _, kind: _ }
         | Command::BrokenShapes { rule: _, node: _ }
         | Command::RefusedPattern { node: _ } => refuse(store, session, command, replies),

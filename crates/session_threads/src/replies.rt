@@ -2,9 +2,9 @@
 ghost use Rattle.std.specs.Prelude.{◌≡◌, IfOk, MatchResult};
 ghost use Rattle.session_model.specs.Sessions;
 ghost use Rattle.session_transaction.specs.Replies.{IsCommitReply, IsListed};
-ghost use Rattle.session_threads.specs.Replies.{IsAbortReply, IsBeginReply, IsFindRefusal, IsStageReply};
+ghost use Rattle.session_threads.specs.Replies.{IsAbortReply, IsAttachReply, IsBeginReply, IsFindRefusal, IsStageReply};
 
-use guard_store::{BeginFault, CommitFault, Committed, FindFault, StageFault};
+use guard_store::{AttachFault, BeginFault, CommitFault, Committed, FindFault, StageFault};
 use rdf_model::Triple;
 use session_model::SessionReply;
 use session_transaction::{reply_of_commit, reply_of_find};
@@ -33,6 +33,22 @@ pub fn stage_reply(
         Err(StageFault::NoTransaction) => Ok(SessionReply::NoTransaction),
         Err(StageFault::Full { count: _ }) => Ok(SessionReply::FullTerms),
         Err(StageFault::Memory) => Err(AllocError),
+    }
+}
+
+/// The reply to a block to be attached, which is `done` where it was staged.
+pub fn attach_reply(
+    answer: Result<(), AttachFault>,
+    done: SessionReply,
+) -> Result<SessionReply, AllocError>
+    ensures { IfOk result (IsAttachReply answer done) }
+{
+    match answer {
+        Ok(()) => Ok(done),
+        Err(AttachFault::NoTransaction) => Ok(SessionReply::NoTransaction),
+        Err(AttachFault::Unknown { node }) => Ok(SessionReply::UnknownNode(node)),
+        Err(AttachFault::Full { count: _ }) => Ok(SessionReply::FullTerms),
+        Err(AttachFault::Memory) => Err(AllocError),
     }
 }
 

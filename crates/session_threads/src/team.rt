@@ -1,5 +1,6 @@
 //! Sessions that run beside each other.
 ghost use Rattle.std.specs.Prelude.{◌≡◌, ◌+◌, ◌^◌, ◌<◌, ◌≤◌, IfOk, All, length, vec_len, reverse};
+ghost use Rattle.store_model.specs.Store.{empty_store};
 ghost use Rattle.session_threads.specs.Ends.{HasEnd};
 ghost use Rattle.session_threads.specs.Team.{AreNumbered, HasEnded, IsSound, IsStarting, Met};
 
@@ -13,7 +14,7 @@ use std::alloc::{AllocError, Global};
 use std::sync::Wait;
 use std::thread;
 use std::thread::Threads;
-use store_model::Limits;
+use store_model::{BlockMode, Limits};
 
 // How many threads there are at most.
 const THREADS: usize = 64;
@@ -131,7 +132,7 @@ fn gather(
     ensures keeper { IfOk result (λ r. IsSound store.now r.0) }
     ensures opened { IfOk result (λ r. r.0.opened ≡ length files.now) }
     ensures spare { IfOk result (λ r. r.0.pass.spare ≡ keeper.pass.spare + length files.now) }
-    ensures met { IfOk result (λ r. Met files.now store.now.limits 0 r.0.pass (reverse r.1.items)) }
+    ensures met { IfOk result (λ r. Met files.now store.now 0 r.0.pass (reverse r.1.items)) }
 {
     let _ = files;
     let mut keeper = keeper;
@@ -170,8 +171,9 @@ pub fn run_all<R: Threads + Wait + Sync, G: Gate>(
     gate: &G,
 ) -> Result<EndedRun, AllocError>
     requires small { limits.terms + 2 < 2 ^ 32 }
+    requires mode { limits.mode ≡ BlockMode.All }
     requires few { length files.now ≤ 64 }
-    ensures { IfOk result (λ ended. HasEnd files.now limits ended.run.order.items ended.run.replies.items ended.triples) }
+    ensures { IfOk result (λ ended. HasEnd files.now limits empty_store ended.run.order.items ended.run.replies.items ended.triples) }
 {
     let (store, keeper) = Store::new(alloc, limits)?;
     let (keeper, mut players) = open_all(rt, alloc, &store, keeper, files.len())?;

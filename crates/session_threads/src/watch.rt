@@ -63,7 +63,7 @@ pub fn next_event(session: &Session, command: &Command) -> Option<EventKind>
 {
     match command {
         Command::Begin => (!session.is_open()).then_some(EventKind::Begin),
-        Command::Add(_) | Command::Remove(_) | Command::Shapes(_) => {
+        Command::Add(_) | Command::Remove(_) | Command::Attach(_) | Command::Shapes(_) => {
             session.is_open().then_some(EventKind::Name)
         }
         Command::Commit => session.has_work().then_some(EventKind::Head),
@@ -71,6 +71,7 @@ pub fn next_event(session: &Session, command: &Command) -> Option<EventKind>
         | Command::Abort
         | Command::BadAdd { line: _, kind: _ }
         | Command::BadRemove { line: _, kind: _ }
+        | Command::BadAttach { line: _, kind: _ }
         | Command::BadShapes { line: _, kind: _ }
         | Command::BrokenShapes { rule: _, node: _ }
         | Command::RefusedPattern { node: _ } => None,

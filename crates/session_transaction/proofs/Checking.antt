@@ -1,5 +1,5 @@
 -- What is kept of a check stays a verdict while the history grows, and the commit may hand it in.
-use Rattle.std.proofs.Common.{◌≡◌, ◌∙◌, ◌≤◌, Bool, true, false, List, ◌++◌, Option, Some, None, refl, sym, ap, subst, arith}
+use Rattle.std.proofs.Common.{◌≡◌, ◌∙◌, Bool, true, false, List, ◌++◌, Option, Some, None, refl, sym, ap, subst, arith}
 use Rattle.std.specs.List.{AllByRecursion}
 use Rattle.std.proofs.lemmas.List.{append_assoc}
 use Rattle.rdf_model.specs.declared.change.Change.{Change}
@@ -8,19 +8,19 @@ use Rattle.store_model.specs.declared.commit.Verdict.{Verdict}
 use Rattle.store_model.specs.declared.event.Event.{Event}
 use Rattle.store_model.specs.declared.event.Limits.{Limits}
 use Rattle.store_model.specs.Snapshots.{Snapshot, snapshot_of}
-use Rattle.store_model.specs.Store.{AreNamed, HasChange, IsCommittable, NetNamed, RecordedStore, Replays, State, VerdictFits, empty_store, looked_at, version}
+use Rattle.store_model.specs.Store.{AreNamed, HasChange, IsCommittable, NetNamed, RecordedStore, Replays, State, VerdictFits, looked_at, version}
 use Rattle.session_model.proofs.Naming.{NetNamed-more, StagedNamed-more}
 use Rattle.commit_core.specs.declared.checked.CheckedNet.{CheckedNet}
 use Rattle.commit_core.specs.Verdicts.{AreOfVerdictIn, IsVerdictIn}
 use Rattle.commit_core.proofs.Verdicts.{since, verdict_of_snapshot}
 use Rattle.session_transaction.specs.declared.transaction.OpenTransaction.{OpenTransaction}
-use Rattle.session_transaction.specs.Checks.{Checks, IsCheckAt, IsKept, IsVersionIn, KeepsIn, checked_of, committing, handed_back, handed_in, rows_of, verdict_of}
+use Rattle.session_transaction.specs.Checks.{Checks, IsKept, IsVersionIn, KeepsIn, checked_of, handed_back, handed_in, rows_of, verdict_of}
 use Rattle.session_transaction.specs.Transactions.{FitsState}
 use Rattle.session_transaction.proofs.Fitting.{verdict_fits}
 use Rattle.session_transaction.proofs.Growing.{More, more_all}
 
-pub version_lasts : (l : Limits) (events more : List Event) (n : Snapshot) → IsVersionIn l events n → IsVersionIn l (events ++ more) n
-version_lasts l events more n v = record {
+pub version_lasts : (l : Limits) (start : State) (events more : List Event) (n : Snapshot) → IsVersionIn l start events n → IsVersionIn l start (events ++ more) n
+version_lasts l start events more n v = record {
   front = v.front;
   back = v.back ++ more;
   history = ap (λ (es : List Event). es ++ more) v.history ∙ append_assoc v.front v.back more;
@@ -30,38 +30,38 @@ version_lasts l events more n v = record {
 }
 
 -- the version to which events lead is one of each history that begins with them
-pub version_now : (l : Limits) (front back : List Event) (s : State) (n : Snapshot) → Replays l empty_store front s → n ≡ snapshot_of s → IsVersionIn l (front ++ back) n
-version_now l front back s n replays is = record { front = front; back = back; history = refl; state = s; replays = replays; is = is }
+pub version_now : (l : Limits) (start : State) (front back : List Event) (s : State) (n : Snapshot) → Replays l start front s → n ≡ snapshot_of s → IsVersionIn l start (front ++ back) n
+version_now l start front back s n replays is = record { front = front; back = back; history = refl; state = s; replays = replays; is = is }
 
-pub keeps_last : (l : Limits) (events more : List Event) (net : List Change) (o : Option CheckedNet) → KeepsIn l events net o → KeepsIn l (events ++ more) net o
-keeps_last l events more net None k = tt
-keeps_last l events more net (Some c) k = record { at = k.at; version = version_lasts l events more k.at k.version; found = k.found }
+pub keeps_last : (l : Limits) (start : State) (events more : List Event) (net : List Change) (o : Option CheckedNet) → KeepsIn l start events net o → KeepsIn l start (events ++ more) net o
+keeps_last l start events more net None k = tt
+keeps_last l start events more net (Some c) k = record { at = k.at; version = version_lasts l start events more k.at k.version; found = k.found }
 
 -- a later state of the history has all that the version had
-version_more : (l : Limits) (events : List Event) (n : Snapshot) (s : State) (v : IsVersionIn l events n) → Replays l empty_store events s → More v.state s
-version_more l events n s v h =
-    let store : RecordedStore = record { limits = l; state = s; history = events } in
+version_more : (l : Limits) (start : State) (events : List Event) (n : Snapshot) (s : State) (v : IsVersionIn l start events n) → Replays l start events s → More v.state s
+version_more l start events n s v h =
+    let store : RecordedStore = record { limits = l; start = start; state = s; history = events } in
     more_all l v.state s v.back (since store v.state v.front v.back h v.history v.replays)
 
-pub keeps_fit : (l : Limits) (events : List Event) (net : List Change) (o : Option CheckedNet) (s : State) → KeepsIn l events net o → Replays l empty_store events s → VerdictFits s (verdict_of o)
-keeps_fit l events net None s k h = tt
-keeps_fit l events net (Some c) s k h =
+pub keeps_fit : (l : Limits) (start : State) (events : List Event) (net : List Change) (o : Option CheckedNet) (s : State) → KeepsIn l start events net o → Replays l start events s → VerdictFits s (verdict_of o)
+keeps_fit l start events net None s k h = tt
+keeps_fit l start events net (Some c) s k h =
     let number : c.verdict.head ≡ version k.version.state = k.found.head ∙ ap (λ (x : Snapshot). x.number) k.version.is in
     let named = subst (λ (x : Snapshot). AllByRecursion (λ look. AreNamed x.named (looked_at look)) c.verdict.looks) k.version.is k.found.named in
-    verdict_fits k.version.state s c.verdict (version_more l events k.at s k.version h) (omega (arith, number)) named
+    verdict_fits k.version.state s c.verdict (version_more l start events k.at s k.version h) (omega (arith, number)) named
 
-kept_verdict : (l : Limits) (events : List Event) (net : List Change) (c : CheckedNet) → IsKept l events net c → IsVerdictIn l events net c.verdict c.rows
-kept_verdict l events net c k =
-    subst (λ (es : List Event). IsVerdictIn l es net c.verdict c.rows) (sym k.version.history)
-    (verdict_of_snapshot l k.version.front k.version.back k.version.state k.at net c.verdict c.rows k.version.replays k.version.is k.found.head k.found.check)
+kept_verdict : (l : Limits) (start : State) (events : List Event) (net : List Change) (c : CheckedNet) → IsKept l start events net c → IsVerdictIn l start events net c.verdict c.rows
+kept_verdict l start events net c k =
+    subst (λ (es : List Event). IsVerdictIn l start es net c.verdict c.rows) (sym k.version.history)
+    (verdict_of_snapshot l start k.version.front k.version.back k.version.state k.at net c.verdict c.rows k.version.replays k.version.is k.found.head k.found.check)
 
-pub rows_kept : (l : Limits) (events : List Event) (net : List Change) (o : Option CheckedNet) → KeepsIn l events net o → AreOfVerdictIn l events net (verdict_of o) (rows_of o)
-rows_kept l events net None k = tt
-rows_kept l events net (Some c) k = kept_verdict l events net c k
+pub rows_kept : (l : Limits) (start : State) (events : List Event) (net : List Change) (o : Option CheckedNet) → KeepsIn l start events net o → AreOfVerdictIn l start events net (verdict_of o) (rows_of o)
+rows_kept l start events net None k = tt
+rows_kept l start events net (Some c) k = kept_verdict l start events net c k
 
 -- a transaction that changes something may be committed with what is kept
-pub committable_kept : (l : Limits) (events : List Event) (x : Transaction) (o : Option CheckedNet) (s : State) → FitsState x s → HasChange x.net x.staged → KeepsIn l events x.net o → Replays l empty_store events s → IsCommittable s (record x { verdict = verdict_of o })
-committable_kept l events x o s f change k h = record { base = f.base; change = change; net = f.net; staged = f.staged; verdict = keeps_fit l events x.net o s k h }
+pub committable_kept : (l : Limits) (start : State) (events : List Event) (x : Transaction) (o : Option CheckedNet) (s : State) → FitsState x s → HasChange x.net x.staged → KeepsIn l start events x.net o → Replays l start events s → IsCommittable s (record x { verdict = verdict_of o })
+committable_kept l start events x o s f change k h = record { base = f.base; change = change; net = f.net; staged = f.staged; verdict = keeps_fit l start events x.net o s k h }
 
 verdict_more : (s t : State) (o : Option Verdict) → More s t → VerdictFits s o → VerdictFits t o
 verdict_more s t None m f = tt
@@ -85,11 +85,11 @@ pub back_again : (w : OpenTransaction) → w.transaction.verdict ≡ None → ha
 back_again w none = λ i. record { transaction = record w.transaction { verdict = sym none i }; checked = same_checked w.checked i; snap = w.snap }
 
 -- a check keeps its verdict, and changes nothing else
-pub check_keeps : (l : Limits) (events : List Event) (b : Bool) (n : Snapshot) (old new : OpenTransaction) → IsVersionIn l events n → Checks b n old new → KeepsIn l events old.transaction.net new.checked
-check_keeps l events true n old new v h =
-    let kept : IsKept l events old.transaction.net h.1.0 = record { at = n; version = v; found = h.1.1 } in
-    subst (KeepsIn l events old.transaction.net) (sym (ap (λ (w : OpenTransaction). w.checked) h.1.2)) kept
-check_keeps l events false n old new v h = subst (KeepsIn l events old.transaction.net) (sym (ap (λ (w : OpenTransaction). w.checked) h.1)) tt
+pub check_keeps : (l : Limits) (start : State) (events : List Event) (b : Bool) (n : Snapshot) (old new : OpenTransaction) → IsVersionIn l start events n → Checks b n old new → KeepsIn l start events old.transaction.net new.checked
+check_keeps l start events true n old new v h =
+    let kept : IsKept l start events old.transaction.net h.1.0 = record { at = n; version = v; found = h.1.1 } in
+    subst (KeepsIn l start events old.transaction.net) (sym (ap (λ (w : OpenTransaction). w.checked) h.1.2)) kept
+check_keeps l start events false n old new v h = subst (KeepsIn l start events old.transaction.net) (sym (ap (λ (w : OpenTransaction). w.checked) h.1)) tt
 
 pub check_same : (b : Bool) (n : Snapshot) (old new : OpenTransaction) → Checks b n old new → (new.transaction ≡ old.transaction) × (new.snap ≡ old.snap)
 check_same true n old new h = (ap (λ (w : OpenTransaction). w.transaction) h.1.2, ap (λ (w : OpenTransaction). w.snap) h.1.2)

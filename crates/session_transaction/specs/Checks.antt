@@ -8,7 +8,7 @@ use Rattle.store_model.specs.declared.commit.Verdict.{Verdict}
 use Rattle.store_model.specs.declared.event.Event.{Event}
 use Rattle.store_model.specs.declared.event.Limits.{Limits}
 use Rattle.store_model.specs.Snapshots.{Snapshot, snapshot_of}
-use Rattle.store_model.specs.Store.{AreNamed, Replays, State, empty_store, looked_at}
+use Rattle.store_model.specs.Store.{AreNamed, Replays, State, looked_at}
 use Rattle.graph_validation.specs.Counting.{GrowsByCount}
 use Rattle.parallel_validate.specs.Verdicts.{IsEvaluated}
 use Rattle.data_graph.specs.Changes.{IsCheckOf}
@@ -55,24 +55,24 @@ Checks false n old new = (old.transaction.staged ≢ None) × (new ≡ record ol
 abbrev pub CheckSteps : Snapshot → Transaction → ℕ → ℕ → Type 0
 CheckSteps n x old new = MatchOption x.staged (GrowsByCount (IsEvaluated n.graph n.shapes x.net) old new) (λ staged. new ≡ old)
 
--- the snapshot is of a version of the history that these events make under the limits
-pub record IsVersionIn (l : Limits) (events : List Event) (n : Snapshot) : Type 0 where
+-- the snapshot is of a version of the history that these events make from a state under the limits
+pub record IsVersionIn (l : Limits) (start : State) (events : List Event) (n : Snapshot) : Type 0 where
   pub front : List Event
   pub back : List Event
   pub history : events ≡ front ++ back
   pub state : State
-  pub replays : Replays l empty_store front state
+  pub replays : Replays l start front state
   pub is : n ≡ snapshot_of state
 
 -- it is what a check of the changes found at a version of the history
-pub record IsKept (l : Limits) (events : List Event) (net : List Change) (c : CheckedNet) : Type 0 where
+pub record IsKept (l : Limits) (start : State) (events : List Event) (net : List Change) (c : CheckedNet) : Type 0 where
   pub at : Snapshot
-  pub version : IsVersionIn l events at
+  pub version : IsVersionIn l start events at
   pub found : IsCheckAt at net c
 
-abbrev pub KeepsIn : Limits → List Event → List Change → Option CheckedNet → Type 0
-KeepsIn l events net None = Unit {0}
-KeepsIn l events net (Some c) = IsKept l events net c
+abbrev pub KeepsIn : Limits → State → List Event → List Change → Option CheckedNet → Type 0
+KeepsIn l start events net None = Unit {0}
+KeepsIn l start events net (Some c) = IsKept l start events net c
 
 -- what is kept of a check of the open transaction, if there is one
 abbrev pub checked_in : Option OpenTransaction → Option CheckedNet

@@ -4,7 +4,7 @@ use Rattle.rdf_model.specs.declared.triple.Triple.{Triple}
 use Rattle.report_writer.specs.Report.{report_text}
 use Rattle.shape_model.specs.Validation.{Listing}
 use Rattle.session_model.specs.declared.command.Command.{Command}
-use Rattle.session_model.specs.declared.command.Command.TheVariants.{Begin, Add, BadAdd, Remove, BadRemove, Shapes, BadShapes, BrokenShapes, RefusedPattern, Commit, Find, Abort}
+use Rattle.session_model.specs.declared.command.Command.TheVariants.{Begin, Add, BadAdd, Remove, BadRemove, Attach, BadAttach, Shapes, BadShapes, BrokenShapes, RefusedPattern, Commit, Find, Abort}
 use Rattle.session_model.specs.declared.reply.SessionReply.{SessionReply}
 use Rattle.session_model.specs.declared.reply.SessionReply.TheVariants as told
 use Rattle.session_model.specs.Sessions.{OpenTransaction}
@@ -24,6 +24,8 @@ IsRefused (Add ts) r = ⊥
 IsRefused (BadAdd n kind) r = r ≡ told.AddRefused n kind
 IsRefused (Remove ts) r = ⊥
 IsRefused (BadRemove n kind) r = r ≡ told.RemoveRefused n kind
+IsRefused (Attach ts) r = ⊥
+IsRefused (BadAttach n kind) r = r ≡ told.AttachRefused n kind
 IsRefused (Shapes ts) r = ⊥
 IsRefused (BadShapes n kind) r = r ≡ told.ShapesRefused n kind
 IsRefused (BrokenShapes rule node) r = r ≡ told.ShapesBroken rule node

@@ -5,34 +5,46 @@ use Rattle.rdf_model.specs.declared.pattern.Pattern.{Pattern}
 use Rattle.rdf_model.specs.declared.change.Change.{Change}
 use Rattle.rdf_model.specs.declared.change.Change.TheVariants as changes
 use Rattle.store_model.specs.declared.commit.Transaction.{Transaction}
+use Rattle.store_model.specs.declared.event.NameKind.{NameKind}
+use Rattle.store_model.specs.declared.event.NameKind.TheVariants as kinds
 use Rattle.store_model.specs.Snapshots.{Snapshot}
 use Rattle.store_model.specs.Store.{State, NetNamed, StagedNamed, version}
 use Rattle.session_model.specs.declared.command.Command.{Command}
-use Rattle.session_model.specs.declared.command.Command.TheVariants.{Add, Remove}
+use Rattle.session_model.specs.declared.command.Command.TheVariants.{Add, Remove, Attach}
 use Rattle.session_model.specs.declared.reply.SessionReply.{SessionReply}
-use Rattle.session_model.specs.declared.reply.SessionReply.TheVariants.{Added, Removed}
+use Rattle.session_model.specs.declared.reply.SessionReply.TheVariants.{Added, Removed, Attached}
 use Rattle.session_model.specs.Sessions as Sessions
 use Rattle.session_model.specs.Sessions.{additions, removals}
 use Rattle.session_transaction.specs.declared.transaction.OpenTransaction.{OpenTransaction}
 use Rattle.session_transaction.specs.declared.transaction.ChangeKind.{ChangeKind}
-use Rattle.session_transaction.specs.declared.transaction.ChangeKind.TheVariants.{Addition, Removal}
+use Rattle.session_transaction.specs.declared.transaction.ChangeKind.TheVariants.{Addition, Removal, Attachment}
 
 abbrev pub change_of : ChangeKind → Triple → Change
 change_of Addition t = changes.Add t
 change_of Removal t = changes.Remove t
+change_of Attachment t = changes.Add t
 
 abbrev pub changes_of : ChangeKind → List Triple → List Change
 changes_of Addition ts = additions ts
 changes_of Removal ts = removals ts
+changes_of Attachment ts = additions ts
+
+-- whose the blank nodes of such a block are
+abbrev pub name_kind_of : ChangeKind → NameKind
+name_kind_of Addition = kinds.Fresh
+name_kind_of Removal = kinds.Known
+name_kind_of Attachment = kinds.Attach
 
 -- the command of a block of triples, and the reply to one of so many
 abbrev pub command_of : ChangeKind → List Triple → Command
 command_of Addition ts = Add ts
 command_of Removal ts = Remove ts
+command_of Attachment ts = Attach ts
 
 abbrev pub reply_of : ChangeKind → ℕ → SessionReply
 reply_of Addition count = Added count
 reply_of Removal count = Removed count
+reply_of Attachment count = Attached count
 
 -- the transaction that begins at the snapshot
 abbrev pub begun_at : Snapshot → OpenTransaction

@@ -43,6 +43,10 @@ pub fn block_refusal(command: &Command) -> Result<SessionReply, AllocError>
             line: *line,
             kind: *kind,
         }),
+        Command::BadAttach { line, kind } => Ok(SessionReply::AttachRefused {
+            line: *line,
+            kind: *kind,
+        }),
         Command::BadShapes { line, kind } => Ok(SessionReply::ShapesRefused {
             line: *line,
             kind: *kind,

@@ -4,7 +4,7 @@ ghost use Rattle.store_model.specs.Store.{HasChange, NetNamed};
 ghost use Rattle.session_model.specs.Sessions.{found_by};
 ghost use Rattle.session_transaction.specs.Checks.{CheckSteps, Checks, checked_of, handed_back, handed_in, rows_of, verdict_of};
 ghost use Rattle.session_transaction.specs.Transactions;
-ghost use Rattle.session_transaction.specs.Transactions.{begun_at, change_of, changes_of, plain};
+ghost use Rattle.session_transaction.specs.Transactions.{begun_at, change_of, changes_of, name_kind_of, plain};
 
 use collections::Sequence;
 use commit_core::{CheckedNet, CheckedTransaction, Snap, Transaction, Verdict};
@@ -16,6 +16,7 @@ use shapes_graph::ShapesGraph;
 use std::alloc::{AllocError, Global};
 use std::mem;
 use std::sync::ledger::Ledger;
+use store_model::NameKind;
 
 /// A session's open transaction, with the snapshot of its begin, and with what was checked of its changes since the last of them.
 pub struct OpenTransaction {
@@ -41,6 +42,8 @@ impl Drop for OpenTransaction {
 pub enum ChangeKind {
     Addition,
     Removal,
+    /// An addition about stored blank nodes.
+    Attachment,
 }
 
 impl ChangeKind {
@@ -51,6 +54,7 @@ impl ChangeKind {
         match self {
             ChangeKind::Addition => Change::Add(triple),
             ChangeKind::Removal => Change::Remove(triple),
+            ChangeKind::Attachment => Change::Add(triple),
         }
     }
 
@@ -61,6 +65,18 @@ impl ChangeKind {
         match self {
             ChangeKind::Addition => SessionReply::Added(count),
             ChangeKind::Removal => SessionReply::Removed(count),
+            ChangeKind::Attachment => SessionReply::Attached(count),
+        }
+    }
+
+    /// Whose the blank nodes of a block are.
+    pub fn name_kind(self) -> NameKind
+        ensures { result ≡ name_kind_of self }
+    {
+        match self {
+            ChangeKind::Addition => NameKind::Fresh,
+            ChangeKind::Removal => NameKind::Known,
+            ChangeKind::Attachment => NameKind::Attach,
         }
     }
 }

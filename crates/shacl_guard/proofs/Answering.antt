@@ -10,6 +10,7 @@ use Rattle.guard_words.specs.declared.call.WordsFault.TheVariants as words
 use Rattle.input_files.specs.Loads.{Loads, LoadsFirst, NoneFailed}
 use Rattle.file_validation.specs.declared.fault.InputFault.{InputFault}
 use Rattle.file_validation.specs.declared.fault.InputFault.TheVariants as texts
+use Rattle.file_validation.specs.declared.validating.Explanation.{Explanation as Evidence}
 use Rattle.file_validation.specs.declared.validating.Validation.{Validation as Outcome}
 use Rattle.file_validation.specs.Validations.{IsCause}
 use Rattle.session_files.specs.declared.fault.RunFault.{RunFault}
@@ -20,10 +21,10 @@ use Rattle.session_files.specs.Faults.{IsStopped, StopsRun, count_loaded}
 use Rattle.validate_command.specs.declared.fault.ValidateFault.{ValidateFault}
 use Rattle.validate_command.specs.declared.fault.ValidateFault.TheVariants as validation
 use Rattle.validate_command.specs.declared.validated_files.ValidatedFiles.{ValidatedFiles}
-use Rattle.validate_command.specs.Validated.{AreValidated, both_files}
+use Rattle.validate_command.specs.Validated.{AreExplained, AreValidated, both_files}
 use Rattle.validate_command.specs.Faults.{StopsValidation}
 use Rattle.shacl_guard.specs.declared.request.Request.{Request}
-use Rattle.shacl_guard.specs.declared.request.Request.TheVariants.{Sessions, Validation, Load}
+use Rattle.shacl_guard.specs.declared.request.Request.TheVariants.{Sessions, Validation, Explanation, Load}
 use Rattle.shacl_guard.specs.declared.status.Status.{Status}
 use Rattle.shacl_guard.specs.declared.status.Status.TheVariants.{Done, Invalid, Usage, ReadFault, WriteFault, BadSession, Memory, TooLong, TooManyFiles, BadHistory, BadInput}
 use Rattle.shacl_guard.specs.Requests.{Unasked, files_in, request_of}
@@ -86,6 +87,12 @@ validation_fails validation.Memory held v before after h none = (h.0, h.1)
 validation_fails (validation.TooLong f) held v before after h none = cc
 validation_fails (validation.BadInput bad) held v before after h none = cc
 
+explanation_fails : (fault : ValidateFault) (held : Option Contents) (v : ValidatedFiles) (before after : Loads) → StopsValidation fault held v before after → error_line (of_validation fault) ≡ None → Fails (of_validation fault) held (Some (Explanation v)) before after
+explanation_fails validation.ReadFault held v before after h none = (validation.ReadFault, refl, h)
+explanation_fails validation.Memory held v before after h none = (h.0, h.1)
+explanation_fails (validation.TooLong f) held v before after h none = cc
+explanation_fails (validation.BadInput bad) held v before after h none = cc
+
 -- a generated load loads nothing
 load_out : (n : ℕ) (before after : Loads) → LoadsNone before after → RunsOut (Some (Load n)) before after
 load_out n before after h = ((0, h.0 ∙ sym (append-nil before.loaded)), h.1)
@@ -95,6 +102,8 @@ request_fails s held (Sessions r) before after none h =
     subst (λ (x : Status). Fails x held (Some (Sessions r)) before after) (sym h.1) (run_fails h.0 held r before after h.2 (subst (λ (x : Status). error_line x ≡ None) h.1 none))
 request_fails s held (Validation v) before after none h =
     subst (λ (x : Status). Fails x held (Some (Validation v)) before after) (sym h.1) (validation_fails h.0 held v before after h.2 (subst (λ (x : Status). error_line x ≡ None) h.1 none))
+request_fails s held (Explanation v) before after none h =
+    subst (λ (x : Status). Fails x held (Some (Explanation v)) before after) (sym h.1) (explanation_fails h.0 held v before after h.2 (subst (λ (x : Status). error_line x ≡ None) h.1 none))
 request_fails s held (Load n) before after none h = subst (λ (x : Status). Fails x held (Some (Load n)) before after) (sym h.0) (load_out n before after h.1)
 
 memory_fails : (s : Status) (held : Option Contents) (q : Option Request) (before after : Loads) → s ≡ Memory → after ≡ before → Fails s held q before after
@@ -131,6 +140,7 @@ validation_out (validation.BadInput bad) held v before after line h = ((2, h.1.0
 request_out : (s : Status) (held : Option Contents) (q : Request) (before after : Loads) → error_line s ≢ None → StopsRequest s held q before after → RunsOut (Some q) before after
 request_out s held (Sessions r) before after line h = run_out h.0 held r before after (subst (λ (x : Status). error_line x ≢ None) h.1 line) h.2
 request_out s held (Validation v) before after line h = validation_out h.0 held v before after (subst (λ (x : Status). error_line x ≢ None) h.1 line) h.2
+request_out s held (Explanation v) before after line h = validation_out h.0 held v before after (subst (λ (x : Status). error_line x ≢ None) h.1 line) h.2
 request_out s held (Load n) before after line h = load_out n before after h.1
 
 pub runs_out : (s : Status) (held : Option Contents) (q : Option Request) (before after : Loads) → error_line s ≢ None → StopsCall s held q before after → RunsOut q before after
@@ -144,6 +154,8 @@ tells_request : (held : Option Contents) (q : Request) (s : Status) (before afte
 tells_request held (Sessions r) s before after text h = inl h.0
 tells_request held (Validation v) s before after text (true, e, h) = inl e
 tells_request held (Validation v) s before after text (false, e, h) = inr e
+tells_request held (Explanation v) s before after text (true, e, h) = inl e
+tells_request held (Explanation v) s before after text (false, e, h) = inr e
 tells_request held (Load n) s before after text h = inl h.0
 
 tells : (held : Option Contents) (q : Option Request) (s : Status) (before after : Loads) (text : List ℕ) → IsDueOf held q s before after text → ((s ≡ Done) ⊎ (s ≡ Invalid)) ⊎ (error_line s ≡ Some text)
@@ -209,3 +221,7 @@ fault_grows validation.Memory held v before after h = same_grows before.refused 
 pub validation_grows : (held : Option Contents) (v : ValidatedFiles) (before after : Loads) (r : Result Outcome ValidateFault) → MatchResult r (AreValidated held v before after) (λ fault. StopsValidation fault held v before after) → OnlyGrows before.refused after.refused
 validation_grows held v before after (Ok o) h = same_grows before.refused after.refused h.5
 validation_grows held v before after (Err fault) h = fault_grows fault held v before after h
+
+pub explanation_grows : (held : Option Contents) (v : ValidatedFiles) (before after : Loads) (r : Result Evidence ValidateFault) → MatchResult r (AreExplained held v before after) (λ fault. StopsValidation fault held v before after) → OnlyGrows before.refused after.refused
+explanation_grows held v before after (Ok o) h = same_grows before.refused after.refused h.5
+explanation_grows held v before after (Err fault) h = fault_grows fault held v before after h

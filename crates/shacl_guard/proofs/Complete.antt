@@ -21,7 +21,7 @@ use Rattle.validate_command.specs.declared.fault.ValidateFault.TheVariants as va
 use Rattle.validate_command.specs.declared.validated_files.ValidatedFiles.{ValidatedFiles}
 use Rattle.validate_command.specs.Faults.{IsFirst, StopsValidation}
 use Rattle.shacl_guard.specs.declared.request.Request.{Request}
-use Rattle.shacl_guard.specs.declared.request.Request.TheVariants.{Sessions, Validation, Load}
+use Rattle.shacl_guard.specs.declared.request.Request.TheVariants.{Sessions, Validation, Explanation, Load}
 use Rattle.shacl_guard.specs.declared.status.Status.{Status}
 use Rattle.shacl_guard.specs.declared.status.Status.TheVariants.{Done, Invalid, Usage, ReadFault, WriteFault, BadSession, Memory, TooLong, TooManyFiles, BadHistory, BadInput}
 use Rattle.shacl_guard.specs.Statuses.{error_line, of_run, of_validation}
@@ -110,6 +110,7 @@ pub complete : (held : Option Contents) (q : Option Request) (s : Status) (befor
 complete None None s before after text d there = absurd there
 complete None (Some (Sessions r)) s before after text d there = absurd there
 complete None (Some (Validation v)) s before after text d there = absurd there
+complete None (Some (Explanation v)) s before after text d there = absurd there
 complete None (Some (Load n)) s before after text d there = load_complete None n s before after text d
 complete (Some held) None s before after text d there = absurd there
 complete (Some held) (Some (Load n)) s before after text d there = load_complete (Some held) n s before after text d
@@ -118,17 +119,22 @@ complete (Some held) (Some (Sessions r)) s before after text (inr d) there = run
 complete (Some held) (Some (Validation v)) s before after text (inl (true, e, g)) there = inl e
 complete (Some held) (Some (Validation v)) s before after text (inl (false, e, g)) there = inr (inl e)
 complete (Some held) (Some (Validation v)) s before after text (inr d) there = validation_complete d.0.0 held v s before after text there d.0.1 d.1 d.0.2
+complete (Some held) (Some (Explanation v)) s before after text (inl (true, e, g)) there = inl e
+complete (Some held) (Some (Explanation v)) s before after text (inl (false, e, g)) there = inr (inl e)
+complete (Some held) (Some (Explanation v)) s before after text (inr d) there = validation_complete d.0.0 held v s before after text there d.0.1 d.1 d.0.2
 
 -- memory ran out, without a text
 memory_answer : (held : Option Contents) (q : Option Request) → HasFiles held q → IsAnswered q Memory
 memory_answer None None there = absurd there
 memory_answer None (Some (Sessions r)) there = absurd there
 memory_answer None (Some (Validation v)) there = absurd there
+memory_answer None (Some (Explanation v)) there = absurd there
 memory_answer None (Some (Load n)) there = inr refl
 memory_answer (Some held) None there = absurd there
 memory_answer (Some held) (Some (Load n)) there = inr refl
 memory_answer (Some held) (Some (Sessions r)) there = inr (inl refl)
 memory_answer (Some held) (Some (Validation v)) there = inr (inr (inl refl))
+memory_answer (Some held) (Some (Explanation v)) there = inr (inr (inl refl))
 
 -- A load that failed joined the list of those that did.
 
@@ -165,6 +171,7 @@ load_failed : (held : Option Contents) (q : Option Request) (before after : Load
 load_failed held None before after same h = h
 load_failed held (Some (Sessions r)) before after same h = run_failed h.0 held r before after same h.1 h.2
 load_failed held (Some (Validation v)) before after same h = validation_failed h.0 held v before after same h.1 h.2
+load_failed held (Some (Explanation v)) before after same h = validation_failed h.0 held v before after same h.1 h.2
 load_failed held (Some (Load n)) before after same h = let no : ReadFault ≡ Memory = h.0 in cc
 
 -- nothing was due, and no load failed

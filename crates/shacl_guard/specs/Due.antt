@@ -7,10 +7,10 @@ use Rattle.session_files.specs.Runs.{AreRun}
 use Rattle.session_files.specs.Faults.{StopsRun}
 use Rattle.load_command.specs.Load.{IsLoad}
 use Rattle.validate_command.specs.declared.fault.ValidateFault.{ValidateFault}
-use Rattle.validate_command.specs.Validated.{AreValidated}
+use Rattle.validate_command.specs.Validated.{AreExplained, AreValidated}
 use Rattle.validate_command.specs.Faults.{StopsValidation}
 use Rattle.shacl_guard.specs.declared.request.Request.{Request}
-use Rattle.shacl_guard.specs.declared.request.Request.TheVariants.{Sessions, Validation, Load}
+use Rattle.shacl_guard.specs.declared.request.Request.TheVariants.{Sessions, Validation, Explanation, Load}
 use Rattle.shacl_guard.specs.declared.status.Status.{Status}
 use Rattle.shacl_guard.specs.declared.status.Status.TheVariants.{Done, Usage, ReadFault, Memory}
 use Rattle.shacl_guard.specs.Requests.{files_in, request_of}
@@ -20,11 +20,13 @@ use Rattle.shacl_guard.specs.Statuses.{error_line, of_conforms, of_run, of_valid
 abbrev pub LoadsNone : Loads → Loads → Type 0
 LoadsNone before after = (after.loaded ≡ before.loaded) × NoneFailed before after
 
--- The text that a request gives, with its status: what sessions print, with Done; the report of a validation, with Done where
--- the graph conforms and with Invalid where it doesn't; what is told of a generated load, with Done. All its files were loaded.
+-- The text that a request gives, with its status: what sessions print, with Done; the report of a validation, or the evidence of
+-- its results, with Done where the graph conforms and with Invalid where it doesn't; what is told of a generated load, with Done.
+-- All its files were loaded.
 abbrev pub Gives : Option Contents → Request → Status → Loads → Loads → List ℕ → Type 0
 Gives held (Sessions r) s before after text = (s ≡ Done) × AreRun held r before after text
 Gives held (Validation v) s before after text = (conforms : Bool) × (s ≡ of_conforms conforms) × AreValidated held v before after (record { conforms = conforms; report = text })
+Gives held (Explanation v) s before after text = (conforms : Bool) × (s ≡ of_conforms conforms) × AreExplained held v before after (record { conforms = conforms; blocks = text })
 Gives held (Load n) s before after text = (s ≡ Done) × IsLoad n before.refused after.refused text × LoadsNone before after
 
 -- Why it gives none, as the status tells it. The files up to the one that decided it were loaded. A generated load gives none
@@ -32,6 +34,7 @@ Gives held (Load n) s before after text = (s ≡ Done) × IsLoad n before.refuse
 abbrev pub StopsRequest : Status → Option Contents → Request → Loads → Loads → Type 0
 StopsRequest s held (Sessions r) before after = (fault : RunFault) × (s ≡ of_run fault) × StopsRun fault held r before after
 StopsRequest s held (Validation v) before after = (fault : ValidateFault) × (s ≡ of_validation fault) × StopsValidation fault held v before after
+StopsRequest s held (Explanation v) before after = (fault : ValidateFault) × (s ≡ of_validation fault) × StopsValidation fault held v before after
 StopsRequest s held (Load n) before after = (s ≡ Memory) × LoadsNone before after
 
 -- its text is due, or the line of the error

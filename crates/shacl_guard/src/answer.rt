@@ -18,7 +18,8 @@ use session_files::{SessionRun, run_files};
 use std::alloc::{AllocError, Global};
 use std::sync::Wait;
 use std::thread::Threads;
-use validate_command::{BadInput, ValidatedFiles, validate_files};
+use store_model::BlockMode;
+use validate_command::{BadInput, ValidatedFiles, explain_files, validate_files};
 
 /// A text that is due, and its status.
 #[derive(Drop)]
@@ -36,7 +37,8 @@ fn answer_sessions<R: Threads + Wait + Sync, F: Files, M: Maker, G: Gate>(
     maker: &mut M,
     gate: &G,
 ) -> Result<Answer, Status>
-    requires { run.now.limits.terms ≤ 2000000 }
+    requires terms { run.now.limits.terms ≤ 2000000 }
+    requires mode { run.now.limits.mode ≡ BlockMode.All }
     ensures answer { let before : Loads = record { loaded = F.loaded files.old; failed = F.failed files.old; refused = M.refused maker.old } in
         let after : Loads = record { loaded = F.loaded files.new; failed = F.failed files.new; refused = M.refused maker.new } in
         MatchResult result (λ a. Gives (F.holds files.old) (Request.Sessions run.now) a.status before after a.text)
@@ -73,6 +75,28 @@ fn answer_validation<F: Files, M: Maker>(
         Ok(validation) => Ok(Answer {
             status: Status::of_conforms(validation.conforms),
             text: validation.report,
+        }),
+        Err(fault) => Err(Status::from(fault)),
+    }
+}
+
+// What the explanation of a validation gives.
+fn answer_explanation<F: Files, M: Maker>(
+    alloc: Global,
+    explained: &ValidatedFiles,
+    files: &mut F,
+    maker: &mut M,
+) -> Result<Answer, Status>
+    ensures answer { let before : Loads = record { loaded = F.loaded files.old; failed = F.failed files.old; refused = M.refused maker.old } in
+        let after : Loads = record { loaded = F.loaded files.new; failed = F.failed files.new; refused = M.refused maker.new } in
+        MatchResult result (λ a. Gives (F.holds files.old) (Request.Explanation explained.now) a.status before after a.text)
+        (λ s. StopsRequest s (F.holds files.old) (Request.Explanation explained.now) before after) }
+    ensures refused { OnlyGrows (M.refused maker.old) (M.refused maker.new) }
+{
+    match explain_files(alloc, explained, files, maker) {
+        Ok(explanation) => Ok(Answer {
+            status: Status::of_conforms(explanation.conforms),
+            text: explanation.blocks,
         }),
         Err(fault) => Err(Status::from(fault)),
     }
@@ -121,6 +145,7 @@ fn answer_request<R: Threads + Wait + Sync, F: Files, M: Maker, G: Gate>(
     match request {
         Request::Sessions(run) => answer_sessions(rt, alloc, run, files, maker, gate),
         Request::Validation(validated) => answer_validation(alloc, validated, files, maker),
+        Request::Explanation(explained) => answer_explanation(alloc, explained, files, maker),
         Request::Load(n) => answer_load(rt, alloc, *n, maker, gate),
     }
 }

@@ -5,7 +5,7 @@ ghost use Rattle.shacl_guard.specs.Requests.{IsWithin, Unasked, request_of};
 use guard_words::{Call, Limits as Bounds, WordsFault, read_call};
 use session_files::SessionRun;
 use std::alloc::Global;
-use store_model::Limits;
+use store_model::{BlockMode, Limits};
 use validate_command::ValidatedFiles;
 
 /// What the words ask for.
@@ -15,17 +15,20 @@ pub enum Request {
     Sessions(SessionRun),
     /// A data graph is validated by a shapes graph.
     Validation(ValidatedFiles),
+    /// Such a validation is explained.
+    Explanation(ValidatedFiles),
     /// The generated load of so many numbers is run.
     Load(u32),
 }
 
-// The limits of the words as those of a store.
+// The limits of the words as those of a store, in which every result blocks.
 fn limits_of(bounds: Bounds) -> Limits
-    ensures { result ≡ record { terms = bounds.terms; triples = bounds.triples } }
+    ensures { result ≡ record { terms = bounds.terms; triples = bounds.triples; mode = BlockMode.All } }
 {
     Limits {
         terms: bounds.terms as usize,
         triples: bounds.triples as usize,
+        mode: BlockMode::All,
     }
 }
 
@@ -52,6 +55,13 @@ fn request_in(call: Call) -> Request
             data: data_file,
             shapes,
         } => Request::Validation(ValidatedFiles {
+            data_file,
+            shapes_file: shapes,
+        }),
+        Call::Explain {
+            data: data_file,
+            shapes,
+        } => Request::Explanation(ValidatedFiles {
             data_file,
             shapes_file: shapes,
         }),

@@ -11,7 +11,7 @@ use validate_command::{BadInput, ValidateFault};
 pub enum Status {
     /// All input was read to its end, and all was written. A graph that was validated conforms.
     Done,
-    /// A graph that was validated doesn't conform; its report was written.
+    /// A graph that was validated doesn't conform; its report was written, or the evidence of its results.
     Invalid,
     /// The words aren't those of a command.
     Usage,

@@ -1,10 +1,10 @@
-use crate::{ListComponent, ShapeComponent, ShapesComponent, TermComponent};
+use crate::{ListComponent, Members, ShapeComponent, ShapesComponent, TermComponent};
 use collections::Sequence;
 
 /// A component at a value of its parameter (SHACL section 4), over terms or numbers of terms. Shapes are named by their
 /// places in the list of all shapes. The one pattern of a shape stands apart.
 #[derive(Debug, Drop)]
-pub enum Constraint<T> {
+pub enum Constraint<T: Ord> {
     /// The component holds for the parameter.
     ByTerm {
         component: TermComponent,
@@ -14,7 +14,7 @@ pub enum Constraint<T> {
     ByList {
         component: ListComponent,
         parameter: T,
-        members: Sequence<T>,
+        members: Members<T>,
     },
     /// It holds for the shape that the parameter is.
     ByShape {

@@ -8,6 +8,7 @@
 mod bound;
 mod component;
 mod constraint;
+mod members;
 mod parts;
 mod pattern;
 mod shape;
@@ -17,6 +18,7 @@ pub use bound::{Bound, bind};
 pub use compiled_paths::{Path, bind_path};
 pub use component::{ListComponent, ShapeComponent, ShapesComponent, TermComponent};
 pub use constraint::Constraint;
+pub use members::Members;
 pub use pattern::Pattern;
 pub use shape::{Shape, Shapes};
 pub use shape_model::{Component, ResultRow};

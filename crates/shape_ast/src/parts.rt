@@ -6,7 +6,7 @@ ghost use Rattle.compiled_paths.specs.PathReadings.{HasEach, IsNamed};
 ghost use Rattle.shape_ast.specs.Readings.{HoldsOfConstraint, HoldsOfTarget, read_constraint, read_optional, read_optional_path, read_target};
 ghost use Rattle.shape_ast.specs.Binding.{IsBoundList, IsBoundPattern};
 
-use crate::{Constraint, Pattern, Target};
+use crate::{Constraint, ListComponent, Members, Pattern, Target};
 use collections::Sequence;
 use compiled_paths::{Path, bind_path};
 use rdf_model::{Names, Term};
@@ -120,6 +120,23 @@ pub(crate) fn bind_targets<N: Names>(
     Ok(bound)
 }
 
+// In the members of sh:in nodes are looked up, so they are kept in the order of numbers too.
+fn bind_members<N: Names>(
+    alloc: Global,
+    names: &N,
+    component: ListComponent,
+    members: &[Term],
+) -> Result<Members<u32>, AllocError>
+    requires { All (IsNamed (N.terms names.now)) members.now }
+    ensures { IfOk result (λ bound. IsBoundList (N.terms names.now) members.now bound) }
+{
+    let bound = bind_terms(alloc, names, members)?;
+    match component {
+        ListComponent::In => Members::sorted(alloc, bound),
+        ListComponent::LanguageIn => Ok(Members::listed(bound)),
+    }
+}
+
 // The places in the constraint are among so many.
 fn bind_constraint<N: Names>(
     alloc: Global,
@@ -147,7 +164,7 @@ fn bind_constraint<N: Names>(
         } => Constraint::ByList {
             component: *component,
             parameter: number_of(names, parameter),
-            members: bind_terms(alloc, names, members.as_slice())?,
+            members: bind_members(alloc, names, *component, members.as_slice())?,
         },
         Constraint::ByShape {
             component,

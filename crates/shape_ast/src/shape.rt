@@ -6,7 +6,7 @@ use rdf_model::Term;
 /// A shape (SHACL section 2), over terms or numbers of terms. Other shapes are named by their places in the list of all
 /// shapes.
 #[derive(Debug, Drop)]
-pub struct Shape<T> {
+pub struct Shape<T: Ord> {
     /// The node of the shapes graph that is the shape.
     pub node: T,
     /// The path of a property shape; a node shape has none. Of a deactivated shape's path only a predicate is kept, for which

@@ -35,9 +35,12 @@ impl<'a, R: Triples, N: Names> Model for Evaluation<'a, R, N> {
 
     ghost use Rattle.std.specs.Borrow.{u32 as word};
     ghost use Rattle.std.specs.Coded.{codes};
+    ghost use Rattle.std.specs.contracts.prelude.U32Ord.TheImpl as word_order;
+    ghost use Rattle.std.specs.contracts.prelude.U32PartialEq.TheImpl as word_equality;
+    ghost use Rattle.std.specs.contracts.prelude.U32PartialOrd.TheImpl as word_comparison;
     ghost use Rattle.shape_ast.specs.contracts.shape.Shape as shape_rows;
 
-    ghost coded = { Prim.hlevel (codes, (shape_rows.the_row word).coded) };
+    ghost coded = { Prim.hlevel (codes, (shape_rows.the_row word word_order.ghosts word_equality.ghosts word_comparison.ghosts).coded) };
 
     ghost view = { λ e. setting (N.terms e.names.now) (R.triples e.graph.now) e.words e.bound.now.shapes };
 

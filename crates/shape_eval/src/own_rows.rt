@@ -72,7 +72,7 @@ fn constraint_rows<R: Triples, N: Names>(
             component,
             members,
             ..
-        } => list_rows(&site, *component, members.as_slice()),
+        } => list_rows(&site, *component, members),
         Constraint::ByShape {
             component,
             shape: place,

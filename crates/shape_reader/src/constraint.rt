@@ -13,7 +13,7 @@ use crate::part::{Part, parts_of};
 use crate::place::{place_of, places_of};
 use collections::Sequence;
 use rdf_model::{Term, Triple};
-use shape_ast::{Constraint, ListComponent, ShapeComponent, ShapesComponent};
+use shape_ast::{Constraint, ListComponent, Members, ShapeComponent, ShapesComponent};
 use shape_properties::ShapeProperty;
 use shape_syntax::list::list_members;
 use std::alloc::{AllocError, Global};
@@ -31,7 +31,7 @@ fn by_list(
         Some(members) => Ok(Some(Constraint::ByList {
             component,
             parameter: value.clone()?,
-            members,
+            members: Members::listed(members),
         })),
         None => Ok(None),
     }

@@ -10,26 +10,24 @@ use Rattle.collections.specs.Ordered.{IsAscending}
 use Rattle.collections.proofs.Members.{has_cases, has_equal, has_tail, same_lists}
 use Rattle.rdf_model.specs.declared.change.Change.{Change}
 use Rattle.rdf_model.specs.declared.pattern.Pattern.{Pattern}
-use Rattle.rdf_model.specs.declared.term.Term.{Term}
 use Rattle.rdf_model.specs.declared.triple.Triple.{Triple}
 use Rattle.rdf_model.specs.Graphs.{after}
 use Rattle.rdf_model.specs.Matching.{is_found, matches}
 use Rattle.rdf_model.specs.Orders.{triple_exact, triple_total}
 use Rattle.rdf_model.specs.Terms.{triple_cmp}
-use Rattle.shape_model.specs.declared.result_row.ResultRow.{ResultRow}
 use Rattle.store_model.specs.declared.commit.Accepted.{Accepted}
 use Rattle.store_model.specs.declared.commit.Again.{Again}
 use Rattle.store_model.specs.declared.commit.Overtaker.{Overtaker}
 use Rattle.store_model.specs.declared.commit.Transaction.{Transaction}
 use Rattle.store_model.specs.declared.event.Action.{Action}
-use Rattle.store_model.specs.declared.event.Action.TheVariants.{Open, Begin, Name, Head, Commit, Void}
 use Rattle.store_model.specs.declared.event.Event.{Event}
 use Rattle.store_model.specs.declared.event.Limits.{Limits}
 use Rattle.store_model.specs.declared.event.Reply.{Reply}
-use Rattle.store_model.specs.declared.event.Reply.TheVariants.{Named, Full, Conflict, FullTriples, Done}
-use Rattle.store_model.specs.Store.{State, StepOf, Replays, Replies, empty_store, OpensNext, OpensNothing, CommitsByRows, CommitsByListing, CommitsWithinLimit, first_matching, named_with, overtaker, overtaker_from, overtaker_or, version}
+use Rattle.store_model.specs.declared.event.Reply.TheVariants.{Conflict, Done, Stopped}
+use Rattle.store_model.specs.Store.{State, StepOf, Replays, Replies, CommitsWithinLimit, CommitsUnlessOvertaken, first_matching, overtaker, overtaker_from, overtaker_or, version, with_named}
 use Rattle.store_model.specs.Finds.{found}
 use Rattle.store_model.proofs.Histories.{IsAscending-after}
+use Rattle.store_model.proofs.Outcomes.{outcome}
 use Rattle.store_model.proofs.SetMembers.{ascending-filter, member-filter}
 use Rattle.store_laws.specs.Graphs.{has, holds_after, last_effect}
 use Rattle.store_laws.specs.Serial.{FindsAreSerializable}
@@ -82,6 +80,10 @@ left_alone n ps (a ∷ as') t h r = elim (first_matching ps a.changed) as (λ o.
   | None ↦ λ e g. (unmatched ps a.changed t e r, left_alone (n + 1) ps as' t g r)
 ] refl h
 
+not_stopped : (l : Limits) (s u : State) (x : Transaction) (n : ℕ) (why : Again) (b : Bool) → MatchBool b (Replies (Stopped (version s)) s (Done n why) u) (CommitsUnlessOvertaken l s x (Done n why) u) → CommitsUnlessOvertaken l s x (Done n why) u
+not_stopped l s u x n why true h = let e : Done n why ≡ Stopped (version s) = h.0 in cc
+not_stopped l s u x n why false h = h
+
 not_overtaken : (l : Limits) (s u : State) (x : Transaction) (n : ℕ) (why : Again) (o : Option Overtaker) → MatchOption o (CommitsWithinLimit l s x (Done n why) u) (λ h. Replies (Conflict h.commit h.triple) s (Done n why) u) → o ≡ None
 not_overtaken l s u x n why None h = refl
 not_overtaken l s u x n why (Some y) h = let e : Done n why ≡ Conflict y.commit y.triple = h.0 in cc
@@ -100,33 +102,14 @@ Ascends s = IsAscending triple_cmp s.graph
 kept : (s t u : State) → t ≡ u → u.graph ≡ s.graph → Ascends s → Ascends t
 kept s t u e g a = subst (λ (x : State). Ascends x) (sym e) (subst (λ (ts : List Triple). IsAscending triple_cmp ts) (sym g) a)
 
-opened : (s t : State) (i : ℕ) (r : Reply) (b : Bool) → MatchBool b (OpensNext s i r t) (OpensNothing s i r t) → Ascends s → Ascends t
-opened s t i r true h a = kept s t (record s { opened = s.opened + 1 }) h.1.1 refl a
-opened s t i r false h a = kept s t s h.1.1 refl a
-
-named : (s t : State) (ts : List Term) (p r : Reply) (b : Bool) → MatchBool b (Replies p s r t) (Replies Named (record s { named = named_with s.named ts }) r t) → Ascends s → Ascends t
-named s t ts p r true h a = kept s t s h.1 refl a
-named s t ts p r false h a = kept s t (record s { named = named_with s.named ts }) h.1 refl a
-
-by_rows : (s t : State) (x : Transaction) (r : Reply) (rows : List ResultRow) → CommitsByRows s x rows r t → Ascends s → Ascends t
-by_rows s t x r [] h a = subst (λ (y : State). Ascends y) (sym h.1) (IsAscending-after s.graph x.net a)
-by_rows s t x r (row ∷ rows) h a = kept s t s h.1 refl a
-
-weighed : (s t : State) (x : Transaction) (p r : Reply) (b : Bool) → MatchBool b (Replies p s r t) (CommitsByListing s x r t) → Ascends s → Ascends t
-weighed s t x p r true h a = kept s t s h.1 refl a
-weighed s t x p r false h a = by_rows s t x r h.0 h.2 a
-
-committed_by : (l : Limits) (s t : State) (x : Transaction) (r : Reply) (o : Option Overtaker) → MatchOption o (CommitsWithinLimit l s x r t) (λ h. Replies (Conflict h.commit h.triple) s r t) → Ascends s → Ascends t
-committed_by l s t x r None h a = weighed s t x (FullTriples (length (after s.graph x.net))) r (nat_lt l.triples (length (after s.graph x.net))) h a
-committed_by l s t x r (Some y) h a = kept s t s h.1 refl a
-
 stepped : (l : Limits) (s t : State) (i : ℕ) (a : Action) (r : Reply) → StepOf l s i a r t → Ascends s → Ascends t
-stepped l s t i Open r h a = opened s t i r (nat_lt s.opened 64) h a
-stepped l s t i Begin r h a = kept s t s h.1.1 refl a
-stepped l s t i (Name ts) r h a = named s t ts (Full (length (named_with s.named ts) - 2)) r (nat_lt (l.terms + 2) (length (named_with s.named ts))) h.1 a
-stepped l s t i Head r h a = kept s t s h.1.1 refl a
-stepped l s t i (Commit x) r h a = committed_by l s t x r (overtaker s.commits x.base x.finds) h.2 a
-stepped l s t i Void r h a = kept s t s h.1.1 refl a
+stepped l s t i a r h k = elim (outcome l s t i a r h) [
+  | inl e ↦ kept s t s e.state refl k
+  | inr (inl e) ↦ kept s t (record s { opened = s.opened + 1 }) e.state refl k
+  | inr (inr (inl e)) ↦ kept s t (with_named s e.kind e.terms) e.state refl k
+  | inr (inr (inr (inl e))) ↦ subst (λ (x : State). Ascends x) (sym e.state) (IsAscending-after s.graph e.transaction.net k)
+  | inr (inr (inr (inr e))) ↦ kept s t (record s { stopped = true }) e.state refl k
+]
 
 replayed : (l : Limits) (s t : State) (es : List Event) → Replays l s es t → Ascends s → Ascends t
 replayed l s t [] h a = kept s t s h refl a
@@ -155,9 +138,10 @@ same_finds g h p a b e =
     (λ t. let alike = found_alike g h p t (e t) in (λ c. to_list (found h p) t (sym alike ∙ to_test (found g p) t c), λ c. to_list (found g p) t (alike ∙ to_test (found h p) t c)))
 
 pub finds_are_serializable : FindsAreSerializable
-finds_are_serializable l base last next earlier between i n x why p changes h k e step c =
-    let none : overtaker_from (x.base + 1) x.finds (drop x.base last.commits) ≡ None = not_overtaken l last next x n why (overtaker last.commits x.base x.finds) step.2 in
-    let at_base : Ascends base = replayed l empty_store base earlier h tt in
+finds_are_serializable l start base last next earlier between i n x why p changes a h k e step c =
+    let alone : CommitsUnlessOvertaken l last x (Done n why) next = not_stopped l last next x n why last.stopped step.2 in
+    let none : overtaker_from (x.base + 1) x.finds (drop x.base last.commits) ≡ None = not_overtaken l last next x n why (overtaker last.commits x.base x.finds) alone in
+    let at_base : Ascends base = replayed l start base earlier h a in
     let at_last : Ascends last = replayed l base last between k at_base in
     let left : (t : Triple) → matches p t ≡ true → LeaveTriple t (drop (version base) last.commits) =
     λ t m. subst (λ (v : ℕ). LeaveTriple t (drop v last.commits)) e (left_alone (x.base + 1) x.finds (drop x.base last.commits) t none (asked x.finds p t c m)) in

@@ -1,6 +1,8 @@
+pub mod Blocking
 pub mod Commits
 pub mod Graphs
 pub mod Names
+pub mod Nodes
 pub mod Runs
 pub mod Serial
 pub mod Verdicts

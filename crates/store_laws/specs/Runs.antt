@@ -1,9 +1,10 @@
--- Files and an order have one run at most.
+-- Files, an order and the state that a store begins in have one run at most.
 use Rattle.std.specs.Prelude.{◌≡◌, ℕ, List}
 use Rattle.store_model.specs.declared.event.Limits.{Limits}
+use Rattle.store_model.specs.Store.{State}
 use Rattle.session_model.specs.declared.command.Command.{Command}
 use Rattle.session_model.specs.declared.reply.SessionReply.{SessionReply}
 use Rattle.session_model.specs.Sessions.{HasReplies}
 
 abbrev pub OrderGivesOneRun : Type 0
-OrderGivesOneRun = (files : List (List Command)) (l : Limits) (order : List ℕ) (a b : List (List SessionReply)) → HasReplies files l order a → HasReplies files l order b → b ≡ a
+OrderGivesOneRun = (files : List (List Command)) (l : Limits) (s : State) (order : List ℕ) (a b : List (List SessionReply)) → HasReplies files l s order a → HasReplies files l s order b → b ≡ a

@@ -1,5 +1,9 @@
 pub mod Histories
 pub mod Steps
+pub mod Outcomes
 pub mod SetMembers
 pub mod Differing
 pub mod Versions
+pub mod Blocking
+pub mod Logs
+pub mod Nodes

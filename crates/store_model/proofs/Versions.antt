@@ -1,26 +1,21 @@
 -- From one version of a history to a later one.
-use Rattle.std.proofs.Common.{◌≡◌, ℕ, ◌+◌, ◌-◌, Bool, true, false, not, ◌&&◌, ◌||◌, nat_lt, List, [], ◌∷◌, ◌++◌, length, drop, Option, Some, None, refl, sym, ap, ◌∙◌, subst}
-use Rattle.std.specs.Prelude.{MatchBool, MatchOption}
+use Rattle.std.proofs.Common.{◌≡◌, ℕ, ◌+◌, Bool, true, false, not, ◌&&◌, ◌||◌, List, [], ◌∷◌, ◌++◌, length, drop, Option, Some, None, refl, sym, ap, ◌∙◌, subst, inl, inr}
 use Rattle.std.specs.List.{AllByRecursion}
 use Rattle.std.proofs.lemmas.List.{append-nil, append_assoc}
 use Rattle.std.proofs.Math.Seq.{drop-append_seam}
-use Rattle.rdf_model.specs.declared.term.Term.{Term}
 use Rattle.rdf_model.specs.declared.triple.Triple.{Triple}
 use Rattle.rdf_model.specs.Graphs.{after, differing}
-use Rattle.shape_model.specs.declared.result_row.ResultRow.{ResultRow}
 use Rattle.store_model.specs.declared.event.Limits.{Limits}
 use Rattle.store_model.specs.declared.event.Event.{Event}
 use Rattle.store_model.specs.declared.event.Action.{Action}
-use Rattle.store_model.specs.declared.event.Action.TheVariants.{Open, Begin, Name, Head, Commit, Void}
 use Rattle.store_model.specs.declared.event.Reply.{Reply}
-use Rattle.store_model.specs.declared.event.Reply.TheVariants.{Named, Full, Conflict, FullTriples}
 use Rattle.store_model.specs.declared.commit.Accepted.{Accepted}
-use Rattle.store_model.specs.declared.commit.Overtaker.{Overtaker}
 use Rattle.store_model.specs.declared.commit.Transaction.{Transaction}
-use Rattle.store_model.specs.Store.{State, StepOf, Replays, Replies, OpensNext, OpensNothing, CommitsByRows, CommitsByListing, CommitsWithinLimit, committed, is_staged, named_with, overtaker, shapes_under, version}
+use Rattle.store_model.specs.Store.{State, StepOf, Replays, committed, is_staged, shapes_under, version, with_named}
 use Rattle.rdf_model.specs.Terms.{triple_cmp}
 use Rattle.collections.specs.Ordered.{has_item}
 use Rattle.store_model.proofs.Differing.{member-differing}
+use Rattle.store_model.proofs.Outcomes.{outcome}
 
 -- the commits from one state to a later one, and what they leave as it was
 pub record Grows (s u : State) : Type 0 where
@@ -58,33 +53,14 @@ grown s x = record {
   shapes = λ h. unstaged s.shapes x.staged h.0;
 }
 
-opened : (s u : State) (i : ℕ) (r : Reply) (b : Bool) → MatchBool b (OpensNext s i r u) (OpensNothing s i r u) → Grows s u
-opened s u i r true h = subst (λ (x : State). Grows s x) (sym h.1.1) (still s (record s { opened = s.opened + 1 }) refl refl refl)
-opened s u i r false h = same s u h.1.1
-
-named : (s u : State) (ts : List Term) (p r : Reply) (b : Bool) → MatchBool b (Replies p s r u) (Replies Named (record s { named = named_with s.named ts }) r u) → Grows s u
-named s u ts p r true h = same s u h.1
-named s u ts p r false h = subst (λ (x : State). Grows s x) (sym h.1) (still s (record s { named = named_with s.named ts }) refl refl refl)
-
-by_rows : (s u : State) (x : Transaction) (r : Reply) (rows : List ResultRow) → CommitsByRows s x rows r u → Grows s u
-by_rows s u x r [] h = subst (λ (y : State). Grows s y) (sym h.1) (grown s x)
-by_rows s u x r (row ∷ rows) h = same s u h.1
-
-weighed : (s u : State) (x : Transaction) (p r : Reply) (b : Bool) → MatchBool b (Replies p s r u) (CommitsByListing s x r u) → Grows s u
-weighed s u x p r true h = same s u h.1
-weighed s u x p r false h = by_rows s u x r h.0 h.2
-
-committed_by : (l : Limits) (s u : State) (x : Transaction) (r : Reply) (o : Option Overtaker) → MatchOption o (CommitsWithinLimit l s x r u) (λ h. Replies (Conflict h.commit h.triple) s r u) → Grows s u
-committed_by l s u x r None h = weighed s u x (FullTriples (length (after s.graph x.net))) r (nat_lt l.triples (length (after s.graph x.net))) h
-committed_by l s u x r (Some y) h = same s u h.1
-
 stepped : (l : Limits) (s u : State) (i : ℕ) (a : Action) (r : Reply) → StepOf l s i a r u → Grows s u
-stepped l s u i Open r h = opened s u i r (nat_lt s.opened 64) h
-stepped l s u i Begin r h = same s u h.1.1
-stepped l s u i (Name ts) r h = named s u ts (Full (length (named_with s.named ts) - 2)) r (nat_lt (l.terms + 2) (length (named_with s.named ts))) h.1
-stepped l s u i Head r h = same s u h.1.1
-stepped l s u i (Commit x) r h = committed_by l s u x r (overtaker s.commits x.base x.finds) h.2
-stepped l s u i Void r h = same s u h.1.1
+stepped l s u i a r h = elim (outcome l s u i a r h) [
+  | inl e ↦ same s u e.state
+  | inr (inl e) ↦ subst (λ (x : State). Grows s x) (sym e.state) (still s (record s { opened = s.opened + 1 }) refl refl refl)
+  | inr (inr (inl e)) ↦ subst (λ (x : State). Grows s x) (sym e.state) (still s (with_named s e.kind e.terms) refl refl refl)
+  | inr (inr (inr (inl e))) ↦ subst (λ (x : State). Grows s x) (sym e.state) (grown s e.transaction)
+  | inr (inr (inr (inr e))) ↦ subst (λ (x : State). Grows s x) (sym e.state) (still s (record s { stopped = true }) refl refl refl)
+]
 
 front : (P : Accepted → Type 0) (a b : List Accepted) → AllByRecursion P (a ++ b) → AllByRecursion P a
 front P [] b h = tt

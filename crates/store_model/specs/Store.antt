@@ -1,5 +1,5 @@
 -- The plain store: its state, its steps and the histories that they make.
-use Rattle.std.specs.Prelude.{◌≡◌, ℕ, ◌+◌, ◌-◌, ◌<◌, ◌≤◌, Bool, true, false, List, [], ◌∷◌, ◌++◌, length, drop, Option, Some, None, map, nat_lt, MatchBool, MatchOption, if◌then◌else◌}
+use Rattle.std.specs.Prelude.{◌≡◌, ◌⊎◌, ℕ, ◌+◌, ◌-◌, ◌<◌, ◌≤◌, Bool, true, false, List, [], ◌∷◌, ◌++◌, length, drop, Option, Some, None, map, nat_lt, MatchBool, MatchOption, if◌then◌else◌}
 use Rattle.std.specs.List.{AllByRecursion}
 use Rattle.rdf_model.specs.declared.term.Term.{Term}
 use Rattle.rdf_model.specs.declared.triple.Triple.{Triple}
@@ -7,6 +7,7 @@ use Rattle.rdf_model.specs.declared.change.Change.{Change}
 use Rattle.rdf_model.specs.declared.change.Change.TheVariants.{Add, Remove}
 use Rattle.rdf_model.specs.Terms.{term_cmp}
 use Rattle.store_model.specs.declared.event.Limits.{Limits}
+use Rattle.store_model.specs.declared.event.NameKind.{NameKind}
 use Rattle.rdf_model.specs.declared.pattern.Pattern.{Pattern}
 use Rattle.rdf_model.specs.declared.look.Look.{Look}
 use Rattle.rdf_model.specs.declared.look.Look.TheVariants.{Out, In, OutAny}
@@ -20,13 +21,15 @@ use Rattle.store_model.specs.declared.commit.Again.TheVariants.{No, OwnShapes, N
 use Rattle.store_model.specs.declared.event.Action.{Action}
 use Rattle.store_model.specs.declared.event.Action.TheVariants.{Open, Begin, Name, Head, Commit, Void}
 use Rattle.store_model.specs.declared.event.Reply.{Reply}
-use Rattle.store_model.specs.declared.event.Reply.TheVariants.{Session, SessionsFull, Version, Named, Full, Conflict, FullTriples, Refused, Done, Nothing}
+use Rattle.store_model.specs.declared.event.Reply.TheVariants.{Session, SessionsFull, Version, Named, Unknown, Full, Conflict, FullTriples, Refused, Done, LogFault, Stopped, Nothing}
 use Rattle.store_model.specs.declared.event.Event.{Event}
 use Rattle.collections.specs.Ordered.{has_item}
 use Rattle.rdf_model.specs.Graphs.{after, differing}
 use Rattle.rdf_model.specs.Matching.{same_term, is_found, is_read}
 use Rattle.shape_model.specs.Validation.{Listing}
 use Rattle.shape_model.specs.Vocabulary.{rdf_type, sub_class_of}
+use Rattle.store_model.specs.Blocking.{has_blocking}
+use Rattle.store_model.specs.Nodes.{given_by, unknown_by}
 
 -- The named terms with more: each new one goes to the end, so that a term's number, its place, never changes.
 abbrev pub named_with : List Term → List Term → List Term
@@ -56,17 +59,20 @@ looked_at (OutAny x) = x ∷ []
 abbrev pub AreNamed : List Term → List Term → Type 0
 AreNamed named ts = AllByRecursion (λ t. has_item term_cmp t named ≡ true) ts
 
--- What the store keeps. `named` begins with rdf:type and rdfs:subClassOf, which the limit doesn't count;
--- `opened` is the number of sessions given out.
+-- What the store keeps. `named` begins with rdf:type and rdfs:subClassOf, which the limit doesn't count; `given` is the
+-- set of the blank nodes that were given out, ascending; `opened` is the number of sessions given out; a store is stopped
+-- once its log failed.
 pub record State : Type 0 where
   pub graph : List Triple
   pub shapes : List Triple
   pub commits : List Accepted
   pub named : List Term
+  pub given : List Term
   pub opened : ℕ
+  pub stopped : Bool
 
 abbrev pub empty_store : State
-empty_store = record { graph = []; shapes = []; commits = []; named = rdf_type ∷ sub_class_of ∷ []; opened = 0 }
+empty_store = record { graph = []; shapes = []; commits = []; named = rdf_type ∷ sub_class_of ∷ []; given = []; opened = 0; stopped = false }
 
 abbrev pub version : State → ℕ
 version s = length s.commits
@@ -162,29 +168,50 @@ committed s x = record s {
   commits = s.commits ++ record { changed = differing s.graph (after s.graph x.net); staged = is_staged x.staged } ∷ [];
 }
 
--- A commit's answer, from the last case to the first: by the results of the graph that would be, after the test
--- of its size, after the test for an overtaking commit.
-abbrev pub CommitsByRows : State → Transaction → List ResultRow → Reply → State → Type 0
-CommitsByRows s x [] r t = Replies (Done (version s + 1) (again s.commits x.staged x.verdict)) (committed s x) r t
-CommitsByRows s x (row ∷ rows) r t = Replies (Refused (row ∷ rows) (again s.commits x.staged x.verdict)) s r t
+-- A commit's answer, from the last case to the first. Where nothing stands against it, it is accepted; or the store's log
+-- failed at it, which leaves the store as it was, but stopped.
+abbrev pub AcceptsCommit : State → Transaction → Reply → State → Type 0
+AcceptsCommit s x r t = Replies (Done (version s + 1) (again s.commits x.staged x.verdict)) (committed s x) r t ⊎ Replies LogFault (record s { stopped = true }) r t
 
-abbrev pub CommitsByListing : State → Transaction → Reply → State → Type 0
-CommitsByListing s x r t = (rows : List ResultRow) × Listing (after s.graph x.net) (shapes_under s.shapes x.staged) rows × CommitsByRows s x rows r t
+-- by the results of the graph that would be: it is refused, with all of them, where one of them blocks
+abbrev pub CommitsByRows : Limits → State → Transaction → List ResultRow → Reply → State → Type 0
+CommitsByRows l s x rows r t = MatchBool (has_blocking l.mode (shapes_under s.shapes x.staged) rows) (Replies (Refused rows (again s.commits x.staged x.verdict)) s r t) (AcceptsCommit s x r t)
 
+abbrev pub CommitsByListing : Limits → State → Transaction → Reply → State → Type 0
+CommitsByListing l s x r t = (rows : List ResultRow) × Listing (after s.graph x.net) (shapes_under s.shapes x.staged) rows × CommitsByRows l s x rows r t
+
+-- after the test of the graph's size
 abbrev pub CommitsWithinLimit : Limits → State → Transaction → Reply → State → Type 0
-CommitsWithinLimit l s x r t = MatchBool (nat_lt l.triples (length (after s.graph x.net))) (Replies (FullTriples (length (after s.graph x.net))) s r t) (CommitsByListing s x r t)
+CommitsWithinLimit l s x r t = MatchBool (nat_lt l.triples (length (after s.graph x.net))) (Replies (FullTriples (length (after s.graph x.net))) s r t) (CommitsByListing l s x r t)
 
+-- after the test for an overtaking commit
+abbrev pub CommitsUnlessOvertaken : Limits → State → Transaction → Reply → State → Type 0
+CommitsUnlessOvertaken l s x r t = MatchOption (overtaker s.commits x.base x.finds) (CommitsWithinLimit l s x r t) (λ h. Replies (Conflict h.commit h.triple) s r t)
+
+-- a store that is stopped answers nothing else
 abbrev pub AnswersCommit : Limits → State → Transaction → Reply → State → Type 0
-AnswersCommit l s x r t = MatchOption (overtaker s.commits x.base x.finds) (CommitsWithinLimit l s x r t) (λ h. Replies (Conflict h.commit h.triple) s r t)
+AnswersCommit l s x r t = MatchBool s.stopped (Replies (Stopped (version s)) s r t) (CommitsUnlessOvertaken l s x r t)
 
-abbrev pub AnswersName : Limits → State → List Term → Reply → State → Type 0
-AnswersName l s ts r t = MatchBool (nat_lt (l.terms + 2) (length (named_with s.named ts))) (Replies (Full (length (named_with s.named ts) - 2)) s r t) (Replies Named (record s { named = named_with s.named ts }) r t)
+-- the store with more terms named, those of a block of this kind
+abbrev pub with_named : State → NameKind → List Term → State
+with_named s kind ts = record s { named = named_with s.named ts; given = given_by kind s.given ts }
+
+abbrev pub NamesWithinLimit : Limits → State → NameKind → List Term → Reply → State → Type 0
+NamesWithinLimit l s kind ts r t = MatchBool (nat_lt (l.terms + 2) (length (named_with s.named ts))) (Replies (Full (length (named_with s.named ts) - 2)) s r t) (Replies Named (with_named s kind ts) r t)
+
+-- by the nodes for which the block is refused: the first is told
+abbrev pub NamesUnless : List Term → Limits → State → NameKind → List Term → Reply → State → Type 0
+NamesUnless [] l s kind ts r t = NamesWithinLimit l s kind ts r t
+NamesUnless (node ∷ nodes) l s kind ts r t = Replies (Unknown node) s r t
+
+abbrev pub AnswersName : Limits → State → NameKind → List Term → Reply → State → Type 0
+AnswersName l s kind ts r t = NamesUnless (unknown_by kind s.given ts) l s kind ts r t
 
 -- From s, the store answers session i's action by r, and is t afterwards.
 abbrev pub StepOf : Limits → State → ℕ → Action → Reply → State → Type 0
 StepOf l s i Open r t = MatchBool (nat_lt s.opened 64) (OpensNext s i r t) (OpensNothing s i r t)
 StepOf l s i Begin r t = IsOpened s i × Replies (Version (version s)) s r t
-StepOf l s i (Name terms) r t = IsOpened s i × AnswersName l s terms r t
+StepOf l s i (Name kind terms) r t = IsOpened s i × AnswersName l s kind terms r t
 StepOf l s i Head r t = IsOpened s i × Replies (Version (version s)) s r t
 StepOf l s i (Commit x) r t = IsOpened s i × IsCommittable s x × AnswersCommit l s x r t
 StepOf l s i Void r t = (i ≤ s.opened) × Replies Nothing s r t
@@ -197,9 +224,10 @@ abbrev pub Replays : Limits → State → List Event → State → Type 0
 Replays l s [] t = t ≡ s
 Replays l s (e ∷ es) t = (m : State) × Step l s e m × Replays l m es t
 
--- a store with its limits and the history that led to it
+-- a store with its limits, the state that its history begins at, and the history that led from there
 pub record RecordedStore : Type 0 where
   pub limits : Limits
+  pub start : State
   pub state : State
   pub history : List Event
 
@@ -207,8 +235,19 @@ pub record RecordedStore : Type 0 where
 pub record TakesStep (old new : RecordedStore) (e : Event) : Type 0 where
   pub step : Step old.limits old.state e new.state
   pub limits : new.limits ≡ old.limits
+  pub start : new.start ≡ old.start
   pub history : new.history ≡ old.history ++ e ∷ []
 
--- A law of the store: at most one reply and one state follow.
-abbrev pub StepIsDeterministic : Type 0
-StepIsDeterministic = (l : Limits) (s t u : State) (i : ℕ) (a : Action) (q r : Reply) → StepOf l s i a q t → StepOf l s i a r u → (r ≡ q) × (u ≡ t)
+-- A law of the store: one state at most follows a reply.
+abbrev pub ReplyGivesOneState : Type 0
+ReplyGivesOneState = (l : Limits) (s t u : State) (i : ℕ) (a : Action) (r : Reply) → StepOf l s i a r t → StepOf l s i a r u → u ≡ t
+
+-- one of them accepts a commit, and the other says that the log failed at it
+abbrev pub AcceptsOrFails : Reply → Reply → Type 0
+AcceptsOrFails (Done n why) LogFault = Unit {0}
+AcceptsOrFails LogFault (Done n why) = Unit {0}
+AcceptsOrFails q r = ⊥
+
+-- A law of the store: an action has one reply at most, but for a log's failure at a commit that is else accepted.
+abbrev pub StepGivesOneReply : Type 0
+StepGivesOneReply = (l : Limits) (s t u : State) (i : ℕ) (a : Action) (q r : Reply) → StepOf l s i a q t → StepOf l s i a r u → (r ≡ q) ⊎ AcceptsOrFails q r

@@ -6,11 +6,34 @@ use collections::Sequence;
 use rdf_model::{Term, Triple};
 use shape_model::ResultRow;
 
-/// How many terms a store names and how many triples its graph has, at most.
+/// Which results keep a commit from being accepted, by the severity of their shape (SHACL section
+/// 2.1.4).
+#[derive(Clone, Copy, Debug, PartialEq, Eq)]
+pub enum BlockMode {
+    /// Every result.
+    All,
+    /// Every result but those of `sh:Warning` and of `sh:Info`.
+    Violation,
+}
+
+/// How many terms a store names and how many triples its graph has, at most, and which results
+/// its graph has none of.
 #[derive(Clone, Copy, Debug, PartialEq, Eq)]
 pub struct Limits {
     pub terms: usize,
     pub triples: usize,
+    pub mode: BlockMode,
+}
+
+/// Whose blank nodes the terms of a block are.
+#[derive(Clone, Copy, Debug, PartialEq, Eq)]
+pub enum NameKind {
+    /// Of the block itself: naming gives them out.
+    Fresh,
+    /// Of the store, which may have them or not.
+    Known,
+    /// Of the store, which has given each of them out.
+    Attach,
 }
 
 /// What a session asks of the store in one step.
@@ -20,8 +43,8 @@ pub enum Action {
     Open,
     /// The newest version, for a transaction.
     Begin,
-    /// Names for these terms.
-    Name(Sequence<Term>),
+    /// Names for the terms of a block of this kind.
+    Name(NameKind, Sequence<Term>),
     /// The newest version, for a commit.
     Head,
     Commit(Transaction),
@@ -35,7 +58,7 @@ impl Drop for Action {
         match self {
             Action::Open => {}
             Action::Begin => {}
-            Action::Name(_) => {}
+            Action::Name(_, _) => {}
             Action::Head => {}
             Action::Commit(_) => {}
             Action::Void => {}
@@ -65,16 +88,23 @@ pub enum Reply {
     /// The newest version.
     Version(u64),
     Named,
+    /// The least blank node of the terms that wasn't given out.
+    Unknown(Term),
     /// So many terms would be named, more than the limit.
     Full(usize),
     /// The overtaking commit, and the first triple of it that a find asked for.
     Conflict(u64, Triple),
     /// The graph would have so many triples, more than the limit.
     FullTriples(usize),
-    /// The graph would have these results.
+    /// The graph would have these results, of which one blocks.
     Refused(Sequence<ResultRow>, Again),
     /// The commit's number: the version that it made.
     Done(u64, Again),
+    /// The store's log failed where the commit would have been accepted; from here on the store is
+    /// stopped.
+    LogFault,
+    /// The version of a store that is stopped.
+    Stopped(u64),
     Nothing,
 }
 
@@ -86,11 +116,14 @@ impl Drop for Reply {
             Reply::SessionsFull => {}
             Reply::Version(_) => {}
             Reply::Named => {}
+            Reply::Unknown(_) => {}
             Reply::Full(_) => {}
             Reply::Conflict(_, _) => {}
             Reply::FullTriples(_) => {}
             Reply::Refused(_, _) => {}
             Reply::Done(_, _) => {}
+            Reply::LogFault => {}
+            Reply::Stopped(_) => {}
             Reply::Nothing => {}
         }
     }

@@ -1,13 +1,13 @@
 //! The plain store: what a store of RDF triples guarded by shapes has to answer, step by step.
 //!
-//! `specs/Store.antt` defines it on plain lists: the state, the step of each action with its one
-//! reply, and the replay of a history. The types here are the plain data that those definitions
-//! speak of; they promise nothing of their own.
+//! `specs/Store.antt` defines it on plain lists: the state, the step of each action with its
+//! reply, and the replay of a history from a state. The types here are the plain data that those
+//! definitions speak of; they promise nothing of their own.
 #![tactic(auto)]
 
 mod commit;
 mod event;
 
 pub use commit::{Accepted, Again, Overtaker, Transaction, Verdict};
-pub use event::{Action, Event, Limits, Reply};
+pub use event::{Action, BlockMode, Event, Limits, NameKind, Reply};
 pub use shape_model::{Component, ResultRow};

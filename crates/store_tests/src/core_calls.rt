@@ -3,7 +3,9 @@ ghost use Rattle.std.specs.Prelude.{◌≡◌, ◌<◌, IfOk};
 ghost use Rattle.store_model.specs.Store.{IsCommittable, IsOpened};
 
 use collections::Sequence;
-use commit_core::{Again, CheckedTransaction, Commit, Core, Limits, NameFault, Transaction};
+use commit_core::{
+    Again, BlockMode, CheckedTransaction, Commit, Core, Limits, NameKind, NamingFault, Transaction,
+};
 use rdf_model::{Pattern, Term, Text};
 use shape_eval::Steps;
 use shapes_graph::ShapesGraph;
@@ -15,10 +17,15 @@ use std::test::Fail;
 const LIMITS: Limits = Limits {
     terms: 2,
     triples: 2,
+    mode: BlockMode::All,
 };
 
 fn iri(alloc: Global, text: &str) -> Result<Term, AllocError> {
     Ok(Term::Iri(Text::new(alloc, text)?))
+}
+
+fn blank(session: u32, number: u32) -> Term {
+    Term::Blank { session, number }
 }
 
 fn first_session(core: &mut Core) -> Result<u32, Fail>
@@ -65,7 +72,7 @@ fn terms_are_numbered(rt: HostRuntime) -> Result<(), Fail> {
     let (mut core, session) = opened(alloc)?;
     let two = [iri(alloc, "e:b")?, iri(alloc, "e:a")?];
     // Behind the two terms that each store has.
-    match core.name(session, &two) {
+    match core.name(session, NameKind::Fresh, &two) {
         Ok(numbers) => assert_eq!(rt; numbers.as_slice(), [2, 3].as_slice()),
         Err(_) => return Err(Fail::new("two terms are named")),
     }
@@ -77,9 +84,41 @@ fn a_third_term_is_one_too_many(rt: HostRuntime) -> Result<(), Fail> {
     let alloc = rt.alloc();
     let (mut core, session) = opened(alloc)?;
     let three = [iri(alloc, "e:a")?, iri(alloc, "e:b")?, iri(alloc, "e:c")?];
-    match core.name(session, &three) {
-        Err(NameFault::Full { count }) => assert_eq!(rt; count, 3),
-        Ok(_) | Err(NameFault::Memory) => return Err(Fail::new("the store is full")),
+    match core.name(session, NameKind::Fresh, &three) {
+        Err(NamingFault::Full { count }) => assert_eq!(rt; count, 3),
+        Ok(_) | Err(NamingFault::Unknown { node: _ } | NamingFault::Memory) => {
+            return Err(Fail::new("the store is full"));
+        }
+    }
+    Ok(())
+}
+
+// A block that attaches is told the least node that wasn't given out.
+#[test]
+fn an_attachment_is_told_its_least_node(rt: HostRuntime) -> Result<(), Fail> {
+    let alloc = rt.alloc();
+    let (mut core, session) = opened(alloc)?;
+    match core.name(session, NameKind::Attach, &[blank(1, 2), blank(1, 1)]) {
+        Err(NamingFault::Unknown { node }) => assert_eq!(rt; node, blank(1, 1)),
+        _ => return Err(Fail::new("no node was given out")),
+    }
+    Ok(())
+}
+
+// So it is where the limit would be passed.
+#[test]
+fn an_unknown_node_comes_before_the_limit(rt: HostRuntime) -> Result<(), Fail> {
+    let alloc = rt.alloc();
+    let (mut core, session) = opened(alloc)?;
+    let many = [
+        iri(alloc, "e:a")?,
+        iri(alloc, "e:b")?,
+        iri(alloc, "e:c")?,
+        blank(2, 1),
+    ];
+    match core.name(session, NameKind::Attach, &many) {
+        Err(NamingFault::Unknown { node }) => assert_eq!(rt; node, blank(2, 1)),
+        _ => return Err(Fail::new("a node that wasn't given out comes first")),
     }
     Ok(())
 }

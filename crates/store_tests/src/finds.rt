@@ -1,6 +1,6 @@
 // What finds give and record, in runs of commands.
 use collections::Sequence;
-use commit_core::Limits;
+use commit_core::{BlockMode, Limits};
 use rdf_model::{Pattern, Term, Text, Triple};
 use session_model::Command;
 use session_player::{run_all, text_of};
@@ -62,6 +62,7 @@ fn printed(alloc: Global, rows: &[Row]) -> Result<String, AllocError> {
     let limits = Limits {
         terms: 100,
         triples: 100,
+        mode: BlockMode::All,
     };
     let files = [commands_of(alloc, rows)?];
     let run = run_all(alloc, limits, &files)?;

@@ -5,7 +5,7 @@ ghost use Rattle.std.specs.Prelude.{◌≤◌};
 use crate::finds::{Row, commands_of};
 use crate::replay::{Answer, Ask, FIRST, Iris, SECOND, event_of, first_no_step};
 use collections::Sequence;
-use commit_core::{Event, Limits};
+use commit_core::{BlockMode, Event, Limits};
 use history_reader::read_history;
 use session_model::Command;
 use session_player::{ReplayFault, replay_all, text_of};
@@ -15,6 +15,7 @@ use std::test::Fail;
 const LIMITS: Limits = Limits {
     terms: 100,
     triples: 100,
+    mode: BlockMode::All,
 };
 
 const OWN: Iris = Iris {

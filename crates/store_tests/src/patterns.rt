@@ -1,5 +1,5 @@
 // Each kind of pattern, found before changes and after them, over a store that was validated and over one that was not.
-use commit_core::Limits;
+use commit_core::{BlockMode, Limits};
 use outside::RegexMaker;
 use session_player::{run_all, text_of};
 use session_reader::prepare;
@@ -9,6 +9,7 @@ use std::test::Fail;
 const LIMITS: Limits = Limits {
     terms: 100,
     triples: 100,
+    mode: BlockMode::All,
 };
 
 // A block with one shape, which has no target: where it is staged, the graph is numbered and validated.

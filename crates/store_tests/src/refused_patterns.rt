@@ -1,5 +1,5 @@
 // A pattern that the maker refuses though it can be read, at one of two shapes.
-use commit_core::Limits;
+use commit_core::{BlockMode, Limits};
 use outside::{FakeMaker, RegexMaker};
 use session_player::{run_all, text_of};
 use session_reader::prepare;
@@ -9,6 +9,7 @@ use std::test::Fail;
 const LIMITS: Limits = Limits {
     terms: 100,
     triples: 100,
+    mode: BlockMode::All,
 };
 
 const FILE: &str = "\

@@ -2,7 +2,7 @@
 ghost use Rattle.std.specs.Prelude.{◌≡◌, ◌<◌, ◌≤◌};
 
 use collections::Sequence;
-use commit_core::{Again, Core, Event, Limits, ReplayFault, Transaction};
+use commit_core::{Again, BlockMode, Core, Event, Limits, NameKind, ReplayFault, Transaction};
 use rdf_model::{Change, Net, Pattern, Term, Text, Triple};
 use shape_eval::Steps;
 use std::alloc::{AllocError, Global};
@@ -14,6 +14,7 @@ use store_model::{Action, Reply};
 const LIMITS: Limits = Limits {
     terms: 8,
     triples: 2,
+    mode: BlockMode::All,
 };
 
 // The IRIs of a triple.
@@ -101,7 +102,7 @@ fn action_of(alloc: Global, ask: Ask) -> Result<Action, AllocError> {
     match ask {
         Ask::Open => Ok(Action::Open),
         Ask::Begin => Ok(Action::Begin),
-        Ask::Name(iris) => Ok(Action::Name(terms(alloc, iris)?)),
+        Ask::Name(iris) => Ok(Action::Name(NameKind::Fresh, terms(alloc, iris)?)),
         Ask::Head => Ok(Action::Head),
         Ask::Commit(base, predicate, iris) => Ok(Action::Commit(Transaction {
             base,
@@ -161,6 +162,7 @@ fn replayed<L: Ledger>(
     blank: Blank,
 ) -> Result<usize, AllocError>
     requires limits { limits.terms ≤ 2000000 }
+    requires mode { limits.mode ≡ BlockMode.All }
     requires name { blank.name ≡ L.name }
     requires parts { blank.parts ≡ L.parts }
     requires some { 0 < L.parts }
@@ -178,7 +180,8 @@ fn replayed<L: Ledger>(
 
 /// The first of the events that is no step within these limits, from 1; 0 where all are.
 pub fn first_no_step(alloc: Global, limits: Limits, events: Vec<Event>) -> Result<usize, AllocError>
-    requires { limits.terms ≤ 2000000 }
+    requires limits { limits.terms ≤ 2000000 }
+    requires mode { limits.mode ≡ BlockMode.All }
 {
     replayed::<Brand>(alloc, limits, events, Blank::new(1))
 }

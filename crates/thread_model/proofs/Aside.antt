@@ -8,10 +8,10 @@ use Rattle.store_model.specs.declared.event.Limits.{Limits}
 use Rattle.store_model.specs.declared.event.Action.{Action}
 use Rattle.store_model.specs.declared.event.Action.TheVariants as actions
 use Rattle.store_model.specs.declared.event.Reply.{Reply}
-use Rattle.store_model.specs.declared.event.Reply.TheVariants.{Session, SessionsFull, Version, Named, Full, Conflict, FullTriples, Refused, Done, Nothing}
+use Rattle.store_model.specs.declared.event.Reply.TheVariants.{Refused, Done}
 use Rattle.store_model.specs.Store.{State, StepOf}
 use Rattle.session_model.specs.declared.command.Command.{Command}
-use Rattle.session_model.specs.declared.command.Command.TheVariants.{Begin, Add, BadAdd, Remove, BadRemove, Shapes, BadShapes, BrokenShapes, RefusedPattern, Commit, Find, Abort}
+use Rattle.session_model.specs.declared.command.Command.TheVariants.{Commit}
 use Rattle.session_model.specs.declared.reply.SessionReply.{SessionReply}
 use Rattle.session_model.specs.Sessions.{OpenTransaction, SessionState, GoesOn, after_reply}
 use Rattle.store_laws.specs.Verdicts.{unaided as reply_unaided}
@@ -20,75 +20,26 @@ use Rattle.thread_model.specs.Following.{unaided}
 
 -- why a commit evaluates again is told to no session
 same_done : (s : State) (w : Option OpenTransaction) (c : Command) (cs : List Command) (replies : List SessionReply) (n : ℕ) (a b : Again) → after_reply s w c cs replies (Done n a) ≡ after_reply s w c cs replies (Done n b)
-same_done s None Begin cs replies n a b = refl
-same_done s None (Add ts) cs replies n a b = refl
-same_done s None (BadAdd k kind) cs replies n a b = refl
-same_done s None (Remove ts) cs replies n a b = refl
-same_done s None (BadRemove k kind) cs replies n a b = refl
-same_done s None (Shapes ts) cs replies n a b = refl
-same_done s None (BadShapes k kind) cs replies n a b = refl
-same_done s None (BrokenShapes rule node) cs replies n a b = refl
-same_done s None (RefusedPattern node) cs replies n a b = refl
 same_done s None Commit cs replies n a b = refl
-same_done s None (Find p) cs replies n a b = refl
-same_done s None Abort cs replies n a b = refl
-same_done s (Some w) Begin cs replies n a b = refl
-same_done s (Some w) (Add ts) cs replies n a b = refl
-same_done s (Some w) (BadAdd k kind) cs replies n a b = refl
-same_done s (Some w) (Remove ts) cs replies n a b = refl
-same_done s (Some w) (BadRemove k kind) cs replies n a b = refl
-same_done s (Some w) (Shapes ts) cs replies n a b = refl
-same_done s (Some w) (BadShapes k kind) cs replies n a b = refl
-same_done s (Some w) (BrokenShapes rule node) cs replies n a b = refl
-same_done s (Some w) (RefusedPattern node) cs replies n a b = refl
 same_done s (Some w) Commit cs replies n a b = refl
-same_done s (Some w) (Find p) cs replies n a b = refl
-same_done s (Some w) Abort cs replies n a b = refl
+same_done s w c cs replies n a b = refl
 
 same_refused : (s : State) (w : Option OpenTransaction) (c : Command) (cs : List Command) (replies : List SessionReply) (rows : List ResultRow) (a b : Again) → after_reply s w c cs replies (Refused rows a) ≡ after_reply s w c cs replies (Refused rows b)
-same_refused s None Begin cs replies rows a b = refl
-same_refused s None (Add ts) cs replies rows a b = refl
-same_refused s None (BadAdd k kind) cs replies rows a b = refl
-same_refused s None (Remove ts) cs replies rows a b = refl
-same_refused s None (BadRemove k kind) cs replies rows a b = refl
-same_refused s None (Shapes ts) cs replies rows a b = refl
-same_refused s None (BadShapes k kind) cs replies rows a b = refl
-same_refused s None (BrokenShapes rule node) cs replies rows a b = refl
-same_refused s None (RefusedPattern node) cs replies rows a b = refl
 same_refused s None Commit cs replies rows a b = refl
-same_refused s None (Find p) cs replies rows a b = refl
-same_refused s None Abort cs replies rows a b = refl
-same_refused s (Some w) Begin cs replies rows a b = refl
-same_refused s (Some w) (Add ts) cs replies rows a b = refl
-same_refused s (Some w) (BadAdd k kind) cs replies rows a b = refl
-same_refused s (Some w) (Remove ts) cs replies rows a b = refl
-same_refused s (Some w) (BadRemove k kind) cs replies rows a b = refl
-same_refused s (Some w) (Shapes ts) cs replies rows a b = refl
-same_refused s (Some w) (BadShapes k kind) cs replies rows a b = refl
-same_refused s (Some w) (BrokenShapes rule node) cs replies rows a b = refl
-same_refused s (Some w) (RefusedPattern node) cs replies rows a b = refl
 same_refused s (Some w) Commit cs replies rows a b = refl
-same_refused s (Some w) (Find p) cs replies rows a b = refl
-same_refused s (Some w) Abort cs replies rows a b = refl
+same_refused s w c cs replies rows a b = refl
 
 pub same_told : (s : State) (w : Option OpenTransaction) (c : Command) (cs : List Command) (replies : List SessionReply) (commits : List Accepted) (staged : Option (List Triple)) (r : Reply) → after_reply s w c cs replies (reply_unaided commits staged r) ≡ after_reply s w c cs replies r
-same_told s w c cs replies commits staged (Session k) = refl
-same_told s w c cs replies commits staged SessionsFull = refl
-same_told s w c cs replies commits staged (Version n) = refl
-same_told s w c cs replies commits staged Named = refl
-same_told s w c cs replies commits staged (Full n) = refl
-same_told s w c cs replies commits staged (Conflict n t) = refl
-same_told s w c cs replies commits staged (FullTriples n) = refl
 same_told s w c cs replies commits staged (Refused rows why) = same_refused s w c cs replies rows _ why
 same_told s w c cs replies commits staged (Done n why) = same_done s w c cs replies n _ why
-same_told s w c cs replies commits staged Nothing = refl
+same_told s w c cs replies commits staged r = refl
 
 -- an event with its verdict aside is a step too, and its session goes on alike
 pub goes_aside : (l : Limits) (s t : State) (i : ℕ) (a : Action) (r : Reply) (w : Option OpenTransaction) (c : Command) (cs : List Command) (replies : List SessionReply) (q : SessionState) → StepOf l s i a r t → GoesOn s w c cs replies (unaided a) r q
     → (u : Reply) × GoesOn s w c cs replies (unaided a) u q × StepOf l s i (unaided a) u t
 goes_aside l s t i actions.Open r w c cs replies q h g = (r, g, h)
 goes_aside l s t i actions.Begin r w c cs replies q h g = (r, g, h)
-goes_aside l s t i (actions.Name ts) r w c cs replies q h g = (r, g, h)
+goes_aside l s t i (actions.Name kind ts) r w c cs replies q h g = (r, g, h)
 goes_aside l s t i actions.Head r w c cs replies q h g = (r, g, h)
 goes_aside l s t i actions.Void r w c cs replies q h g = (r, g, h)
 goes_aside l s t i (actions.Commit x) r w c cs replies q h g =

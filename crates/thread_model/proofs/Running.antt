@@ -1,5 +1,5 @@
 -- Sessions that follow their files run in the history's order.
-use Rattle.std.proofs.Common.{◌≡◌, ℕ, zero, suc, ◌+◌, ◌-◌, ◌<◌, ◌≤◌, Bool, true, false, nat_eq, List, [], ◌∷◌, length, map, set, get_or, Option, Some, None, refl, sym, ap, ◌∙◌, subst, ◌⊎◌, ⊎_elim, arith}
+use Rattle.std.proofs.Common.{◌≡◌, ℕ, zero, suc, ◌+◌, ◌-◌, ◌<◌, ◌≤◌, Bool, true, false, nat_eq, List, [], ◌∷◌, length, map, set, get_or, Option, None, refl, sym, ap, ◌∙◌, subst, ⊎_elim, arith}
 use Rattle.std.specs.Prelude.{MatchBool}
 use Rattle.std.specs.List.{AllByRecursion}
 use Rattle.std.proofs.lemmas.List.{length-map, length-set, ext_get_or, get_or-set_other}
@@ -12,11 +12,11 @@ use Rattle.store_model.specs.declared.event.Event.{Event}
 use Rattle.store_model.specs.declared.event.Action.{Action}
 use Rattle.store_model.specs.declared.event.Action.TheVariants.{Open}
 use Rattle.store_model.specs.declared.event.Reply.{Reply}
-use Rattle.store_model.specs.Store.{State, StepOf, Replays, empty_store}
+use Rattle.store_model.specs.Store.{State, StepOf, Replays}
 use Rattle.session_model.specs.declared.command.Command.{Command}
 use Rattle.session_model.specs.declared.reply.SessionReply.{SessionReply}
 use Rattle.session_model.specs.Sessions.{OpenTransaction, SessionState, World, world, up_to_event, no_session, session_at, RunsOpening, RunsEvent, RunsPlace, RunsInOrder}
-use Rattle.thread_model.specs.Following.{is_opening, unaided, OwnCommand, OwnEvent, Follows, first_state, Follow, FollowingRuns}
+use Rattle.thread_model.specs.Following.{is_opening, unaided, OwnCommand, OwnEvent, Follows, first_state, FollowingRuns}
 use Rattle.thread_model.proofs.Aside.{goes_aside}
 use Rattle.thread_model.proofs.Placing.{Within, within, opening, grows, grows_all}
 
@@ -116,14 +116,14 @@ get_or-first (f ∷ files) zero lt = refl
 get_or-first (f ∷ files) (suc k) lt = get_or-first files k (omega (arith, lt))
 
 pub following_runs : FollowingRuns
-following_runs files l history all f =
+following_runs files l s history all f =
     let ps : List SessionState = map (λ cs. up_to_event None cs []) files in
     let count : length ps ≡ length files = length-map files (λ cs. up_to_event None cs []) in (
       record {
         last = world f.state f.last;
-        runs = run l empty_store f.state history ps f.last f.replays (omega (arith, f.opened, count)) (f.count ∙ sym count) f.numbered
+        runs = run l s f.state history ps f.last f.replays (omega (arith, f.opened, count)) (f.count ∙ sym count) f.numbered
             (λ k lt. let here : k < length files = omega (arith, lt, count) in
-            subst (λ (z : SessionState). Follows l (k + 1) empty_store history z (get_or f.last k no_session)) (sym (get_or-first files k here)) (f.each k here));
+            subst (λ (z : SessionState). Follows l (k + 1) s history z (get_or f.last k no_session)) (sym (get_or-first files k here)) (f.each k here));
         complete = record { opened = f.opened ∙ sym f.count; left = f.left };
         replies = f.replies;
       },

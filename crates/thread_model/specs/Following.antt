@@ -6,7 +6,7 @@ use Rattle.store_model.specs.declared.event.Event.{Event}
 use Rattle.store_model.specs.declared.event.Action.{Action}
 use Rattle.store_model.specs.declared.event.Action.TheVariants.{Open, Begin, Name, Head, Commit, Void}
 use Rattle.store_model.specs.declared.event.Reply.{Reply}
-use Rattle.store_model.specs.Store.{State, Step, Replays, empty_store}
+use Rattle.store_model.specs.Store.{State, Step, Replays}
 use Rattle.session_model.specs.declared.command.Command.{Command}
 use Rattle.session_model.specs.declared.reply.SessionReply.{SessionReply}
 use Rattle.session_model.specs.Sessions.{OpenTransaction, SessionState, up_to_event, GoesOn, no_session, HasReplies}
@@ -14,7 +14,7 @@ use Rattle.session_model.specs.Sessions.{OpenTransaction, SessionState, up_to_ev
 abbrev pub is_opening : Action → Bool
 is_opening Open = true
 is_opening Begin = false
-is_opening (Name terms) = false
+is_opening (Name kind terms) = false
 is_opening Head = false
 is_opening (Commit x) = false
 is_opening Void = false
@@ -23,7 +23,7 @@ is_opening Void = false
 abbrev pub unaided : Action → Action
 unaided Open = Open
 unaided Begin = Begin
-unaided (Name terms) = Name terms
+unaided (Name kind terms) = Name kind terms
 unaided Head = Head
 unaided (Commit x) = Commit (record x { verdict = None })
 unaided Void = Void
@@ -47,19 +47,21 @@ Follows l i s (e ∷ es) p q = (t : State) → Step l s e t → MatchBool (nat_e
 abbrev pub first_state : List Command → SessionState
 first_state cs = up_to_event None cs []
 
--- The history is one of these files: each session was opened, its events are those of its file, and none is left.
-pub record Follow (files : List (List Command)) (l : Limits) (history : List Event) (all : List (List SessionReply)) : Type 0 where
+-- The history of a store that began in state s is one of these files: each session was opened, its events are those of its
+-- file, and none is left.
+pub record Follow (files : List (List Command)) (l : Limits) (s : State) (history : List Event) (all : List (List SessionReply)) : Type 0 where
   pub state : State
   pub last : List SessionState
-  pub replays : Replays l empty_store history state
+  pub replays : Replays l s history state
   pub opened : state.opened ≡ length files
   pub count : length last ≡ length files
   pub numbered : AllByRecursion (λ e. 0 < e.session) history
-  pub each : (k : ℕ) → k < length files → Follows l (k + 1) empty_store history (first_state (get_or files k [])) (get_or last k no_session)
-  pub left : AllByRecursion (λ s. s.commands ≡ []) last
-  pub replies : all ≡ map (λ s. s.replies) last
+  pub each : (k : ℕ) → k < length files → Follows l (k + 1) s history (first_state (get_or files k [])) (get_or last k no_session)
+  pub left : AllByRecursion (λ p. p.commands ≡ []) last
+  pub replies : all ≡ map (λ p. p.replies) last
 
--- A law: such a history is a run of the files in its own order, at whose end the store is in the history's state.
+-- A law: such a history is a run of the files in its own order, from the same state, at whose end the store is in the
+-- history's state.
 abbrev pub FollowingRuns : Type 0
 FollowingRuns =
-    (files : List (List Command)) (l : Limits) (history : List Event) (all : List (List SessionReply)) (f : Follow files l history all) → (run : HasReplies files l (map (λ e. e.session) history) all) × (run.last.state ≡ f.state)
+    (files : List (List Command)) (l : Limits) (s : State) (history : List Event) (all : List (List SessionReply)) (f : Follow files l s history all) → (run : HasReplies files l s (map (λ e. e.session) history) all) × (run.last.state ≡ f.state)

@@ -2,7 +2,7 @@
 ghost use Rattle.std.specs.Prelude.{◌≡◌, ◌<◌, IfOk};
 ghost use Rattle.guard_store.specs.Callers.{IsKeeper, IsSession};
 
-use commit_core::{Core, Limits};
+use commit_core::{BlockMode, Core, Limits};
 use guard_store::{
     BeginFault, CommitFault, Committed, HeadFault, Keeper, OpenFault, Session, StageFault, Store,
 };
@@ -18,6 +18,7 @@ use std::test::*;
 const LIMITS: Limits = Limits {
     terms: 3,
     triples: 10,
+    mode: BlockMode::All,
 };
 
 fn iri(alloc: Global, text: &str) -> Result<Term, AllocError> {

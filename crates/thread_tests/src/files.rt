@@ -2,7 +2,7 @@
 ghost use Rattle.std.specs.Prelude.{◌≤◌, length};
 
 use collections::Sequence;
-use commit_core::Limits;
+use commit_core::{BlockMode, Limits};
 use outside::OpenGate;
 use rdf_model::{Pattern, Term, Text, Triple};
 use session_model::Command;
@@ -17,6 +17,7 @@ use std::thread::Threads;
 const LIMITS: Limits = Limits {
     terms: 20,
     triples: 100,
+    mode: BlockMode::All,
 };
 
 // A command; a find asks for all triples of a predicate.
@@ -26,6 +27,9 @@ enum Row {
     // Adds the triple of this subject, predicate and object, or removes it.
     Add(&'static str, &'static str, &'static str),
     Remove(&'static str, &'static str, &'static str),
+    // Adds a triple about a blank node, or attaches another to that node.
+    Give,
+    Attach,
     Find(&'static str),
     BadAdd,
     Commit,
@@ -47,6 +51,20 @@ fn block(alloc: Global, iris: [&str; 3]) -> Result<Sequence<Triple>, AllocError>
     Ok(triples)
 }
 
+// A triple of this predicate about the one blank node.
+fn about(alloc: Global, predicate: &str) -> Result<Sequence<Triple>, AllocError> {
+    let mut triples = Sequence::new(alloc);
+    triples.push(Triple {
+        subject: Term::Blank {
+            session: 1,
+            number: 1,
+        },
+        predicate: iri(alloc, predicate)?,
+        object: iri(alloc, "e:b")?,
+    })?;
+    Ok(triples)
+}
+
 fn command_of(alloc: Global, row: Row) -> Result<Command, AllocError> {
     match row {
         Row::Begin => Ok(Command::Begin),
@@ -56,6 +74,8 @@ fn command_of(alloc: Global, row: Row) -> Result<Command, AllocError> {
         Row::Remove(subject, predicate, object) => {
             Ok(Command::Remove(block(alloc, [subject, predicate, object])?))
         }
+        Row::Give => Ok(Command::Add(about(alloc, "e:p")?)),
+        Row::Attach => Ok(Command::Attach(about(alloc, "e:q")?)),
         Row::Find(predicate) => Ok(Command::Find(Pattern {
             subject: None,
             predicate: Some(iri(alloc, predicate)?),
@@ -76,9 +96,12 @@ fn commands_of(alloc: Global, rows: &[Row]) -> Result<Sequence<Command>, AllocEr
 }
 
 // A transaction that reads what it overtakes or is overtaken by, one that only reads, and one that is dropped.
-const ROWS: [Row; 12] = [
+const ROWS: [Row; 14] = [
     Row::Begin,
     Row::Find("e:p"),
+    // The node is there once any session gave it.
+    Row::Attach,
+    Row::Give,
     Row::Add("e:a", "e:p", "e:b"),
     Row::Add("e:c", "e:q", "e:b"),
     Row::Remove("e:c", "e:q", "e:b"),

@@ -2,7 +2,7 @@
 use crate::files::places_of;
 use crate::holding_gate::{Event, Hold, HoldingGate, holds_of};
 use collections::Sequence;
-use commit_core::Limits;
+use commit_core::{BlockMode, Limits};
 use outside::EventKind::{Begin, Commit, Head, Name};
 use outside::{EventKind, RegexMaker};
 use session_model::Command;
@@ -18,6 +18,7 @@ use std::thread::Threads;
 pub const LIMITS: Limits = Limits {
     terms: 20,
     triples: 100,
+    mode: BlockMode::All,
 };
 
 pub const COMMITS: &[EventKind] = &[Begin, Name, Head, Commit];
@@ -107,6 +108,28 @@ find <e:a> ? ?
 commit
 ";
 
+const GIVES: &str = "\
+begin
+add ntriples
+_:b <e:p> <e:c> .
+%%
+commit
+";
+
+// About the blank node of the first block of session 1.
+const ATTACHES: &str = "\
+%session 2
+begin
+attach ntriples
+_:s1x2 <e:q> <e:d> .
+%%
+attach ntriples
+_:s1x1 <e:q> <e:d> .
+%%
+find _:s1x1 ? ?
+commit
+";
+
 // Most of its commands are no events; the block of many terms is full.
 const ANSWERS_ITSELF: &str = "\
 commit
@@ -166,7 +189,7 @@ struct Schedule {
     printed: &'static str,
 }
 
-const SCHEDULES: [Schedule; 7] = [
+const SCHEDULES: [Schedule; 8] = [
     Schedule {
         files: &[FINDS, OVERTAKES],
         kinds: &[COMMITS, COMMITS_TWICE],
@@ -297,6 +320,26 @@ begin 0
 add 1
 commit 1
 history 1 2 3 2 1 3 3 1 2 1 3 2 3 2 1
+",
+    },
+    Schedule {
+        files: &[GIVES, ATTACHES],
+        kinds: &[COMMITS, &[Begin, Name, Name, Head, Commit]],
+        order: &[1, 2, 1, 1, 2, 2, 2, 2, 2, 1, 1],
+        unready: &[],
+        printed: "\
+session 1
+begin 0
+add 1
+commit 2
+session 2
+begin 0
+unknown _:s1x2
+attach 1
+find 1
+_:s1x1 <e:q> <e:d> .
+commit 1
+history 1 2 1 1 2 2 2 2 2 1 1
 ",
     },
     Schedule {

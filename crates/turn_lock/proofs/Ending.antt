@@ -169,8 +169,9 @@ module _ {S E D : Type 0} (m : Meaning S E D) (opening : Option D) (seats : ℕ)
       let a' : Account E = record { history = a.history ++ e ∷ []; waiting = a.waiting - 1; owner = a.owner; holder = z.holder; busy = false } in
       let total : length a.history + a.waiting ≡ length (a.history ++ e ∷ []) + (a.waiting - 1) = omega (arith, some_wait, count) in record {
         account = a';
+        asleep = r.asleep;
         words = ap (λ (ws : List ℕ). set ws 0 ((get_or ws 0 0 + 1) % 2 ^ 64)) r.words
-            ∙ (λ i. (mod-add-mod (length a.history) (2 ^ 64) 1 ∙ ap (λ (n : ℕ). n % 2 ^ 64) (sym count)) i ∷ total i % 2 ^ 64 ∷ []);
+            ∙ (λ i. (mod-add-mod (length a.history) (2 ^ 64) 1 ∙ ap (λ (n : ℕ). n % 2 ^ 64) (sym count)) i ∷ total i % 2 ^ 64 ∷ r.asleep ∷ []);
         slot = (y, ap (λ (hs : List _). set hs 0 (some (Some y))) slot, longer_by, subst (λ (o : Option D). ComesFrom m.comes o (m.plain y)) opened comes);
         each_seat = seats_stay (SeatOk m opening a') s.views id w
             record {

@@ -35,9 +35,10 @@ module _ {S E D : Type 0} (m : Meaning S E D) (opening : Option D) (seats : ℕ)
   first_seats (suc j) d e = absurd (some-ne-none d (sym e))
 
   -- a lock begins with a state that stands for no entry, and comes from itself
-  pub opens : (x : S) → 0 < seats → m.entries x ≡ [] → ComesFrom m.comes opening (m.plain x) → Kept m opening seats (opened (0 ∷ 0 ∷ []) (Some x ∷ []) (first_view opening seats))
+  pub opens : (x : S) → 0 < seats → m.entries x ≡ [] → ComesFrom m.comes opening (m.plain x) → Kept m opening seats (opened (0 ∷ 0 ∷ 0 ∷ []) (Some x ∷ []) (first_view opening seats))
   opens x some_seat none_yet comes = record {
     account = fresh;
+    asleep = 0;
     words = refl;
     slot = (x, refl, none_yet, comes);
     each_seat = first_seats;

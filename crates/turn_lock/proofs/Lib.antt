@@ -3,6 +3,7 @@ pub mod Numbers
 pub mod Added
 pub mod Reserved
 pub mod Frame
+pub mod Unchanged
 pub mod Drawing
 pub mod Looking
 pub mod Ending

@@ -6,7 +6,7 @@ use native.Mathlib.Decide.{ℕ_discrete}
 use lib.ListN.{get_elem?}
 use lib.Seq.{set-get_or}
 use Rattle.atomic_table.specs.Table.{State, Me, step, keeps, takes, stepped, Allows}
-use Rattle.atomic_table.proofs.Lists.{set_here, set_again}
+use Rattle.atomic_table.proofs.Lists.{set_here}
 use Rattle.turn_lock.specs.declared.view.View.{View}
 use Rattle.turn_lock.specs.declared.view.Stage.{Stage}
 use Rattle.turn_lock.specs.declared.view.Stage.TheVariants.{Idle, Waiting, Served, Spent}
@@ -16,6 +16,7 @@ use Rattle.turn_lock.specs.Steps.{served_view, EachAdded, Takes, Looks}
 use Rattle.turn_lock.specs.Rule.{tickets_at, seats_at, tickets_of, seats_of, Account, StageOk, SeatOk, Kept}
 use Rattle.turn_lock.proofs.Prefixes.{at_get, total_set}
 use Rattle.turn_lock.proofs.Added.{added_whole}
+use Rattle.turn_lock.proofs.Unchanged.{unchanged}
 use Rattle.turn_lock.proofs.Frame.{seats_stay, ticket_stays, number_stays, longest_stays, moved, at_stage, at_home, my_turn, not_busy}
 
 -- another seat's stage, once a seat is served
@@ -54,6 +55,7 @@ module _ {S E D : Type 0} (m : Meaning S E D) (opening : Option D) (seats : ℕ)
         home = ap (λ (hs : List _). get_elem? hs 0) home.1;
         kept = record {
           account = a';
+          asleep = r.asleep;
           words = set-get_or s.words 0 0 ∙ r.words;
           slot = (ap (λ (hs : List _). set hs 0 none) home.1, (w, ap (get_elem? (set s.views id w)) (ap a.owner turn ∙ known.owned) ∙ here, ap Served (sym turn)));
           each_seat = seats_stay (SeatOk m opening a') s.views id w
@@ -79,11 +81,6 @@ module _ {S E D : Type 0} (m : Meaning S E D) (opening : Option D) (seats : ℕ)
         comes = subst (λ (z : Option D). ComesFrom m.comes z (m.plain x)) (sym opened) home.3;
       }
 
-  -- nothing changes
-  pub unchanged : (id : ℕ) (v : View E D) (c : List (ℕ × Option S)) (s : State (Option S) (View E D)) → Kept m opening seats s → get_elem? s.views id ≡ some v
-      → Kept m opening seats (stepped s 0 (get_or s.words 0 0) id c v keeps)
-  unchanged id v c s r at = subst (Kept m opening seats) (λ i. record { words = sym (set-get_or s.words 0 0) i; homes = s.homes; views = sym (set_again s.views id v at) i }) r
-
   abbrev Told : View E D → ℕ → Me (Option S) (View E D) → ℕ → Type 0
   Told v n me' t = MatchBool (n == t % 2 ^ 64) (Takes m v t me') (me' ≡ (v, []))
 
@@ -103,7 +100,7 @@ module _ {S E D : Type 0} (m : Meaning S E D) (opening : Option D) (seats : ℕ)
         v,
         keeps,
         tt,
-        unchanged id v [] s r at,
+        unchanged m opening seats 0 id v [] s r at,
         λ u is'. let same : t ≡ u = let p : Waiting t ≡ Waiting u = sym is ∙ is' in cc in
             subst (Told v (get_or s.words 0 0) (v, [])) same (rw (ne_eqb (get_or s.words 0 0) (t % 2 ^ 64) other) refl),
       ))

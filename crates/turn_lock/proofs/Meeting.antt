@@ -107,6 +107,7 @@ module _ {S E D : Type 0} (m : Meaning S E D) (opening : Option D) (seats : ℕ)
       let l = longer_is v.known.front u.known.front a.history (r.each_seat id v at).known.begins qu.known.begins (dec_lt (length v.known.front) (length u.known.front)) in
       let bare : u.spare ≡ 0 = qu.spare (not_first s r id other v u at was apart first u.known.first refl) in record {
         account = a';
+        asleep = r.asleep;
         words = r.words;
         slot = slot_stays m opening seats a' a.waiting a.owner f s.homes vs a.busy other u spent_view at' (idle_unserved u.stage idle') (λ _. refl)
             (slot_stays m opening seats a a.waiting a.owner f s.homes s.views a.busy id v w at (idle_unserved v.stage idle) (λ _. refl) r.slot);
@@ -151,6 +152,7 @@ module _ {S E D : Type 0} (m : Meaning S E D) (opening : Option D) (seats : ℕ)
       let w : View E D = record v { olds = [] } in
       let q = r.each_seat id v at in record {
         account = a;
+        asleep = r.asleep;
         words = set-get_or s.words 0 0 ∙ r.words;
         slot = slot_stays m opening seats a a.waiting a.owner a.holder s.homes s.views a.busy id v w at (idle_unserved v.stage idle) (λ _. refl) r.slot;
         each_seat = seats_stay (SeatOk m opening a) s.views id w

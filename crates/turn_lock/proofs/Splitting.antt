@@ -103,6 +103,7 @@ module _ {S E D : Type 0} (m : Meaning S E D) (opening : Option D) (seats : ℕ)
         first = λ no_first. absurd (let x : false ≡ true = no_first in cc);
       } in record {
         account = a';
+        asleep = r.asleep;
         words = r.words;
         slot = slot_longer a' s.homes vs u a.busy (slot_stays m opening seats a a.waiting a.owner c.holder s.homes s.views a.busy id v w at unserved (λ _. refl) r.slot);
         each_seat = λ j d e. ⊎_elim

@@ -95,10 +95,11 @@ module _ {S E D : Type 0} (m : Meaning S E D) (opening : Option D) where
   SlotOk a homes views true = (homes ≡ none ∷ []) × ((v : View E D) × (get_elem? views (a.owner (length a.history)) ≡ some v) × (v.stage ≡ Served (length a.history)))
   SlotOk a homes views false = (x : S) × (homes ≡ some (Some x) ∷ []) × (m.entries x ≡ a.history) × ComesFrom m.comes opening (m.plain x)
 
-  -- the rule. Word 0 is the length of the history, and the tickets out are those from there up to word 1, each with one seat; both words are read modulo 2^64
+  -- the rule. Word 0 is the length of the history, and the tickets out are those from there up to word 1, each with one seat; both words are read modulo 2^64. Word 2 may be anything
   pub record Kept (seats : ℕ) (s : State (Option S) (View E D)) : Type 0 where
     pub account : Account E
-    pub words : s.words ≡ length account.history % 2 ^ 64 ∷ (length account.history + account.waiting) % 2 ^ 64 ∷ []
+    pub asleep : ℕ
+    pub words : s.words ≡ length account.history % 2 ^ 64 ∷ (length account.history + account.waiting) % 2 ^ 64 ∷ asleep ∷ []
     pub slot : SlotOk account s.homes s.views account.busy
     pub each_seat : (j : ℕ) (v : View E D) → get_elem? s.views j ≡ some v → SeatOk account j v
     pub each_ticket : (t : ℕ) → length account.history ≤ t → t < length account.history + account.waiting → TicketOk account s.views t

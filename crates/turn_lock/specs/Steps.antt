@@ -46,8 +46,20 @@ EachAdded number shared [] front = Unit {0}
 EachAdded number shared (old ∷ olds) front = OthersAdded number shared old front × EachAdded number shared olds front
 
 module _ {S E D : Type 0} where
+  -- the caller waits with a ticket of this number
+  abbrev pub HasTicket : Me (Option S) (View E D) → ℕ → Me (Option S) (View E D) → Type 0
+  HasTicket me found me' = (me'.1 ≡ me.1) × ((ticket : ℕ) × (ticket % 2 ^ 64 ≡ found) × (me'.0 ≡ waiting_view ticket me.0))
+
   abbrev pub Draws : Step (Option S) → Me (Option S) (View E D) → ℕ → Me (Option S) (View E D) → Type 0
-  Draws _ me found me' = (me'.1 ≡ me.1) × ((ticket : ℕ) × (ticket % 2 ^ 64 ≡ found) × (me'.0 ≡ waiting_view ticket me.0))
+  Draws _ me found me' = HasTicket me found me'
+
+  -- the ticket is drawn where it has the number that was looked for; else nothing changes
+  abbrev pub DrawsThis : Step (Option S) → Me (Option S) (View E D) → ℕ → Me (Option S) (View E D) → Type 0
+  DrawsThis s me found me' = MatchBool (found == s.first) (HasTicket me found me') (me' ≡ me)
+
+  -- nothing changes that the rule speaks of
+  abbrev pub Notes : Step (Option S) → Me (Option S) (View E D) → ℕ → Me (Option S) (View E D) → Type 0
+  Notes _ me found me' = me' ≡ me
 
   module _ (m : Meaning S E D) where
     -- the caller takes the state, which stands for all of the history

@@ -14,7 +14,8 @@ pub struct Terms<S> {
     pub start: Snapshot<S>,
 }
 
-/// Words 0 and 1 are the ticket served next and the ticket given next. The slot holds the state.
+/// Words 0 and 1 are the ticket served next and the ticket given next. Word 2 isn't 0 where a caller noted that it sleeps; the
+/// rule doesn't speak of it. The slot holds the state.
 pub struct TurnRule<S> {
     of: PhantomData<S>,
 }

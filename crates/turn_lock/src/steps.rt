@@ -15,6 +15,24 @@ impl<S: Entries> Play<Option<S>, View<S::Entry, S::Plain>> for Draw {
     ghost then = { Draws };
 }
 
+/// A ticket is drawn if it is the one that is looked for.
+pub struct DrawThis;
+
+impl<S: Entries> Play<Option<S>, View<S::Entry, S::Plain>> for DrawThis {
+    ghost use Rattle.turn_lock.specs.Steps.{DrawsThis};
+
+    ghost then = { DrawsThis };
+}
+
+/// It is noted whether a caller may be asleep.
+pub struct Note;
+
+impl<S: Entries> Play<Option<S>, View<S::Entry, S::Plain>> for Note {
+    ghost use Rattle.turn_lock.specs.Steps.{Notes};
+
+    ghost then = { Notes };
+}
+
 /// A look at the ticket that is served. Where it is the caller's own, the caller takes the state.
 pub struct Look;
 

@@ -1,12 +1,14 @@
 //! The lock, the passes of those who wait for nothing, and the turns.
-ghost use Rattle.std.specs.Prelude.{◌≡◌, ◌+◌, ◌-◌, ◌<◌, ◌++◌, ◌∷◌, [], Some, true, IfOk, MatchResult};
+ghost use Rattle.std.specs.Prelude.{◌≡◌, ◌+◌, ◌-◌, ◌<◌, ◌++◌, ◌∷◌, [], Some, true, IfOk, MatchBool, MatchResult};
 ghost use Rattle.turn_lock.specs.History.{known_after, MayAdd, OthersAdded};
 ghost use Rattle.turn_lock.specs.Meaning.{ComesFrom};
 ghost use Rattle.turn_lock.specs.Callers.{kept_caller, new_caller, met_caller};
+ghost use Rattle.turn_lock.specs.Steps.{HasTicket};
+ghost use Rattle.turn_lock.specs.declared.view.Stage.TheVariants.{Idle};
 
 use crate::entries::Entries;
 use crate::rule::{Board, Place, Terms};
-use crate::steps::{Compare, Draw, End, Giving, Look, Meet, SplitOff};
+use crate::steps::{Compare, Draw, DrawThis, End, Giving, Look, Meet, Note, SplitOff};
 use atomic_table::Table;
 use std::alloc::{AllocError, Global};
 use std::hint::spin_loop;
@@ -16,16 +18,13 @@ use std::sync::Wait;
 use std::thread;
 use std::time::Duration;
 
-// The most turns before a caller that looks again soon, how often it looks again at once, and how often it then gives way
-// between looks, before it sleeps.
-const SOON: u64 = 4;
+// How often a caller looks before it sleeps, and how often in all before it draws a ticket that isn't served yet.
+const LOOKS_BEFORE_SLEEP: u32 = 100;
 
-const LOOKS_AT_ONCE: u32 = 50;
+const LOOKS_BEFORE_TICKET: u32 = 100_000;
 
-const LOOKS_AFTER_WAY: u32 = 20_000;
-
-// The longest that a caller sleeps for each turn that is before its own.
-const MICROSECONDS_OF_A_TURN: u64 = 50;
+// The longest sleep. The end of a turn wakes a sleeper long before.
+const MILLISECONDS_OF_SLEEP: u64 = 100;
 
 /// A lock that its callers enter in turns. A clause sees which lock it is, and how many callers it has at most.
 #[derive(Drop)]
@@ -41,7 +40,7 @@ impl<S: Entries> Model for Turns<S> {
 
     ghost view = { λ t. record { id = t.board.shared.table_id; seats = t.board.shared.key.seats } };
 
-    ghost invariant = { λ t. (t.board.shared.table_id.words ≡ 2) × (t.board.shared.table_id.slots ≡ 1) × (t.board.shared.key.seats < 2 ^ 32) };
+    ghost invariant = { λ t. (t.board.shared.table_id.words ≡ 3) × (t.board.shared.table_id.slots ≡ 1) × (t.board.shared.key.seats < 2 ^ 32) };
 }
 
 /// A caller that has no turn. It can't be copied, and it isn't to be dropped where `close` is to follow.
@@ -101,7 +100,7 @@ impl<S: Entries> Turns<S> {
         };
         let mut slots = Vec::with_capacity(alloc, 1)?;
         slots.push_reserved(Some(state));
-        match Table::new(alloc, &[0, 0], slots, &terms) {
+        match Table::new(alloc, &[0, 0, 0], slots, &terms) {
             Ok((board, place)) => Ok((
                 Turns { board },
                 Pass {
@@ -151,22 +150,58 @@ impl<S: Entries> Turns<S> {
         self.split_giving::<Brand>(pass, give)
     }
 
-    // Lets a little time pass, for a caller that has so many turns before its own and saw the number that is served so often.
-    // Where its turn is near, it looks again soon; else it sleeps until the end of a turn wakes it, and no longer than in
-    // proportion to the turns before its own, since a wake may come to another.
-    fn wait_behind<R: Wait>(&self, rt: &R, serving: u64, ahead: u64, looks: u32) {
-        if ahead <= SOON && looks < LOOKS_AT_ONCE {
-            spin_loop();
-        } else if ahead <= SOON && looks < LOOKS_AT_ONCE + LOOKS_AFTER_WAY {
-            thread::yield_now();
-        } else {
-            let most = Duration::from_micros(MICROSECONDS_OF_A_TURN * ahead.min(1000));
-            let low = (serving % (1 << 32)) as u32;
-            self.board.shared.park_timeout(rt, 0, low, most);
+    // Draws the ticket that is served, if nobody has it.
+    fn draw_served(&self, place: &mut Place<S>, serving: u64) -> bool
+        requires lock { place.old.table_id ≡ self.now.id }
+        requires idle { (place.old.me.0.stage ≡ Idle) × (place.old.me.1 ≡ []) }
+        ensures table { place.new.table_id ≡ place.old.table_id }
+        ensures ticket { MatchBool result (HasTicket place.old.me serving place.new.me) (place.new.me ≡ place.old.me) }
+    {
+        let shared = &self.board.shared;
+        let next = serving.wrapping_add(1);
+        shared.peek(1) == serving
+            && shared.compare_exchange::<DrawThis>(place, 1, serving, next) == serving
+    }
+
+    // Sleeps while this ticket is served, until the end of a turn wakes the caller. Word 2 says so before. It says so again
+    // behind, for others that may be asleep, since the turn that woke the caller has set it back.
+    fn sleep<R: Wait>(&self, rt: &R, place: &mut Place<S>, serving: u64)
+        requires { place.old.table_id ≡ self.now.id }
+        ensures { (place.new.table_id ≡ place.old.table_id) × (place.new.me ≡ place.old.me) }
+    {
+        let shared = &self.board.shared;
+        let low = (serving % (1 << 32)) as u32;
+        shared.store::<Note>(place, 2, 1);
+        shared.park_timeout(rt, 0, low, Duration::from_millis(MILLISECONDS_OF_SLEEP));
+        shared.store::<Note>(place, 2, 1);
+    }
+
+    // Draws a ticket: where nobody has a turn the one that is served, so that a caller that is awake needn't wait for one that
+    // sleeps. A caller that looked very often in vain draws the next one, and then no other comes before it.
+    fn draw<R: Wait>(&self, rt: &R, place: &mut Place<S>) -> u64
+        requires lock { place.old.table_id ≡ self.now.id }
+        requires idle { (place.old.me.0.stage ≡ Idle) × (place.old.me.1 ≡ []) }
+        ensures table { place.new.table_id ≡ place.old.table_id }
+        ensures ticket { HasTicket place.old.me result place.new.me }
+    {
+        for look in 1..=LOOKS_BEFORE_TICKET {
+            let serving = self.board.shared.peek(0);
+            if self.draw_served(place, serving) {
+                return serving;
+            }
+            if look % LOOKS_BEFORE_SLEEP == 0 {
+                self.sleep(rt, place, serving);
+            } else {
+                spin_loop();
+            }
         }
+        self.board.shared.fetch_add::<Draw>(place, 1, 1)
     }
 
     /// Waits for the caller's turn, and takes the state. The caller has then seen the whole history.
+    ///
+    /// The turn is the next one where nobody has a turn; else the caller looks again for a few microseconds, and then sleeps
+    /// until the end of a turn wakes it. Callers don't come in the order in which they called.
     pub fn enter<R: Wait>(&self, rt: &R, pass: Pass<S>) -> (Held<S>, S)
         requires { pass.lock ≡ self.now.id }
         ensures held { result.0 ≡ record pass { known = record pass.known { front = S.entries result.1 } } }
@@ -174,23 +209,15 @@ impl<S: Entries> Turns<S> {
         ensures comes { ComesFrom S.comes pass.opening (S.plain result.1) }
     {
         let Pass { mut place, spare } = pass;
+        let ticket = self.draw(rt, &mut place);
         let shared = &self.board.shared;
-        let ticket = shared.fetch_add::<Draw>(&mut place, 1, 1);
-        let mut seen = ticket;
-        let mut looks: u32 = 0;
         for _ in rt.forever() {
             let serving = shared.load::<Look>(&mut place, 0);
             if serving == ticket {
                 let state = shared.exchange(&mut place, 0, None).unwrap();
                 return (Held { place, spare }, state);
             }
-            looks = if serving == seen {
-                looks.saturating_add(1)
-            } else {
-                0
-            };
-            seen = serving;
-            self.wait_behind(rt, serving, ticket.saturating_sub(serving), looks);
+            thread::yield_now();
         }
         unreachable!()
     }
@@ -206,10 +233,14 @@ impl<S: Entries> Turns<S> {
     {
         let Held { mut place, spare } = held;
         let shared = &self.board.shared;
+        // Word 2 is set back before the turn ends: behind it a caller may note there that it waits for the next one.
+        let asleep = shared.swap::<Note>(&mut place, 2, 0) != 0;
         let was = shared.exchange(&mut place, 0, Some(state));
         let None = was else { unreachable!() };
         shared.fetch_add::<End>(&mut place, 0, 1);
-        shared.wake_one(0);
+        if asleep || shared.peek(2) != 0 {
+            shared.wake_one(0);
+        }
         Pass { place, spare }
     }
 

@@ -11,7 +11,6 @@ use Rattle.file_validation.specs.declared.fault.InputFault.{InputFault}
 use Rattle.file_validation.specs.declared.fault.InputFault.TheVariants as texts
 use Rattle.file_validation.specs.Validations.{IsCause}
 use Rattle.validate_command.specs.declared.fault.ValidateFault.{ValidateFault}
-use Rattle.validate_command.specs.declared.fault.ValidateFault.TheVariants as fault
 use Rattle.validate_command.specs.declared.validated_files.ValidatedFiles.{ValidatedFiles}
 use Rattle.validate_command.specs.Validated.{HoldTexts, LoadsBoth}
 use Rattle.validate_command.specs.Faults.{IsTold, StopsValidation, of_file, of_texts}

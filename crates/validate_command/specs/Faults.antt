@@ -9,7 +9,6 @@ use Rattle.shape_rules.specs.declared.rule_row.RuleRow.{RuleRow}
 use Rattle.file_validation.specs.declared.fault.InputFault.{InputFault}
 use Rattle.file_validation.specs.declared.fault.InputFault.TheVariants as texts
 use Rattle.file_validation.specs.Validations.{IsCause}
-use Rattle.validate_command.specs.declared.bad_input.BadInput.{BadInput}
 use Rattle.validate_command.specs.declared.bad_input.BadInput.TheVariants.{Data, Shapes, Rule, Pattern}
 use Rattle.validate_command.specs.declared.fault.ValidateFault.{ValidateFault}
 use Rattle.validate_command.specs.declared.fault.ValidateFault.TheVariants as fault

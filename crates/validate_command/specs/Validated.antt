@@ -1,10 +1,11 @@
--- What the validation of two files gives.
+-- What the validation of two files gives, and what its explanation does.
 use Rattle.std.specs.Prelude.{ℕ, List, [], ◌∷◌, Option}
 use Rattle.outside.specs.Files.{Contents}
 use Rattle.input_files.specs.Lengths.{HoldsText}
 use Rattle.input_files.specs.Loads.{Loads, LoadsSome, NoneFailed, NoneRefused}
+use Rattle.file_validation.specs.declared.validating.Explanation.{Explanation}
 use Rattle.file_validation.specs.declared.validating.Validation.{Validation}
-use Rattle.file_validation.specs.Validations.{IsValidation}
+use Rattle.file_validation.specs.Validations.{IsExplanationOf, IsValidation}
 use Rattle.validate_command.specs.declared.validated_files.ValidatedFiles.{ValidatedFiles}
 
 -- both files, in the order in which they are loaded
@@ -23,3 +24,8 @@ HoldTexts held v data_text shapes_text = HoldsText held v.data_file data_text ×
 abbrev pub AreValidated : Option Contents → ValidatedFiles → Loads → Loads → Validation → Type 0
 AreValidated held v before after validation =
     (data_text : List ℕ) × (shapes_text : List ℕ) × HoldTexts held v data_text shapes_text × IsValidation data_text shapes_text validation × LoadsBoth v before after × NoneRefused before after
+
+-- It is the explanation of that validation; no pattern was refused.
+abbrev pub AreExplained : Option Contents → ValidatedFiles → Loads → Loads → Explanation → Type 0
+AreExplained held v before after explanation =
+    (data_text : List ℕ) × (shapes_text : List ℕ) × HoldTexts held v data_text shapes_text × IsExplanationOf data_text shapes_text explanation × LoadsBoth v before after × NoneRefused before after

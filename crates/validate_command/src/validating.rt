@@ -2,10 +2,10 @@ ghost use Rattle.std.specs.Prelude.{◌≡◌, List, IfOk, MatchResult};
 ghost use Rattle.outside.specs.Faults.{Refusal};
 ghost use Rattle.input_files.specs.Loads.{Loads};
 ghost use Rattle.validate_command.specs.Faults.{IsTold, StopsValidation, of_file};
-ghost use Rattle.validate_command.specs.Validated.{AreValidated, HoldTexts, LoadsBoth};
+ghost use Rattle.validate_command.specs.Validated.{AreExplained, AreValidated, HoldTexts, LoadsBoth};
 
 use crate::{BadInput, ValidateFault, ValidatedFiles};
-use file_validation::{InputFault, Validation, validate};
+use file_validation::{Explanation, InputFault, Validation, explain, validate};
 use input_files::{FileFault, load_file};
 use outside::{Files, Maker};
 use shape_rules::RuleRow;
@@ -96,6 +96,28 @@ pub fn validate_files<F: Files, M: Maker>(
     };
     match validate(alloc, maker, &data_text, &shapes_text) {
         Ok(validation) => Ok(validation),
+        Err(fault) => Err(text_fault(fault)),
+    }
+}
+
+/// Explains the validation of the data file's graph by the shapes file's graph: the evidence of each of its results (SHACL
+/// section 3.6), in their order. All else is as `validate_files` has it.
+pub fn explain_files<F: Files, M: Maker>(
+    alloc: Global,
+    explained: &ValidatedFiles,
+    files: &mut F,
+    maker: &mut M,
+) -> Result<Explanation, ValidateFault>
+    ensures answer { let before : Loads = record { loaded = F.loaded files.old; failed = F.failed files.old; refused = M.refused maker.old } in
+        let after : Loads = record { loaded = F.loaded files.new; failed = F.failed files.new; refused = M.refused maker.new } in
+        MatchResult result (AreExplained (F.holds files.old) explained.now before after) (λ fault. StopsValidation fault (F.holds files.old) explained.now before after) }
+{
+    let (data_text, shapes_text) = match load_texts(alloc, explained, files) {
+        Ok(both) => both,
+        Err(fault) => return Err(fault),
+    };
+    match explain(alloc, maker, &data_text, &shapes_text) {
+        Ok(explanation) => Ok(explanation),
         Err(fault) => Err(text_fault(fault)),
     }
 }

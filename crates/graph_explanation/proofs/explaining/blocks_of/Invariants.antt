@@ -1,6 +1,9 @@
-use Rattle.std.proofs.Common.{string_bytes, take}
-use Rattle.graph_explanation.specs.Explanations.{IsTextOf}
+use Rattle.std.proofs.Common.{◌≤◌, string_bytes, take}
+use Rattle.graph_explanation.specs.Firsts.{IsTextOfEach}
 use Rattle.graph_explanation.proofs.explaining.blocks_of.Given as goal
 
-abbrev pub invariant-loop-i : goal.invariant-loop-i
-invariant-loop-i g l = IsTextOf (g.N.Names.terms l.names) (g.R.Triples.triples l.graph) l.bound.shapes (take l.i l.rows) (string_bytes l.out)
+abbrev pub invariant-loop-place : goal.invariant-loop-place
+invariant-loop-place g l = record {
+  text : IsTextOfEach (g.N.Names.terms l.names) (g.R.Triples.triples l.graph) l.bound.shapes (take l.place l.aimed) l.number (string_bytes l.out);
+  count : l.number ≤ l.place;
+}

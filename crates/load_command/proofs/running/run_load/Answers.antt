@@ -4,7 +4,7 @@ use Rattle.load_command.proofs.running.run_load.Goals as goal
 
 pub load_text-requires : goal.load_text-requires
 load_text-requires g c =
-    let count = count_of_run _ _ _ _ c.in_ok-run.ensures.0 in
+    let count = count_of_run _ _ _ _ _ c.in_ok-run.ensures.0 in
     omega (arith, ap length c.deref.ensures.value, count, ap length c.as_slice.ensures, c.in_ok-all.ensures.four)
 
 pub returns-clause-load : goal.returns-clause-load

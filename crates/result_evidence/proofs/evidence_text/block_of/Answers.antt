@@ -4,7 +4,7 @@ use Rattle.rdf_model.specs.declared.ids.Ids.{Ids}
 use Rattle.rdf_model.specs.declared.look.Look.{Look}
 use Rattle.rdf_model.specs.declared.term.Term.{Term}
 use Rattle.rdf_model.specs.Numbers.{graph_of}
-use Rattle.result_evidence.specs.Blocks.{HasTriples}
+use Rattle.evidence_blocks.specs.Blocks.{HasTriples}
 use Rattle.result_evidence.specs.Standing.{HasNumbers}
 use Rattle.result_evidence.proofs.Evidenced.{is_evidence}
 use Rattle.result_evidence.proofs.evidence_text.block_of.Goals as goal
@@ -16,7 +16,7 @@ shown_looks-requires-clause-looks g c =
 pub returns : goal.returns
 returns g c =
     let e = c.args.evaluation.now in
-    let aim = c.in_ok-aim.aim in
-    is_evidence e.terms e.ids e.shapes aim.place aim.focus c.in_ok-aim.ensures.place.0 c.args.row.now c.in_ok-clone.field-0 c.in_ok-clone.ensures.cases c.in_ok-shape.shape c.in_ok-shape.focus
-    c.in_ok-shape.ensures.shape c.in_ok-shape.ensures.focus c.in_ok-aim.ensures.least c.in_ok-looks.looks.items c.in_ok-looks.ensures.looks c.in_ok-shown.shown (c.in_ok-shown.ensures.looks ∙ c.as_slice.ensures.value)
+    let aim = c.args.aim in
+    is_evidence e.terms e.ids e.shapes aim.place aim.focus c.requires.place c.args.row.now c.in_ok-clone.field-0 c.in_ok-clone.ensures.cases c.in_ok-shape.shape c.in_ok-shape.focus
+    c.in_ok-shape.ensures.shape c.in_ok-shape.ensures.focus c.requires.least c.in_ok-looks.looks.items c.in_ok-looks.ensures.looks c.in_ok-shown.shown (c.in_ok-shown.ensures.looks ∙ c.as_slice.ensures.value)
     (subst (λ (p : List Term × List Ids). All (HasTriples (graph_of p.0 p.1)) c.in_ok-shown.shown) (λ i. (c.requires.names i, c.graph.ensures i)) c.in_ok-shown.ensures.triples)

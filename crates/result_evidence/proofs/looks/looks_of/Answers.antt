@@ -8,7 +8,7 @@ use Rattle.rdf_model.specs.Numbers.{graph_of, term_at}
 use Rattle.shape_model.specs.NodeLooks.{IsLook}
 use Rattle.shape_model.specs.ShapeLooks.{Looks}
 use Rattle.path_eval.specs.Naming.{IsBoundLook, look_of}
-use Rattle.result_evidence.specs.LookOrder.{look_cmp}
+use Rattle.evidence_blocks.specs.LookOrder.{look_cmp}
 use Rattle.result_evidence.specs.Standing.{ForShape, HasNumbers}
 use Rattle.result_evidence.proofs.Looked.{bound_looks, in_order, numbers_listed}
 use Rattle.result_evidence.proofs.looks.looks_of.Goals as goal

@@ -1,7 +1,7 @@
 use Rattle.std.proofs.Common.{◌≡◌, take}
 use Rattle.std.specs.List.{All}
 use Rattle.rdf_model.specs.Numbers.{graph_of}
-use Rattle.result_evidence.specs.Blocks.{HasTriples, looks_in}
+use Rattle.evidence_blocks.specs.Blocks.{HasTriples, looks_in}
 use Rattle.result_evidence.proofs.shown.shown_looks.Given as goal
 
 abbrev pub invariant-loop-look : goal.invariant-loop-look

@@ -30,7 +30,7 @@ commit_reply-requires-clause-change g c =
 pub commit_reply-requires-clause-kept : goal.commit_reply-requires-clause-kept
 commit_reply-requires-clause-kept g c =
     let same : c.take_head.new.open.transaction ≡ c.in-Some.open.transaction = ap (λ w. w.transaction) c.in_ok-take_head.ensures.same in
-    subst (λ (y : Transaction). KeepsIn c.take_head.new.core.limits c.take_head.new.core.history y.net c.take_head.new.open.checked) (sym same) c.in_ok-take_head.ensures.kept
+    subst (λ (y : Transaction). KeepsIn c.take_head.new.core.limits c.take_head.new.core.start c.take_head.new.core.history y.net c.take_head.new.open.checked) (sym same) c.in_ok-take_head.ensures.kept
 
 pub returns : goal.returns
 returns g c =

@@ -7,12 +7,12 @@ use Rattle.session_player.proofs.perform.commit_reply.Goals as goal
 pub commit-requires-clause-committable : goal.commit-requires-clause-committable
 commit-requires-clause-committable g c =
     let s = c.args.core.now in
-    rw c.into_parts-handed.ensures (committable_kept s.limits s.history c.args.open.transaction c.args.open.checked s.state c.requires.fits c.requires.change c.requires.kept c.recall_consistent.ensures.replays)
+    rw c.into_parts-handed.ensures (committable_kept s.limits s.start s.history c.args.open.transaction c.args.open.checked s.state c.requires.fits c.requires.change c.requires.kept c.recall_consistent.ensures.replays)
 
 pub commit-requires-clause-verdict : goal.commit-requires-clause-verdict
 commit-requires-clause-verdict g c =
     let s = c.args.core.now in
-    rw c.into_parts-handed.ensures (rows_kept s.limits s.history c.args.open.transaction.net c.args.open.checked c.requires.kept)
+    rw c.into_parts-handed.ensures (rows_kept s.limits s.start s.history c.args.open.transaction.net c.args.open.checked c.requires.kept)
 
 pub reply_of_commit-requires : goal.reply_of_commit-requires
 reply_of_commit-requires g c = listed_answer c.args.core.now.state c.into_parts-handed.result.0.transaction c.in-Ok.ensures.reply c.in-Ok.committed c.in-Ok.ensures.told

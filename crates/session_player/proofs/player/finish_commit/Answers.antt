@@ -19,7 +19,7 @@ pub commit_reply-requires-clause-kept : goal.commit_reply-requires-clause-kept
 commit_reply-requires-clause-kept g c =
     let t = c.take.ensures in
     let s = c.args.core.now in
-    subst (λ (o : Option CheckedNet). KeepsIn s.limits s.history c.in-Some.open.transaction.net o) (ap checked_in (sym t.value ∙ c.in-Some.is))
+    subst (λ (o : Option CheckedNet). KeepsIn s.limits s.start s.history c.in-Some.open.transaction.net o) (ap checked_in (sym t.value ∙ c.in-Some.is))
     (ready_held _ _ _ _ (plain c.in-Some.open) c.player.view_is c.requires.ready c.requires.held c.requires.next (ap plain_in (sym t.value ∙ c.in-Some.is))).1
 
 pub returns : goal.returns

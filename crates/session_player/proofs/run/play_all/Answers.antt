@@ -9,4 +9,4 @@ pub loop-commands-preserved : goal.loop-commands-preserved
 loop-commands-preserved g c =
     let at : c.loop-commands.session + 1 ≡ c.loop-commands.commands-index + 1 = ap (λ n. n + 1) c.loop-commands.invariant.session in
     let advances = rw c.as_slice.ensures at c.in_ok-replies.ensures.advances in
-    record { session = at; so_far = rw c.in_ok-push.ensures.items (HasRun-next _ _ _ _ _ _ c.commands-item.result _ _ _ c.loop-commands.invariant.so_far at c.loop-commands-test.true c.commands-item.is advances) }
+    record { session = at; so_far = rw c.in_ok-push.ensures.items (HasRun-next _ _ _ _ _ _ _ c.commands-item.result _ _ _ c.loop-commands.invariant.so_far at c.loop-commands-test.true c.commands-item.is advances) }

@@ -8,8 +8,8 @@ pub returns-clause-item : goal.returns-clause-item
 returns-clause-item c =
     let texts = map (λ l. l.now) c.args.lines.now in
     let back = ap (map (λ l. l.now)) c.split_at.ensures.back ∙ sym (drop-map (λ l. l.now) (c.args.i + 1) c.args.lines.now) in
-    λ more. item_of_kind c.read_item_of.result c.args.session c.args.next.now (c.args.i + 1) _ c.in_ok-kind.kind _ _ _ (drop (c.args.i + 1) texts) c.args.commands.now _ more
-    (c.in_ok-kind.ensures ∙ ap file.kind_of c.command_text.ensures) c.line_at.ensures back (c.read_item_of.ensures.item more)
+    λ more. item_of_kind c.read_item_of.result c.args.language c.args.session c.args.next.now (c.args.i + 1) _ c.in_ok-kind.kind _ _ _ (drop (c.args.i + 1) texts) c.args.commands.now _ more
+    (c.in_ok-kind.ensures ∙ ap (file.kind_of c.args.language) c.command_text.ensures) c.line_at.ensures back (c.read_item_of.ensures.item more)
 
 pub returns-clause-next : goal.returns-clause-next
 returns-clause-next c =

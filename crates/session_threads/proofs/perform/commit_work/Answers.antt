@@ -8,7 +8,7 @@ pub commit-session-requires : goal.commit-session-requires
 commit-session-requires g c = c.check-checked.ensures.session c.args.store.now c.head-session.ensures.session
 
 pub commit_reply-requires : goal.commit_reply-requires
-commit_reply-requires g c = listed c.args.store.now.limits c.check-checked.new.self c.commit-session.result.0 c.commit-session.result.1 c.commit-session.ensures.commits
+commit_reply-requires g c = listed c.args.store.now c.check-checked.new.self c.commit-session.result.0 c.commit-session.result.1 c.commit-session.ensures.commits
 
 pub returns : goal.returns
 returns g c = plays_work c.args.store.now c.args.session c.check-checked.new.self c.commit-session.result.0 _ c.commit-session.result.1 c.in_ok-reply.reply _ _ c.requires.session (c.check-checked.ensures.session c.args.store.now c.head-session.ensures.session) c.commit-session.ensures.session c.requires.work

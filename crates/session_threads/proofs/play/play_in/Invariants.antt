@@ -10,6 +10,6 @@ abbrev pub invariant-loop-command : goal.invariant-loop-command
 invariant-loop-command g l = record {
   session : IsSession l.store l.session;
   number : l.session.number ≡ l.fn.session.number;
-  goes : HasPlayed l.store.limits l.fn.session.number l.fn.session.pass.known.front l.commands (first_state l.commands)
-      → HasPlayed l.store.limits l.session.number l.session.pass.known.front l.commands (up_to_event (plain_in l.session.current) (drop l.command-index l.commands) l.replies);
+  goes : HasPlayed l.store l.fn.session.number l.fn.session.pass.known.front l.commands (first_state l.commands)
+      → HasPlayed l.store l.session.number l.session.pass.known.front l.commands (up_to_event (plain_in l.session.current) (drop l.command-index l.commands) l.replies);
 }

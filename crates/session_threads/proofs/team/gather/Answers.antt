@@ -33,7 +33,7 @@ loop-player-preserved c =
     let ended : HasEnded store files c.in-Some.player = of_last (λ _ (w : Player). HasEnded store files w) _ left _ last i.3 in
     let number : c.in-Some.player.number ≡ length left + 1 = of_last (λ n (w : Player). w.number ≡ n + 1) _ left _ last i.4 in
     let over = over_of store files c.in-Some.player.number k c.in-Some.player.replies c.in-Some.player.session c.in-Some-replies.replies c.unwrap.result (number ∙ ap (λ n. n + 1) (sym count)) c.in-Some-replies.is c.unwrap.ensures ended in
-    let met = met_next store files k old.pass after.pass c.unwrap.result (reverse c.loop-player.all.items) c.in-Some-replies.replies (subst (λ n. Met files store.limits n old.pass (reverse c.loop-player.all.items)) before i.5) (ap (λ x. x.pass) c.meet-keeper.ensures.met) c.meet-keeper.ensures.this c.meet-keeper.ensures.that over in
+    let met = met_next store files k old.pass after.pass c.unwrap.result (reverse c.loop-player.all.items) c.in-Some-replies.replies (subst (λ n. Met files store n old.pass (reverse c.loop-player.all.items)) before i.5) (ap (λ x. x.pass) c.meet-keeper.ensures.met) c.meet-keeper.ensures.this c.meet-keeper.ensures.that over in
     let items : c.push.new.self.items ≡ c.loop-player.all.items ++ c.in-Some-replies.replies ∷ [] = search rules in
     let pushed = reverse_last c.push.new.self.items c.loop-player.all.items c.in-Some-replies.replies items in (
       sound_met store old after i.0 c.meet-keeper.ensures.keeper c.meet-keeper.ensures.this,
@@ -41,5 +41,5 @@ loop-player-preserved c =
       omega (arith, i.2, before, ap (λ x. x.pass.spare) c.meet-keeper.ensures.met),
       all_left (λ _ (w : Player). HasEnded store files w) _ left _ last i.3,
       all_left (λ n (w : Player). w.number ≡ n + 1) _ left _ last i.4,
-      subst (Met files store.limits k after.pass) (sym pushed) met,
+      subst (Met files store k after.pass) (sym pushed) met,
     )

@@ -5,7 +5,7 @@ use Rattle.session_threads.proofs.team.gather.Given as goal
 abbrev pub invariant-loop-player : goal.invariant-loop-player
 invariant-loop-player l =
     IsSound l.store l.keeper × (l.keeper.opened ≡ length l.files) × (l.keeper.pass.spare + vec_len l.players ≡ l.fn.keeper.pass.spare + length l.files) × All (HasEnded l.store l.files) l.players.items × AreNumbered l.players.items
-    × Met l.files l.store.limits (vec_len l.players) l.keeper.pass (reverse l.all.items)
+    × Met l.files l.store (vec_len l.players) l.keeper.pass (reverse l.all.items)
 
 abbrev pub decreases-loop-player : goal.decreases-loop-player
 decreases-loop-player l = length l.players.items

@@ -6,8 +6,8 @@ use Rattle.shape_ast.specs.declared.constraint.Constraint.{Constraint}
 use Rattle.shape_ast.specs.Readings.{HoldsOfConstraint}
 use Rattle.shape_ast.proofs.parts.bind_constraint.Goals as goal
 
-pub bind_terms-requires : goal.bind_terms-requires
-bind_terms-requires g c =
+pub bind_members-requires : goal.bind_members-requires
+bind_members-requires g c =
     let named = IsNamed (g.N.Names.terms c.args.names.now) in
     let holds = subst (λ (k : Constraint Term). HoldsOfConstraint named c.args.shapes k) c.in-ByList.is c.requires in
     subst (λ (ts : List Term). All named ts) (sym c.as_slice.ensures) holds.1

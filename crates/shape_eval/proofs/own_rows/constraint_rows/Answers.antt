@@ -100,8 +100,8 @@ returns-in_ok-instances-in-ByTerm-clause-rows g c =
 pub list_rows-requires : goal.list_rows-requires
 list_rows-requires g c =
     let terms = c.args.evaluation.now.terms in
-    subst (λ (x : Spot). All (λ n. n < length x.terms) c.as_slice.result.now) (sym c.site-site.ensures)
-    (subst (λ (ns : List ℕ). All (λ n. n < length terms) ns) (sym c.as_slice.ensures) ((subst (λ (k : Constraint ℕ). HoldsOfConstraint (λ n. n < length terms) (length c.args.evaluation.now.shapes) k) c.in-ByList.is c.requires.constraint).1))
+    subst (λ (x : Spot). All (λ n. n < length x.terms) c.in-ByList.members) (sym c.site-site.ensures)
+    ((subst (λ (k : Constraint ℕ). HoldsOfConstraint (λ n. n < length terms) (length c.args.evaluation.now.shapes) k) c.in-ByList.is c.requires.constraint).1)
 
 pub returns-in-ByList-clause-rows : goal.returns-in-ByList-clause-rows
 returns-in-ByList-clause-rows g c =
@@ -116,7 +116,7 @@ returns-in-ByList-clause-rows g c =
     subst (λ (k : Constraint ℕ). IfOk c.list_rows.result (λ rows. Here k rows.items)) (sym c.in-ByList.is)
     (IfOk-weaker c.list_rows.result (λ rows. GivenByList component c.in-ByList.members (spot e.terms source q c.args.focus values) rows.items) (λ rows. Here (ByList component q c.in-ByList.members) rows.items)
     (λ rows h s n right linked. (list_around e.terms e.ids s n values c.args.focus component (map (term_at e.terms) c.in-ByList.members) (term_at e.terms q) row rows.items h).members)
-    (subst (λ (p : Spot × List ℕ). IfOk c.list_rows.result (λ rows. GivenByList component p.1 p.0 rows.items)) (λ i. (placed i, c.as_slice.ensures i)) c.list_rows.ensures))
+    (subst (λ (x : Spot). IfOk c.list_rows.result (λ rows. GivenByList component c.in-ByList.members x rows.items)) placed c.list_rows.ensures))
 
 pub shape_rows-requires-clause-told : goal.shape_rows-requires-clause-told
 shape_rows-requires-clause-told g c =
@@ -147,12 +147,12 @@ shapes_rows-requires-clause-bound g c = subst (λ (p : Spot × List (Shape ℕ))
 
 pub shapes_rows-requires-clause-told : goal.shapes_rows-requires-clause-told
 shapes_rows-requires-clause-told g c =
-    subst (λ (p : Spot × List (Shape ℕ) × List ℕ). HaveAnswers p.1 p.0.values c.args.told.now (Contains p.2)) (λ i. (sym c.site-site.ensures i, sym c.shapes-shapes.ensures i, sym c.as_slice-in-ByShapes.ensures i))
+    subst (λ (p : Spot × List (Shape ℕ) × List ℕ). HaveAnswers p.1 p.0.values c.args.told.now (Contains p.2)) (λ i. (sym c.site-site.ensures i, sym c.shapes-shapes.ensures i, sym c.as_slice.ensures i))
     (subst (λ (k : Constraint ℕ). HaveAnswers c.args.evaluation.now.shapes c.args.values.now c.args.told.now (Asks c.args.shape.now k)) c.in-ByShapes.is c.requires.told)
 
 pub shapes_rows-requires-clause-places : goal.shapes_rows-requires-clause-places
 shapes_rows-requires-clause-places g c =
-    subst (λ (p : List (Shape ℕ) × List ℕ). All (λ n. n < length p.0) p.1) (λ i. (sym c.shapes-shapes.ensures i, sym c.as_slice-in-ByShapes.ensures i))
+    subst (λ (p : List (Shape ℕ) × List ℕ). All (λ n. n < length p.0) p.1) (λ i. (sym c.shapes-shapes.ensures i, sym c.as_slice.ensures i))
     ((subst (λ (k : Constraint ℕ). HoldsOfConstraint (λ n. n < length c.args.evaluation.now.terms) (length c.args.evaluation.now.shapes) k) c.in-ByShapes.is c.requires.constraint).1)
 
 pub returns-in-ByShapes-clause-rows : goal.returns-in-ByShapes-clause-rows
@@ -167,7 +167,7 @@ returns-in-ByShapes-clause-rows g c =
     let placed = c.site-site.ensures ∙ ap (λ (p : ℕ). spot e.terms source p c.args.focus values) (c.parameter_of.ensures ∙ ap parameter c.in-ByShapes.is) in
     subst (λ (k : Constraint ℕ). IfOk c.shapes_rows.result (λ rows. Here k rows.items)) (sym c.in-ByShapes.is)
     (IfOk-weaker c.shapes_rows.result (λ rows. There c.in-ByShapes.places e.shapes (spot e.terms source q c.args.focus values) rows.items) (λ rows. Here (ByShapes component q c.in-ByShapes.places) rows.items) (λ rows h s n right linked. (h e.ids s n right).members)
-    (subst (λ (p : Spot × List (Shape ℕ) × List ℕ). IfOk c.shapes_rows.result (λ rows. There p.2 p.1 p.0 rows.items)) (λ i. (placed i, c.shapes-shapes.ensures i, c.as_slice-in-ByShapes.ensures i)) c.shapes_rows.ensures))
+    (subst (λ (p : Spot × List (Shape ℕ) × List ℕ). IfOk c.shapes_rows.result (λ rows. There p.2 p.1 p.0 rows.items)) (λ i. (placed i, c.shapes-shapes.ensures i, c.as_slice.ensures i)) c.shapes_rows.ensures))
 
 -- the looks: only a component at a value of its parameter makes some by itself
 abbrev Looked : Setting → ℕ → List ℕ → Constraint ℕ → List (Look ℕ) → List (Look ℕ) → Type 0

@@ -1,4 +1,4 @@
-use Rattle.std.proofs.Common.{◌≡◌, ◌∙◌, List, ap, subst}
+use Rattle.std.proofs.Common.{◌≡◌, ◌∙◌, List, ap, sym, subst}
 use Rattle.store_model.specs.declared.commit.Accepted.{Accepted}
 use Rattle.store_model.specs.Store.{RecordedStore, again}
 use Rattle.commit_core.specs.Consistent.{IsConsistent}
@@ -11,7 +11,7 @@ commit_by_plan-requires-clause-found g c =
     let x = c.args.checked.transaction in
     let commits : c.deref.result.now ≡ c.args.self.now.state.commits = c.deref.ensures.value ∙ ap (λ (s : RecordedStore). s.state.commits) c.self.view_is in
     let why = c.in-Ok-find_reasons.ensures.0 ∙ ap (λ (cs : List Accepted). again cs x.staged x.verdict) commits in
-    held c.args.self.now _ _ _ _ _ _ (subst (λ (s : RecordedStore). IsConsistent s) c.self.view_is c.self.invariant) c.requires.verdict why c.has_held-held.ensures.held
+    held c.args.self.now _ _ _ _ _ _ (subst (λ (s : RecordedStore). IsConsistent s) c.self.view_is c.self.invariant) (sym (ap (λ (s : RecordedStore). s.limits.mode) c.self.view_is)) c.requires.verdict why c.has_held-held.ensures.held
 
 pub returns-clause-steps : goal.returns-clause-steps
 returns-clause-steps g c =

@@ -1,4 +1,4 @@
-use Rattle.std.proofs.Common.{◌≡◌, ◌∙◌, List, Option, Some, None, ap, sym, subst}
+use Rattle.std.proofs.Common.{◌≡◌, ◌∙◌, List, Option, ap, refl, sym, subst}
 use Rattle.std.specs.Prelude.{false, IfOk, OnOk}
 use Rattle.rdf_model.specs.declared.change.Change.{Change}
 use Rattle.rdf_model.specs.declared.triple.Triple.{Triple}
@@ -7,10 +7,12 @@ use Rattle.shape_model.specs.Validation.{Listing}
 use Rattle.graph_validation.specs.Counting.{GrowsByCount, IsTargetPair}
 use Rattle.parallel_validate.specs.Verdicts.{IsEvaluated}
 use Rattle.term_validation.specs.Named.{AreNamedTriples}
+use Rattle.store_model.specs.declared.event.BlockMode.TheVariants.{All}
 use Rattle.store_model.specs.Store.{RecordedStore, shapes_under}
 use Rattle.data_graph.specs.DataGraphs.{AreNamedChanges, NamedGraph, with_changes}
 use Rattle.commit_core.specs.Commits.{data_of}
 use Rattle.commit_core.specs.Work.{ResultSteps}
+use Rattle.commit_core.proofs.Consistency.{no_result}
 use Rattle.commit_core.proofs.NamedTerms.{named_after, net_named}
 use Rattle.commit_core.proofs.Planning.{unstaged}
 use Rattle.commit_core.proofs.Work.{changed_steps, on_ok, whole_steps}
@@ -44,7 +46,7 @@ pub listing_after-requires-clause-graph : goal.listing_after-requires-clause-gra
 listing_after-requires-clause-graph g c = c.self.invariant.sound.graph_named
 
 pub listing_after-requires-clause-none : goal.listing_after-requires-clause-none
-listing_after-requires-clause-none g c = c.self.invariant.sound.no_result
+listing_after-requires-clause-none g c = no_result All _ _ refl c.self.invariant.sound.no_blocking
 
 pub returns-in-Some-clause-rows : goal.returns-in-Some-clause-rows
 returns-in-Some-clause-rows g c = subst (λ (d : NamedGraph). IfOk c.listing.result (λ rows. Listing d.triples d.shapes rows.items)) c.requires.next c.listing.ensures.rows

@@ -1,9 +1,11 @@
 use Rattle.std.proofs.Common.{◌≡◌, ◌++◌, length, reverse}
+use Rattle.store_model.specs.Store.{empty_store}
 use Rattle.commit_core.proofs.store.Core.replay.Given as goal
 
 abbrev pub invariant-loop-event : goal.invariant-loop-event
 invariant-loop-event g l = record {
   limits : l.core.limits ≡ l.fn.limits;
+  start : l.core.start ≡ empty_store;
   so_far : l.core.history ++ reverse l.rest.items ≡ l.fn.events.items;
   place : l.place ≡ length l.core.history;
 }

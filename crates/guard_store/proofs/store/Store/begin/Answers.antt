@@ -8,7 +8,7 @@ use Rattle.guard_store.proofs.store.Store.begin.Goals as goal
 pub returns-in-Ok-clause-begins : goal.returns-in-Ok-clause-begins
 returns-in-Ok-clause-begins g c =
     let none : c.args.session.current ≡ None = search rules in
-    begins_now c.args.self.now.limits c.args.session c.take_begin-pass.result.0 c.in-Ok.snap _ _ none (at_ok _ _ _ _ c.in-Ok.is (rw c.into_parts-pass.ensures at c.take_begin-pass.ensures)) c.number-version.ensures (rw (c.from_parts.ensures, c.into_parts-pass.ensures, c.new-open.ensures) refl)
+    begins_now c.args.self.now c.args.session c.take_begin-pass.result.0 c.in-Ok.snap _ _ none (at_ok _ _ _ _ c.in-Ok.is (rw c.into_parts-pass.ensures at c.take_begin-pass.ensures)) c.number-version.ensures (rw (c.from_parts.ensures, c.into_parts-pass.ensures, c.new-open.ensures) refl)
 
 pub returns-in-Ok-clause-session : goal.returns-in-Ok-clause-session
 returns-in-Ok-clause-session g c = begins_session c.args.self.now c.args.session _ c.number-version.result c.requires (returns-in-Ok-clause-begins g c)

@@ -27,7 +27,7 @@ pub returns-in-Ok-clause-commits : goal.returns-in-Ok-clause-commits
 returns-in-Ok-clause-commits g c =
     let o : IsOpen c.args.session c.in-Some.open = rw c.into_parts-pass.ensures at c.in-Some.is in
     let turn = at_ok _ _ _ _ c.in-Ok.is (rw (c.into_parts-pass.ensures, c.into_parts-handed.ensures) at c.take_commit-pass.ensures.commits) in
-    commits_now c.args.self.now.limits c.args.session c.take_commit-pass.result.0 c.in-Some.open c.in-Ok.committed _ o (subst HasWork o c.requires.work) turn (rw (c.from_parts.ensures, c.into_parts-pass.ensures) refl)
+    commits_now c.args.self.now c.args.session c.take_commit-pass.result.0 c.in-Some.open c.in-Ok.committed _ o (subst HasWork o c.requires.work) turn (rw (c.from_parts.ensures, c.into_parts-pass.ensures) refl)
 
 pub returns-in-Ok-clause-session : goal.returns-in-Ok-clause-session
 returns-in-Ok-clause-session g c = commits_session c.args.self.now c.args.session _ c.in-Ok.committed c.requires.session (returns-in-Ok-clause-commits g c)

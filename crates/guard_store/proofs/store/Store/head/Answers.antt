@@ -10,7 +10,7 @@ use Rattle.guard_store.proofs.store.Store.head.Goals as goal
 pub returns-in-Ok-clause-heads : goal.returns-in-Ok-clause-heads
 returns-in-Ok-clause-heads g c =
     let is = subst (λ (b : Bool). MatchBool b ((w : OpenTransaction) × (c.args.session.current ≡ Some w)) (c.args.session.current ≡ None)) c.if-not-is_open.false c.is_open.ensures in
-    heads_now c.args.self.now.limits c.args.session c.take_head-pass.result.0 c.in-Ok.snap _ _ is (at_ok _ _ _ _ c.in-Ok.is (rw c.into_parts-pass.ensures at c.take_head-pass.ensures)) c.number-newest.ensures (rw (c.from_parts-session.ensures, c.into_parts-pass.ensures) refl)
+    heads_now c.args.self.now c.args.session c.take_head-pass.result.0 c.in-Ok.snap _ _ is (at_ok _ _ _ _ c.in-Ok.is (rw c.into_parts-pass.ensures at c.take_head-pass.ensures)) c.number-newest.ensures (rw (c.from_parts-session.ensures, c.into_parts-pass.ensures) refl)
 
 pub returns-in-Ok-clause-session : goal.returns-in-Ok-clause-session
 returns-in-Ok-clause-session g c = heads_session c.args.self.now c.args.session _ c.number-newest.result c.requires (returns-in-Ok-clause-heads g c)

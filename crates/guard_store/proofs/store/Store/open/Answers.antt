@@ -13,7 +13,7 @@ returns-in-Ok-clause-opens g c =
 pub returns-in-Ok-clause-seats : goal.returns-in-Ok-clause-seats
 returns-in-Ok-clause-seats g c =
     let turn = at_ok _ _ _ _ c.in-Ok.is c.take_opening-pass.ensures in
-    spare_opened c.args.self.now.limits c.args.keeper.pass c.take_opening-pass.result.0 c.in-Ok.number c.split_off.result.0 (open_event c.in-Ok.number) turn (has_room c.args.self.now c.args.keeper c.in-Ok.number c.take_opening-pass.result.0 c.requires turn) c.split_off.ensures.kept
+    spare_opened c.args.self.now c.args.keeper.pass c.take_opening-pass.result.0 c.in-Ok.number c.split_off.result.0 (open_event c.in-Ok.number) turn (has_room c.args.self.now c.args.keeper c.in-Ok.number c.take_opening-pass.result.0 c.requires turn) c.split_off.ensures.kept
 
 pub returns-in-Err-clause-opens : goal.returns-in-Err-clause-opens
 returns-in-Err-clause-opens g c =

@@ -14,11 +14,11 @@ void-requires g c = subst (λ (s : RecordedStore). c.args.number ≤ s.state.ope
 
 pub returns-in-Ok-head : goal.returns-in-Ok-head
 returns-in-Ok-head g c =
-    turned_with c.args.self.now.limits c.args.pass c.start-held.result.0 c.finish.result c.start-held.result.1 c.head.new.self _ (λ (s : State). c.in-Ok-head.snap ≡ snapshot_of s) c.start-held.ensures c.in-Ok-head.ensures.step
+    turned_with c.args.self.now c.args.pass c.start-held.result.0 c.finish.result c.start-held.result.1 c.head.new.self _ (λ (s : State). c.in-Ok-head.snap ≡ snapshot_of s) c.start-held.ensures c.in-Ok-head.ensures.step
     (c.finish.ensures c.args.pass c.start-held.result.1 _ c.start-held.ensures c.in-Ok-head.ensures.step) c.in-Ok-head.ensures.snapshot
 
 pub returns-in-Err : goal.returns-in-Err
 returns-in-Err g c =
     let step = subst (λ (s : RecordedStore). TakesStep s c.void.new.self (void_of c.args.number)) c.in-Err.ensures.memory c.void.ensures in
-    inr (turned c.args.self.now.limits c.args.pass c.start-held.result.0 c.finish-in-Err.result c.start-held.result.1 c.void.new.self _ c.start-held.ensures step
+    inr (turned c.args.self.now c.args.pass c.start-held.result.0 c.finish-in-Err.result c.start-held.result.1 c.void.new.self _ c.start-held.ensures step
     (c.finish-in-Err.ensures c.args.pass c.start-held.result.1 _ c.start-held.ensures step))

@@ -1,11 +1,7 @@
 use Rattle.std.proofs.Common.{rules, ◌∷◌, ap, sym, ◌∙◌, Some}
 use Rattle.atomic_table.specs.Table.{rest}
-use Rattle.turn_lock.proofs.Drawing.{draws_at}
 use Rattle.turn_lock.proofs.Looking.{looks_at, told_mine}
 use Rattle.turn_lock.proofs.turns.Turns.enter.Goals as goal
-
-pub fetch_add-ticket-requires : goal.fetch_add-ticket-requires
-fetch_add-ticket-requires g c = (search rules, search rules, draws_at _ _ _ _ _ _ c.pass.invariant.0 c.pass.invariant.1)
 
 pub load-serving-requires : goal.load-serving-requires
 load-serving-requires g c = let i = c.loop.invariant in (search rules, search rules, looks_at _ _ _ c.self.invariant.2 _ _ _ i.0 i.1 i.3 i.4)

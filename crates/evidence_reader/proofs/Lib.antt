@@ -1,0 +1,5 @@
+pub mod Spelled
+pub mod Splits
+pub mod LookTexts
+pub mod RowTexts
+pub mod Numbered

@@ -1,0 +1,3 @@
+pub mod NextBlocks
+pub mod Finding
+pub mod RowLines

@@ -1,0 +1,14 @@
+use Rattle.std.proofs.Common.{List, string_bytes, subst}
+use Rattle.rdf_model.specs.declared.triple.Triple.{Triple}
+use Rattle.rdf_model.specs.Numbers.{graph_of}
+use Rattle.term_validation.specs.Named.{AreNamedTriples}
+use Rattle.graph_explanation.proofs.Members.{same_explanation}
+use Rattle.file_validation.proofs.results.explanation.Goals as goal
+
+pub explanation_in-requires-clause-shapes : goal.explanation_in-requires-clause-shapes
+explanation_in-requires-clause-shapes c = subst (λ (ts : List Triple). AreNamedTriples c.in_ok-numbered.numbered.names.terms ts) c.triples.ensures c.in_ok-numbered.ensures.named
+
+pub returns : goal.returns
+returns c =
+    let numbered = c.in_ok-numbered.numbered in
+    same_explanation (graph_of numbered.names.terms numbered.triples) c.args.graph.now c.args.shapes.now c.in_ok-numbered.ensures.index.members (string_bytes c.in_ok-text.text) c.in_ok-text.ensures

@@ -1,0 +1,4 @@
+pub mod OneBlock
+pub mod Apart
+pub mod ReadableTerms
+pub mod Evidenced
