@@ -40,7 +40,7 @@ _guard() {
   if [ "$COMP_CWORD" -eq 1 ]; then
     # The wrapper is called by its place, beside the list of its crates.
     if [[ $1 == */* && -e ${1%/*}/crates.txt ]]; then own="help check build install"; fi
-    _guard_words run replay validate explain generate $own
+    _guard_words run replay validate explain verify generate $own
     return
   fi
   case ${COMP_WORDS[1]} in
@@ -55,6 +55,12 @@ _guard() {
       fi
       ;;
     validate | explain) [ "$COMP_CWORD" -gt 3 ] || _guard_files ttl ;;
+    verify)
+      case $COMP_CWORD in
+        2 | 3) _guard_files ttl ;;
+        4) _guard_files evidence ;;
+      esac
+      ;;
     install)
       compopt -o filenames 2>/dev/null
       [ "$COMP_CWORD" -gt 2 ] || mapfile -t COMPREPLY < <(compgen -d -- "$current")

@@ -22,17 +22,15 @@ use Rattle.store_model.specs.declared.event.Limits.{Limits}
 use Rattle.store_model.specs.declared.event.NameKind.{NameKind}
 use Rattle.store_model.specs.declared.event.NameKind.TheVariants.{Fresh, Known, Attach}
 use Rattle.store_model.specs.declared.event.Reply.{Reply}
-use Rattle.store_model.specs.declared.event.Reply.TheVariants.{Version, Named, Unknown, Full, Conflict, FullTriples, Refused, Done}
+use Rattle.store_model.specs.declared.event.Reply.TheVariants.{Version, Named, Unknown, Full, Conflict, FullTriples, Refused, Done, LogFault}
 use Rattle.store_model.specs.Blocking.{NoBlocking, has_blocking}
-use Rattle.store_model.specs.Logs.{HasNoLog, IsUnlogged}
 use Rattle.store_model.specs.Nodes.{given_by, unknown_by}
 use Rattle.store_model.specs.Store.{State, RecordedStore, Replays, TakesStep, Step, StepOf, IsOpened, IsCommittable, VerdictFits, again, empty_store, overtaker, named_with, with_named, shapes_under, committed, is_staged}
 use Rattle.store_model.proofs.Blocking.{NoBlocking-listed}
 use Rattle.store_model.proofs.Histories.{Replays-push, IsAscending-after}
-use Rattle.store_model.proofs.Logs.{UnloggedRun-holds}
 use Rattle.store_model.proofs.Nodes.{ascending-given_with}
 use Rattle.store_model.proofs.Outcomes.{Passes, outcome}
-use Rattle.store_model.proofs.Steps.{names, names_none, names_unknown, conflicts, overflows, accepts, refuses}
+use Rattle.store_model.proofs.Steps.{names, names_none, names_unknown, conflicts, overflows, accepts, fails, refuses}
 use Rattle.data_graph.specs.DataGraphs.{NamedGraph, names_of, with_names}
 use Rattle.commit_core.specs.declared.commit.Refusal.{Refusal}
 use Rattle.commit_core.specs.Commits.{IsWithin, NoneBlocks, Refuses, committed_graph, data_of}
@@ -136,25 +134,16 @@ past_sound s head front k all r =
     let b = sound_along s.limits s.start head front k.small r k.begins in
     (b.sound.ascending, no_result s.limits.mode head.graph head.shapes all b.sound.no_blocking)
 
--- a core without a log isn't stopped
-pub runs : (s : RecordedStore) → IsConsistent s → s.state.stopped ≡ false
-runs s k = UnloggedRun-holds s.limits s.start s.state s.history k.running k.no_log k.replays
-
-unlogged_push : (es : List Event) (e : Event) → HasNoLog es → IsUnlogged e.reply → HasNoLog (es ++ e ∷ [])
-unlogged_push [] e h u = (u, tt)
-unlogged_push (f ∷ es) e h u = (h.0, unlogged_push es e h.1 u)
-
 -- what is kept after each method's event
 abbrev more : RecordedStore → State → Event → RecordedStore
 more s t e = record { limits = s.limits; start = s.start; state = t; history = s.history ++ e ∷ [] }
 
-pub IsConsistent-step : (s : RecordedStore) (t : State) (e : Event) → IsUnlogged e.reply → IsConsistent s → Step s.limits s.state e t → IsConsistent (more s t e)
-IsConsistent-step s t e u k h =
+pub IsConsistent-step : (s : RecordedStore) (t : State) (e : Event) → IsConsistent s → Step s.limits s.state e t → IsConsistent (more s t e)
+IsConsistent-step s t e k h =
     let now : IsSoundState s.limits s.state = record { sound = k.sound; opened = k.opened; two = k.two; within = k.within; given = k.given } in
     let b = sound_after s.limits s.state t e.session e.action e.reply k.small h now in
     record {
       replays = Replays-push s.limits s.start s.history s.state t e k.replays h;
-      no_log = unlogged_push s.history e k.no_log u;
       running = k.running;
       begins = k.begins;
       small = k.small;
@@ -168,7 +157,7 @@ IsConsistent-step s t e u k h =
 pub IsConsistent-empty : (l : Limits) → l.terms + 2 < 2 ^ 32 → IsConsistent (record { limits = l; start = empty_store; state = empty_store; history = [] })
 IsConsistent-empty l small =
     let b = sound_empty l small in
-    record { replays = refl; no_log = tt; running = refl; begins = b; small = small; opened = b.opened; sound = b.sound; two = b.two; within = b.within; given = b.given }
+    record { replays = refl; running = refl; begins = b; small = small; opened = b.opened; sound = b.sound; two = b.two; within = b.within; given = b.given }
 
 -- a store that is opened
 abbrev empty_at : Limits → RecordedStore
@@ -189,21 +178,21 @@ pub takes : (s o : RecordedStore) (t : State) (e : Event) → s ≡ o → Step s
 takes s o t e view h = subst (λ (y : RecordedStore). TakesStep y (more s t e) e) view (record { step = h; limits = refl; start = refl; history = refl })
 
 pub consistent_begin : (s o : RecordedStore) (i n : ℕ) → IsConsistent s → s ≡ o → IsOpened o.state i → n ≡ length s.state.commits → IsConsistent (more s s.state (record { session = i; action = Begin; reply = Version n }))
-consistent_begin s o i n k v g e = IsConsistent-step s s.state (record { session = i; action = Begin; reply = Version n }) tt k (opened_inside s o i v g, (ap Version e, refl))
+consistent_begin s o i n k v g e = IsConsistent-step s s.state (record { session = i; action = Begin; reply = Version n }) k (opened_inside s o i v g, (ap Version e, refl))
 
 pub consistent_head : (s o : RecordedStore) (i n : ℕ) → IsConsistent s → s ≡ o → IsOpened o.state i → n ≡ length s.state.commits → IsConsistent (more s s.state (record { session = i; action = Head; reply = Version n }))
-consistent_head s o i n k v g e = IsConsistent-step s s.state (record { session = i; action = Head; reply = Version n }) tt k (opened_inside s o i v g, (ap Version e, refl))
+consistent_head s o i n k v g e = IsConsistent-step s s.state (record { session = i; action = Head; reply = Version n }) k (opened_inside s o i v g, (ap Version e, refl))
 
 -- a commit that changes nothing
-pub consistent_refusal : (s o : RecordedStore) (i : ℕ) (x : Transaction) (r : Reply) → IsUnlogged r → IsConsistent s → s ≡ o → StepOf o.limits o.state i (Commit x) r o.state → IsConsistent (more s s.state (record { session = i; action = Commit x; reply = r }))
-consistent_refusal s o i x r u k v h = IsConsistent-step s s.state (record { session = i; action = Commit x; reply = r }) u k (at_fields s o (λ y. StepOf y.limits y.state i (Commit x) r y.state) v h)
+pub consistent_refusal : (s o : RecordedStore) (i : ℕ) (x : Transaction) (r : Reply) → IsConsistent s → s ≡ o → StepOf o.limits o.state i (Commit x) r o.state → IsConsistent (more s s.state (record { session = i; action = Commit x; reply = r }))
+consistent_refusal s o i x r k v h = IsConsistent-step s s.state (record { session = i; action = Commit x; reply = r }) k (at_fields s o (λ y. StepOf y.limits y.state i (Commit x) r y.state) v h)
 
 -- the store of a data graph with its names and of the other fields
-abbrev fields : NamedGraph → ℕ → List Accepted → List Term → ℕ → List Event → RecordedStore
-fields d m cs gs n h = record {
+abbrev fields : State → NamedGraph → ℕ → List Accepted → List Term → ℕ → Bool → List Event → RecordedStore
+fields b d m cs gs n off h = record {
   limits = record { terms = d.limit; triples = m; mode = All };
-  start = empty_store;
-  state = record { graph = d.triples; shapes = d.shapes; commits = cs; named = d.terms; given = gs; opened = n; stopped = false };
+  start = b;
+  state = record { graph = d.triples; shapes = d.shapes; commits = cs; named = d.terms; given = gs; opened = n; stopped = off };
   history = h;
 }
 
@@ -211,43 +200,43 @@ fields d m cs gs n h = record {
 abbrev naming : ℕ → NameKind → List Term → Reply → Event
 naming i kind ts r = record { session = i; action = Name kind ts; reply = r }
 
-module _ (d e : NamedGraph) (m : ℕ) (cs : List Accepted) (gs : List Term) (n : ℕ) (h : List Event) (o : RecordedStore) (i : ℕ) (kind : NameKind) (ts : List Term) (consistent : IsConsistent (fields d m cs gs n h)) (view : fields d m cs gs n h ≡ o) (opened : IsOpened o.state i) (known : unknown_by kind o.state.given ts ≡ []) where
+module _ (b : State) (d e : NamedGraph) (m : ℕ) (cs : List Accepted) (gs : List Term) (n : ℕ) (off : Bool) (h : List Event) (o : RecordedStore) (i : ℕ) (kind : NameKind) (ts : List Term) (consistent : IsConsistent (fields b d m cs gs n off h)) (view : fields b d m cs gs n off h ≡ o) (opened : IsOpened o.state i) (known : unknown_by kind o.state.given ts ≡ []) where
   known_inside : unknown_by kind gs ts ≡ []
-  known_inside = at_fields (fields d m cs gs n h) o (λ y. unknown_by kind y.state.given ts ≡ []) view known
+  known_inside = at_fields (fields b d m cs gs n off h) o (λ y. unknown_by kind y.state.given ts ≡ []) view known
 
-  named_step : length (with_terms d.terms ts) ≤ d.limit + 2 → Step (fields d m cs gs n h).limits (fields d m cs gs n h).state (naming i kind ts Named) (fields (with_names d ts) m cs (given_by kind gs ts) n h).state
+  named_step : length (with_terms d.terms ts) ≤ d.limit + 2 → Step (fields b d m cs gs n off h).limits (fields b d m cs gs n off h).state (naming i kind ts Named) (fields b (with_names d ts) m cs (given_by kind gs ts) n off h).state
   named_step le =
-      let s = fields d m cs gs n h in
+      let s = fields b d m cs gs n off h in
       subst (λ (ns : List Term). StepOf s.limits s.state i (Name kind ts) Named (record s.state { named = ns; given = given_by kind gs ts })) (sym (same_names d.terms ts))
       (names s.limits s.state i kind ts (opened_inside s o i view opened) known_inside (subst (λ (ns : List Term). length ns ≤ d.limit + 2) (same_names d.terms ts) le))
 
-  pub consistent_named : e ≡ with_names d ts → length (with_terms d.terms ts) ≤ d.limit + 2 → IsConsistent (fields e m cs (given_by kind gs ts) n (h ++ naming i kind ts Named ∷ []))
+  pub consistent_named : e ≡ with_names d ts → length (with_terms d.terms ts) ≤ d.limit + 2 → IsConsistent (fields b e m cs (given_by kind gs ts) n off (h ++ naming i kind ts Named ∷ []))
   consistent_named is le =
-      subst (λ (x : NamedGraph). IsConsistent (fields x m cs (given_by kind gs ts) n (h ++ naming i kind ts Named ∷ []))) (sym is)
-      (IsConsistent-step (fields d m cs gs n h) (fields (with_names d ts) m cs (given_by kind gs ts) n h).state (naming i kind ts Named) tt consistent (named_step le))
+      subst (λ (x : NamedGraph). IsConsistent (fields b x m cs (given_by kind gs ts) n off (h ++ naming i kind ts Named ∷ []))) (sym is)
+      (IsConsistent-step (fields b d m cs gs n off h) (fields b (with_names d ts) m cs (given_by kind gs ts) n off h).state (naming i kind ts Named) consistent (named_step le))
 
-  pub takes_named : e ≡ with_names d ts → length (with_terms d.terms ts) ≤ d.limit + 2 → TakesStep o (fields e m cs (given_by kind gs ts) n (h ++ naming i kind ts Named ∷ [])) (naming i kind ts Named)
+  pub takes_named : e ≡ with_names d ts → length (with_terms d.terms ts) ≤ d.limit + 2 → TakesStep o (fields b e m cs (given_by kind gs ts) n off (h ++ naming i kind ts Named ∷ [])) (naming i kind ts Named)
   takes_named is le =
-      subst (λ (x : NamedGraph). TakesStep o (fields x m cs (given_by kind gs ts) n (h ++ naming i kind ts Named ∷ [])) (naming i kind ts Named)) (sym is)
-      (takes (fields d m cs gs n h) o (fields (with_names d ts) m cs (given_by kind gs ts) n h).state (naming i kind ts Named) view (named_step le))
+      subst (λ (x : NamedGraph). TakesStep o (fields b x m cs (given_by kind gs ts) n off (h ++ naming i kind ts Named ∷ [])) (naming i kind ts Named)) (sym is)
+      (takes (fields b d m cs gs n off h) o (fields b (with_names d ts) m cs (given_by kind gs ts) n off h).state (naming i kind ts Named) view (named_step le))
 
-  full_step : (count : ℕ) → IsCause (dictionary_faults.Full count) (names_of d) ts → Step (fields d m cs gs n h).limits (fields d m cs gs n h).state (naming i kind ts (Full count)) (fields d m cs gs n h).state
+  full_step : (count : ℕ) → IsCause (dictionary_faults.Full count) (names_of d) ts → Step (fields b d m cs gs n off h).limits (fields b d m cs gs n off h).state (naming i kind ts (Full count)) (fields b d m cs gs n off h).state
   full_step count cause =
-      let s = fields d m cs gs n h in
+      let s = fields b d m cs gs n off h in
       let size : length (with_terms d.terms ts) ≡ length (named_with d.terms ts) = ap length (same_names d.terms ts) in
       let number : count ≡ length (named_with d.terms ts) - 2 = omega (arith, cause.1, size) in
       subst (λ (k : ℕ). StepOf s.limits s.state i (Name kind ts) (Full k) s.state) (sym number)
       (names_none s.limits s.state i kind ts (opened_inside s o i view opened) known_inside (omega (arith, cause.0, cause.1, size)))
 
-  pub consistent_full : (count : ℕ) → e ≡ d → IsCause (dictionary_faults.Full count) (names_of d) ts → IsConsistent (fields e m cs gs n (h ++ naming i kind ts (Full count) ∷ []))
+  pub consistent_full : (count : ℕ) → e ≡ d → IsCause (dictionary_faults.Full count) (names_of d) ts → IsConsistent (fields b e m cs gs n off (h ++ naming i kind ts (Full count) ∷ []))
   consistent_full count is cause =
-      subst (λ (x : NamedGraph). IsConsistent (fields x m cs gs n (h ++ naming i kind ts (Full count) ∷ []))) (sym is)
-      (IsConsistent-step (fields d m cs gs n h) (fields d m cs gs n h).state (naming i kind ts (Full count)) tt consistent (full_step count cause))
+      subst (λ (x : NamedGraph). IsConsistent (fields b x m cs gs n off (h ++ naming i kind ts (Full count) ∷ []))) (sym is)
+      (IsConsistent-step (fields b d m cs gs n off h) (fields b d m cs gs n off h).state (naming i kind ts (Full count)) consistent (full_step count cause))
 
-  pub takes_full : (count : ℕ) → e ≡ d → IsCause (dictionary_faults.Full count) (names_of d) ts → TakesStep o (fields e m cs gs n (h ++ naming i kind ts (Full count) ∷ [])) (naming i kind ts (Full count))
+  pub takes_full : (count : ℕ) → e ≡ d → IsCause (dictionary_faults.Full count) (names_of d) ts → TakesStep o (fields b e m cs gs n off (h ++ naming i kind ts (Full count) ∷ [])) (naming i kind ts (Full count))
   takes_full count is cause =
-      subst (λ (x : NamedGraph). TakesStep o (fields x m cs gs n (h ++ naming i kind ts (Full count) ∷ [])) (naming i kind ts (Full count))) (sym is)
-      (takes (fields d m cs gs n h) o (fields d m cs gs n h).state (naming i kind ts (Full count)) view (full_step count cause))
+      subst (λ (x : NamedGraph). TakesStep o (fields b x m cs gs n off (h ++ naming i kind ts (Full count) ∷ [])) (naming i kind ts (Full count))) (sym is)
+      (takes (fields b d m cs gs n off h) o (fields b d m cs gs n off h).state (naming i kind ts (Full count)) view (full_step count cause))
 
 -- a block with a node that wasn't given
 unknown_by_list : (l : Limits) (s : State) (i : ℕ) (kind : NameKind) (ts nodes : List Term) (node : Term) → IsOpened s i → unknown_by kind s.given ts ≡ nodes → Some node ≡ first_of nodes → StepOf l s i (Name kind ts) (Unknown node) s
@@ -261,7 +250,7 @@ module _ (s o : RecordedStore) (i : ℕ) (kind : NameKind) (ts : List Term) (nod
   unknown_step = unknown_by_list s.limits s.state i kind ts (unknown_by kind s.state.given ts) node (opened_inside s o i view opened) refl first
 
   pub consistent_unknown : IsConsistent s → IsConsistent (more s s.state (naming i kind ts (Unknown node)))
-  consistent_unknown k = IsConsistent-step s s.state (naming i kind ts (Unknown node)) tt k unknown_step
+  consistent_unknown k = IsConsistent-step s s.state (naming i kind ts (Unknown node)) k unknown_step
 
   pub takes_unknown : TakesStep o (more s s.state (naming i kind ts (Unknown node))) (naming i kind ts (Unknown node))
   takes_unknown = takes s o s.state (naming i kind ts (Unknown node)) view unknown_step
@@ -309,28 +298,28 @@ accepted_step s o i x n graph shapes a why k =
     (accepts s.limits s.state i x none.0 (opened_inside s o i k.view k.opened) (at_fields s o (λ y. IsCommittable y.state x) k.view k.fits) (at_fields s o (λ y. y.state.stopped ≡ false) k.view k.running) within.0 within.1 none.1 none.2)))
 
 -- by the data graph that the commit makes, which has the same names
-module _ (d e : NamedGraph) (m : ℕ) (cs : List Accepted) (gs : List Term) (n : ℕ) (h : List Event) (o : RecordedStore) (i : ℕ) (x : Transaction) (number : ℕ) (a : Accepted) (why : Again) (consistent : IsConsistent (fields d m cs gs n h)) (view : fields d m cs gs n h ≡ o) where
+module _ (b : State) (d e : NamedGraph) (m : ℕ) (cs : List Accepted) (gs : List Term) (n : ℕ) (off : Bool) (h : List Event) (o : RecordedStore) (i : ℕ) (x : Transaction) (number : ℕ) (a : Accepted) (why : Again) (consistent : IsConsistent (fields b d m cs gs n off h)) (view : fields b d m cs gs n off h ≡ o) where
   abbrev accepting : Event
   accepting = record { session = i; action = Commit x; reply = Done number why }
 
-  same_fields : e ≡ committed_graph (data_of o) x → more (fields d m cs gs n h) (accepted_state (fields d m cs gs n h).state e.triples e.shapes a) accepting ≡ fields e m (cs ++ a ∷ []) gs n (h ++ accepting ∷ [])
+  same_fields : e ≡ committed_graph (data_of o) x → more (fields b d m cs gs n off h) (accepted_state (fields b d m cs gs n off h).state e.triples e.shapes a) accepting ≡ fields b e m (cs ++ a ∷ []) gs n off (h ++ accepting ∷ [])
   same_fields is =
-      let own : e ≡ committed_graph d x = at_fields (fields d m cs gs n h) o (λ y. e ≡ committed_graph (data_of y) x) view is in
+      let own : e ≡ committed_graph d x = at_fields (fields b d m cs gs n off h) o (λ y. e ≡ committed_graph (data_of y) x) view is in
       let terms : d.terms ≡ e.terms = sym (ap (λ (g : NamedGraph). g.terms) own) in
       let limit : d.limit ≡ e.limit = sym (ap (λ (g : NamedGraph). g.limit) own) in
       λ k. record {
         limits = record { terms = limit k; triples = m; mode = All };
-        start = empty_store;
-        state = record { graph = e.triples; shapes = e.shapes; commits = cs ++ a ∷ []; named = terms k; given = gs; opened = n; stopped = false };
+        start = b;
+        state = record { graph = e.triples; shapes = e.shapes; commits = cs ++ a ∷ []; named = terms k; given = gs; opened = n; stopped = off };
         history = h ++ accepting ∷ [];
       }
 
-  module _ (opened : IsOpened o.state i) (fits : IsCommittable o.state x) (reason : why ≡ again cs x.staged x.verdict) (within : IsWithin o.limits o.state.graph o.state.commits x) (none : NoneBlocks o.limits.mode (data_of o) x)
+  module _ (running : o.state.stopped ≡ false) (opened : IsOpened o.state i) (fits : IsCommittable o.state x) (reason : why ≡ again cs x.staged x.verdict) (within : IsWithin o.limits o.state.graph o.state.commits x) (none : NoneBlocks o.limits.mode (data_of o) x)
       (is : e ≡ committed_graph (data_of o) x) (changed : a.changed ≡ differing o.state.graph (after o.state.graph x.net)) (flag : a.staged ≡ is_staged x.staged) (count : number ≡ length (cs ++ a ∷ [])) where
-    step : Step (fields d m cs gs n h).limits (fields d m cs gs n h).state accepting (accepted_state (fields d m cs gs n h).state e.triples e.shapes a)
-    step = accepted_step (fields d m cs gs n h) o i x number e.triples e.shapes a why (record {
+    step : Step (fields b d m cs gs n off h).limits (fields b d m cs gs n off h).state accepting (accepted_state (fields b d m cs gs n off h).state e.triples e.shapes a)
+    step = accepted_step (fields b d m cs gs n off h) o i x number e.triples e.shapes a why (record {
       view = view;
-      running = subst (λ (y : RecordedStore). y.state.stopped ≡ false) view refl;
+      running = running;
       opened = opened;
       fits = fits;
       reason = reason;
@@ -343,31 +332,48 @@ module _ (d e : NamedGraph) (m : ℕ) (cs : List Accepted) (gs : List Term) (n :
       number = count;
     })
 
-    pub consistent_accepted : IsConsistent (fields e m (cs ++ a ∷ []) gs n (h ++ accepting ∷ []))
+    pub consistent_accepted : IsConsistent (fields b e m (cs ++ a ∷ []) gs n off (h ++ accepting ∷ []))
     consistent_accepted =
         subst (λ (y : RecordedStore). IsConsistent y) (same_fields is)
-        (IsConsistent-step (fields d m cs gs n h) (accepted_state (fields d m cs gs n h).state e.triples e.shapes a) accepting tt consistent step)
+        (IsConsistent-step (fields b d m cs gs n off h) (accepted_state (fields b d m cs gs n off h).state e.triples e.shapes a) accepting consistent step)
 
-    pub takes_accepted : TakesStep o (fields e m (cs ++ a ∷ []) gs n (h ++ accepting ∷ [])) accepting
+    pub takes_accepted : TakesStep o (fields b e m (cs ++ a ∷ []) gs n off (h ++ accepting ∷ [])) accepting
     takes_accepted =
         subst (λ (y : RecordedStore). TakesStep o y accepting) (same_fields is)
-        (takes (fields d m cs gs n h) o (accepted_state (fields d m cs gs n h).state e.triples e.shapes a) accepting view step)
+        (takes (fields b d m cs gs n off h) o (accepted_state (fields b d m cs gs n off h).state e.triples e.shapes a) accepting view step)
+
+-- a commit at which the log fails: s are the fields, o is the value that the contract speaks of
+module _ (s o : RecordedStore) (i : ℕ) (x : Transaction) (consistent : IsConsistent s) (view : s ≡ o) (running : o.state.stopped ≡ false) (opened : IsOpened o.state i) (fits : IsCommittable o.state x) (within : IsWithin o.limits o.state.graph o.state.commits x) (none : NoneBlocks o.limits.mode (data_of o) x) where
+  abbrev failing : Event
+  failing = record { session = i; action = Commit x; reply = LogFault }
+
+  failed_step : Step s.limits s.state failing (record s.state { stopped = true })
+  failed_step =
+      let clean = at_fields s o (λ y. NoneBlocks y.limits.mode (data_of y) x) view none in
+      let small = at_fields s o (λ y. IsWithin y.limits y.state.graph y.state.commits x) view within in
+      fails s.limits s.state i x clean.0 (opened_inside s o i view opened) (at_fields s o (λ y. IsCommittable y.state x) view fits) (at_fields s o (λ y. y.state.stopped ≡ false) view running) small.0 small.1 clean.1 clean.2
+
+  pub consistent_failed : IsConsistent (more s (record s.state { stopped = true }) failing)
+  consistent_failed = IsConsistent-step s (record s.state { stopped = true }) failing consistent failed_step
+
+  pub takes_failed : TakesStep o (more s (record s.state { stopped = true }) failing) failing
+  takes_failed = takes s o (record s.state { stopped = true }) failing view failed_step
 
 -- a commit that is refused for its rows, or for its size, by what the code has at hand
-pub commit_refused : (s : RecordedStore) (i : ℕ) (x : Transaction) (p : Refusal) (why : Again) → IsConsistent s → IsOpened s.state i → IsCommittable s.state x → why ≡ again s.state.commits x.staged x.verdict
+pub commit_refused : (s : RecordedStore) (i : ℕ) (x : Transaction) (p : Refusal) (why : Again) → s.state.stopped ≡ false → IsOpened s.state i → IsCommittable s.state x → why ≡ again s.state.commits x.staged x.verdict
     → IsWithin s.limits s.state.graph s.state.commits x → Refuses s.limits.mode s.state.graph s.state.shapes x p → StepOf s.limits s.state i (Commit x) (Refused p.recorded why) s.state
-commit_refused s i x p why k g f e within r =
+commit_refused s i x p why on g f e within r =
     let under : Listing (after s.state.graph x.net) (shapes_under s.state.shapes x.staged) p.rows = subst (λ (ts : List Triple). Listing (after s.state.graph x.net) ts p.rows) r.0 r.1 in
     let some : has_blocking s.limits.mode (shapes_under s.state.shapes x.staged) p.rows ≡ true = subst (λ (ts : List Triple). has_blocking s.limits.mode ts p.rows ≡ true) r.0 r.2 in
     subst (λ (rs : List ResultRow). StepOf s.limits s.state i (Commit x) (Refused rs why) s.state) (sym r.3)
-    (subst (λ (w : Again). StepOf s.limits s.state i (Commit x) (Refused p.rows w) s.state) (sym e) (refuses s.limits s.state i x p.rows g f (runs s k) within.0 within.1 under some))
+    (subst (λ (w : Again). StepOf s.limits s.state i (Commit x) (Refused p.rows w) s.state) (sym e) (refuses s.limits s.state i x p.rows g f on within.0 within.1 under some))
 
-pub commit_full : (s : RecordedStore) (i : ℕ) (x : Transaction) (n : ℕ) → IsConsistent s → IsOpened s.state i → IsCommittable s.state x → overtaker s.state.commits x.base x.finds ≡ None → s.limits.triples < length (after s.state.graph x.net)
+pub commit_full : (s : RecordedStore) (i : ℕ) (x : Transaction) (n : ℕ) → s.state.stopped ≡ false → IsOpened s.state i → IsCommittable s.state x → overtaker s.state.commits x.base x.finds ≡ None → s.limits.triples < length (after s.state.graph x.net)
     → n ≡ length (after s.state.graph x.net) → StepOf s.limits s.state i (Commit x) (FullTriples n) s.state
-commit_full s i x n k g f e lt c = subst (λ (m : ℕ). StepOf s.limits s.state i (Commit x) (FullTriples m) s.state) (sym c) (overflows s.limits s.state i x g f (runs s k) e lt)
+commit_full s i x n on g f e lt c = subst (λ (m : ℕ). StepOf s.limits s.state i (Commit x) (FullTriples m) s.state) (sym c) (overflows s.limits s.state i x g f on e lt)
 
-pub commit_overtaken : (s : RecordedStore) (i : ℕ) (x : Transaction) (h : Overtaker) → IsConsistent s → IsOpened s.state i → IsCommittable s.state x → overtaker s.state.commits x.base x.finds ≡ Some h → StepOf s.limits s.state i (Commit x) (Conflict h.commit h.triple) s.state
-commit_overtaken s i x h k g f e = conflicts s.limits s.state i x h g f (runs s k) e
+pub commit_overtaken : (s : RecordedStore) (i : ℕ) (x : Transaction) (h : Overtaker) → s.state.stopped ≡ false → IsOpened s.state i → IsCommittable s.state x → overtaker s.state.commits x.base x.finds ≡ Some h → StepOf s.limits s.state i (Commit x) (Conflict h.commit h.triple) s.state
+commit_overtaken s i x h on g f e = conflicts s.limits s.state i x h g f on e
 
 -- a transaction that may be committed has its verdict, if it has one, of a version up to this one
 pub at_head : (s : State) (v : Option Verdict) → VerdictFits s v → IsAtHead (length s.commits) v

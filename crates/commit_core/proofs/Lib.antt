@@ -1,8 +1,11 @@
 pub mod NamedTerms
+pub mod Running
 pub mod Consistency
 pub mod Verdicts
 pub mod Work
 pub mod Planning
 pub mod Conditions
 pub mod Replaying
+pub mod RestoredParts
+pub mod LoggedCommits
 pub mod Taking

@@ -119,10 +119,10 @@ names_stay named (t ∷ ts) u c = elim (has named t) as (λ b. Contains (named_w
 ]
 
 -- what holds of each item, of whatever stands in the list
-all_of : {X : Type 0} (P : X → Type 0) (xs : List X) → ((x : X) → Contains xs x → P x) → All P xs
+pub all_of : {X : Type 0} (P : X → Type 0) (xs : List X) → ((x : X) → Contains xs x → P x) → All P xs
 all_of P xs f = λ k d lt. f _ (All-contains_itself xs k d lt)
 
-triple_stays : (named ts : List Term) (t : Triple) → IsNamedTriple named t → IsNamedTriple (named_with named ts) t
+pub triple_stays : (named ts : List Term) (t : Triple) → IsNamedTriple named t → IsNamedTriple (named_with named ts) t
 triple_stays named ts t h = (names_stay named ts t.subject h.0, names_stay named ts t.predicate h.1, names_stay named ts t.object h.2)
 
 pub triples_stay : (named ts : List Term) (g : List Triple) → AreNamedTriples named g → AreNamedTriples (named_with named ts) g

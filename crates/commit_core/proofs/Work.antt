@@ -1,6 +1,6 @@
 -- What a commit's evaluations are by its answer.
 use Rattle.std.proofs.Common.{◌≡◌, ◌≤◌, ℕ, ◌+◌, Bool, true, false, cond, List, [], ◌∷◌, drop, Option, Some, None, refl, sym, subst, ◌∙◌}
-use Rattle.std.specs.Prelude.{MatchOption, OnOk, Result, Ok, Err}
+use Rattle.std.specs.Prelude.{MatchBool, MatchOption, OnOk, Result, Ok, Err}
 use Rattle.rdf_model.specs.declared.look.Look.{Look}
 use Rattle.rdf_model.specs.declared.term.Term.{Term}
 use Rattle.rdf_model.specs.declared.triple.Triple.{Triple}
@@ -14,7 +14,7 @@ use Rattle.store_model.specs.Store.{State, again, again_from, first_read, shapes
 use Rattle.parallel_validate.specs.Verdicts.{IsEvaluated}
 use Rattle.graph_validation.specs.Counting.{GrowsByCount, IsTargetPair}
 use Rattle.commit_core.specs.declared.commit.Commit.{Commit}
-use Rattle.commit_core.specs.declared.commit.Commit.TheVariants.{Done, Conflict, FullTriples, Refused, Memory}
+use Rattle.commit_core.specs.declared.commit.Commit.TheVariants.{Done, Conflict, FullTriples, Refused, LogFault, Stopped, Memory}
 use Rattle.commit_core.specs.Work.{AnswerSteps, CommitSteps, IsByResults, ResultSteps, StepsBy, is_no}
 
 -- an answer by results has the evaluations of its results
@@ -23,6 +23,8 @@ by_results held why s x old new (Done number a) e steps le = (e, steps)
 by_results held why s x old new (Conflict commit triple) e steps le = absurd e
 by_results held why s x old new (FullTriples count) e steps le = absurd e
 by_results held why s x old new (Refused rows a shapes) e steps le = (e, steps)
+by_results held why s x old new LogFault e steps le = steps
+by_results held why s x old new (Stopped version) e steps le = absurd e
 by_results held why s x old new (Memory y) e steps le = le
 
 -- only a transaction that stages shapes evaluates for them
@@ -66,12 +68,14 @@ module _ (s : State) (x : Transaction) (old new : ℕ) where
   by_staged None e commits why w held h steps = of_changes why (λ own. none_staged commits x.verdict (sym (λ i. again commits (e i) x.verdict) ∙ sym w ∙ own)) held h steps e
   by_staged (Some staged) e commits why w held h steps = of_shapes why (w ∙ (λ i. again commits (e i) x.verdict)) held h steps staged e
 
-  pub commit_steps : (commits : List Accepted) (why : Again) → why ≡ again commits x.staged x.verdict → (held : Bool) → held ≡ is_no why → (r : Commit) → AnswerSteps held why s x old new r → CommitSteps r s x old new
-  commit_steps commits why w held h (Done number a) (e, steps) = subst (λ (b : Again). StepsBy b s.graph s.shapes x old new) (sym e) (by_staged x.staged refl commits why w held h steps)
-  commit_steps commits why w held h (Conflict commit triple) steps = steps
-  commit_steps commits why w held h (FullTriples count) steps = steps
-  commit_steps commits why w held h (Refused rows a shapes) (e, steps) = subst (λ (b : Again). StepsBy b s.graph s.shapes x old new) (sym e) (by_staged x.staged refl commits why w held h steps)
-  commit_steps commits why w held h (Memory y) steps = steps
+  pub commit_steps : (why : Again) → why ≡ again s.commits x.staged x.verdict → (held : Bool) → held ≡ is_no why → (r : Commit) → AnswerSteps held why s x old new r → CommitSteps r s x old new
+  commit_steps why w held h (Done number a) (e, steps) = subst (λ (b : Again). StepsBy b s.graph s.shapes x old new) (sym e) (by_staged x.staged refl s.commits why w held h steps)
+  commit_steps why w held h (Conflict commit triple) steps = steps
+  commit_steps why w held h (FullTriples count) steps = steps
+  commit_steps why w held h (Refused rows a shapes) (e, steps) = subst (λ (b : Again). StepsBy b s.graph s.shapes x old new) (sym e) (by_staged x.staged refl s.commits why w held h steps)
+  commit_steps why w held h LogFault steps = subst (λ (b : Again). StepsBy b s.graph s.shapes x old new) w (by_staged x.staged refl s.commits why w held h steps)
+  commit_steps why w held h (Stopped version) steps = steps
+  commit_steps why w held h (Memory y) steps = steps
 
 -- what holds where a call is answered Ok
 pub on_ok : {A E : Type 0} → (r : Result A E) (P Q : Type 0) → (P → Q) → OnOk r P → OnOk r Q
@@ -87,3 +91,11 @@ whole_steps s x old new staged e h =
 pub changed_steps : (s : State) (x : Transaction) (old new : ℕ) → x.staged ≡ None → GrowsByCount (IsEvaluated s.graph s.shapes x.net) old new → ResultSteps false s x old new
 changed_steps s x old new e h =
     subst (λ (o : Option (List Triple)). MatchOption o (GrowsByCount (IsEvaluated s.graph s.shapes x.net) old new) (λ t. GrowsByCount (IsTargetPair (after s.graph x.net) t) old new)) (sym e) h
+
+-- whether a verdict held, by its reason
+pub no_held : (why : Again) → MatchBool (is_no why) (why ≡ No) (Unit {0})
+no_held No = refl
+no_held OwnShapes = tt
+no_held NoVerdict = tt
+no_held (ShapesChanged n) = tt
+no_held (Touched n t) = tt

@@ -16,7 +16,7 @@ use Rattle.store_model.specs.Store.{RecordedStore, TakesStep, is_staged, overtak
 use Rattle.data_graph.specs.DataGraphs.{NamedGraph, with_changes, with_shapes}
 use Rattle.commit_core.specs.declared.commit.CheckedTransaction.{CheckedTransaction}
 use Rattle.commit_core.specs.declared.commit.Commit.{Commit}
-use Rattle.commit_core.specs.declared.commit.Commit.TheVariants.{Done, Conflict, FullTriples, Refused, Memory}
+use Rattle.commit_core.specs.declared.commit.Commit.TheVariants.{Done, Conflict, FullTriples, Refused, LogFault, Stopped, Memory}
 use Rattle.commit_core.specs.declared.commit.Acceptance.{Acceptance}
 use Rattle.commit_core.specs.declared.commit.Plan.{Plan}
 use Rattle.commit_core.specs.declared.commit.Refusal.{Refusal}
@@ -34,7 +34,19 @@ Answers (Conflict commit triple) old new i x = TakesCommit old new i x.transacti
 Answers (FullTriples count) old new i x = TakesCommit old new i x.transaction (replies.FullTriples count)
 Answers (Refused rows again shapes) old new i x =
     TakesCommit old new i x.transaction (replies.Refused rows again) × (shapes ≡ shapes_under old.state.shapes x.transaction.staged) × Listing (after old.state.graph x.transaction.net) shapes rows
+Answers LogFault old new i x = TakesCommit old new i x.transaction replies.LogFault
+Answers (Stopped version) old new i x = TakesCommit old new i x.transaction (replies.Stopped version)
 Answers (Memory y) old new i x = (y ≡ x) × (new ≡ old)
+
+-- no log failed
+abbrev pub HasNoFault : Commit → Type 0
+HasNoFault LogFault = ⊥
+HasNoFault c = Unit {0}
+
+-- a commit that is refused for its results
+abbrev pub IsRefusal : Commit → Type 0
+IsRefusal (Refused rows again shapes) = Unit {0}
+IsRefusal c = ⊥
 
 -- the data graph of a store, with its names
 abbrev pub data_of : RecordedStore → NamedGraph

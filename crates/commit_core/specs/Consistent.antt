@@ -6,7 +6,6 @@ use Rattle.collections.specs.Ordered.{IsAscending}
 use Rattle.store_model.specs.declared.event.BlockMode.{BlockMode}
 use Rattle.store_model.specs.declared.event.Limits.{Limits}
 use Rattle.store_model.specs.Blocking.{NoBlocking}
-use Rattle.store_model.specs.Logs.{HasNoLog}
 use Rattle.store_model.specs.Store.{RecordedStore, Replays, State}
 use Rattle.store_model.specs.Snapshots.{Snapshot, snapshot_of}
 use Rattle.term_validation.specs.Named.{AreNamedTriples}
@@ -30,10 +29,9 @@ pub record IsSoundState (l : Limits) (s : State) : Type 0 where
   pub within : length s.named ≤ l.terms + 2
   pub given : IsAscending term_cmp s.given
 
--- The history needs no log, and it begins at a sound state that isn't stopped.
+-- The history begins at a sound state that isn't stopped.
 pub record IsConsistent (s : RecordedStore) : Type 0 where
   pub replays : Replays s.limits s.start s.history s.state
-  pub no_log : HasNoLog s.history
   pub running : s.start.stopped ≡ false
   pub begins : IsSoundState s.limits s.start
   pub small : s.limits.terms + 2 < 2 ^ 32

@@ -3,7 +3,10 @@ pub mod Conditions
 pub mod Consistent
 pub mod Events
 pub mod Faults
+pub mod Logged
 pub mod Naming
 pub mod Replaying
+pub mod Restored
+pub mod RestoredParts
 pub mod Verdicts
 pub mod Work

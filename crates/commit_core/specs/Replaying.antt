@@ -50,6 +50,10 @@ pub record Performs (old new : RecordedStore) (i : ℕ) (a : Action) : Type 0 wh
   pub unlogged : IsUnlogged reply
   pub step : TakesStep old new (record { session = i; action = a; reply = reply })
 
+-- the store took the step of this event, and isn't stopped
+abbrev pub RunsOn : RecordedStore → RecordedStore → Event → Type 0
+RunsOn old new e = TakesStep old new e × (new.state.stopped ≡ false)
+
 -- the event that comes next is no step of the store, whose history leads to its state
 pub record IsWrongNext (s : RecordedStore) (e : Event) : Type 0 where
   pub replays : Replays s.limits s.start s.history s.state

@@ -5,11 +5,11 @@ use Rattle.rdf_model.specs.Graphs.{after}
 use Rattle.store_model.specs.declared.commit.Again.{Again}
 use Rattle.store_model.specs.declared.commit.Again.TheVariants as whys
 use Rattle.store_model.specs.declared.commit.Transaction.{Transaction}
-use Rattle.store_model.specs.Store.{State, shapes_under}
+use Rattle.store_model.specs.Store.{State, again, shapes_under}
 use Rattle.parallel_validate.specs.Verdicts.{IsEvaluated}
 use Rattle.graph_validation.specs.Counting.{GrowsByCount, IsTargetPair}
 use Rattle.commit_core.specs.declared.commit.Commit.{Commit}
-use Rattle.commit_core.specs.declared.commit.Commit.TheVariants.{Done, Conflict, FullTriples, Refused, Memory}
+use Rattle.commit_core.specs.declared.commit.Commit.TheVariants.{Done, Conflict, FullTriples, Refused, LogFault, Stopped, Memory}
 use Rattle.commit_core.specs.declared.commit.Plan.{Plan}
 use Rattle.commit_core.specs.declared.commit.Plan.TheVariants.{Overtaken, TooLarge, Refuse, Accept}
 
@@ -22,13 +22,16 @@ StepsBy whys.NoVerdict g s x old new = GrowsByCount (IsEvaluated g s x.net) old 
 StepsBy (whys.ShapesChanged n) g s x old new = GrowsByCount (IsEvaluated g s x.net) old new
 StepsBy (whys.Touched n t) g s x old new = GrowsByCount (IsEvaluated g s x.net) old new
 
--- By its answer: none where it was overtaken, or where the graph would have too many triples. After want of memory the count
--- is what it was, or more.
+-- By its answer: none where it was overtaken, where the graph would have too many triples, or where the store was stopped
+-- before. Where the log failed they are those of a commit that is accepted. After want of memory the count is what it was, or
+-- more.
 abbrev pub CommitSteps : Commit → State → Transaction → ℕ → ℕ → Type 0
 CommitSteps (Done number again) s x old new = StepsBy again s.graph s.shapes x old new
 CommitSteps (Conflict commit triple) s x old new = new ≡ old
 CommitSteps (FullTriples count) s x old new = new ≡ old
 CommitSteps (Refused rows again shapes) s x old new = StepsBy again s.graph s.shapes x old new
+CommitSteps LogFault s x old new = StepsBy (again s.commits x.staged x.verdict) s.graph s.shapes x old new
+CommitSteps (Stopped version) s x old new = new ≡ old
 CommitSteps (Memory y) s x old new = old ≤ new
 
 -- by whether a verdict is taken to hold
@@ -43,12 +46,14 @@ PlanSteps held s x old new (TooLarge n) = new ≡ old
 PlanSteps held s x old new (Refuse p) = ResultSteps held s x old new
 PlanSteps held s x old new (Accept p) = ResultSteps held s x old new
 
--- the answer is one by results, with this reason, or want of memory
+-- the answer is one by results, with this reason where it has one, or want of memory
 abbrev pub IsByResults : Again → Commit → Type 0
 IsByResults why (Done number again) = again ≡ why
 IsByResults why (Conflict commit triple) = ⊥
 IsByResults why (FullTriples count) = ⊥
 IsByResults why (Refused rows again shapes) = again ≡ why
+IsByResults why LogFault = Unit {0}
+IsByResults why (Stopped version) = ⊥
 IsByResults why (Memory y) = Unit {0}
 
 -- by the answer, with this reason, and whether a verdict is taken to hold
@@ -57,6 +62,8 @@ AnswerSteps held why s x old new (Done number again) = (again ≡ why) × Result
 AnswerSteps held why s x old new (Conflict commit triple) = new ≡ old
 AnswerSteps held why s x old new (FullTriples count) = new ≡ old
 AnswerSteps held why s x old new (Refused rows again shapes) = (again ≡ why) × ResultSteps held s x old new
+AnswerSteps held why s x old new LogFault = ResultSteps held s x old new
+AnswerSteps held why s x old new (Stopped version) = new ≡ old
 AnswerSteps held why s x old new (Memory y) = old ≤ new
 
 -- whether a verdict held

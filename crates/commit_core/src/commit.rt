@@ -82,6 +82,13 @@ pub enum Commit {
         again: Again,
         shapes: ShapesGraph,
     },
+    /// The store's log failed where the commit would have been accepted; from here on the store is
+    /// stopped.
+    LogFault,
+    /// The version of a store that is stopped.
+    Stopped {
+        version: u64,
+    },
     /// Want of memory; the transaction is handed back.
     Memory(CheckedTransaction),
 }

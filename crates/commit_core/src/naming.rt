@@ -52,14 +52,22 @@ fn give(given: &mut Pages<Term>, term: &Term) -> Result<(), AllocError>
     Ok(())
 }
 
+/// Puts the blank nodes of the terms into the set.
+pub(crate) fn give_all(given: &mut Pages<Term>, terms: &[Term]) -> Result<(), AllocError>
+    ensures { OnOk result (given.new ≡ given_with given.old terms.now) }
+{
+    for term in terms {
+        give(given, term)?;
+    }
+    Ok(())
+}
+
 // The nodes with the blank nodes of the terms.
 fn given_too(given: &Pages<Term>, terms: &[Term]) -> Result<Pages<Term>, AllocError>
     ensures { IfOk result (λ more. more ≡ given_with given.now terms.now) }
 {
     let mut more = given.share()?;
-    for term in terms {
-        give(&mut more, term)?;
-    }
+    give_all(&mut more, terms)?;
     Ok(more)
 }
 

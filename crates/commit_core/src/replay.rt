@@ -1,9 +1,9 @@
-ghost use Rattle.std.specs.Prelude.{◌≡◌, ◌+◌, ◌<◌, ◌≤◌, ◌^◌, MatchBool, MatchResult, IfOk, OnOk, IsTrue};
+ghost use Rattle.std.specs.Prelude.{false, ◌≡◌, ◌+◌, ◌<◌, ◌≤◌, ◌^◌, MatchBool, MatchResult, IfOk, OnOk, IsTrue};
 ghost use Rattle.store_model.specs.Actions.{IsNoCommit};
-ghost use Rattle.store_model.specs.Store.{IsCommittable, IsOpened, TakesStep};
+ghost use Rattle.store_model.specs.Store.{IsCommittable, IsOpened};
 ghost use Rattle.commit_core.specs.Conditions;
 ghost use Rattle.commit_core.specs.Conditions.{next_session, was_opened};
-ghost use Rattle.commit_core.specs.Replaying.{IsReplayed, IsReplayFault, IsWrongNext, Performs};
+ghost use Rattle.commit_core.specs.Replaying.{IsReplayed, IsReplayFault, IsWrongNext, Performs, RunsOn};
 
 use crate::asking::may_commit;
 use crate::commit::{CheckedTransaction, Commit};
@@ -147,6 +147,7 @@ impl Core {
         transaction: Transaction,
         steps: &mut Steps<L>,
     ) -> Result<(), AllocError>
+        requires running { self.old.state.stopped ≡ false }
         requires opened { IsOpened self.old.state session }
         requires committable { IsCommittable self.old.state transaction }
         ensures { OnOk result (Performs self.old self.new session (Action.Commit transaction)) }
@@ -172,6 +173,8 @@ impl Core {
                 let_go(shapes);
                 Ok(())
             }
+            Commit::LogFault => unreachable!(),
+            Commit::Stopped { version: _ } => unreachable!(),
             Commit::Memory(checked) => {
                 let_go(checked);
                 Err(AllocError)
@@ -202,7 +205,8 @@ impl Core {
         action: Action,
         steps: &mut Steps<L>,
     ) -> Result<(), AllocError>
-        requires { IsTrue (Conditions.may_ask self.old.state session action) }
+        requires running { self.old.state.stopped ≡ false }
+        requires asked { IsTrue (Conditions.may_ask self.old.state session action) }
         ensures { OnOk result (Performs self.old self.new session action) }
     {
         match action.into_transaction() {
@@ -211,13 +215,14 @@ impl Core {
         }
     }
 
-    // Takes the step of an event, unless it is none.
+    // Takes the step of an event, unless it is none of a store without a log.
     fn replay_event<L: Ledger>(
         &mut self,
         event: Event,
         steps: &mut Steps<L>,
     ) -> Result<bool, AllocError>
-        ensures { IfOk result (λ taken. MatchBool taken (TakesStep self.old self.new event) (IsWrongNext self.old event)) }
+        requires { self.old.state.stopped ≡ false }
+        ensures { IfOk result (λ taken. MatchBool taken (RunsOn self.old self.new event) (IsWrongNext self.old event)) }
     {
         self.recall_consistent();
         if !self.may_ask(event.session, &event.action) {

@@ -1,6 +1,7 @@
-ghost use Rattle.std.specs.Prelude.{◌≡◌, ◌≤◌, IfOk, OnOk};
+ghost use Rattle.std.specs.Prelude.{◌≡◌, ◌≤◌, IfErr, IfOk, OnOk};
 ghost use Rattle.std.specs.List.{AllByRecursion};
 ghost use Rattle.rdf_model.specs.Graphs.{after};
+ghost use Rattle.bgp_query.specs.Selected.{AreSelected, IsSelectFault};
 ghost use Rattle.store_model.specs.Finds.{found};
 ghost use Rattle.store_model.specs.Store.{AreNamed, NetNamed, looked_at};
 ghost use Rattle.graph_validation.specs.Counting.{GrowsByCount};
@@ -9,8 +10,10 @@ ghost use Rattle.data_graph.specs.Changes.{IsCheckOf};
 ghost use Rattle.commit_core.specs.Consistent.{IsSound};
 
 use crate::checked::CheckedNet;
+use bgp_query::{JoinPattern, SelectFault};
+use collections::Sequence;
 use data_graph::DataGraph;
-use rdf_model::{Change, Pattern, Triple};
+use rdf_model::{Change, Pattern, Term, Triple};
 use shape_eval::Steps;
 use std::alloc::{AllocError, Global};
 use std::marker::Model;
@@ -76,6 +79,21 @@ impl Snap {
         ensures { IfOk result (λ v. v.items ≡ found (after self.now.graph net.now) pattern.now) }
     {
         self.graph.find(alloc, net, pattern)
+    }
+
+    /// The bindings of the patterns in the graph with these changes: the terms of the variables, from the first on, under which
+    /// each pattern stands there (SPARQL 1.1 Query, section 18.3), each once, ascending. `TooMany` comes exactly where there
+    /// are more than 100,000. It stays the same; the numbers by which it asks are kept for the next call.
+    pub fn select(
+        &mut self,
+        net: &[Change],
+        patterns: &[JoinPattern<Term>],
+    ) -> Result<Vec<Sequence<Term>>, SelectFault>
+        ensures same { self.new ≡ self.old }
+        ensures rows { IfOk result (λ rows. AreSelected (after self.old.graph net.now) patterns.now rows.items) }
+        ensures fault { IfErr result (λ fault. IsSelectFault fault (after self.old.graph net.now) patterns.now) }
+    {
+        self.graph.select(net, patterns)
     }
 
     /// Checks the changes at this version, beside the store: the verdict has this version as its head and all looks that were

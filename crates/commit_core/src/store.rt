@@ -1,12 +1,11 @@
 ghost use Rattle.std.specs.Prelude.{false, ◌≡◌, ◌+◌, ◌≤◌, ◌<◌, ◌^◌, [], ◌∷◌, ◌++◌, MatchBool, length, map, IfOk, OnOk, OnErr, MatchResult};
-ghost use Rattle.store_model.specs.Store.{RecordedStore, empty_store, Step, TakesStep, IsOpened, IsCommittable, numbers_of, shapes_under};
+ghost use Rattle.store_model.specs.Store.{RecordedStore, empty_store, Step, TakesStep, IsOpened, IsCommittable, numbers_of, shapes_under, version};
 ghost use Rattle.store_model.specs.Snapshots.{snapshot_of};
-ghost use Rattle.store_model.specs.Logs.{IsUnlogged};
 ghost use Rattle.store_model.specs.Nodes.{unknown_by};
 ghost use Rattle.rdf_model.specs.Graphs.{after};
 ghost use Rattle.shape_model.specs.Validation.{Listing};
 ghost use Rattle.data_graph.specs.DataGraphs.{with_changes};
-ghost use Rattle.commit_core.specs.Commits.{Answers, IsJudged, IsPlan, TakesCommit, committed_graph, data_of};
+ghost use Rattle.commit_core.specs.Commits.{Answers, HasNoFault, IsJudged, IsPlan, IsRefusal, TakesCommit, committed_graph, data_of};
 ghost use Rattle.commit_core.specs.Verdicts.{AreOfVerdict, AreReasons};
 ghost use Rattle.commit_core.specs.Work.{AnswerSteps, CommitSteps, IsByResults, PlanSteps, ResultSteps};
 ghost use Rattle.commit_core.specs.Consistent.{IsConsistent};
@@ -25,6 +24,7 @@ use collections::Sequence;
 use data_graph::DataGraph;
 use page_index::Pages;
 use rdf_model::Term;
+use record_text::Record;
 use shape_eval::Steps;
 use shape_model::ResultRow;
 use std::alloc::{AllocError, Global};
@@ -78,31 +78,35 @@ fn add_commit(commits: &mut Vec<Accepted>, accepted: Accepted) -> Result<(), All
     Ok(())
 }
 
-/// The store with its history. It has no log, begins empty, and every result blocks. Contracts see its limits, the state that
-/// its history begins at, its state and its events. The data graph keeps the shapes graph, the terms that are named, and their
+/// The store with its history. It begins empty, or at what the records of a log restore, and every result blocks. Contracts see its limits, the state that its history
+/// begins at, its state and its events. The data graph keeps the shapes graph, the terms that are named, and their
 /// limit.
 pub struct Core {
     pub(crate) alloc: Global,
-    most_triples: usize,
+    pub(crate) most_triples: usize,
+    // The records that it was restored from.
+    pub(crate) records: Vec<Record>,
     pub(crate) graph: DataGraph,
     pub(crate) commits: Vec<Accepted>,
     // The blank nodes that were given out.
-    given: Pages<Term>,
+    pub(crate) given: Pages<Term>,
     pub(crate) opened: u32,
+    // Whether its log failed.
+    pub(crate) stopped: bool,
     pub(crate) history: History,
 }
 
 impl Model for Core {
-    ghost use Rattle.std.specs.Prelude.{false};
     ghost use Rattle.store_model.specs.declared.event.BlockMode.TheVariants as modes;
-    ghost use Rattle.store_model.specs.Store.{RecordedStore, empty_store};
+    ghost use Rattle.store_model.specs.Store.{RecordedStore};
     ghost use Rattle.commit_core.specs.Consistent.{IsConsistent};
+    ghost use Rattle.commit_core.specs.Restored.{restored};
 
     ghost Value = { RecordedStore };
 
-    ghost view = { λ c. record { limits = record { terms = c.graph.limit; triples = c.most_triples; mode = modes.All }; start = empty_store; state = record { graph = c.graph.triples; shapes = c.graph.shapes; commits = c.commits.items; named = c.graph.terms; given = c.given; opened = c.opened; stopped = false }; history = c.history } };
+    ghost view = { λ c. record { limits = record { terms = c.graph.limit; triples = c.most_triples; mode = modes.All }; start = restored c.records.items; state = record { graph = c.graph.triples; shapes = c.graph.shapes; commits = c.commits.items; named = c.graph.terms; given = c.given; opened = c.opened; stopped = c.stopped }; history = c.history } };
 
-    ghost invariant = { λ c. IsConsistent (record { limits = record { terms = c.graph.limit; triples = c.most_triples; mode = modes.All }; start = empty_store; state = record { graph = c.graph.triples; shapes = c.graph.shapes; commits = c.commits.items; named = c.graph.terms; given = c.given; opened = c.opened; stopped = false }; history = c.history }) };
+    ghost invariant = { λ c. IsConsistent (record { limits = record { terms = c.graph.limit; triples = c.most_triples; mode = modes.All }; start = restored c.records.items; state = record { graph = c.graph.triples; shapes = c.graph.shapes; commits = c.commits.items; named = c.graph.terms; given = c.given; opened = c.opened; stopped = c.stopped }; history = c.history }) };
 }
 
 // Written by hand, so that what owns a core calls it in place of having it written out.
@@ -111,10 +115,12 @@ impl Drop for Core {
         let Core {
             alloc: _,
             most_triples: _,
+            records: _,
             graph: _,
             commits: _,
             given: _,
             opened: _,
+            stopped: _,
             history: _,
         } = self;
     }
@@ -131,10 +137,12 @@ impl Core {
         Ok(Core {
             alloc,
             most_triples: limits.triples,
+            records: Vec::new(alloc),
             graph,
             commits: Vec::new(alloc),
             given: Pages::new(alloc),
             opened: 0,
+            stopped: false,
             history: History::new(),
         })
     }
@@ -380,7 +388,7 @@ impl Core {
     }
 
     // What the commit of the transaction does to this store; a verdict may have held.
-    fn plan<L: Ledger>(
+    pub(crate) fn plan<L: Ledger>(
         &self,
         checked: &CheckedTransaction,
         held: bool,
@@ -407,9 +415,14 @@ impl Core {
     }
 
     // Records a commit that changes nothing.
-    fn refuse(&mut self, slip: Slip, session: u32, transaction: Transaction, reply: Reply)
-        requires step { Step self.old.limits self.old.state (record { session = session; action = Action.Commit transaction; reply = reply }) self.old.state }
-        requires unlogged { IsUnlogged reply }
+    pub(crate) fn refuse(
+        &mut self,
+        slip: Slip,
+        session: u32,
+        transaction: Transaction,
+        reply: Reply,
+    )
+        requires { Step self.old.limits self.old.state (record { session = session; action = Action.Commit transaction; reply = reply }) self.old.state }
         ensures { TakesCommit self.old self.new session transaction reply }
     {
         self.history.push(
@@ -423,7 +436,7 @@ impl Core {
     }
 
     // Records a commit whose graph would have results.
-    fn refuse_invalid(
+    pub(crate) fn refuse_invalid(
         &mut self,
         slip: Slip,
         session: u32,
@@ -431,14 +444,16 @@ impl Core {
         refusal: Refusal,
         reasons: Reasons,
     ) -> Commit
+        requires running { self.old.state.stopped ≡ false }
         requires opened { IsOpened self.old.state session }
         requires committable { IsCommittable self.old.state checked.transaction }
         requires plan { IsPlan self.old.limits (data_of self.old) self.old.state.commits checked.transaction (Plan.Refuse refusal) }
         requires reasons { AreReasons self.old.state.commits checked.transaction reasons }
         ensures answer { Answers result self.old self.new session checked }
         ensures by_results { IsByResults reasons.answer result }
+        ensures no_fault { HasNoFault result }
+        ensures refused { IsRefusal result }
     {
-        self.recall_consistent();
         let (rows, recorded, shapes) = refusal.into_parts();
         let (again, why) = reasons.into_parts();
         let reply = Reply::Refused(recorded, why);
@@ -459,12 +474,14 @@ impl Core {
         acceptance: Acceptance,
         reasons: Reasons,
     ) -> Commit
+        requires running { self.old.state.stopped ≡ false }
         requires opened { IsOpened self.old.state session }
         requires committable { IsCommittable self.old.state checked.transaction }
         requires plan { IsPlan self.old.limits (data_of self.old) self.old.state.commits checked.transaction (Plan.Accept acceptance) }
         requires reasons { AreReasons self.old.state.commits checked.transaction reasons }
         ensures answer { Answers result self.old self.new session checked }
         ensures by_results { IsByResults reasons.answer result }
+        ensures no_fault { HasNoFault result }
     {
         let (graph, accepted) = acceptance.into_parts();
         let Ok(()) = add_commit(&mut self.commits, accepted) else {
@@ -494,14 +511,15 @@ impl Core {
         held: bool,
         steps: &mut Steps<L>,
     ) -> Commit
+        requires running { self.old.state.stopped ≡ false }
         requires opened { IsOpened self.old.state session }
         requires committable { IsCommittable self.old.state checked.transaction }
         requires reasons { AreReasons self.old.state.commits checked.transaction reasons }
         requires found { MatchBool held (Listing (after self.old.state.graph checked.transaction.net) (shapes_under self.old.state.shapes checked.transaction.staged) checked.rows) (Unit {0}) }
         ensures answer { Answers result self.old self.new session checked }
         ensures steps { AnswerSteps held reasons.answer self.old.state checked.transaction steps.old steps.new result }
+        ensures no_fault { HasNoFault result }
     {
-        self.recall_consistent();
         match self.plan(&checked, held, steps) {
             Err(_) => Commit::Memory(checked),
             Ok(Plan::Overtaken(overtaker, triple)) => {
@@ -530,7 +548,8 @@ impl Core {
     /// Commits a transaction that changes something or stages shapes, whose terms are named and whose
     /// base is a version of this store. The graph that it would make is validated whole under staged shapes; else just those
     /// pairs of a shape and a node are evaluated that the changes touch, since the store's own graph has no result; and none
-    /// where a verdict held: then its rows are the results. The evaluations are counted in `steps`.
+    /// where a verdict held: then its rows are the results. The evaluations are counted in `steps`. No log is written to, so that
+    /// none fails. A store that is stopped answers so, and nothing else.
     pub fn commit<L: Ledger>(
         &mut self,
         session: u32,
@@ -542,10 +561,17 @@ impl Core {
         requires verdict { AreOfVerdict self.old checked.transaction.net checked.transaction.verdict checked.rows }
         ensures answer { Answers result self.old self.new session checked }
         ensures steps { CommitSteps result self.old.state checked.transaction steps.old steps.new }
+        ensures no_fault { HasNoFault result }
     {
         let Ok(slip) = slip(self.alloc) else {
             return Commit::Memory(checked);
         };
+        if self.stopped {
+            let version = version_of(&self.commits);
+            let reply = Reply::Stopped(version);
+            self.refuse(slip, session, checked.into_transaction(), reply);
+            return Commit::Stopped { version };
+        }
         let Ok(reasons) = find_reasons(self.alloc, &self.commits, &checked.transaction) else {
             return Commit::Memory(checked);
         };
@@ -553,16 +579,18 @@ impl Core {
         self.commit_by_plan(slip, session, checked, reasons, held, steps)
     }
 
-    // Commits a transaction whose graph is evaluated, whatever its verdict says.
+    // Commits a transaction whose graph is evaluated, whatever its verdict says, to a store that isn't stopped.
     pub(crate) fn commit_anew<L: Ledger>(
         &mut self,
         session: u32,
         checked: CheckedTransaction,
         steps: &mut Steps<L>,
     ) -> Commit
+        requires running { self.old.state.stopped ≡ false }
         requires opened { IsOpened self.old.state session }
         requires committable { IsCommittable self.old.state checked.transaction }
-        ensures { Answers result self.old self.new session checked }
+        ensures answer { Answers result self.old self.new session checked }
+        ensures no_fault { HasNoFault result }
     {
         let Ok(slip) = slip(self.alloc) else {
             return Commit::Memory(checked);
@@ -617,13 +645,29 @@ impl Core {
         let Core {
             alloc: _,
             most_triples: _,
+            records: _,
             graph: _,
             commits: _,
             given: _,
             opened: _,
+            stopped: _,
             history,
         } = self;
         history
+    }
+
+    /// The newest version: how many commits there were.
+    pub fn version(&self) -> u64
+        ensures { result ≡ version self.now.state }
+    {
+        version_of(&self.commits)
+    }
+
+    /// Whether its log failed.
+    pub fn is_stopped(&self) -> bool
+        ensures { result ≡ self.now.state.stopped }
+    {
+        self.stopped
     }
 
     /// How many triples the data graph has.

@@ -1,6 +1,6 @@
 -- The triples of changes are those that they add or remove.
-use Rattle.std.proofs.Common.{◌≡◌, List, [], ◌∷◌, refl, subst, sym, ap, inl, inr, arith}
-use Rattle.std.specs.Prelude.{◌↔◌, ◌⊎◌, map}
+use Rattle.std.proofs.Common.{◌≡◌, List, [], ◌∷◌, ap, inl, inr, arith}
+use Rattle.std.specs.Prelude.{◌↔◌, map}
 use Rattle.std.specs.List.{Contains}
 use Rattle.collections.proofs.Members.{has_cases, has_equal, has_tail}
 use Rattle.rdf_model.specs.declared.change.Change.{Change}

@@ -49,7 +49,7 @@ all_more terms (t ∷ ts) ids g x = elim (has_item term_cmp t terms) as (λ b. I
 ]
 
 -- by the names that a dictionary has afterwards
-named_more : (terms more ts : List Term) (ids : List Ids) (g : List Triple) → more ≡ with_terms terms ts → IsIndexOf terms ids g → IsIndexOf more ids g
+pub named_more : (terms more ts : List Term) (ids : List Ids) (g : List Triple) → more ≡ with_terms terms ts → IsIndexOf terms ids g → IsIndexOf more ids g
 named_more terms more ts ids g e x = subst (λ (us : List Term). IsIndexOf us ids g) (sym e) (all_more terms ts ids g x)
 
 -- where they are there

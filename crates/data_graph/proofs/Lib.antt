@@ -11,3 +11,4 @@ mod Checking
 mod Checks
 mod NoChecks
 mod RowsOfPairs
+mod Selecting

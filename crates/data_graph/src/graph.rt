@@ -1,6 +1,7 @@
 ghost use Rattle.std.specs.Prelude.{◌≡◌, ◌+◌, ◌<◌, ◌≤◌, ◌^◌, [], IfErr, IfOk, MatchOption, OnErr, OnOk, length};
 ghost use Rattle.rdf_model.specs.Graphs.{after};
 ghost use Rattle.std.specs.List.{AllByRecursion};
+ghost use Rattle.bgp_query.specs.Selected.{AreSelected, IsSelectFault};
 ghost use Rattle.store_model.specs.Finds.{found};
 ghost use Rattle.store_model.specs.Store.{AreNamed, looked_at};
 ghost use Rattle.shape_model.specs.Validation.{Listing, NoResult};
@@ -17,8 +18,10 @@ use crate::changes::{CheckedChanges, check_by_number, checked_changes, rows_of};
 use crate::graphs::{graph_after, graph_after_asked, list_after_asked};
 use crate::numbering::{CLASS_WORDS, index_after, index_of, listing_by};
 use crate::run::graph_matching;
+use crate::select::select_after;
+use bgp_query::{JoinPattern, SelectFault};
 use bound_shapes::BoundShapes;
-use collections::both;
+use collections::{Sequence, both};
 use page_index::Pages;
 use parallel_validate::Checked;
 use rdf_model::{Change, Pattern, Term, Triple};
@@ -246,6 +249,27 @@ impl DataGraph {
                 Ok(graph_matching(alloc, &graph, pattern)?)
             }
         }
+    }
+
+    /// The bindings of the patterns in the graph with these changes: the terms of the variables, from the first on, under which
+    /// each pattern stands there (SPARQL 1.1 Query, section 18.3), each once, ascending. `TooMany` comes exactly where there
+    /// are more than 100,000. All terms of the graph are named. The graph stays the same; its triples by number are made
+    /// where they aren't there, and kept.
+    pub fn select(
+        &mut self,
+        net: &[Change],
+        patterns: &[JoinPattern<Term>],
+    ) -> Result<Vec<Sequence<Term>>, SelectFault>
+        requires { AreNamedTriples self.old.terms self.old.triples }
+        ensures same { self.new ≡ self.old }
+        ensures rows { IfOk result (λ rows. AreSelected (after self.old.triples net.now) patterns.now rows.items) }
+        ensures fault { IfErr result (λ fault. IsSelectFault fault (after self.old.triples net.now) patterns.now) }
+    {
+        self.triples.recall_ascending();
+        let numbers = self.index()?;
+        let selected = select_after(self.alloc, &self.names, &numbers, net, patterns);
+        self.numbers = Some(numbers);
+        selected
     }
 
     /// The results of validating the graph by its shapes graph (SHACL section 3.6), each once, in the order of results. All

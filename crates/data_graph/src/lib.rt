@@ -5,7 +5,7 @@
 //! keeps that the triples by number, read as terms, have exactly the members of the graph, and that the
 //! shapes are bound to the numbers, so that it is validated without numbering anything anew. A change makes
 //! another graph, which shares what it leaves, and whose results are those of what the change touches; a check of it tells
-//! the looks that it made besides. A find looks at the triples that the order of triples, or of their numbers, has side by side for its pattern.
+//! the looks that it made besides. A find and a select look at the triples that the order of triples, or of their numbers, has side by side for its pattern.
 #![tactic(auto)]
 
 mod at_once;
@@ -16,6 +16,7 @@ mod graphs;
 mod looks;
 mod numbering;
 mod run;
+mod select;
 
 pub use changes::CheckedChanges;
 pub use graph::DataGraph;

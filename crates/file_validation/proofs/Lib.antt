@@ -1,3 +1,5 @@
 pub mod Asks
 pub mod NamedTriples
 mod Emptiness
+mod Verdicts
+pub mod Sharing

@@ -1,5 +1,5 @@
 -- What the validation of a data graph by a shapes graph answers, where both are Turtle texts.
-use Rattle.std.specs.Prelude.{◌≡◌, ◌↔◌, ℕ, List, [], Ok, Err, IsTrue}
+use Rattle.std.specs.Prelude.{◌≡◌, ◌↔◌, ◌≤◌, ◌^◌, ℕ, List, [], Ok, Err, IsTrue}
 use Rattle.rdf_lexical.specs.declared.refusal.RefusalKind.{RefusalKind}
 use Rattle.rdf_model.specs.declared.triple.Triple.{Triple}
 use Rattle.turtle_reader.specs.Document.{reads}
@@ -11,15 +11,18 @@ use Rattle.shape_reader.specs.declared.fault.ShapeFault.{ShapeFault}
 use Rattle.shape_reader.specs.declared.fault.ShapeFault.TheVariants as reader
 use Rattle.shape_reader.specs.Parts.{IsRefused as HasRefused}
 use Rattle.report_writer.specs.Report.{report_text}
+use Rattle.evidence_blocks.specs.Verdicts.{IsVerified, IsWrongAt}
 use Rattle.graph_explanation.specs.Explanations.{IsExplanation}
 use Rattle.file_validation.specs.declared.fault.InputFault.{InputFault}
 use Rattle.file_validation.specs.declared.fault.InputFault.TheVariants.{Data, Shapes, Rule, Pattern, Memory}
 use Rattle.file_validation.specs.declared.validating.Explanation.{Explanation}
 use Rattle.file_validation.specs.declared.validating.Validation.{Validation}
+use Rattle.file_validation.specs.declared.validating.Verdict.{Verdict}
+use Rattle.file_validation.specs.declared.validating.Verdict.TheVariants.{Verified, Wrong}
 
--- the text reads to the triples, or is refused; its blank nodes belong to the session, and are numbered from 1
+-- the text reads to the triples, or is refused; its blank nodes belong to the session, and are numbered from 1 with 32 bits
 abbrev pub IsRead : ℕ → List ℕ → List Triple → Type 0
-IsRead session text ts = (next : ℕ) × (reads text session 1 ≡ Ok (ts, next))
+IsRead session text ts = (next : ℕ) × (reads text session 1 ≡ Ok (ts, next)) × (next ≤ 2 ^ 32)
 
 abbrev pub IsRefused : ℕ → List ℕ → ℕ → RefusalKind → Type 0
 IsRefused session text line kind = reads text session 1 ≡ Err (line, kind)
@@ -60,6 +63,19 @@ pub record IsExplanationOf (data_text shapes_text : List ℕ) (e : Explanation) 
   pub shapes_graph : List Triple
   pub read : AreRead data_text shapes_text graph shapes_graph
   pub explained : IsExplained graph shapes_graph e
+
+-- The verdict on a text of evidence: each of its blocks shows a result of validating the graph by the shapes graph, or this is the
+-- first that doesn't.
+abbrev pub IsVerdict : List Triple → List Triple → List ℕ → Verdict → Type 0
+IsVerdict graph shapes_graph evidence (Verified blocks) = IsVerified graph shapes_graph evidence blocks
+IsVerdict graph shapes_graph evidence (Wrong block) = IsWrongAt graph shapes_graph evidence block
+
+-- so it is for the graphs of the two texts, of which the shapes are well-formed
+pub record IsVerdictOn (data_text shapes_text evidence_text : List ℕ) (v : Verdict) : Type 0 where
+  pub graph : List Triple
+  pub shapes_graph : List Triple
+  pub read : AreRead data_text shapes_text graph shapes_graph
+  pub verdict : IsVerdict graph shapes_graph evidence_text v
 
 -- the data is read
 abbrev pub HasData : List ℕ → Type 0

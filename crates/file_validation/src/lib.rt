@@ -2,7 +2,7 @@
 //!
 //! `validate` reads the data, then the shapes, compiles the shapes, lists the results (SHACL section 3.6) and writes the
 //! report. It ensures that the report is byte for byte that of exactly those results, and for each fault its cause. `explain`
-//! writes the evidence of each result in place of the report.
+//! writes the evidence of each result in place of the report, and `verify` says whether a text is evidence, block by block.
 #![tactic(auto)]
 
 mod fault;
@@ -13,4 +13,4 @@ mod validating;
 
 pub use fault::InputFault;
 pub use rdf_lexical::RefusalKind;
-pub use validating::{Explanation, Validation, explain, validate};
+pub use validating::{Explanation, Validation, Verdict, explain, validate, verify};

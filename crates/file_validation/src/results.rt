@@ -1,12 +1,15 @@
-ghost use Rattle.std.specs.Prelude.{◌≡◌, ◌<◌, IfOk, string_bytes};
+ghost use Rattle.std.specs.Prelude.{◌≡◌, ◌<◌, ◌^◌, IfOk, length, string_bytes};
 ghost use Rattle.data_graph.specs.DataGraphs.{HaveClassWords};
 ghost use Rattle.graph_explanation.specs.Explanations.{IsExplanation};
 ghost use Rattle.rdf_model.specs.Numbers.{AreNumbered, graph_of};
 ghost use Rattle.shape_model.specs.Validation.{Listing};
 ghost use Rattle.term_validation.specs.Named.{AreNamedTriples};
+ghost use Rattle.file_validation.specs.Validations.{IsVerdict};
 
+use crate::Verdict;
 use crate::naming::{NumberedGraph, numbered};
 use collections::Sequence;
+use evidence_verdict::{VerdictFault, verdict_over};
 use graph_explanation::explanation_over;
 use path_eval::ClassWords;
 use rdf_model::Triple;
@@ -16,7 +19,8 @@ use shapes_graph::ShapesGraph;
 use std::alloc::{AllocError, Global};
 use std::marker::Brand;
 use std::sync::ledger::{Blank, Ledger};
-use term_validation::listing_over;
+use std::thread::Threads;
+use threaded_listing::listing_by_threads;
 
 // The numbers of rdf:type and rdfs:subClassOf, which are named first.
 const CLASS_WORDS: ClassWords = ClassWords {
@@ -25,7 +29,8 @@ const CLASS_WORDS: ClassWords = ClassWords {
 };
 
 // The results, in an own ledger of evaluations.
-fn listing_in<L: Ledger>(
+fn listing_in<L: Ledger, R: Threads + Sync>(
+    rt: &R,
     alloc: Global,
     graph: &NumberedGraph,
     shapes: &ShapesGraph,
@@ -42,7 +47,8 @@ fn listing_in<L: Ledger>(
     let mut steps = Steps::<L>::begin(blank);
     let names = &graph.names;
     names.recall_numbering();
-    let rows = listing_over(
+    let rows = listing_by_threads(
+        rt,
         alloc,
         &graph.triples,
         names,
@@ -53,8 +59,10 @@ fn listing_in<L: Ledger>(
     Ok(rows)
 }
 
-/// The results of validating the graph by the shapes graph (SHACL section 3.6), each once, in the order of results.
-pub(crate) fn listing(
+/// The results of validating the graph by the shapes graph (SHACL section 3.6), each once, in the order of results. Threads
+/// share out the evaluations among each other.
+pub(crate) fn listing<R: Threads + Sync>(
+    rt: &R,
     alloc: Global,
     graph: &[Triple],
     shapes: &ShapesGraph,
@@ -62,7 +70,7 @@ pub(crate) fn listing(
     ensures { IfOk result (λ rows. Listing graph.now shapes.now rows) }
 {
     let numbered = numbered(alloc, graph, shapes.triples())?;
-    let rows = listing_in::<Brand>(alloc, &numbered, shapes, Blank::new(1))?;
+    let rows = listing_in::<Brand, R>(rt, alloc, &numbered, shapes, Blank::new(1))?;
     Ok(Sequence::from_vec(rows))
 }
 
@@ -106,4 +114,54 @@ pub(crate) fn explanation(
     let numbered = numbered(alloc, graph, shapes.triples())?;
     let text = explanation_in::<Brand>(alloc, &numbered, shapes, Blank::new(1))?;
     Ok(text)
+}
+
+// The verdict on a text of evidence, in an own ledger of evaluations.
+fn verdict_in<L: Ledger>(
+    alloc: Global,
+    graph: &NumberedGraph,
+    shapes: &ShapesGraph,
+    evidence: &[u8],
+    blank: Blank,
+) -> Result<Verdict, AllocError>
+    requires words { HaveClassWords graph.now.names.terms }
+    requires graph { AreNumbered graph.now.names.terms graph.now.triples }
+    requires shapes { AreNamedTriples graph.now.names.terms shapes.now }
+    requires evidence { length evidence.now < 2 ^ 32 }
+    requires name { blank.name ≡ L.name }
+    requires parts { blank.parts ≡ L.parts }
+    requires some { 0 < L.parts }
+    ensures { IfOk result (IsVerdict (graph_of graph.now.names.terms graph.now.triples) shapes.now evidence.now) }
+{
+    let mut steps = Steps::<L>::begin(blank);
+    let names = &graph.names;
+    names.recall_numbering();
+    match verdict_over(
+        alloc,
+        &graph.triples,
+        names,
+        CLASS_WORDS,
+        shapes,
+        evidence,
+        &mut steps,
+    ) {
+        Ok(blocks) => Ok(Verdict::Verified { blocks }),
+        Err(VerdictFault::Block { number }) => Ok(Verdict::Wrong { block: number }),
+        Err(VerdictFault::Memory) => Err(AllocError),
+    }
+}
+
+/// The verdict on a text of evidence of results of validating the graph by the shapes graph (SHACL section 3.6).
+pub(crate) fn verdict(
+    alloc: Global,
+    graph: &[Triple],
+    shapes: &ShapesGraph,
+    evidence: &[u8],
+) -> Result<Verdict, AllocError>
+    requires { length evidence.now < 2 ^ 32 }
+    ensures { IfOk result (IsVerdict graph.now shapes.now evidence.now) }
+{
+    let numbered = numbered(alloc, graph, shapes.triples())?;
+    let verdict = verdict_in::<Brand>(alloc, &numbered, shapes, evidence, Blank::new(1))?;
+    Ok(verdict)
 }

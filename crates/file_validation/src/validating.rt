@@ -1,10 +1,10 @@
 ghost use Rattle.std.specs.Prelude.{◌≡◌, ◌<◌, ◌^◌, length, IfOk, MatchResult};
 ghost use Rattle.file_validation.specs.Asked.{AsksInVain, AsksOfText};
-ghost use Rattle.file_validation.specs.Validations.{AreRead, IsCause, IsExplained, IsExplanationOf, IsReported, IsValidation};
+ghost use Rattle.file_validation.specs.Validations.{AreRead, IsCause, IsExplained, IsExplanationOf, IsReported, IsValidation, IsVerdictOn};
 
 use crate::InputFault;
 use crate::reading::{shapes_of, triples_of};
-use crate::results::{explanation, listing};
+use crate::results::{explanation, listing, verdict};
 use collections::Sequence;
 use outside::Maker;
 use rdf_lexical::ReadFault;
@@ -12,6 +12,7 @@ use rdf_model::{Text, Triple};
 use report_writer::report;
 use shapes_graph::ShapesGraph;
 use std::alloc::{AllocError, Global};
+use std::thread::Threads;
 
 // The sessions of the blank nodes of the two texts.
 const DATA_SESSION: u32 = 1;
@@ -36,15 +37,25 @@ pub struct Explanation {
     pub blocks: Text,
 }
 
+/// The verdict on a text of evidence.
+#[derive(Clone, Copy, Debug, PartialEq, Eq)]
+pub enum Verdict {
+    /// All of it is spelled as evidence is, and each block shows its result; it has so many blocks.
+    Verified { blocks: u32 },
+    /// The first block, from 1, that isn't spelled so or doesn't show its result.
+    Wrong { block: u32 },
+}
+
 // The validation of a graph by a shapes graph.
-fn validation_of(
+fn validation_of<R: Threads + Sync>(
+    rt: &R,
     alloc: Global,
     graph: &[Triple],
     shapes: &ShapesGraph,
 ) -> Result<Validation, AllocError>
     ensures { IfOk result (IsReported graph.now shapes.now) }
 {
-    let rows = listing(alloc, graph, shapes)?;
+    let rows = listing(rt, alloc, graph, shapes)?;
     let text = report(alloc, rows.as_slice(), shapes.shapes())?;
     Ok(Validation {
         conforms: rows.is_empty(),
@@ -97,10 +108,12 @@ fn graphs_of<M: Maker>(
 
 /// Validates a data graph by a shapes graph (SHACL section 3.4), both Turtle texts, and writes the report. Blank nodes of
 /// the data belong to session 1 and those of the shapes to session 2, each numbered from 1. The maker builds the patterns,
-/// shape by shape in the order of nodes, up to the first that it refuses.
+/// shape by shape in the order of nodes, up to the first that it refuses. As many threads as there are processors share out the
+/// evaluations among each other.
 ///
 /// A fault tells its cause: the data is refused first, then the shapes, then a broken rule, then a pattern.
-pub fn validate<M: Maker>(
+pub fn validate<M: Maker, R: Threads + Sync>(
+    rt: &R,
     alloc: Global,
     maker: &mut M,
     data_text: &[u8],
@@ -117,7 +130,7 @@ pub fn validate<M: Maker>(
         Ok(both) => both,
         Err(fault) => return Err(fault),
     };
-    Ok(validation_of(alloc, graph.as_slice(), &shapes_graph)?)
+    Ok(validation_of(rt, alloc, graph.as_slice(), &shapes_graph)?)
 }
 
 /// Explains the validation of a data graph by a shapes graph, both Turtle texts: the evidence of each of its results, in their
@@ -140,4 +153,28 @@ pub fn explain<M: Maker>(
         Err(fault) => return Err(fault),
     };
     Ok(explanation_of(alloc, graph.as_slice(), &shapes_graph)?)
+}
+
+/// Says whether a text is evidence of results of validating a data graph by a shapes graph, both Turtle texts. Each of its blocks
+/// shows that its result is one (SHACL section 3.6); not every result has a block. All else is as `validate` has it.
+pub fn verify<M: Maker>(
+    alloc: Global,
+    maker: &mut M,
+    data_text: &[u8],
+    shapes_text: &[u8],
+    evidence_text: &[u8],
+) -> Result<Verdict, InputFault>
+    requires data { length data_text.now < 2 ^ 31 }
+    requires shapes { length shapes_text.now < 2 ^ 31 }
+    requires evidence { length evidence_text.now < 2 ^ 32 }
+    ensures answer { MatchResult result (IsVerdictOn data_text.now shapes_text.now evidence_text.now) (IsCause data_text.now shapes_text.now (M.refused maker.old) (M.refused maker.new)) }
+    ensures refused { IfOk result (λ _. M.refused maker.new ≡ M.refused maker.old) }
+    ensures asked { MatchResult result (λ _. AsksOfText shapes_text.now (M.asked maker.old) (M.asked maker.new))
+        (λ fault. AsksInVain shapes_text.now fault (M.asked maker.old) (M.asked maker.new)) }
+{
+    let (graph, shapes_graph) = match graphs_of(alloc, maker, data_text, shapes_text) {
+        Ok(both) => both,
+        Err(fault) => return Err(fault),
+    };
+    Ok(verdict(alloc, graph.as_slice(), &shapes_graph, evidence_text)?)
 }

@@ -15,7 +15,7 @@ use Rattle.store_model.specs.declared.event.Reply.{Reply}
 use Rattle.store_model.specs.declared.event.Reply.TheVariants as replies
 use Rattle.store_model.specs.declared.commit.Transaction.{Transaction}
 use Rattle.store_model.specs.Snapshots.{Snapshot, snapshot_of}
-use Rattle.store_model.specs.Store.{State, RecordedStore, HasChange, NamesUnless, Replies, named_with, shapes_under, with_named}
+use Rattle.store_model.specs.Store.{again, State, RecordedStore, HasChange, NamesUnless, Replies, named_with, shapes_under, with_named}
 use Rattle.session_model.specs.Sessions.{additions, parts_of}
 use Rattle.commit_core.specs.declared.naming.NamingFault.{NamingFault}
 use Rattle.commit_core.specs.declared.naming.NamingFault.TheVariants as names
@@ -23,7 +23,7 @@ use Rattle.guard_store.specs.declared.faults.StageFault.{StageFault}
 use Rattle.guard_store.specs.declared.faults.AttachFault.{AttachFault}
 use Rattle.guard_store.specs.declared.faults.AttachFault.TheVariants as attaches
 use Rattle.session_transaction.specs.declared.committing.Committed.{Committed}
-use Rattle.session_transaction.specs.declared.committing.Committed.TheVariants.{ReadOnly, Done, Conflict, FullTriples, Refused}
+use Rattle.session_transaction.specs.declared.committing.Committed.TheVariants.{ReadOnly, Done, Conflict, FullTriples, Refused, LogFault, Stopped}
 use Rattle.session_transaction.specs.declared.transaction.OpenTransaction.{OpenTransaction}
 use Rattle.guard_store.specs.declared.session.Session.{Session}
 use Rattle.session_transaction.specs.declared.transaction.ChangeKind.{ChangeKind}
@@ -59,6 +59,8 @@ turn_commits store old new i x r (ReadOnly v) t h = absurd h
 turn_commits store old new i x r (Done n why) t h = subst (λ (s : Reply). Turn store old new (event_of i (actions.Commit x) s)) h t
 turn_commits store old new i x r (Conflict n y) t h = subst (λ (s : Reply). Turn store old new (event_of i (actions.Commit x) s)) h t
 turn_commits store old new i x r (FullTriples n) t h = subst (λ (s : Reply). Turn store old new (event_of i (actions.Commit x) s)) h t
+turn_commits store old new i x r LogFault t h = subst (λ (s : Reply). Turn store old new (event_of i (actions.Commit x) s)) h t
+turn_commits store old new i x r (Stopped n) t h = subst (λ (s : Reply). Turn store old new (event_of i (actions.Commit x) s)) h t
 turn_commits store old new i x r (Refused rows why shapes) t h =
     subst (λ (s : Reply). (u : Turn store old new (event_of i (actions.Commit x) s)) × (shapes ≡ shapes_under u.before.shapes x.staged) × Listing (after u.before.graph x.net) shapes rows) h.0 (t, h.1, h.2)
 
@@ -68,6 +70,8 @@ turn_counts store old new i x r (ReadOnly v) counted now t h k = k
 turn_counts store old new i x r (Done n why) counted now t h k = subst (λ (s : Reply). (u : Turn store old new (event_of i (actions.Commit x) s)) × StepsBy why u.before.graph u.before.shapes x counted now) h (t, k)
 turn_counts store old new i x r (Conflict n y) counted now t h k = k
 turn_counts store old new i x r (FullTriples n) counted now t h k = k
+turn_counts store old new i x r LogFault counted now t h k = subst (λ (s : Reply). (u : Turn store old new (event_of i (actions.Commit x) s)) × StepsBy (again u.before.commits x.staged x.verdict) u.before.graph u.before.shapes x counted now) h (t, k)
+turn_counts store old new i x r (Stopped n) counted now t h k = k
 turn_counts store old new i x r (Refused rows why shapes) counted now t h k = subst (λ (s : Reply). (u : Turn store old new (event_of i (actions.Commit x) s)) × StepsBy why u.before.graph u.before.shapes x counted now) h.0 (t, k)
 
 -- a commit that only reads counts none, nor does that of no transaction
@@ -80,6 +84,8 @@ answers_now store old pass w (ReadOnly v) new e h t = absurd t
 answers_now store old pass w (Done n why) new e h t = (h, subst (λ (c : Caller Event RecordedStore). TurnCommits store old.pass c old.number (committing w) (Done n why)) (sym e) t)
 answers_now store old pass w (Conflict n x) new e h t = (h, subst (λ (c : Caller Event RecordedStore). TurnCommits store old.pass c old.number (committing w) (Conflict n x)) (sym e) t)
 answers_now store old pass w (FullTriples n) new e h t = (h, subst (λ (c : Caller Event RecordedStore). TurnCommits store old.pass c old.number (committing w) (FullTriples n)) (sym e) t)
+answers_now store old pass w LogFault new e h t = (h, subst (λ (c : Caller Event RecordedStore). TurnCommits store old.pass c old.number (committing w) LogFault) (sym e) t)
+answers_now store old pass w (Stopped n) new e h t = (h, subst (λ (c : Caller Event RecordedStore). TurnCommits store old.pass c old.number (committing w) (Stopped n)) (sym e) t)
 answers_now store old pass w (Refused rows why shapes) new e h t = (h, subst (λ (c : Caller Event RecordedStore). TurnCommits store old.pass c old.number (committing w) (Refused rows why shapes)) (sym e) t)
 
 pub commits_now : (store : SharedStore) (old : Session) (pass : Caller Event RecordedStore) (w : OpenTransaction) (a : Committed) (new : Session) → IsOpen old w → HasChange w.transaction.net w.transaction.staged → TurnCommits store old.pass pass old.number (committing w) a

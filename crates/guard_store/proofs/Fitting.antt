@@ -31,10 +31,10 @@ use Rattle.guard_store.specs.declared.faults.HeadFault.TheVariants as heads
 use Rattle.guard_store.specs.declared.faults.CommitFault.{CommitFault}
 use Rattle.guard_store.specs.declared.faults.CommitFault.TheVariants as commits
 use Rattle.session_transaction.specs.declared.committing.Committed.{Committed}
-use Rattle.session_transaction.specs.declared.committing.Committed.TheVariants.{ReadOnly, Done, Conflict, FullTriples, Refused}
+use Rattle.session_transaction.specs.declared.committing.Committed.TheVariants.{ReadOnly, Done, Conflict, FullTriples, Refused, LogFault, Stopped}
 use Rattle.session_transaction.specs.declared.transaction.OpenTransaction.{OpenTransaction}
 use Rattle.session_transaction.specs.declared.transaction.ChangeKind.{ChangeKind}
-use Rattle.session_transaction.specs.Transactions.{FitsState, begun_at, changes_of, with_changes, with_find, with_shapes}
+use Rattle.session_transaction.specs.Transactions.{FitsState, begun_at, changes_of, with_changes, with_find, with_finds, with_shapes}
 use Rattle.session_transaction.proofs.Growing.{More}
 use Rattle.session_transaction.proofs.Fitting.{after_named, fits_changes, fits_shapes, state_more}
 use Rattle.guard_store.specs.declared.session.Session.{Session}
@@ -208,6 +208,8 @@ answers_session store old new w (ReadOnly v) is b n c = session_ended store old 
 answers_session store old new w (Done v why) is b n c = session_free store old new (event_of old.number (actions.Commit (committing w)) (replies.Done v why)) is b.1 n c
 answers_session store old new w (Conflict v t) is b n c = session_free store old new (event_of old.number (actions.Commit (committing w)) (replies.Conflict v t)) is b.1 n c
 answers_session store old new w (FullTriples v) is b n c = session_free store old new (event_of old.number (actions.Commit (committing w)) (replies.FullTriples v)) is b.1 n c
+answers_session store old new w LogFault is b n c = session_free store old new (event_of old.number (actions.Commit (committing w)) replies.LogFault) is b.1 n c
+answers_session store old new w (Stopped v) is b n c = session_free store old new (event_of old.number (actions.Commit (committing w)) (replies.Stopped v)) is b.1 n c
 answers_session store old new w (Refused rows why shapes) is b n c = session_free store old new (event_of old.number (actions.Commit (committing w)) (replies.Refused rows why)) is b.1.0 n c
 
 pub commits_session : (store : SharedStore) (old new : Session) (a : Committed) → IsSession store old → Commits store old new a → IsSession store new
@@ -240,9 +242,12 @@ with_same store old new w v is o e same bare fits k =
     same_head None k = tt
     same_head (Some n) k = (k.0, subst (λ (net : List Change). NetNamed n.named net) (sym same) k.1)
 
--- a find changes nothing that the store asks of the transaction
+-- a find or a select changes nothing that the store asks of the transaction
 pub found_session : (store : SharedStore) (old new : Session) (w : OpenTransaction) (p : Pattern) → IsSession store old → old.current ≡ Some w → new ≡ record old { current = Some (with_find w p) } → IsSession store new
 found_session store old new w p is o e = with_same store old new w (with_find w p) is o e refl refl (λ s f. record { base = f.base; net = f.net; staged = f.staged; verdict = f.verdict }) (open_kept store old w is o).1
+
+pub selected_session : (store : SharedStore) (old new : Session) (w : OpenTransaction) (ps : List Pattern) → IsSession store old → old.current ≡ Some w → new ≡ record old { current = Some (with_finds w ps) } → IsSession store new
+selected_session store old new w ps is o e = with_same store old new w (with_finds w ps) is o e refl refl (λ s f. record { base = f.base; net = f.net; staged = f.staged; verdict = f.verdict }) (open_kept store old w is o).1
 
 -- nor does a check, but for what it keeps
 pub checks_session : (store : SharedStore) (b : Bool) (old new : Session) → IsSession store old → ChecksHead b old new → IsSession store new

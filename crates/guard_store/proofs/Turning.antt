@@ -1,5 +1,5 @@
 -- What a turn tells the caller, and what the keeper has at the end.
-use Rattle.std.proofs.Common.{◌≡◌, ◌≢◌, ℕ, ◌+◌, ◌<◌, ◌==◌, Bool, true, false, cond, List, [], ◌∷◌, ◌++◌, length, Option, Some, None, refl, sym, ap, ◌∙◌, subst, inl, inr, ⊎_elim, eq-eqb, ne_eqb, append_assoc, length-append, arith}
+use Rattle.std.proofs.Common.{◌≡◌, ◌≢◌, ℕ, ◌+◌, ◌<◌, ◌==◌, ◌||◌, Bool, true, false, cond, List, [], ◌∷◌, ◌++◌, length, Option, Some, None, refl, sym, ap, ◌∙◌, subst, inl, inr, ⊎_elim, eq-eqb, ne_eqb, append_assoc, length-append, arith}
 use mathlib.Core.List.{IsPrefix}
 use Rattle.turn_lock.specs.History.{under, is_empty, is_reserved, reserved, MayAdd, OthersAdded, known_after, has_number}
 use Rattle.turn_lock.specs.Meaning.{ComesFrom}
@@ -18,6 +18,8 @@ use Rattle.commit_core.specs.declared.naming.NamingFault.TheVariants as names
 use Rattle.commit_core.specs.declared.store.SessionFault.{SessionFault}
 use Rattle.commit_core.specs.declared.store.SessionFault.TheVariants as sessions
 use Rattle.commit_core.specs.Faults.{NamesNone, OpensNone}
+use Rattle.store_model.specs.Logs.{is_fault}
+use Rattle.store_model.proofs.Logs.{FaultsStop-holds}
 use Rattle.store_model.specs.Store.{State, RecordedStore, Step, Replays, TakesStep, IsOpened}
 use Rattle.store_model.proofs.Histories.{Replays-push}
 use Rattle.thread_model.specs.Following.{is_opening}
@@ -73,8 +75,8 @@ opens_as None first now e h = absurd h
 opens_as (Some x) first now e h = h ∙ cc e
 
 pub enters : (store : SharedStore) (pass held : Caller Event RecordedStore) (core : RecordedStore) → pass.opening ≡ Some (opening_of store) → held ≡ record pass { known = record pass.known { front = core.history } } → OthersAdded session_of false pass.known core.history
-    → ComesFrom (λ old new. new ≡ old) pass.opening (at_start core) → Replays core.limits core.start core.history core.state → Entered store pass held core
-enters store pass held core o h others comes r =
+    → ComesFrom (λ old new. new ≡ old) pass.opening (at_start core) → Replays core.limits core.start core.history core.state → core.state.stopped ≡ false → Entered store pass held core
+enters store pass held core o h others comes r on =
     let same = opens_as pass.opening (opening_of store) (at_start core) o comes in record {
       opening = o;
       held_is = h;
@@ -82,6 +84,7 @@ enters store pass held core o h others comes r =
       limits = ap (λ (c : RecordedStore). c.limits) same;
       start = ap (λ (c : RecordedStore). c.start) same;
       replays = r;
+      running = on;
     }
 
 -- the history that was found, from the store's start
@@ -90,24 +93,26 @@ entered_replays store pass held core n =
     subst (λ (s : State). Replays store.limits s core.history core.state) n.start (subst (λ (x : Limits). Replays x core.start core.history core.state) n.limits n.replays)
 
 -- a session's own entry may be added
-pub may_own : (store : SharedStore) (pass held : Caller Event RecordedStore) (core next : RecordedStore) (e : Event) → has_number pass.known.numbers e.session ≡ true → Entered store pass held core → TakesStep core next e → MayLeave store held next
-may_own store pass held core next e own n t = record {
+pub may_own : (store : SharedStore) (pass held : Caller Event RecordedStore) (core next : RecordedStore) (e : Event) → has_number pass.known.numbers e.session ≡ true → is_fault e.reply ≡ false → Entered store pass held core → TakesStep core next e → MayLeave store held next
+may_own store pass held core next e own sound n t = record {
   pass = pass;
   core = core;
   event = e;
   entered = n;
   takes = t;
+  sound = sound;
   may = inl (subst (λ (h : Caller Event RecordedStore). has_number h.known.numbers e.session ≡ true) (sym n.held_is) own);
 }
 
 -- the first caller's own, one that is reserved
-pub may_first : (store : SharedStore) (pass held : Caller Event RecordedStore) (core next : RecordedStore) (e : Event) → pass.known.first ≡ true → is_reserved session_of false core.history e ≡ true → Entered store pass held core → TakesStep core next e → MayLeave store held next
-may_first store pass held core next e first is n t = record {
+pub may_first : (store : SharedStore) (pass held : Caller Event RecordedStore) (core next : RecordedStore) (e : Event) → pass.known.first ≡ true → is_reserved session_of false core.history e ≡ true → is_fault e.reply ≡ false → Entered store pass held core → TakesStep core next e → MayLeave store held next
+may_first store pass held core next e first is sound n t = record {
   pass = pass;
   core = core;
   event = e;
   entered = n;
   takes = t;
+  sound = sound;
   may = inr (inl (ap (λ h. h.known.first) n.held_is ∙ first, ap (λ h. is_reserved session_of false h.known.front e) n.held_is ∙ is));
 }
 
@@ -123,6 +128,13 @@ leaves_opening store held next m =
     let limits : next.limits ≡ store.limits = m.takes.limits ∙ m.entered.limits in
     let start : next.start ≡ store.start = m.takes.start ∙ m.entered.start in
     subst (λ (o : Option RecordedStore). ComesFrom (λ old new. new ≡ old) o (at_start next)) (sym (ap (λ h. h.opening) m.entered.held_is ∙ m.entered.opening)) (rw (limits, start) refl)
+
+-- the core isn't stopped still
+pub leaves_running : (store : SharedStore) (held : Caller Event RecordedStore) (next : RecordedStore) → MayLeave store held next → next.state.stopped ≡ false
+leaves_running store held next m =
+    let fails : Bool = is_fault m.event.reply in
+    FaultsStop-holds m.core.limits m.core.state next.state (m.event ∷ []) (next.state, m.takes.step, refl)
+    ∙ (ap (λ b. b || (fails || false)) m.entered.running ∙ ap (λ b. b || false) m.sound)
 
 -- what `leave` gives
 pub left : (store : SharedStore) (pass held after : Caller Event RecordedStore) (core next : RecordedStore) (e : Event) → Entered store pass held core → TakesStep core next e

@@ -1,5 +1,5 @@
 -- What each call of the store is answered, and what the session or the keeper is then.
-use Rattle.std.specs.Prelude.{◌≡◌, ℕ, ◌+◌, ◌<◌, ◌≤◌, Bool, List, [], ◌∷◌, Some, None, Result, Ok, Err, ◌⊎◌}
+use Rattle.std.specs.Prelude.{◌≡◌, ℕ, ◌+◌, ◌<◌, ◌≤◌, Bool, List, [], ◌∷◌, map, Some, None, Result, Ok, Err, ◌⊎◌}
 use Rattle.rdf_model.specs.declared.term.Term.{Term}
 use Rattle.rdf_model.specs.declared.triple.Triple.{Triple}
 use Rattle.rdf_model.specs.Graphs.{after}
@@ -15,7 +15,7 @@ use Rattle.store_model.specs.declared.event.Reply.TheVariants as replies
 use Rattle.store_model.specs.declared.commit.Transaction.{Transaction}
 use Rattle.store_model.specs.Snapshots.{Snapshot, snapshot_of}
 use Rattle.store_model.specs.Nodes.{not_given}
-use Rattle.store_model.specs.Store.{State, RecordedStore, HasChange, shapes_under}
+use Rattle.store_model.specs.Store.{again, State, RecordedStore, HasChange, shapes_under}
 use Rattle.session_model.specs.Sessions.{additions, parts_of}
 use Rattle.commit_core.specs.Work.{StepsBy}
 use Rattle.commit_core.specs.declared.naming.NamingFault.{NamingFault}
@@ -36,14 +36,19 @@ use Rattle.guard_store.specs.declared.faults.CheckFault.{CheckFault}
 use Rattle.guard_store.specs.declared.faults.CheckFault.TheVariants as checks
 use Rattle.guard_store.specs.declared.faults.FindFault.{FindFault}
 use Rattle.guard_store.specs.declared.faults.FindFault.TheVariants as finds
+use Rattle.guard_store.specs.declared.faults.SelectFault.{SelectFault}
+use Rattle.guard_store.specs.declared.faults.SelectFault.TheVariants as selects
+use Rattle.bgp_query.specs.declared.pattern.JoinPattern.{JoinPattern}
+use Rattle.bgp_query.specs.Selected.{AreTooMany}
+use Rattle.bgp_query.specs.TermBindings.{opened}
 use Rattle.session_transaction.specs.declared.committing.Committed.{Committed}
-use Rattle.session_transaction.specs.declared.committing.Committed.TheVariants.{ReadOnly, Done, Conflict, FullTriples, Refused}
+use Rattle.session_transaction.specs.declared.committing.Committed.TheVariants.{ReadOnly, Done, Conflict, FullTriples, Refused, LogFault, Stopped}
 use Rattle.session_transaction.specs.declared.transaction.OpenTransaction.{OpenTransaction}
 use Rattle.guard_store.specs.declared.session.Session.{Session}
 use Rattle.guard_store.specs.declared.session.Keeper.{Keeper}
 use Rattle.guard_store.specs.Fronts.{SharedStore, Turn, Fails}
 use Rattle.session_transaction.specs.Checks.{CheckSteps, Checks, committing}
-use Rattle.session_transaction.specs.Transactions.{begun_at, with_changes}
+use Rattle.session_transaction.specs.Transactions.{begun_at, graph_so_far, with_changes, with_finds}
 use Rattle.guard_store.specs.Callers.{IsKeeper, IsSession, OnlyReads}
 
 abbrev pub event_of : ℕ → Action → Reply → Event
@@ -101,6 +106,8 @@ TurnCommits store old new i x (ReadOnly v) = ⊥
 TurnCommits store old new i x (Done n why) = Turn store old new (event_of i (actions.Commit x) (replies.Done n why))
 TurnCommits store old new i x (Conflict n t) = Turn store old new (event_of i (actions.Commit x) (replies.Conflict n t))
 TurnCommits store old new i x (FullTriples n) = Turn store old new (event_of i (actions.Commit x) (replies.FullTriples n))
+TurnCommits store old new i x LogFault = Turn store old new (event_of i (actions.Commit x) replies.LogFault)
+TurnCommits store old new i x (Stopped v) = Turn store old new (event_of i (actions.Commit x) (replies.Stopped v))
 TurnCommits store old new i x (Refused rows why shapes) =
     (t : Turn store old new (event_of i (actions.Commit x) (replies.Refused rows why))) × (shapes ≡ shapes_under t.before.shapes x.staged) × Listing (after t.before.graph x.net) shapes rows
 
@@ -111,6 +118,8 @@ TurnCounts store old new i x counted now (ReadOnly v) = now ≡ counted
 TurnCounts store old new i x counted now (Done n why) = (t : Turn store old new (event_of i (actions.Commit x) (replies.Done n why))) × StepsBy why t.before.graph t.before.shapes x counted now
 TurnCounts store old new i x counted now (Conflict n t) = now ≡ counted
 TurnCounts store old new i x counted now (FullTriples n) = now ≡ counted
+TurnCounts store old new i x counted now LogFault = (t : Turn store old new (event_of i (actions.Commit x) replies.LogFault)) × StepsBy (again t.before.commits x.staged x.verdict) t.before.graph t.before.shapes x counted now
+TurnCounts store old new i x counted now (Stopped v) = now ≡ counted
 TurnCounts store old new i x counted now (Refused rows why shapes) = (t : Turn store old new (event_of i (actions.Commit x) (replies.Refused rows why))) × StepsBy why t.before.graph t.before.shapes x counted now
 
 -- A transaction begins at the version where the history then leads; or one is open, and nothing happens.
@@ -189,6 +198,8 @@ AnswersCommit store old new w (ReadOnly v) = OnlyReads (Some w) × (v ≡ w.tran
 AnswersCommit store old new w (Done n why) = HasChange w.transaction.net w.transaction.staged × TurnCommits store old.pass new.pass old.number (committing w) (Done n why)
 AnswersCommit store old new w (Conflict n t) = HasChange w.transaction.net w.transaction.staged × TurnCommits store old.pass new.pass old.number (committing w) (Conflict n t)
 AnswersCommit store old new w (FullTriples n) = HasChange w.transaction.net w.transaction.staged × TurnCommits store old.pass new.pass old.number (committing w) (FullTriples n)
+AnswersCommit store old new w LogFault = HasChange w.transaction.net w.transaction.staged × TurnCommits store old.pass new.pass old.number (committing w) LogFault
+AnswersCommit store old new w (Stopped v) = HasChange w.transaction.net w.transaction.staged × TurnCommits store old.pass new.pass old.number (committing w) (Stopped v)
 AnswersCommit store old new w (Refused rows why shapes) = HasChange w.transaction.net w.transaction.staged × TurnCommits store old.pass new.pass old.number (committing w) (Refused rows why shapes)
 
 abbrev pub Commits : SharedStore → Session → Session → Committed → Type 0
@@ -215,6 +226,12 @@ EndsReading old new (Err fault) = (old.current ≡ None) × (fault ≡ commits.N
 abbrev pub FindsNot : FindFault → Session → Session → Type 0
 FindsNot finds.NoTransaction old new = (old.current ≡ None) × (new ≡ old)
 FindsNot finds.Memory old new = ((w : OpenTransaction) × IsOpen old w) × (new ≡ old)
+
+-- why no bindings are answered: where there are too many the patterns are recorded all the same, else the session is as it was
+abbrev pub SelectsNot : SelectFault → List (JoinPattern Term) → Session → Session → Type 0
+SelectsNot selects.NoTransaction ps old new = (old.current ≡ None) × (new ≡ old)
+SelectsNot selects.TooMany ps old new = (w : OpenTransaction) × IsOpen old w × AreTooMany (graph_so_far w) ps × (new ≡ record old { current = Some (with_finds w (map opened ps)) })
+SelectsNot selects.Memory ps old new = ((w : OpenTransaction) × IsOpen old w) × (new ≡ old)
 
 -- The open transaction was checked at the version of the last head, and is as the check left it; the rest of the session is as
 -- it was.

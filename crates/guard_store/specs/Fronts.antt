@@ -7,6 +7,7 @@ use Rattle.store_model.specs.declared.event.Limits.{Limits}
 use Rattle.store_model.specs.declared.event.Event.{Event}
 use Rattle.store_model.specs.declared.event.Action.TheVariants as actions
 use Rattle.store_model.specs.declared.event.Reply.TheVariants as replies
+use Rattle.store_model.specs.Logs.{is_fault}
 use Rattle.store_model.specs.Store.{State, RecordedStore, TakesStep, Step, Replays}
 
 -- a store that callers share: which lock it has, its limits, and the state that its history begins at
@@ -52,7 +53,7 @@ Fails store old new i = (new ≡ old) ⊎ Turn store old new (void_of i)
 abbrev pub At : SharedStore → List Event → (State → Type 0) → Type 0
 At store front P = (s : State) → Replays store.limits store.start front s → P s
 
--- The caller has entered its turn: the core stands for what it had seen and what others alone added.
+-- The caller has entered its turn: the core stands for what it had seen and what others alone added, and isn't stopped.
 pub record Entered (store : SharedStore) (pass held : Caller Event RecordedStore) (core : RecordedStore) : Type 0 where
   pub opening : pass.opening ≡ Some (opening_of store)
   pub held_is : held ≡ record pass { known = record pass.known { front = core.history } }
@@ -60,12 +61,15 @@ pub record Entered (store : SharedStore) (pass held : Caller Event RecordedStore
   pub limits : core.limits ≡ store.limits
   pub start : core.start ≡ store.start
   pub replays : Replays core.limits core.start core.history core.state
+  pub running : core.state.stopped ≡ false
 
--- The caller may leave its turn with this core: it took one step, which the caller may add.
+-- The caller may leave its turn with this core: it took one step, which is no fault of a log and the caller may
+-- add.
 pub record MayLeave (store : SharedStore) (held : Caller Event RecordedStore) (next : RecordedStore) : Type 0 where
   pub pass : Caller Event RecordedStore
   pub core : RecordedStore
   pub event : Event
   pub entered : Entered store pass held core
   pub takes : TakesStep core next event
+  pub sound : is_fault event.reply ≡ false
   pub may : MayAdd session_of false held.known event

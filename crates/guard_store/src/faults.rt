@@ -76,3 +76,12 @@ impl From<AllocError> for FindFault {
         FindFault::Memory
     }
 }
+
+/// Why no bindings are answered.
+#[derive(Clone, Copy, Debug, PartialEq, Eq)]
+pub enum SelectFault {
+    NoTransaction,
+    /// There are more than 100,000.
+    TooMany,
+    Memory,
+}

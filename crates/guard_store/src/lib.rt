@@ -10,13 +10,15 @@ mod check;
 mod faults;
 mod find;
 mod laws;
+mod select;
 mod session;
 mod shared;
 mod store;
 mod turn;
 
 pub use faults::{
-    AttachFault, BeginFault, CheckFault, CommitFault, FindFault, HeadFault, OpenFault, StageFault,
+    AttachFault, BeginFault, CheckFault, CommitFault, FindFault, HeadFault, OpenFault, SelectFault,
+    StageFault,
 };
 pub use laws::{
     a_failed_opening_keeps_entries, a_meeting_keeps_both_fronts, a_meeting_keeps_entries,

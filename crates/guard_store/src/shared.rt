@@ -1,4 +1,4 @@
-ghost use Rattle.std.specs.Prelude.{◌≡◌};
+ghost use Rattle.std.specs.Prelude.{◌≡◌, false};
 ghost use Rattle.store_model.specs.Store.{Replays};
 
 use commit_core::Core;
@@ -6,18 +6,21 @@ use std::marker::Model;
 use store_model::Event;
 use turn_lock::Entries;
 
-/// The core that turns pass on. It stands for its history.
+/// The core that turns pass on. It stands for its history, and isn't stopped.
 #[derive(Drop)]
 pub struct Shared {
     core: Core,
 }
 
 impl Model for Shared {
+    ghost use Rattle.std.specs.Prelude.{◌≡◌, false};
     ghost use Rattle.store_model.specs.Store.{RecordedStore};
 
     ghost Value = { RecordedStore };
 
     ghost view = { λ s. s.core };
+
+    ghost invariant = { λ s. s.core.state.stopped ≡ false };
 }
 
 impl Entries for Shared {
@@ -44,14 +47,16 @@ impl Entries for Shared {
 
 impl Shared {
     pub(crate) fn new(core: Core) -> Shared
+        requires { core.state.stopped ≡ false }
         ensures { result ≡ core }
     {
         Shared { core }
     }
 
-    /// The core, whose history leads to its state.
+    /// The core, whose history leads to its state and which isn't stopped.
     pub(crate) fn into_core(self) -> Core
         ensures same { result ≡ self }
+        ensures running { self.state.stopped ≡ false }
         ensures replays { Replays self.limits self.start self.history self.state }
     {
         let Shared { core } = self;

@@ -171,7 +171,8 @@ impl Store {
         }
     }
 
-    /// Ends the store once all sessions were met: its core, whose history is what the keeper has seen.
+    /// Ends the store once all sessions were met: its core, whose history is what the keeper has seen. It has no log, and so isn't
+    /// stopped.
     pub fn close(self, keeper: Keeper) -> Core
         requires keeper { IsKeeper self keeper }
         requires all { keeper.pass.spare ≡ 64 }
@@ -179,6 +180,7 @@ impl Store {
         ensures limits { result.limits ≡ self.limits }
         ensures start { result.start ≡ self.start }
         ensures replays { Replays result.limits result.start result.history result.state }
+        ensures running { result.state.stopped ≡ false }
     {
         let Store {
             turns,

@@ -5,10 +5,10 @@ use Rattle.std.specs.Str.Parse.{digits_value}
 use Rattle.std.proofs.lemmas.Bool.Decides.{nat_tests}
 use Rattle.clap.specs.Words.{Row, Text, subcommand_of}
 use Rattle.guard_words.specs.CommandLine.{command_line}
-use Rattle.guard_words.specs.Words.{limit_of, limit_or_default, limits_of_both, limits_in, run_of, replay_of, validate_of, explain_of, names_of, generate_of, size_of_word, up_to, files_in, history_in, data_in, shapes_in, size_in, call_in, call_of}
+use Rattle.guard_words.specs.Words.{limit_of, limit_or_default, limits_of_both, limits_in, run_of, replay_of, validate_of, explain_of, verify_of, names_of, generate_of, size_of_word, up_to, files_in, history_in, data_in, shapes_in, evidence_in, size_in, call_in, call_of}
 use Rattle.guard_words.specs.declared.call.Limits.{Limits}
 use Rattle.guard_words.specs.declared.call.Call.{Call}
-use Rattle.guard_words.specs.declared.call.Call.TheVariants.{Run, Replay, Validate, Explain, Generate}
+use Rattle.guard_words.specs.declared.call.Call.TheVariants.{Run, Replay, Validate, Explain, Verify, Generate}
 use Rattle.guard_words.proofs.Numbers.{both}
 
 -- a test that gave something held
@@ -55,25 +55,31 @@ never_run_of_explain : (o : Option (List ℕ × List ℕ)) (l : Limits) (fs : Li
 never_run_of_explain None l fs e = cc
 never_run_of_explain (Some names) l fs e = let no : Explain names.0 names.1 ≡ Run l fs = cc in cc
 
+never_run_of_verify : (o : Option (List ℕ × List ℕ)) (v : Option (List ℕ)) (l : Limits) (fs : List (List ℕ)) → verify_of o v ≡ Some (Run l fs) → ⊥
+never_run_of_verify o None l fs e = cc
+never_run_of_verify None (Some v) l fs e = cc
+never_run_of_verify (Some names) (Some v) l fs e = let no : Verify names.0 names.1 v ≡ Run l fs = cc in cc
+
 never_run_of_generate : (n : Option ℕ) (l : Limits) (fs : List (List ℕ)) → generate_of n ≡ Some (Run l fs) → ⊥
 never_run_of_generate (Some n) l fs e = let no : Generate n ≡ Run l fs = cc in cc
 never_run_of_generate None l fs e = cc
 
 -- the call that the name of a subcommand chooses
-abbrev chosen : List Row → Bool → Bool → Bool → Bool → Option Call
-chosen rows a b c d =
-    if a then run_of (limits_in rows) (files_in rows) else if b then replay_of (limits_in rows) (history_in rows) (files_in rows) else if c then validate_of (names_of (data_in rows) (shapes_in rows)) else if d then explain_of (names_of (data_in rows) (shapes_in rows)) else generate_of (size_in rows)
+abbrev chosen : List Row → Bool → Bool → Bool → Bool → Bool → Option Call
+chosen rows a b c d f =
+    if a then run_of (limits_in rows) (files_in rows) else if b then replay_of (limits_in rows) (history_in rows) (files_in rows) else if c then validate_of (names_of (data_in rows) (shapes_in rows)) else if d then explain_of (names_of (data_in rows) (shapes_in rows)) else if f then verify_of (names_of (data_in rows) (shapes_in rows)) (evidence_in rows) else generate_of (size_in rows)
 
-run_bound_in : (rows : List Row) (a b c d : Bool) (l : Limits) (fs : List (List ℕ)) → chosen rows a b c d ≡ Some (Run l fs) → l.terms ≤ 2000000
-run_bound_in rows true b c d l fs e = rows_bound rows l (limits_of_run (limits_in rows) (files_in rows) l fs e)
-run_bound_in rows false true c d l fs e = absurd (never_a_run (limits_in rows) (history_in rows) (files_in rows) l fs e)
-run_bound_in rows false false true d l fs e = absurd (never_run_of_validate (names_of (data_in rows) (shapes_in rows)) l fs e)
-run_bound_in rows false false false true l fs e = absurd (never_run_of_explain (names_of (data_in rows) (shapes_in rows)) l fs e)
-run_bound_in rows false false false false l fs e = absurd (never_run_of_generate (size_in rows) l fs e)
+run_bound_in : (rows : List Row) (a b c d f : Bool) (l : Limits) (fs : List (List ℕ)) → chosen rows a b c d f ≡ Some (Run l fs) → l.terms ≤ 2000000
+run_bound_in rows true b c d f l fs e = rows_bound rows l (limits_of_run (limits_in rows) (files_in rows) l fs e)
+run_bound_in rows false true c d f l fs e = absurd (never_a_run (limits_in rows) (history_in rows) (files_in rows) l fs e)
+run_bound_in rows false false true d f l fs e = absurd (never_run_of_validate (names_of (data_in rows) (shapes_in rows)) l fs e)
+run_bound_in rows false false false true f l fs e = absurd (never_run_of_explain (names_of (data_in rows) (shapes_in rows)) l fs e)
+run_bound_in rows false false false false true l fs e = absurd (never_run_of_verify (names_of (data_in rows) (shapes_in rows)) (evidence_in rows) l fs e)
+run_bound_in rows false false false false false l fs e = absurd (never_run_of_generate (size_in rows) l fs e)
 
 call_in_bound : (o : Option (Text × List Row)) (l : Limits) (fs : List (List ℕ)) → call_in o ≡ Some (Run l fs) → l.terms ≤ 2000000
 call_in_bound None l fs e = cc
-call_in_bound (Some p) l fs e = run_bound_in p.1 (bytes_eq p.0 (codes "run")) (bytes_eq p.0 (codes "replay")) (bytes_eq p.0 (codes "validate")) (bytes_eq p.0 (codes "explain")) l fs e
+call_in_bound (Some p) l fs e = run_bound_in p.1 (bytes_eq p.0 (codes "run")) (bytes_eq p.0 (codes "replay")) (bytes_eq p.0 (codes "validate")) (bytes_eq p.0 (codes "explain")) (bytes_eq p.0 (codes "verify")) l fs e
 
 pub run_bound : (words : List Text) (l : Limits) (fs : List (List ℕ)) → call_of words ≡ Some (Run l fs) → l.terms ≤ 2000000
 run_bound words l fs e = call_in_bound (subcommand_of command_line words) l fs (given _ _ _ e).1
@@ -97,20 +103,26 @@ never_replay_of_explain : (o : Option (List ℕ × List ℕ)) (l : Limits) (n : 
 never_replay_of_explain None l n fs e = cc
 never_replay_of_explain (Some names) l n fs e = let no : Explain names.0 names.1 ≡ Replay l n fs = cc in cc
 
+never_replay_of_verify : (o : Option (List ℕ × List ℕ)) (v : Option (List ℕ)) (l : Limits) (n : List ℕ) (fs : List (List ℕ)) → verify_of o v ≡ Some (Replay l n fs) → ⊥
+never_replay_of_verify o None l n fs e = cc
+never_replay_of_verify None (Some v) l n fs e = cc
+never_replay_of_verify (Some names) (Some v) l n fs e = let no : Verify names.0 names.1 v ≡ Replay l n fs = cc in cc
+
 never_replay_of_generate : (m : Option ℕ) (l : Limits) (n : List ℕ) (fs : List (List ℕ)) → generate_of m ≡ Some (Replay l n fs) → ⊥
 never_replay_of_generate (Some m) l n fs e = let no : Generate m ≡ Replay l n fs = cc in cc
 never_replay_of_generate None l n fs e = cc
 
-replay_bound_in : (rows : List Row) (a b c d : Bool) (l : Limits) (n : List ℕ) (fs : List (List ℕ)) → chosen rows a b c d ≡ Some (Replay l n fs) → l.terms ≤ 2000000
-replay_bound_in rows true b c d l n fs e = absurd (never_a_replay (limits_in rows) (files_in rows) l n fs e)
-replay_bound_in rows false true c d l n fs e = rows_bound rows l (limits_of_replay (limits_in rows) (history_in rows) (files_in rows) l n fs e)
-replay_bound_in rows false false true d l n fs e = absurd (never_replay_of_validate (names_of (data_in rows) (shapes_in rows)) l n fs e)
-replay_bound_in rows false false false true l n fs e = absurd (never_replay_of_explain (names_of (data_in rows) (shapes_in rows)) l n fs e)
-replay_bound_in rows false false false false l n fs e = absurd (never_replay_of_generate (size_in rows) l n fs e)
+replay_bound_in : (rows : List Row) (a b c d f : Bool) (l : Limits) (n : List ℕ) (fs : List (List ℕ)) → chosen rows a b c d f ≡ Some (Replay l n fs) → l.terms ≤ 2000000
+replay_bound_in rows true b c d f l n fs e = absurd (never_a_replay (limits_in rows) (files_in rows) l n fs e)
+replay_bound_in rows false true c d f l n fs e = rows_bound rows l (limits_of_replay (limits_in rows) (history_in rows) (files_in rows) l n fs e)
+replay_bound_in rows false false true d f l n fs e = absurd (never_replay_of_validate (names_of (data_in rows) (shapes_in rows)) l n fs e)
+replay_bound_in rows false false false true f l n fs e = absurd (never_replay_of_explain (names_of (data_in rows) (shapes_in rows)) l n fs e)
+replay_bound_in rows false false false false true l n fs e = absurd (never_replay_of_verify (names_of (data_in rows) (shapes_in rows)) (evidence_in rows) l n fs e)
+replay_bound_in rows false false false false false l n fs e = absurd (never_replay_of_generate (size_in rows) l n fs e)
 
 call_in_replay : (o : Option (Text × List Row)) (l : Limits) (n : List ℕ) (fs : List (List ℕ)) → call_in o ≡ Some (Replay l n fs) → l.terms ≤ 2000000
 call_in_replay None l n fs e = cc
-call_in_replay (Some p) l n fs e = replay_bound_in p.1 (bytes_eq p.0 (codes "run")) (bytes_eq p.0 (codes "replay")) (bytes_eq p.0 (codes "validate")) (bytes_eq p.0 (codes "explain")) l n fs e
+call_in_replay (Some p) l n fs e = replay_bound_in p.1 (bytes_eq p.0 (codes "run")) (bytes_eq p.0 (codes "replay")) (bytes_eq p.0 (codes "validate")) (bytes_eq p.0 (codes "explain")) (bytes_eq p.0 (codes "verify")) l n fs e
 
 pub replay_bound : (words : List Text) (l : Limits) (n : List ℕ) (fs : List (List ℕ)) → call_of words ≡ Some (Replay l n fs) → l.terms ≤ 2000000
 replay_bound words l n fs e = call_in_replay (subcommand_of command_line words) l n fs (given _ _ _ e).1
@@ -159,16 +171,22 @@ never_generate_of_explain : (o : Option (List ℕ × List ℕ)) (n : ℕ) → ex
 never_generate_of_explain None n e = cc
 never_generate_of_explain (Some names) n e = let no : Explain names.0 names.1 ≡ Generate n = cc in cc
 
-generate_bound_in : (rows : List Row) (a b c d : Bool) (n : ℕ) → chosen rows a b c d ≡ Some (Generate n) → (1 ≤ n) × (n ≤ 100000)
-generate_bound_in rows true b c d n e = absurd (never_generate_of_run (limits_in rows) (files_in rows) n e)
-generate_bound_in rows false true c d n e = absurd (never_generate_of_replay (limits_in rows) (history_in rows) (files_in rows) n e)
-generate_bound_in rows false false true d n e = absurd (never_generate_of_validate (names_of (data_in rows) (shapes_in rows)) n e)
-generate_bound_in rows false false false true n e = absurd (never_generate_of_explain (names_of (data_in rows) (shapes_in rows)) n e)
-generate_bound_in rows false false false false n e = size_bound _ n (size_of_generate (size_in rows) n e)
+never_generate_of_verify : (o : Option (List ℕ × List ℕ)) (v : Option (List ℕ)) (n : ℕ) → verify_of o v ≡ Some (Generate n) → ⊥
+never_generate_of_verify o None n e = cc
+never_generate_of_verify None (Some v) n e = cc
+never_generate_of_verify (Some names) (Some v) n e = let no : Verify names.0 names.1 v ≡ Generate n = cc in cc
+
+generate_bound_in : (rows : List Row) (a b c d f : Bool) (n : ℕ) → chosen rows a b c d f ≡ Some (Generate n) → (1 ≤ n) × (n ≤ 100000)
+generate_bound_in rows true b c d f n e = absurd (never_generate_of_run (limits_in rows) (files_in rows) n e)
+generate_bound_in rows false true c d f n e = absurd (never_generate_of_replay (limits_in rows) (history_in rows) (files_in rows) n e)
+generate_bound_in rows false false true d f n e = absurd (never_generate_of_validate (names_of (data_in rows) (shapes_in rows)) n e)
+generate_bound_in rows false false false true f n e = absurd (never_generate_of_explain (names_of (data_in rows) (shapes_in rows)) n e)
+generate_bound_in rows false false false false true n e = absurd (never_generate_of_verify (names_of (data_in rows) (shapes_in rows)) (evidence_in rows) n e)
+generate_bound_in rows false false false false false n e = size_bound _ n (size_of_generate (size_in rows) n e)
 
 call_in_generate : (o : Option (Text × List Row)) (n : ℕ) → call_in o ≡ Some (Generate n) → (1 ≤ n) × (n ≤ 100000)
 call_in_generate None n e = cc
-call_in_generate (Some p) n e = generate_bound_in p.1 (bytes_eq p.0 (codes "run")) (bytes_eq p.0 (codes "replay")) (bytes_eq p.0 (codes "validate")) (bytes_eq p.0 (codes "explain")) n e
+call_in_generate (Some p) n e = generate_bound_in p.1 (bytes_eq p.0 (codes "run")) (bytes_eq p.0 (codes "replay")) (bytes_eq p.0 (codes "validate")) (bytes_eq p.0 (codes "explain")) (bytes_eq p.0 (codes "verify")) n e
 
 pub generate_bound : (words : List Text) (n : ℕ) → call_of words ≡ Some (Generate n) → (1 ≤ n) × (n ≤ 100000)
 generate_bound words n e = call_in_generate (subcommand_of command_line words) n (given _ _ _ e).1

@@ -33,6 +33,10 @@ validate = with_rule (with_rule (new_app (codes "validate")) (name_rule (codes "
 abbrev pub explain : App
 explain = with_rule (with_rule (new_app (codes "explain")) (name_rule (codes "data"))) (name_rule (codes "shapes"))
 
+-- `verify DATA SHAPES EVIDENCE`
+abbrev pub verify : App
+verify = with_rule (with_rule (with_rule (new_app (codes "verify")) (name_rule (codes "data"))) (name_rule (codes "shapes"))) (name_rule (codes "evidence"))
+
 -- `generate NUMBERS`
 abbrev pub generate : App
 generate = with_rule (new_app (codes "generate")) (name_rule (codes "numbers"))
@@ -43,7 +47,7 @@ session_commands = with_subcommand (with_subcommand (on_top (λ s. record s { su
 
 -- and with those that take a data graph and a shapes graph
 abbrev pub file_commands : App
-file_commands = with_subcommand (with_subcommand session_commands validate.top) explain.top
+file_commands = with_subcommand (with_subcommand (with_subcommand session_commands validate.top) explain.top) verify.top
 
 abbrev pub command_line : App
 command_line = with_subcommand file_commands generate.top

@@ -6,7 +6,7 @@ use Rattle.clap.specs.Words.{Row, Text, all_of, fault_of, first_of, subcommand_o
 use Rattle.guard_words.specs.CommandLine.{command_line}
 use Rattle.guard_words.specs.declared.call.Limits.{Limits}
 use Rattle.guard_words.specs.declared.call.Call.{Call}
-use Rattle.guard_words.specs.declared.call.Call.TheVariants.{Run, Replay, Validate, Explain, Generate}
+use Rattle.guard_words.specs.declared.call.Call.TheVariants.{Run, Replay, Validate, Explain, Verify, Generate}
 
 -- The number that a text is the decimal of, without sign or leading zero, from 1 to 2,000,000.
 abbrev pub limit_of : List ℕ → Option ℕ
@@ -58,6 +58,11 @@ abbrev pub explain_of : Option (List ℕ × List ℕ) → Option Call
 explain_of None = None
 explain_of (Some names) = Some (Explain names.0 names.1)
 
+abbrev pub verify_of : Option (List ℕ × List ℕ) → Option (List ℕ) → Option Call
+verify_of names None = None
+verify_of None (Some evidence) = None
+verify_of (Some names) (Some evidence) = Some (Verify names.0 names.1 evidence)
+
 abbrev pub generate_of : Option ℕ → Option Call
 generate_of (Some numbers) = Some (Generate numbers)
 generate_of None = None
@@ -81,6 +86,9 @@ data_in rows = first_of (codes "data") rows
 abbrev pub shapes_in : List Row → Option (List ℕ)
 shapes_in rows = first_of (codes "shapes") rows
 
+abbrev pub evidence_in : List Row → Option (List ℕ)
+evidence_in rows = first_of (codes "evidence") rows
+
 -- the call of a subcommand's name and what was found for it
 abbrev pub call_in : Option (Text × List Row) → Option Call
 call_in None = None
@@ -89,6 +97,7 @@ call_in (Some p) =
     else if bytes_eq p.0 (codes "replay") then replay_of (limits_in p.1) (history_in p.1) (files_in p.1)
     else if bytes_eq p.0 (codes "validate") then validate_of (names_of (data_in p.1) (shapes_in p.1))
     else if bytes_eq p.0 (codes "explain") then explain_of (names_of (data_in p.1) (shapes_in p.1))
+    else if bytes_eq p.0 (codes "verify") then verify_of (names_of (data_in p.1) (shapes_in p.1)) (evidence_in p.1)
     else generate_of (size_in p.1)
 
 -- The call of words that `clap` takes for the command line, with numbers within their bounds; no other words are one.

@@ -46,6 +46,12 @@ pub enum Call {
         data: Text,
         shapes: Text,
     },
+    /// Verifies evidence of the results of a data graph by a shapes graph.
+    Verify {
+        data: Text,
+        shapes: Text,
+        evidence: Text,
+    },
     /// Runs a generated load of the numbers from 1 on.
     Generate {
         numbers: u32,
@@ -200,6 +206,25 @@ fn explain_in(alloc: Global, found: &ArgMatches<'_>) -> Result<Call, WordsFault>
     }
 }
 
+fn verify_in(alloc: Global, found: &ArgMatches<'_>) -> Result<Call, WordsFault>
+    ensures { let rows = rows_of (found_of found.now) in
+        let call = Words.verify_of (Words.names_of (Words.data_in rows) (Words.shapes_in rows)) (Words.evidence_in rows) in
+        MatchResult result (λ c. call ≡ Some c) (λ fault. Refuses fault call) }
+{
+    let Some(evidence) = text_at(found, "evidence") else {
+        return Err(WordsFault::Usage);
+    };
+    let evidence = Text::new(alloc, evidence)?;
+    match graphs_in(alloc, found) {
+        Ok((graph, shapes)) => Ok(Call::Verify {
+            data: graph,
+            shapes,
+            evidence,
+        }),
+        Err(fault) => Err(fault),
+    }
+}
+
 fn generate_in(found: &ArgMatches<'_>) -> Result<Call, WordsFault>
     ensures { let call = Words.generate_of (Words.size_in (rows_of (found_of found.now))) in
         MatchResult result (λ c. call ≡ Some c) (λ fault. Refuses fault call) }
@@ -225,6 +250,8 @@ fn call_in(alloc: Global, name: &str, found: &ArgMatches<'_>) -> Result<Call, Wo
         validate_in(alloc, found)
     } else if name == "explain" {
         explain_in(alloc, found)
+    } else if name == "verify" {
+        verify_in(alloc, found)
     } else {
         generate_in(found)
     }

@@ -69,6 +69,16 @@ fn explain<'a>(alloc: Global) -> Result<Command<'a>, AllocError>
         .arg(name(alloc, "shapes"))
 }
 
+fn verify<'a>(alloc: Global) -> Result<Command<'a>, AllocError>
+    ensures app { IfOk result (λ c. app_of c ≡ CommandLine.verify) }
+    ensures local { IfOk result (λ c. (out-Command c).has_globals ≡ false) }
+{
+    Command::new(alloc, "verify")
+        .arg(name(alloc, "data"))?
+        .arg(name(alloc, "shapes"))?
+        .arg(name(alloc, "evidence"))
+}
+
 fn generate<'a>(alloc: Global) -> Result<Command<'a>, AllocError>
     ensures app { IfOk result (λ c. app_of c ≡ CommandLine.generate) }
     ensures local { IfOk result (λ c. (out-Command c).has_globals ≡ false) }
@@ -92,7 +102,8 @@ fn file_commands<'a>(alloc: Global) -> Result<Command<'a>, AllocError>
 {
     session_commands(alloc)?
         .subcommand(validate(alloc)?)?
-        .subcommand(explain(alloc)?)
+        .subcommand(explain(alloc)?)?
+        .subcommand(verify(alloc)?)
 }
 
 /// The command that the words are read for.

@@ -8,7 +8,8 @@ use Rattle.session_reader.specs.declared.line.LineKind.{LineKind}
 use Rattle.session_reader.specs.declared.line.LineKind.TheVariants.{BeginCommand, CommitCommand, Block}
 use Rattle.session_reader.specs.declared.read_command.ReadCommand.{ReadCommand}
 use Rattle.session_reader.specs.declared.read_command.ReadCommand.TheVariants.{Begin, Commit}
-use Rattle.session_reader.specs.SessionFile.{kind_of, command_text, is_block_end, block_after, block_command, block_length, block_reading, block_text, commands_of, items_after, lines_of_block, next_after, with_command, with_item, without_cr}
+use Rattle.session_reader.specs.SessionFile.{kind_of, command_text, is_block_end, block_after, block_command, block_length, block_reading, block_text, commands_of, items_after, lines_of_block, next_after, with_command, with_item}
+use Rattle.session_reader.specs.LineEnds.{without_cr}
 
 -- some commands were read
 abbrev pub IsRead : Result (List ReadCommand) ℕ → Type 0

@@ -1,5 +1,5 @@
 -- What a generated load gives that is run.
-use Rattle.std.specs.Prelude.{◌≡◌, ℕ, ◌+◌, List, [], ◌∷◌, ◌++◌, codes, length}
+use Rattle.std.specs.Prelude.{◌≡◌, ℕ, ◌+◌, List, [], ◌∷◌, ◌++◌, None, codes, length}
 use Rattle.std.specs.Fmt.{decimal}
 use Rattle.outside.specs.Faults.{Refusal}
 use Rattle.store_model.specs.declared.event.BlockMode.TheVariants.{All}
@@ -36,5 +36,5 @@ pub record IsLoad (n : ℕ) (old new : List Refusal) (text : List ℕ) : Type 0 
   pub replies : List (List SessionReply)
   pub four : length all ≡ 4
   pub sessions : AreSessions n 1 all old new
-  pub run : HasReplies all load_limits empty_store order replies
+  pub run : HasReplies all load_limits empty_store order None replies
   pub printed : text ≡ load_text n replies (length run.last.state.graph)

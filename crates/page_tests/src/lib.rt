@@ -10,6 +10,8 @@ mod index;
 #[cfg(test)]
 mod joins;
 #[cfg(test)]
+mod joins_by_terms;
+#[cfg(test)]
 mod many;
 #[cfg(test)]
 mod pages;

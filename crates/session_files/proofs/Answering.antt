@@ -109,7 +109,7 @@ unplayed_behind TooManyFiles held l name bytes names all before after text sessi
 
 pub played_behind : {X : Type 0} (of : X → List ℕ) (held : Option Contents) (l : Limits) (name bytes : List ℕ) (names : List (List ℕ)) (all : List (List Command)) (before mid after : Loads) (r : Result X RunFault) → HoldsText held name bytes → LoadsOne name before mid → NoneFailed before mid → NoneRefused before mid
     → HoldSessions held 1 names all mid.refused after.refused → LoadsAll names mid after → length names ≤ 64
-    → MatchResult r (λ t. (order : List ℕ) × (history_of bytes ≡ Some (map Some order)) × IsPrint all l empty_store order (of t)) (λ s. Unplayed s (IsBadPlace all l (history_of bytes)))
+    → MatchResult r (λ t. (order : List ℕ) × (history_of bytes ≡ Some (map Some order)) × IsPrint all l empty_store order None (of t)) (λ s. Unplayed s (IsBadPlace all l (history_of bytes)))
     → MatchResult r (λ t. IsRun held (record { limits = l; history = Some name; files = names }) before.refused after.refused (of t) × LoadsAll (name ∷ names) before after) (λ s. StopsRun s held (record { limits = l; history = Some name; files = names }) before after)
 played_behind of held l name bytes names all before mid after (Ok t) text one none same sessions loads few h =
     ((all, h.0, subst (λ (xs : List Refusal). HoldSessions held 1 names all xs after.refused) same sessions, (bytes, text, h.1), h.2), loads_behind name names before mid after one none loads)

@@ -1,5 +1,5 @@
 -- A print whose last line is handed in as a history.
-use Rattle.std.proofs.Common.{◌≡◌, ℕ, ◌+◌, ◌==◌, ◌||◌, Bool, true, false, cond, List, [], ◌∷◌, ◌++◌, map, take, codes, Option, Some, refl, sym, ap, ◌∙◌, subst, inl, inr, ⊎_elim, append_assoc, arith}
+use Rattle.std.proofs.Common.{◌≡◌, ℕ, ◌+◌, ◌==◌, ◌||◌, Bool, true, false, cond, List, [], ◌∷◌, ◌++◌, map, take, codes, Option, Some, None, refl, sym, ap, ◌∙◌, subst, inl, inr, ⊎_elim, append_assoc, arith}
 use Rattle.std.specs.List.{flat_map, list_any}
 use Rattle.std.specs.Fmt.{decimal}
 use Rattle.std.proofs.lemmas.List.{append-nil, append_cancel_left, append_cancel_right}
@@ -82,7 +82,7 @@ ends_sessions i (replies ∷ more) =
     ends_append (session_text i replies) (sessions_text (i + 1) more)
     (ends_append (line (codes "session " ++ decimal i)) (flat_map (λ r. line (reply_text r)) replies) (ends_line (codes "session " ++ decimal i)) (ends_replies replies)) (ends_sessions (i + 1) more)
 
-history_is_last : (files : List (List Command)) (l : Limits) (order text : List ℕ) → IsPrint files l empty_store order text → IsLastLine text (history_text order)
+history_is_last : (files : List (List Command)) (l : Limits) (order text : List ℕ) → IsPrint files l empty_store order None text → IsLastLine text (history_text order)
 history_is_last files l order text p = record {
   before = sessions_text 1 p.0;
   words = codes "history" ++ flat_map (λ i. 32 ∷ decimal i) order;
@@ -102,7 +102,7 @@ one_text held name a b x y =
     y.0.2 ∙ (ap (take room) all ∙ sym x.0.2)
 
 -- the same files in the same order print the same
-prints_one : (files : List (List Command)) (l : Limits) (order again text other : List ℕ) → IsPrint files l empty_store order text → map Some order ≡ map Some again → IsPrint files l empty_store again other → other ≡ text
+prints_one : (files : List (List Command)) (l : Limits) (order again text other : List ℕ) → IsPrint files l empty_store order None text → map Some order ≡ map Some again → IsPrint files l empty_store again None other → other ≡ text
 prints_one files l order again text other p e q =
     let same = replays_again files l empty_store order again p.0 q.0 p.1 (e, q.1) in
     q.2 ∙ (ap (λ (rs : List (List SessionReply)). sessions_text 1 rs ++ history_text again) same.1 ∙ (ap (λ (is : List ℕ). sessions_text 1 p.0 ++ history_text is) same.0 ∙ sym p.2))
@@ -111,7 +111,7 @@ pub replays_print : ReplaysPrint
 replays_print held l history names old new old' new' text line run last holds alike =
     let all = run.0 in
     let order = run.1 in
-    let print : IsPrint all l empty_store order text = run.4 in
+    let print : IsPrint all l empty_store order None text = run.4 in
     let is : line ≡ history_text order = last_line_is text (history_text order) line (history_is_last all l order text print) last in
     let back : history_of line ≡ Some (map Some order) = ap history_of is ∙ reads_back order (order_sessions all l empty_store order print.0 (omega arith) print.1) in
     record {
@@ -119,7 +119,7 @@ replays_print held l history names old new old' new' text line run last holds al
           let files : h.0 ≡ all = alike all h.0 run.2 h.2 in
           let bytes : h.3.0 ≡ line = one_text held history line h.3.0 holds h.3.1 in
           let places : map Some order ≡ map Some h.1 = some_same (map Some order) (map Some h.1) (sym back ∙ (ap history_of (sym bytes) ∙ h.3.2)) in
-          prints_one all l order h.1 text again print places (subst (λ (fs : List (List Command)). IsPrint fs l empty_store h.1 again) files h.4);
+          prints_one all l order h.1 text again print places (subst (λ (fs : List (List Command)). IsPrint fs l empty_store h.1 None again) files h.4);
       valid = λ k bad.
           let files : bad.1 ≡ all = alike all bad.1 run.2 bad.3 in
           let bytes : bad.0 ≡ line = one_text held history line bad.0 holds bad.2 in

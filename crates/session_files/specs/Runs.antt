@@ -29,7 +29,7 @@ IsOrderOf held (Some name) order = (bytes : List ℕ) × HoldsText held name byt
 
 -- the text is what a run of the files prints, within the limits, in an order that is valid for them
 abbrev pub IsRun : Option Contents → SessionRun → List Refusal → List Refusal → List ℕ → Type 0
-IsRun held r old new text = (all : List (List Command)) × (order : List ℕ) × HoldSessions held 1 r.files all old new × IsOrderOf held r.history order × IsPrint all r.limits empty_store order text
+IsRun held r old new text = (all : List (List Command)) × (order : List ℕ) × HoldSessions held 1 r.files all old new × IsOrderOf held r.history order × IsPrint all r.limits empty_store order None text
 
 -- so it is, of at most 64 session files, and all files were loaded
 abbrev pub AreRun : Option Contents → SessionRun → Loads → Loads → List ℕ → Type 0

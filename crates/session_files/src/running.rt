@@ -38,7 +38,7 @@ fn print_sessions<R: Threads + Wait + Sync, G: Gate>(
     requires terms { limits.terms ≤ 2000000 }
     requires mode { limits.mode ≡ BlockMode.All }
     requires few { length all.now ≤ 64 }
-    ensures { IfOk result (λ text. (order : List ℕ) × IsPrint all.now limits empty_store order (string_bytes text)) }
+    ensures { IfOk result (λ text. (order : List ℕ) × IsPrint all.now limits empty_store order None (string_bytes text)) }
 {
     let ended = run_all(rt, alloc, limits, all, gate)?;
     text_of(alloc, &ended.run)
@@ -80,7 +80,7 @@ fn print_replay(
     requires terms { limits.terms ≤ 2000000 }
     requires mode { limits.mode ≡ BlockMode.All }
     requires few { length all.now ≤ 64 }
-    ensures { MatchResult result (λ text. (order : List ℕ) × (history_of history.now ≡ Some (map Some order)) × IsPrint all.now limits empty_store order (string_bytes text))
+    ensures { MatchResult result (λ text. (order : List ℕ) × (history_of history.now ≡ Some (map Some order)) × IsPrint all.now limits empty_store order None (string_bytes text))
         (λ fault. Unplayed fault (IsBadPlace all.now limits (history_of history.now))) }
 {
     let places = match read_history(alloc, history) {

@@ -7,18 +7,19 @@ use Rattle.store_model.specs.declared.event.Action.{Action}
 use Rattle.store_model.specs.declared.event.Action.TheVariants.{Open, Begin, Name, Head, Commit, Void}
 use Rattle.store_model.specs.declared.commit.Transaction.{Transaction}
 use Rattle.session_model.specs.declared.command.Command.TheVariants as commands
-use Rattle.session_model.specs.declared.command.Command.TheVariants.{Add, BadAdd, Remove, BadRemove, Attach, BadAttach, Shapes, BadShapes, BrokenShapes, RefusedPattern, Find, Abort}
+use Rattle.session_model.specs.declared.command.Command.TheVariants.{Add, BadAdd, Remove, BadRemove, Attach, BadAttach, Shapes, BadShapes, BrokenShapes, RefusedPattern, Find, Select, BadSelect, Abort}
 use Rattle.store_model.proofs.Outcomes.{outcome}
 use Rattle.store_model.proofs.Steps.{ReplyGivesOneState-holds, StepGivesOneReply-holds}
 use Rattle.store_model.specs.declared.event.Reply.{Reply}
 use Rattle.store_model.specs.declared.event.Reply.TheVariants.{Done, LogFault}
 use Rattle.session_model.specs.declared.command.Command.{Command}
 use Rattle.session_model.specs.declared.reply.SessionReply.{SessionReply}
+use Rattle.store_model.specs.Logs.{is_fault}
 use Rattle.store_model.specs.Store.{State, StepOf, IsOpened, OpensNext, OpensNothing, AcceptsOrFails}
-use Rattle.session_model.specs.Sessions.{OpenTransaction, SessionState, World, LocalAnswer, answers, local_answer, up_to_event, up_to_event_by, action_of, commit_action, after_reply, GoesOn, no_session, session_at, world, RunsOpening, RunsEvent, RunsPlace, RunsInOrder, start, HasReplies}
+use Rattle.session_model.specs.Sessions.{OpenTransaction, SessionState, World, LocalAnswer, answers, local_answer, up_to_event, up_to_event_by, action_of, commit_action, after_reply, GoesOn, no_session, session_at, world, RunsOpening, RunsEvent, RunsPlace, RunsInOrder, is_first, behind_first, start, HasReplies}
 
-pub RunsInOrder-append : (l : Limits) (m k n : World) (a b : List ℕ) → RunsInOrder l m a k → RunsInOrder l k b n → RunsInOrder l m (a ++ b) n
-RunsInOrder-append l m k n [] b p q = subst (λ (x : World). RunsInOrder l x b n) p q
+pub RunsInOrder-append : (l : Limits) (m k n : World) (a b : List ℕ) → RunsInOrder l m a None k → RunsInOrder l k b None n → RunsInOrder l m (a ++ b) None n
+RunsInOrder-append l m k n [] b p q = subst (λ (x : World). RunsInOrder l x b None n) p q
 RunsInOrder-append l m k n (i ∷ a) b p q = (p.0, p.1, RunsInOrder-append l p.0 k n a b p.2 q)
 
 pub get-middle : {X : Type 0} (before rest : List X) (x d : X) → get_or (before ++ x ∷ rest) (length before) d ≡ x
@@ -38,7 +39,7 @@ up_to_event-event w c cs replies e = ap (λ (s : Option LocalAnswer). up_to_even
 
 -- one event
 pub turn : (l : Limits) (s t : State) (i : ℕ) (w : Option OpenTransaction) (c : Command) (cs : List Command) (replies : List SessionReply) (a : Action) (r : Reply) (q : SessionState) (before rest : List SessionState) → IsOpened s i → i ≡ length before + 1 → GoesOn s w c cs replies a r q → StepOf l s i a r t
-    → RunsPlace l (world s (before ++ record { current = w; commands = c ∷ cs; replies = replies } ∷ rest)) i (world t (before ++ q ∷ rest))
+    → RunsPlace l (world s (before ++ record { current = w; commands = c ∷ cs; replies = replies } ∷ rest)) i (is_fault r) (world t (before ++ q ∷ rest))
 turn l s t i w c cs replies a r q before rest g e on h =
     let p : SessionState = record { current = w; commands = c ∷ cs; replies = replies } in
     let m : World = world s (before ++ p ∷ rest) in
@@ -48,9 +49,9 @@ turn l s t i w c cs replies a r q before rest g e on h =
     let at : i - 1 ≡ length before = omega (arith, e) in
     let mine : session_at m i ≡ p = ap (λ (k : ℕ). get_or (before ++ p ∷ rest) k no_session) at ∙ get-middle before rest p no_session in
     let put : set (before ++ p ∷ rest) (i - 1) q ≡ before ++ q ∷ rest = ap (λ (k : ℕ). set (before ++ p ∷ rest) k q) at ∙ set-middle before rest p q in
-    let by : RunsEvent l m i p.current p.commands p.replies n = (a, r, t, q, on, h, ap (world t) (sym put)) in
-    subst (λ (b : Bool). MatchBool b (RunsOpening l m i n) (RunsEvent l m i (session_at m i).current (session_at m i).commands (session_at m i).replies n)) (sym none)
-    (subst (λ (x : SessionState). RunsEvent l m i x.current x.commands x.replies n) (sym mine) by)
+    let by : RunsEvent l m i (is_fault r) p.current p.commands p.replies n = (a, r, t, q, on, h, ap (world t) (sym put), refl) in
+    subst (λ (b : Bool). MatchBool b (RunsOpening l m i (is_fault r) n) (RunsEvent l m i (is_fault r) (session_at m i).current (session_at m i).commands (session_at m i).replies n)) (sym none)
+    (subst (λ (x : SessionState). RunsEvent l m i (is_fault r) x.current x.commands x.replies n) (sym mine) by)
 
 -- only an opening gives out a session
 abbrev pub is_open : Action → Bool
@@ -108,6 +109,10 @@ opens_not None commands.Commit = refl
 opens_not (Some w) commands.Commit = not_open w.head_taken w.transaction
 opens_not None (Find p) = refl
 opens_not (Some w) (Find p) = refl
+opens_not None (Select ps) = refl
+opens_not (Some w) (Select ps) = refl
+opens_not None (BadSelect n) = refl
+opens_not (Some w) (BadSelect n) = refl
 opens_not None Abort = refl
 opens_not (Some w) Abort = refl
 
@@ -151,6 +156,10 @@ voids_not None commands.Commit = refl
 voids_not (Some w) commands.Commit = commit_not_void w.head_taken w.transaction
 voids_not None (Find p) = refl
 voids_not (Some w) (Find p) = refl
+voids_not None (Select ps) = refl
+voids_not (Some w) (Select ps) = refl
+voids_not None (BadSelect n) = refl
+voids_not (Some w) (BadSelect n) = refl
 voids_not None Abort = refl
 voids_not (Some w) Abort = refl
 
@@ -170,60 +179,28 @@ under_opened l s t i w c Void r e h = absurd (never_void w c e)
 some_same : {X : Type 0} (x y : X) → Some x ≡ Some y → x ≡ y
 some_same x y e = cc
 
--- no session goes on from a fault of the log
-ends_at_fault : (s : State) (w : Option OpenTransaction) (c : Command) (cs : List Command) (replies : List SessionReply) → after_reply s w c cs replies LogFault ≡ None
-ends_at_fault s None commands.Begin cs replies = refl
-ends_at_fault s (Some w) commands.Begin cs replies = refl
-ends_at_fault s None (BadAdd n kind) cs replies = refl
-ends_at_fault s (Some w) (BadAdd n kind) cs replies = refl
-ends_at_fault s None (Add ts) cs replies = refl
-ends_at_fault s (Some w) (Add ts) cs replies = refl
-ends_at_fault s None (Remove ts) cs replies = refl
-ends_at_fault s (Some w) (Remove ts) cs replies = refl
-ends_at_fault s None (BadRemove n kind) cs replies = refl
-ends_at_fault s (Some w) (BadRemove n kind) cs replies = refl
-ends_at_fault s None (Attach ts) cs replies = refl
-ends_at_fault s (Some w) (Attach ts) cs replies = refl
-ends_at_fault s None (BadAttach n kind) cs replies = refl
-ends_at_fault s (Some w) (BadAttach n kind) cs replies = refl
-ends_at_fault s None (Shapes ts) cs replies = refl
-ends_at_fault s (Some w) (Shapes ts) cs replies = refl
-ends_at_fault s None (BadShapes n kind) cs replies = refl
-ends_at_fault s (Some w) (BadShapes n kind) cs replies = refl
-ends_at_fault s None (BrokenShapes rule node) cs replies = refl
-ends_at_fault s (Some w) (BrokenShapes rule node) cs replies = refl
-ends_at_fault s None (RefusedPattern node) cs replies = refl
-ends_at_fault s (Some w) (RefusedPattern node) cs replies = refl
-ends_at_fault s None commands.Commit cs replies = refl
-ends_at_fault s (Some w) commands.Commit cs replies = refl
-ends_at_fault s None (Find p) cs replies = refl
-ends_at_fault s (Some w) (Find p) cs replies = refl
-ends_at_fault s None Abort cs replies = refl
-ends_at_fault s (Some w) Abort cs replies = refl
+-- two replies that are a fault of the log alike are no fault and an acceptance
+not_apart : (b : Bool) → true ≡ b → false ≡ b → ⊥
+not_apart true h k = cc
+not_apart false h k = cc
 
-none_is_some : {X : Type 0} (x : X) (o : Option X) → o ≡ None → o ≡ Some x → ⊥
-none_is_some x o e f = let g : None ≡ Some x = sym e ∙ f in cc
-
--- two replies from which a session goes on are no fault of the log and an acceptance
-none_fails : (s : State) (w : Option OpenTransaction) (c : Command) (cs : List Command) (replies : List SessionReply) (p q : SessionState) (a b : Reply) → after_reply s w c cs replies a ≡ Some p → after_reply s w c cs replies b ≡ Some q → AcceptsOrFails a b → ⊥
-none_fails s w c cs replies p q (Done n why) LogFault e f h = none_is_some q (after_reply s w c cs replies LogFault) (ends_at_fault s w c cs replies) f
-none_fails s w c cs replies p q LogFault b e f h = none_is_some p (after_reply s w c cs replies LogFault) (ends_at_fault s w c cs replies) e
-none_fails s w c cs replies p q a b e f h = absurd h
+alike_fails : (fails : Bool) (a b : Reply) → is_fault a ≡ fails → is_fault b ≡ fails → AcceptsOrFails a b → ⊥
+alike_fails fails (Done n why) LogFault e f h = not_apart fails f e
+alike_fails fails LogFault (Done n why) e f h = not_apart fails e f
+alike_fails fails a b e f h = absurd h
 
 -- so a session has one reply to its next command
-one_reply : (l : Limits) (s t u : State) (i : ℕ) (w : Option OpenTransaction) (c : Command) (cs : List Command) (replies : List SessionReply) (a : Action) (p q : SessionState) (r r' : Reply) → GoesOn s w c cs replies a r p → GoesOn s w c cs replies a r' q
-    → StepOf l s i a r t → StepOf l s i a r' u → (r' ≡ r) × (u ≡ t)
-one_reply l s t u i w c cs replies a p q r r' g f h k = elim (StepGivesOneReply-holds l s t u i a r r' h k) [
-  | inl e ↦ (e, ReplyGivesOneState-holds l s t u i a r h (subst (λ (x : Reply). StepOf l s i a x u) e k))
-  | inr e ↦ absurd (none_fails s w c cs replies p q r r' g.next f.next e)
+one_reply : (l : Limits) (s t u : State) (i : ℕ) (a : Action) (r r' : Reply) (fails : Bool) → is_fault r ≡ fails → is_fault r' ≡ fails → StepOf l s i a r t → StepOf l s i a r' u → (r' ≡ r) × (u ≡ t)
+one_reply l s t u i a r r' fails e f h k = elim (StepGivesOneReply-holds l s t u i a r r' h k) [
+  | inl same ↦ (same, ReplyGivesOneState-holds l s t u i a r h (subst (λ (x : Reply). StepOf l s i a x u) same k))
+  | inr apart ↦ absurd (alike_fails fails r r' e f apart)
 ]
 
-turn_one : (l : Limits) (m n o : World) (i : ℕ) (w : Option OpenTransaction) (cs : List Command) (replies : List SessionReply) → RunsEvent l m i w cs replies n → RunsEvent l m i w cs replies o → o ≡ n
-turn_one l m n o i w [] replies h k = absurd h
-turn_one l m n o i w (c ∷ cs) replies h k =
+turn_one : (l : Limits) (m n o : World) (i : ℕ) (fails : Bool) (w : Option OpenTransaction) (cs : List Command) (replies : List SessionReply) → RunsEvent l m i fails w cs replies n → RunsEvent l m i fails w cs replies o → o ≡ n
+turn_one l m n o i fails w [] replies h k = absurd h
+turn_one l m n o i fails w (c ∷ cs) replies h k =
     let action : k.0 ≡ h.0 = some_same k.0 h.0 (sym k.4.event ∙ h.4.event) in
-    let goes : GoesOn m.state w c cs replies h.0 k.1 k.3 = subst (λ (a : Action). GoesOn m.state w c cs replies a k.1 k.3) action k.4 in
-    let e = one_reply l m.state h.2 k.2 i w c cs replies h.0 h.3 k.3 h.1 k.1 h.4 goes h.5 (subst (λ (a : Action). StepOf l m.state i a k.1 k.2) action k.5) in
+    let e = one_reply l m.state h.2 k.2 i h.0 h.1 k.1 fails h.7 k.7 h.5 (subst (λ (a : Action). StepOf l m.state i a k.1 k.2) action k.5) in
     let next : k.3 ≡ h.3 = some_same k.3 h.3 (sym k.4.next ∙ (ap (after_reply m.state w c cs replies) e.0 ∙ h.4.next)) in
     k.6 ∙ (ap (λ (q : SessionState). record { state = k.2; sessions = set m.sessions (i - 1) q }) next ∙ (ap (λ (s : State). record { state = s; sessions = set m.sessions (i - 1) h.3 }) e.1 ∙ sym h.6))
 
@@ -232,17 +209,19 @@ opening_by : (s t u : State) (i : ℕ) (q r : Reply) (b : Bool) → MatchBool b 
 opening_by s t u i q r true h k = k.1.1 ∙ sym h.1.1
 opening_by s t u i q r false h k = k.1.1 ∙ sym h.1.1
 
-place_one : (l : Limits) (m n o : World) (i : ℕ) (b : Bool) → MatchBool b (RunsOpening l m i n) (RunsEvent l m i (session_at m i).current (session_at m i).commands (session_at m i).replies n) → MatchBool b (RunsOpening l m i o) (RunsEvent l m i (session_at m i).current (session_at m i).commands (session_at m i).replies o) → o ≡ n
-place_one l m n o i true h k =
+place_one : (l : Limits) (m n o : World) (i : ℕ) (fails b : Bool) → MatchBool b (RunsOpening l m i fails n) (RunsEvent l m i fails (session_at m i).current (session_at m i).commands (session_at m i).replies n)
+    → MatchBool b (RunsOpening l m i fails o) (RunsEvent l m i fails (session_at m i).current (session_at m i).commands (session_at m i).replies o) → o ≡ n
+place_one l m n o i fails true h k =
     let e = opening_by m.state h.1.1 k.1.1 i h.1.0 k.1.0 (nat_lt m.state.opened 64) h.1.2 k.1.2 in
     k.1.3 ∙ (ap (λ (s : State). record { state = s; sessions = m.sessions }) e ∙ sym h.1.3)
-place_one l m n o i false h k = turn_one l m n o i (session_at m i).current (session_at m i).commands (session_at m i).replies h k
+place_one l m n o i fails false h k = turn_one l m n o i fails (session_at m i).current (session_at m i).commands (session_at m i).replies h k
 
-pub RunsInOrder-deterministic : (l : Limits) (m n o : World) (order : List ℕ) → RunsInOrder l m order n → RunsInOrder l m order o → o ≡ n
-RunsInOrder-deterministic l m n o [] h k = k ∙ sym h
-RunsInOrder-deterministic l m n o (i ∷ order) h k =
-    let e = place_one l m h.0 k.0 i (nat_eq i (m.state.opened + 1)) h.1 k.1 in
-    RunsInOrder-deterministic l h.0 n o order h.2 (subst (λ (x : World). RunsInOrder l x order o) e k.2)
+pub RunsInOrder-deterministic : (l : Limits) (m n o : World) (order : List ℕ) (fault : Option ℕ) → RunsInOrder l m order fault n → RunsInOrder l m order fault o → o ≡ n
+RunsInOrder-deterministic l m n o [] None h k = k ∙ sym h
+RunsInOrder-deterministic l m n o [] (Some j) h k = absurd h
+RunsInOrder-deterministic l m n o (i ∷ order) fault h k =
+    let e = place_one l m h.0 k.0 i (is_first fault) (nat_eq i (m.state.opened + 1)) h.1 k.1 in
+    RunsInOrder-deterministic l h.0 n o order (behind_first fault) h.2 (subst (λ (x : World). RunsInOrder l x order (behind_first fault) o) e k.2)
 
-pub HasReplies-deterministic : (files : List (List Command)) (l : Limits) (s : State) (order : List ℕ) (a b : List (List SessionReply)) → HasReplies files l s order a → HasReplies files l s order b → b ≡ a
-HasReplies-deterministic files l s order a b h k = k.replies ∙ (ap (λ (m : World). map (λ p. p.replies) m.sessions) (RunsInOrder-deterministic l (start s files) h.last k.last order h.runs k.runs) ∙ sym h.replies)
+pub HasReplies-deterministic : (files : List (List Command)) (l : Limits) (s : State) (order : List ℕ) (fault : Option ℕ) (a b : List (List SessionReply)) → HasReplies files l s order fault a → HasReplies files l s order fault b → b ≡ a
+HasReplies-deterministic files l s order fault a b h k = k.replies ∙ (ap (λ (m : World). map (λ p. p.replies) m.sessions) (RunsInOrder-deterministic l (start s files) h.last k.last order fault h.runs k.runs) ∙ sym h.replies)

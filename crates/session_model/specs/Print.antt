@@ -1,5 +1,5 @@
 -- What a run of session files prints.
-use Rattle.std.specs.Prelude.{◌≡◌, ℕ, ◌+◌, List, [], ◌∷◌, ◌++◌, codes}
+use Rattle.std.specs.Prelude.{◌≡◌, ℕ, ◌+◌, List, [], ◌∷◌, ◌++◌, Option, codes}
 use Rattle.std.specs.List.{flat_map}
 use Rattle.std.specs.Fmt.{decimal}
 use Rattle.rdf_model.specs.NTriples.{term_text, triple_text}
@@ -7,11 +7,11 @@ use Rattle.store_model.specs.declared.event.Limits.{Limits}
 use Rattle.store_model.specs.Store.{State}
 use Rattle.session_model.specs.declared.command.Command.{Command}
 use Rattle.session_model.specs.declared.reply.SessionReply.{SessionReply}
-use Rattle.session_model.specs.declared.reply.SessionReply.TheVariants.{AlreadyOpen, NoTransaction, Begun, Added, AddRefused, Removed, RemoveRefused, Attached, AttachRefused, UnknownNode, ShapesStaged, ShapesRefused, ShapesBroken, PatternRefused, FullTerms, Committed, ReadOnly, Overtaken, FullGraph, Refused, Found, Aborted}
+use Rattle.session_model.specs.declared.reply.SessionReply.TheVariants.{AlreadyOpen, NoTransaction, Begun, Added, AddRefused, Removed, RemoveRefused, Attached, AttachRefused, UnknownNode, ShapesStaged, ShapesRefused, ShapesBroken, PatternRefused, FullTerms, Committed, ReadOnly, Overtaken, FullGraph, Refused, Found, Selected, SelectFull, SelectRefused, Aborted, LogFailed, Stopped}
 use Rattle.session_model.specs.Sessions.{HasReplies}
 
 -- the line of a reply, without its end; the report of a refusal has lines of its own, and `end` after them; the triples
--- of a find have a line each
+-- of a find and the bindings of a select have a line each
 abbrev pub reply_text : SessionReply → List ℕ
 reply_text AlreadyOpen = codes "already open"
 reply_text NoTransaction = codes "no transaction"
@@ -34,7 +34,12 @@ reply_text (Overtaken commit triple) = codes "conflict " ++ decimal commit ++ co
 reply_text FullGraph = codes "full triples"
 reply_text (Refused count report) = codes "refused " ++ decimal count ++ codes "\n" ++ report ++ codes "end"
 reply_text (Found count lines) = codes "find " ++ decimal count ++ lines
+reply_text (Selected count lines) = codes "select " ++ decimal count ++ lines
+reply_text SelectFull = codes "select full"
+reply_text (SelectRefused n) = codes "bad select " ++ decimal n
 reply_text Aborted = codes "abort"
+reply_text LogFailed = codes "log fault"
+reply_text (Stopped version) = codes "stopped " ++ decimal version
 
 abbrev pub line : List ℕ → List ℕ
 line text = text ++ 10 ∷ []
@@ -52,7 +57,8 @@ sessions_text i (replies ∷ more) = session_text i replies ++ sessions_text (i 
 abbrev pub history_text : List ℕ → List ℕ
 history_text order = line (codes "history" ++ flat_map (λ i. 32 ∷ decimal i) order)
 
--- Print: the text of a run of these files over a store that begins in state s, in this order, which is valid.
-abbrev pub IsPrint : List (List Command) → Limits → State → List ℕ → List ℕ → Type 0
-IsPrint files limits s order text =
-    (replies : List (List SessionReply)) × HasReplies files limits s order replies × (text ≡ sessions_text 1 replies ++ history_text order)
+-- Print: the text of a run of these files over a store that begins in state s, in this order, which is valid, where the log
+-- fails at this place of it, if it does.
+abbrev pub IsPrint : List (List Command) → Limits → State → List ℕ → Option ℕ → List ℕ → Type 0
+IsPrint files limits s order fault text =
+    (replies : List (List SessionReply)) × HasReplies files limits s order fault replies × (text ≡ sessions_text 1 replies ++ history_text order)

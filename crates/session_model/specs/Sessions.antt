@@ -1,5 +1,5 @@
 -- What the sessions of a run are answered, when their files are walked through the plain store in an order of sessions.
-use Rattle.std.specs.Prelude.{◌≡◌, ℕ, ◌+◌, ◌-◌, ◌≤◌, Bool, true, false, List, [], ◌∷◌, ◌++◌, length, map, set, get_or, Option, Some, None, nat_eq, MatchBool}
+use Rattle.std.specs.Prelude.{◌≡◌, ℕ, zero, suc, ◌+◌, ◌-◌, ◌≤◌, Bool, true, false, List, [], ◌∷◌, ◌++◌, length, map, set, get_or, Option, Some, None, nat_eq, nat_lt, MatchBool, if◌then◌else◌, codes}
 use Rattle.std.specs.List.{flat_map, AllByRecursion}
 use Rattle.rdf_model.specs.declared.term.Term.{Term}
 use Rattle.rdf_model.specs.declared.triple.Triple.{Triple}
@@ -11,16 +11,20 @@ use Rattle.store_model.specs.declared.commit.Transaction.{Transaction}
 use Rattle.store_model.specs.declared.event.Action.{Action}
 use Rattle.store_model.specs.declared.event.Action.TheVariants as actions
 use Rattle.store_model.specs.declared.event.Reply.{Reply}
-use Rattle.store_model.specs.declared.event.Reply.TheVariants.{Version, Named, Full, Unknown, Conflict, FullTriples, Refused, Done}
+use Rattle.store_model.specs.declared.event.Reply.TheVariants.{Version, Named, Full, Unknown, Conflict, FullTriples, Refused, Done, LogFault, Stopped}
 use Rattle.session_model.specs.declared.command.Command.{Command}
-use Rattle.session_model.specs.declared.command.Command.TheVariants.{Begin, Add, BadAdd, Remove, BadRemove, Attach, BadAttach, Shapes, BadShapes, BrokenShapes, RefusedPattern, Commit, Find, Abort}
+use Rattle.session_model.specs.declared.command.Command.TheVariants.{Begin, Add, BadAdd, Remove, BadRemove, Attach, BadAttach, Shapes, BadShapes, BrokenShapes, RefusedPattern, Commit, Find, Select, BadSelect, Abort}
 use Rattle.session_model.specs.declared.reply.SessionReply.{SessionReply}
-use Rattle.session_model.specs.declared.reply.SessionReply.TheVariants.{AlreadyOpen, NoTransaction, Begun, Added, AddRefused, Removed, RemoveRefused, Attached, AttachRefused, UnknownNode, ShapesStaged, ShapesRefused, ShapesBroken, PatternRefused, FullTerms, Committed, ReadOnly, Overtaken, FullGraph, Refused as RefusedBy, Found, Aborted}
+use Rattle.session_model.specs.declared.reply.SessionReply.TheVariants.{AlreadyOpen, NoTransaction, Begun, Added, AddRefused, Removed, RemoveRefused, Attached, AttachRefused, UnknownNode, ShapesStaged, ShapesRefused, ShapesBroken, PatternRefused, FullTerms, Committed, ReadOnly, Overtaken, FullGraph, Refused as RefusedBy, Found, Selected, SelectFull, SelectRefused, Aborted, LogFailed, Stopped as StoppedAt}
 use Rattle.rdf_model.specs.declared.pattern.Pattern.{Pattern}
 use Rattle.rdf_model.specs.Graphs.{after}
-use Rattle.rdf_model.specs.NTriples.{triple_text}
+use Rattle.rdf_model.specs.NTriples.{term_text, triple_text}
+use Rattle.bgp_query.specs.declared.pattern.JoinPattern.{JoinPattern}
+use Rattle.bgp_query.specs.Bindings.{most_bindings}
+use Rattle.bgp_query.specs.TermBindings.{bindings, opened}
 use Rattle.report_writer.specs.Report.{report_text}
 use Rattle.store_model.specs.Finds.{found}
+use Rattle.store_model.specs.Logs.{is_fault}
 use Rattle.store_model.specs.Store.{State, StepOf, shapes_under, terms_of}
 
 -- A session's open transaction: what its commit hands in, the data graph at its begin, and whether its commit has the
@@ -65,6 +69,22 @@ found_by w p = found (after w.graph w.transaction.net) p
 abbrev pub find_reply : List Triple → SessionReply
 find_reply ts = Found (length ts) (flat_map (λ t. 10 ∷ triple_text t) ts)
 
+-- the patterns of a select are recorded, each with its variables open, in their order
+abbrev pub with_finds : OpenTransaction → List (JoinPattern Term) → OpenTransaction
+with_finds w ps = record w { transaction = record w.transaction { finds = w.transaction.finds ++ map opened ps } }
+
+-- the bindings that a select asks for, in the graph at the transaction's begin with its changes so far
+abbrev pub selected_by : OpenTransaction → List (JoinPattern Term) → List (List Term)
+selected_by w ps = bindings (after w.graph w.transaction.net) ps
+
+-- the line of a binding: its terms, a space behind each, then a dot
+abbrev pub binding_text : List Term → List ℕ
+binding_text ts = flat_map (λ t. term_text t ++ 32 ∷ []) ts ++ codes "."
+
+-- How many bindings there are, and the line of each, an LF before it; or that there are more than are answered.
+abbrev pub select_reply : List (List Term) → SessionReply
+select_reply rows = if nat_lt most_bindings (length rows) then SelectFull else Selected (length rows) (flat_map (λ ts. 10 ∷ binding_text ts) rows)
+
 -- what a session answers by itself, and its transaction afterwards
 pub record LocalAnswer : Type 0 where
   pub current : Option OpenTransaction
@@ -107,6 +127,10 @@ local_answer None Commit = answers NoTransaction None
 local_answer (Some w) Commit = local_commit w w.transaction.net w.transaction.staged
 local_answer None (Find p) = answers NoTransaction None
 local_answer (Some w) (Find p) = answers (find_reply (found_by w p)) (Some (with_find w p))
+local_answer None (Select ps) = answers NoTransaction None
+local_answer (Some w) (Select ps) = answers (select_reply (selected_by w ps)) (Some (with_finds w ps))
+local_answer None (BadSelect n) = answers NoTransaction None
+local_answer (Some w) (BadSelect n) = answers (SelectRefused n) (Some w)
 local_answer None Abort = answers NoTransaction None
 local_answer (Some w) Abort = answers Aborted None
 
@@ -138,7 +162,7 @@ abbrev pub begun : ℕ → List Triple → OpenTransaction
 begun version graph = record { transaction = record { base = version; net = []; staged = None; finds = []; verdict = None }; graph = graph; head_taken = false }
 
 -- The session after the store's reply r to its command c, with cs left, where s was the store before it; None where the
--- store never replies so to that command, or only with a log. A commit that is refused prints the report of its results,
+-- store never replies so to that command. A commit that is refused prints the report of its results,
 -- under the shapes graph that they break.
 abbrev pub after_reply : State → Option OpenTransaction → Command → List Command → List SessionReply → Reply → Option SessionState
 after_reply s None Begin cs replies (Version n) = Some (up_to_event (Some (begun n s.graph)) cs (replies ++ Begun n ∷ []))
@@ -156,6 +180,8 @@ after_reply s (Some w) Commit cs replies (Done n why) = Some (up_to_event None c
 after_reply s (Some w) Commit cs replies (Conflict n t) = Some (up_to_event None cs (replies ++ Overtaken n t ∷ []))
 after_reply s (Some w) Commit cs replies (FullTriples n) = Some (up_to_event None cs (replies ++ FullGraph ∷ []))
 after_reply s (Some w) Commit cs replies (Refused rows why) = Some (up_to_event None cs (replies ++ RefusedBy (length rows) (report_text (shapes_under s.shapes w.transaction.staged) rows) ∷ []))
+after_reply s (Some w) Commit cs replies LogFault = Some (up_to_event None cs (replies ++ LogFailed ∷ []))
+after_reply s (Some w) Commit cs replies (Stopped n) = Some (up_to_event None cs (replies ++ StoppedAt n ∷ []))
 after_reply s w c cs replies r = None
 
 -- The command is the event a, and the store's reply r to it takes the session to q.
@@ -171,11 +197,11 @@ pub record World : Type 0 where
 abbrev pub world : State → List SessionState → World
 world s sessions = record { state = s; sessions = sessions }
 
--- the next event of session i, which has one left
-abbrev pub RunsEvent : Limits → World → ℕ → Option OpenTransaction → List Command → List SessionReply → World → Type 0
-RunsEvent l m i w [] replies n = ⊥
-RunsEvent l m i w (c ∷ cs) replies n =
-    (a : Action) × (r : Reply) × (t : State) × (q : SessionState) × GoesOn m.state w c cs replies a r q × StepOf l m.state i a r t × (n ≡ record { state = t; sessions = set m.sessions (i - 1) q })
+-- The next event of session i, which has one left. It is the fault of the log, or not.
+abbrev pub RunsEvent : Limits → World → ℕ → Bool → Option OpenTransaction → List Command → List SessionReply → World → Type 0
+RunsEvent l m i fails w [] replies n = ⊥
+RunsEvent l m i fails w (c ∷ cs) replies n =
+    (a : Action) × (r : Reply) × (t : State) × (q : SessionState) × GoesOn m.state w c cs replies a r q × StepOf l m.state i a r t × (n ≡ record { state = t; sessions = set m.sessions (i - 1) q }) × (is_fault r ≡ fails)
 
 abbrev pub no_session : SessionState
 no_session = record { current = None; commands = []; replies = [] }
@@ -184,16 +210,29 @@ abbrev pub session_at : World → ℕ → SessionState
 session_at m i = get_or m.sessions (i - 1) no_session
 
 -- the opening of session i, which has a file
-abbrev pub RunsOpening : Limits → World → ℕ → World → Type 0
-RunsOpening l m i n = (i ≤ length m.sessions) × ((r : Reply) × (t : State) × StepOf l m.state i actions.Open r t × (n ≡ record m { state = t }))
+abbrev pub RunsOpening : Limits → World → ℕ → Bool → World → Type 0
+RunsOpening l m i fails n = (i ≤ length m.sessions) × ((r : Reply) × (t : State) × StepOf l m.state i actions.Open r t × (n ≡ record m { state = t }) × (is_fault r ≡ fails))
 
 -- A place of an order: the next opening, or the next event of a session that was opened.
-abbrev pub RunsPlace : Limits → World → ℕ → World → Type 0
-RunsPlace l m i n = MatchBool (nat_eq i (m.state.opened + 1)) (RunsOpening l m i n) (RunsEvent l m i (session_at m i).current (session_at m i).commands (session_at m i).replies n)
+abbrev pub RunsPlace : Limits → World → ℕ → Bool → World → Type 0
+RunsPlace l m i fails n = MatchBool (nat_eq i (m.state.opened + 1)) (RunsOpening l m i fails n) (RunsEvent l m i fails (session_at m i).current (session_at m i).commands (session_at m i).replies n)
 
-abbrev pub RunsInOrder : Limits → World → List ℕ → World → Type 0
-RunsInOrder l m [] n = n ≡ m
-RunsInOrder l m (i ∷ order) n = (k : World) × RunsPlace l m i k × RunsInOrder l k order n
+-- The place in an order at which the log fails, from 0, if there is one: whether it is the first, and where it is behind that.
+abbrev pub is_first : Option ℕ → Bool
+is_first None = false
+is_first (Some zero) = true
+is_first (Some (suc k)) = false
+
+abbrev pub behind_first : Option ℕ → Option ℕ
+behind_first None = None
+behind_first (Some zero) = None
+behind_first (Some (suc k)) = Some k
+
+-- The places of an order are run, and the log fails at just this one of them.
+abbrev pub RunsInOrder : Limits → World → List ℕ → Option ℕ → World → Type 0
+RunsInOrder l m [] None n = n ≡ m
+RunsInOrder l m [] (Some k) n = ⊥
+RunsInOrder l m (i ∷ order) fault n = (k : World) × RunsPlace l m i (is_first fault) k × RunsInOrder l k order (behind_first fault) n
 
 -- before the first place: the store is in state s, and the commands are done that need no event
 abbrev pub start : State → List (List Command) → World
@@ -204,9 +243,10 @@ pub record IsComplete (m : World) : Type 0 where
   pub opened : m.state.opened ≡ length m.sessions
   pub left : AllByRecursion (λ s. s.commands ≡ []) m.sessions
 
--- The order is valid for these files and a store that begins in state s, and the sessions are answered so.
-pub record HasReplies (files : List (List Command)) (l : Limits) (s : State) (order : List ℕ) (all : List (List SessionReply)) : Type 0 where
+-- The order is valid for these files and a store that begins in state s, where the log fails at this place of it, if it does;
+-- and the sessions are answered so.
+pub record HasReplies (files : List (List Command)) (l : Limits) (s : State) (order : List ℕ) (fault : Option ℕ) (all : List (List SessionReply)) : Type 0 where
   pub last : World
-  pub runs : RunsInOrder l (start s files) order last
+  pub runs : RunsInOrder l (start s files) order fault last
   pub complete : IsComplete last
   pub replies : all ≡ map (λ s. s.replies) last.sessions

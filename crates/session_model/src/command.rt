@@ -1,3 +1,4 @@
+use bgp_query::JoinPattern;
 use collections::Sequence;
 use rdf_model::{Pattern, Term, Triple};
 use shapes_graph::ShapesGraph;
@@ -29,6 +30,11 @@ pub enum Command {
     Commit,
     /// Asks for the triples that the pattern has.
     Find(Pattern),
+    /// Asks for the bindings of the patterns.
+    Select(Sequence<JoinPattern<Term>>),
+    /// A select whose block has a line that is no pattern, more than eight lines, or none: the first line of the block, from 1,
+    /// that is refused.
+    BadSelect { line: u64 },
     /// Drops the transaction.
     Abort,
 }
@@ -50,6 +56,8 @@ impl Drop for Command {
             Command::RefusedPattern { node: _ } => {}
             Command::Commit => {}
             Command::Find(_) => {}
+            Command::Select(_) => {}
+            Command::BadSelect { line: _ } => {}
             Command::Abort => {}
         }
     }

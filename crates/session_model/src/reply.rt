@@ -46,8 +46,18 @@ pub enum SessionReply {
     Refused { count: usize, report: Text },
     /// How many triples a find gave, and a line of each, an LF before it.
     Found { count: usize, lines: Text },
+    /// How many bindings a select gave, and a line of each, an LF before it.
+    Selected { count: usize, lines: Text },
+    /// A select has more bindings than are answered.
+    SelectFull,
+    /// The first line of a select's block, from 1, that is refused.
+    SelectRefused { line: u64 },
     /// The transaction was dropped.
     Aborted,
+    /// The store's log failed at the commit.
+    LogFailed,
+    /// The store is stopped, at this version.
+    Stopped(u64),
 }
 
 // Written by hand, so that what owns one calls it in place of having it written out.
@@ -78,7 +88,12 @@ impl Drop for SessionReply {
                 report: _,
             } => {}
             SessionReply::Found { count: _, lines: _ } => {}
+            SessionReply::Selected { count: _, lines: _ } => {}
+            SessionReply::SelectFull => {}
+            SessionReply::SelectRefused { line: _ } => {}
             SessionReply::Aborted => {}
+            SessionReply::LogFailed => {}
+            SessionReply::Stopped(_) => {}
         }
     }
 }
@@ -90,7 +105,7 @@ impl fmt::Display for SessionReply {
     ghost output = { λ reply. Some (reply_text reply) };
 
     /// The reply's line, without its end; a refusal's report has lines of its own, and so has a
-    /// find.
+    /// find or a select.
     fn fmt<W: fmt::Write>(&self, f: &mut fmt::Formatter<W>) -> fmt::Result {
         match self {
             SessionReply::AlreadyOpen => f.write_str("already open"),
@@ -116,7 +131,12 @@ impl fmt::Display for SessionReply {
             SessionReply::FullGraph => f.write_str("full triples"),
             SessionReply::Refused { count, report } => write!(f, "refused {count}\n{report}end"),
             SessionReply::Found { count, lines } => write!(f, "find {count}{lines}"),
+            SessionReply::Selected { count, lines } => write!(f, "select {count}{lines}"),
+            SessionReply::SelectFull => f.write_str("select full"),
+            SessionReply::SelectRefused { line } => write!(f, "bad select {line}"),
             SessionReply::Aborted => f.write_str("abort"),
+            SessionReply::LogFailed => f.write_str("log fault"),
+            SessionReply::Stopped(version) => write!(f, "stopped {version}"),
         }
     }
 }

@@ -1,5 +1,5 @@
 -- What each command does to a session.
-use Rattle.std.proofs.Common.{◌≡◌, ◌≢◌, ℕ, ◌+◌, ◌<◌, ◌≤◌, Bool, true, false, nat_lt, List, [], ◌∷◌, ◌++◌, length, Option, Some, None, refl, sym, ap, ◌∙◌, subst, arith, suc, get_or, drop, add-one, drop-cons, append_assoc}
+use Rattle.std.proofs.Common.{◌≡◌, ◌≢◌, ℕ, ◌+◌, ◌<◌, ◌≤◌, Bool, true, false, nat_lt, List, [], ◌∷◌, ◌++◌, length, map, Option, Some, None, refl, sym, ap, ◌∙◌, subst, arith, suc, get_or, drop, add-one, drop-cons, append_assoc}
 use Rattle.std.proofs.lemmas.List.{map-append, append-nil}
 use Rattle.store_model.specs.declared.event.Event.{Event}
 use Rattle.std.specs.Prelude.{IfOk, MatchBool, Result, Ok, Err}
@@ -8,6 +8,9 @@ use Rattle.std.proofs.lemmas.Bool.Decides.{nat_tests}
 use Rattle.rdf_model.specs.Graphs.{after}
 use Rattle.rdf_model.specs.declared.change.Change.{Change}
 use Rattle.rdf_model.specs.declared.triple.Triple.{Triple}
+use Rattle.rdf_model.specs.declared.term.Term.{Term}
+use Rattle.bgp_query.specs.declared.pattern.JoinPattern.{JoinPattern}
+use Rattle.bgp_query.specs.TermBindings.{opened}
 use Rattle.store_model.specs.declared.event.Action.TheVariants as actions
 use Rattle.store_model.specs.declared.event.NameKind.{NameKind}
 use Rattle.store_model.specs.declared.event.Reply.{Reply}
@@ -15,10 +18,11 @@ use Rattle.store_model.specs.declared.event.Reply.TheVariants.{Session, Sessions
 use Rattle.store_model.specs.declared.commit.Transaction.{Transaction}
 use Rattle.store_model.specs.declared.commit.Verdict.{Verdict}
 use Rattle.session_model.specs.declared.command.Command.{Command}
-use Rattle.session_model.specs.declared.command.Command.TheVariants.{Begin, Commit}
+use Rattle.session_model.specs.declared.command.Command.TheVariants.{Begin, Commit, Select}
 use Rattle.session_model.specs.declared.reply.SessionReply.{SessionReply}
 use Rattle.session_model.specs.declared.reply.SessionReply.TheVariants.{Begun, ReadOnly}
 use Rattle.store_model.specs.Store.{State, RecordedStore, StepOf, OpensNext, OpensNothing, TakesStep, Replays, IsOpened, HasChange, version}
+use Rattle.store_model.specs.Logs.{is_fault}
 use Rattle.store_model.specs.Snapshots.{Snapshot, snapshot_of}
 use Rattle.store_model.specs.declared.event.Limits.{Limits}
 use Rattle.session_model.specs.Sessions as Sessions
@@ -26,15 +30,16 @@ use Rattle.session_model.specs.Sessions.{LocalAnswer, answers, local_answer, loc
 use Rattle.session_transaction.specs.declared.transaction.ChangeKind.{ChangeKind}
 use Rattle.session_transaction.specs.declared.transaction.ChangeKind.TheVariants.{Addition, Removal, Attachment}
 use Rattle.session_transaction.specs.declared.transaction.OpenTransaction.{OpenTransaction}
-use Rattle.session_transaction.specs.Transactions.{FitsState, command_of, plain}
+use Rattle.session_transaction.specs.Transactions.{FitsState, command_of, plain, with_finds}
 use Rattle.session_transaction.specs.declared.committing.Committed.{Committed}
 use Rattle.session_transaction.specs.declared.committing.Committed.TheVariants as committeds
-use Rattle.session_transaction.specs.Commits.{IsAnswer, IsCommitted}
+use Rattle.session_transaction.specs.Commits.{IsAnswer, IsCommitted, IsNoFault}
 use Rattle.session_transaction.specs.Replies.{IsCommitReply, IsRefused, answer_in}
 use Rattle.session_transaction.proofs.Fitting.{after_named, after_unnamed, unknown_attaches}
 use Rattle.session_transaction.proofs.Blocks.{IsBlock}
 use Rattle.session_transaction.proofs.Checking.{check_keeps, version_now}
 use Rattle.session_transaction.specs.Checks.{Checks, KeepsIn}
+use Rattle.session_transaction.proofs.Listed.{sound_answer}
 use Rattle.session_transaction.proofs.Refusing.{refused_by}
 use Rattle.thread_model.proofs.Placing.{within}
 use Rattle.session_player.specs.Progress.{Advances, order_of}
@@ -56,6 +61,20 @@ obeys_local i s w v c replies more t l e r = record {
   advances = λ cs. subst (λ (ts : List SessionReply). Advances i s s (up_to_event w (c ∷ cs) replies) (up_to_event v cs ts)) (sym e) (Advances-local i s w v c cs replies t l);
 }
 
+-- a select, whatever it is answered
+pub performs_select : (i : ℕ) (s : RecordedStore) (w v : OpenTransaction) (ps : List (JoinPattern Term)) (t : SessionReply) (replies more : List SessionReply) → IsReady s i (Some (plain w)) → v ≡ with_finds w (map opened ps) → Sessions.select_reply (Sessions.selected_by (plain w) ps) ≡ t
+    → more ≡ replies ++ t ∷ [] → Performs i s s (Some (plain w)) (Some (plain v)) (Select ps) replies more
+performs_select i s w v ps t replies more r ev et em =
+    let after : OpenTransaction = with_finds w (map opened ps) in
+    let fits = r.current.fits in
+    let ready : IsReady s i (Some (plain after)) = record { opened = r.opened; current = record { fits = record { base = fits.base; net = fits.net; staged = fits.staged; verdict = fits.verdict }; head_taken = refl } } in
+    let local : local_answer (Some (plain w)) (Select ps) ≡ answers t (Some (plain after)) = ap (λ x. answers x (Some (plain after))) et in
+    subst (λ (x : OpenTransaction). Performs i s s (Some (plain w)) (Some (plain x)) (Select ps) replies more) (sym ev) (obeys_local i s (Some (plain w)) (Some (plain after)) (Select ps) replies more t local em ready)
+
+pub told_select : (r : Result SessionReply AllocError) (rows all : List (List Term)) → rows ≡ all → IfOk r (λ x. x ≡ Sessions.select_reply rows) → IfOk r (λ x. Sessions.select_reply all ≡ x)
+told_select (Ok x) rows all e h = sym (h ∙ ap Sessions.select_reply e)
+told_select (Err fault) rows all e h = tt
+
 pub performs_begin : (i : ℕ) (s n : RecordedStore) (replies more : List SessionReply) (v : ℕ) (graph : List Triple) → IsOpened s.state i → TakesStep s n (record { session = i; action = actions.Begin; reply = Version v }) → graph ≡ s.state.graph → more ≡ replies ++ Begun v ∷ [] → Performs i s n None (Some (begun v graph)) Begin replies more
 performs_begin i s n replies more v graph g a eg em =
     let count : v ≡ version s.state = cc (a.step.1.0) in
@@ -69,7 +88,7 @@ performs_begin i s n replies more v graph g a eg em =
       advances = λ cs.
           subst (λ (ts : List SessionReply). Advances i s n (up_to_event None (Begin ∷ cs) replies) (up_to_event (Some (begun v graph)) cs ts)) (sym em)
           (subst (λ (g : List Triple). Advances i s n (up_to_event None (Begin ∷ cs) replies) (up_to_event (Some (begun v g)) cs (replies ++ Begun v ∷ []))) (sym eg)
-          (Advances-event i s n None Begin cs replies actions.Begin (Version v) _ g (record { event = refl; next = refl }) a));
+          (Advances-event i s n None Begin cs replies actions.Begin (Version v) _ g (record { event = refl; next = refl }) refl a));
     }
 
 block_order : (i : ℕ) (s n : RecordedStore) (c : Command) (kind : NameKind) (ts : List Triple) (staged : OpenTransaction → OpenTransaction) (done : SessionReply) (w : OpenTransaction) (r : Reply) → IsBlock c kind ts staged done → is_commit c ≡ false
@@ -79,11 +98,11 @@ block_order i s n c kind ts staged done w r k other a =
     one_place s n (record { session = i; action = actions.Name kind (parts_of ts); reply = r }) a ∙ sym (ap (λ (is : List ℕ). order_of s.history ++ is) one)
 
 block_advances : (i : ℕ) (s n : RecordedStore) (c : Command) (kind : NameKind) (ts : List Triple) (staged : OpenTransaction → OpenTransaction) (done : SessionReply) (w : OpenTransaction) (r : Reply) (cs : List Command) (replies : List SessionReply) (q : SessionState) → IsBlock c kind ts staged done → IsOpened s.state i
-    → TakesStep s n (record { session = i; action = actions.Name kind (parts_of ts); reply = r }) → after_reply s.state (Some (plain w)) c cs replies r ≡ Some q → Advances i s n (up_to_event (Some (plain w)) (c ∷ cs) replies) q
-block_advances i s n c kind ts staged done w r cs replies q k g a after =
+    → TakesStep s n (record { session = i; action = actions.Name kind (parts_of ts); reply = r }) → after_reply s.state (Some (plain w)) c cs replies r ≡ Some q → is_fault r ≡ false → Advances i s n (up_to_event (Some (plain w)) (c ∷ cs) replies) q
+block_advances i s n c kind ts staged done w r cs replies q k g a after sound =
     let on : GoesOn s.state (Some (plain w)) c cs replies (actions.Name kind (parts_of ts)) r q = record { event = k.action (plain w); next = after } in
     subst (λ (p : SessionState). Advances i s n p q) (sym (up_to_event-event (Some (plain w)) c cs replies (k.event (plain w))))
-    (Advances-event i s n (Some (plain w)) c cs replies (actions.Name kind (parts_of ts)) r q g on a)
+    (Advances-event i s n (Some (plain w)) c cs replies (actions.Name kind (parts_of ts)) r q g on sound a)
 
 -- a block whose terms were named
 pub performs_block : (i : ℕ) (s n : RecordedStore) (c : Command) (kind : NameKind) (ts : List Triple) (staged : OpenTransaction → OpenTransaction) (done : SessionReply) (w : OpenTransaction) (replies more : List SessionReply) → IsBlock c kind ts staged done → is_commit c ≡ false → IsReady s i (Some (plain w))
@@ -97,12 +116,17 @@ performs_block i s n c kind ts staged done w replies more k other r a em =
       };
       order = block_order i s n c kind ts staged done w Named k other a;
       advances = λ cs. subst (λ (x : List SessionReply). Advances i s n (up_to_event (Some (plain w)) (c ∷ cs) replies) (up_to_event (Some (plain (staged w))) cs x)) (sym em)
-          (block_advances i s n c kind ts staged done w Named cs replies _ k r.opened a (k.named s.state w cs replies));
+          (block_advances i s n c kind ts staged done w Named cs replies _ k r.opened a (k.named s.state w cs replies) refl);
     }
 
 -- one whose terms weren't named
 refusal_unnamed : (r : Reply) (reply : SessionReply) → IsNamingRefusal r reply → r ≢ Named
 refusal_unnamed r reply h e = subst (λ (x : Reply). IsNamingRefusal x reply) e h
+
+refusal_sound : (r : Reply) (reply : SessionReply) → IsNamingRefusal r reply → is_fault r ≡ false
+refusal_sound (Unknown node) reply h = refl
+refusal_sound (Full n) reply h = refl
+refusal_sound r reply h = absurd h
 
 after_refusal : (l : Limits) (s t : State) (i : ℕ) (c : Command) (kind : NameKind) (ts : List Triple) (staged : OpenTransaction → OpenTransaction) (done : SessionReply) (w : OpenTransaction) (r : Reply) (reply : SessionReply) (cs : List Command) (replies : List SessionReply) → IsBlock c kind ts staged done
     → StepOf l s i (actions.Name kind (parts_of ts)) r t → IsNamingRefusal r reply → after_reply s (Some (plain w)) c cs replies r ≡ Some (up_to_event (Some (plain w)) cs (replies ++ reply ∷ []))
@@ -122,7 +146,7 @@ performs_refusal i s n c kind ts staged done w r reply replies more k other g a 
       };
       order = block_order i s n c kind ts staged done w r k other a;
       advances = λ cs. subst (λ (x : List SessionReply). Advances i s n (up_to_event (Some (plain w)) (c ∷ cs) replies) (up_to_event (Some (plain w)) cs x)) (sym em)
-          (block_advances i s n c kind ts staged done w r cs replies _ k g.opened a (after_refusal s.limits s.state n.state i c kind ts staged done w r reply cs replies k a.step h));
+          (block_advances i s n c kind ts staged done w r cs replies _ k g.opened a (after_refusal s.limits s.state n.state i c kind ts staged done w r reply cs replies k a.step h) (refusal_sound r reply h));
     }
 
 pub no_commit : (k : ChangeKind) (ts : List Triple) → is_commit (command_of k ts) ≡ false
@@ -170,9 +194,9 @@ commit_order i s m n w y v r some h a =
 -- the store answered the commit, after its head
 pub performs_commit : (i : ℕ) (s m n : RecordedStore) (w : Sessions.OpenTransaction) (replies more : List SessionReply) (v : ℕ) (o : Option Verdict) (r : Reply) (t : SessionReply) → IsReady s i (Some w) → HasChange w.transaction.net w.transaction.staged
     → TakesStep s m (record { session = i; action = actions.Head; reply = Version v }) → TakesStep m n (record { session = i; action = actions.Commit (record w.transaction { verdict = o }); reply = r })
-    → ((cs : List Command) → after_reply m.state (Some (record w { head_taken = true })) Commit cs replies r ≡ Some (up_to_event None cs (replies ++ t ∷ []))) → more ≡ replies ++ t ∷ []
+    → ((cs : List Command) → after_reply m.state (Some (record w { head_taken = true })) Commit cs replies r ≡ Some (up_to_event None cs (replies ++ t ∷ []))) → is_fault r ≡ false → more ≡ replies ++ t ∷ []
     → Performs i s n (Some w) None Commit replies more
-performs_commit i s m n w replies more v o r t ready some h a by em = record {
+performs_commit i s m n w replies more v o r t ready some h a by sound em = record {
   ready = record { opened = given_n i s m n (record w.transaction { verdict = o }) v r ready.opened h a; current = tt };
   order = commit_order i s m n w (record w.transaction { verdict = o }) v r some h a;
   advances = λ cs.
@@ -182,9 +206,9 @@ performs_commit i s m n w replies more v o r t ready some h a by em = record {
       let mid : SessionState = record { current = Some u; commands = Commit ∷ cs; replies = replies } in
       let last : SessionState = up_to_event None cs (replies ++ t ∷ []) in
       let one : Advances i s m (record { current = Some w; commands = Commit ∷ cs; replies = replies }) mid =
-      Advances-event i s m (Some w) Commit cs replies actions.Head (Version v) mid ready.opened (record { event = head; next = refl }) h in
+      Advances-event i s m (Some w) Commit cs replies actions.Head (Version v) mid ready.opened (record { event = head; next = refl }) refl h in
       let given_m : IsOpened m.state i = subst (λ (x : State). IsOpened x i) (sym h.step.1.1) ready.opened in
-      let two : Advances i m n mid last = Advances-commit i m n u cs replies o r last given_m ready.current.fits.verdict refl (by cs) a in
+      let two : Advances i m n mid last = Advances-commit i m n u cs replies o r last given_m ready.current.fits.verdict refl (by cs) sound a in
       let both : Advances i s n (record { current = Some w; commands = Commit ∷ cs; replies = replies }) last = Advances-then i s m n _ mid last one two in
       subst (λ (ts : List SessionReply). Advances i s n (up_to_event (Some w) (Commit ∷ cs) replies) (up_to_event None cs ts)) (sym em)
       (subst (λ (p : SessionState). Advances i s n p last) (sym start) both);
@@ -210,10 +234,12 @@ told_commit s x o r (committeds.Done n why) reply graph cs replies h k = rw (h, 
 told_commit s x o r (committeds.Conflict n t) reply graph cs replies h k = rw (h, k) refl
 told_commit s x o r (committeds.FullTriples n) reply graph cs replies h k = rw (h, k) refl
 told_commit s x o r (committeds.Refused rows why shapes) reply graph cs replies h k = rw (h.0, k, h.1) refl
+told_commit s x o r committeds.LogFault reply graph cs replies h k = rw (h, k) refl
+told_commit s x o r (committeds.Stopped n) reply graph cs replies h k = rw (h, k) refl
 
-pub commits_with : (i : ℕ) (s n : RecordedStore) (x : Transaction) (o : Option Verdict) (counted now : ℕ) (a : Committed) (r : Result SessionReply AllocError) → IsCommitted s n i (record x { verdict = o }) counted now a → IfOk r (IsCommitReply a) → IfOk r (CommitsWith i s n x)
-commits_with i s n x o counted now a (Ok reply) c k = record { verdict = o; answer = c.reply; step = c.step; told = λ graph cs replies. told_commit s.state x o c.reply a reply graph cs replies c.told k }
-commits_with i s n x o counted now a (Err error) c k = tt
+pub commits_with : (i : ℕ) (s n : RecordedStore) (x : Transaction) (o : Option Verdict) (counted now : ℕ) (a : Committed) (r : Result SessionReply AllocError) → IsCommitted s n i (record x { verdict = o }) counted now a → IsNoFault a → IfOk r (IsCommitReply a) → IfOk r (CommitsWith i s n x)
+commits_with i s n x o counted now a (Ok reply) c none k = record { verdict = o; answer = c.reply; step = c.step; sound = sound_answer s.state (record x { verdict = o }) c.reply a c.told none; told = λ graph cs replies. told_commit s.state x o c.reply a reply graph cs replies c.told k }
+commits_with i s n x o counted now a (Err error) c none k = tt
 
 -- below 64 sessions, one more is given out
 opens_one : (s t : State) (b : Bool) → nat_lt s.opened 64 ≡ b → s.opened < 64 → MatchBool b (OpensNext s 0 SessionsFull t) (OpensNothing s 0 SessionsFull t) → ⊥

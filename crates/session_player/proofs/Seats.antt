@@ -10,12 +10,11 @@ use Rattle.session_player.specs.declared.replay.ReplayFault.TheVariants.{Place, 
 use Rattle.session_player.specs.Refused.{RefusesFrom, RefusesHistory}
 use Rattle.std.proofs.Math.Seq.{take-suc}
 use Rattle.std.specs.List.{AllByRecursion}
-use Rattle.rdf_model.specs.Graphs.{after}
 use Rattle.store_model.specs.declared.event.Action.TheVariants as actions
 use Rattle.store_model.specs.declared.event.Event.{Event}
 use Rattle.store_model.specs.declared.event.Limits.{Limits}
 use Rattle.store_model.specs.declared.event.Reply.TheVariants.{Session, Version}
-use Rattle.store_model.specs.Store.{State, RecordedStore, empty_store, TakesStep, IsOpened, HasChange, OpensNext, OpensNothing, version}
+use Rattle.store_model.specs.Store.{State, RecordedStore, empty_store, TakesStep, IsOpened, HasChange, OpensNext, OpensNothing}
 use Rattle.session_model.specs.declared.command.Command.{Command}
 use Rattle.session_model.specs.declared.command.Command.TheVariants.{Commit}
 use Rattle.session_model.specs.declared.reply.SessionReply.{SessionReply}
@@ -33,15 +32,15 @@ use Rattle.session_transaction.proofs.Fitting.{state_more}
 use Rattle.session_transaction.proofs.Checking.{keeps_last}
 use Rattle.session_player.proofs.Playing.{one_place, local-change}
 
-more_event : (l : Limits) (m n : World) (i : ℕ) (w : Option OpenTransaction) (cs : List Command) (replies : List SessionReply) → RunsEvent l m i w cs replies n → More m.state n.state
+more_event : (l : Limits) (m n : World) (i : ℕ) (w : Option OpenTransaction) (cs : List Command) (replies : List SessionReply) → RunsEvent l m i false w cs replies n → More m.state n.state
 more_event l m n i w [] replies h = absurd h
 more_event l m n i w (c ∷ cs) replies h = subst (λ (t : State). More m.state t) (sym (ap (λ (x : World). x.state) h.6)) (more_step l m.state h.2 i h.0 h.1 h.5)
 
-more_place : (l : Limits) (m n : World) (i : ℕ) (b : Bool) → MatchBool b (RunsOpening l m i n) (RunsEvent l m i (session_at m i).current (session_at m i).commands (session_at m i).replies n) → More m.state n.state
+more_place : (l : Limits) (m n : World) (i : ℕ) (b : Bool) → MatchBool b (RunsOpening l m i false n) (RunsEvent l m i false (session_at m i).current (session_at m i).commands (session_at m i).replies n) → More m.state n.state
 more_place l m n i true h = subst (λ (t : State). More m.state t) (sym (ap (λ (x : World). x.state) h.1.3)) (more_step l m.state h.1.1 i actions.Open h.1.0 h.1.2)
 more_place l m n i false h = more_event l m n i (session_at m i).current (session_at m i).commands (session_at m i).replies h
 
-pub more_run : (l : Limits) (m n : World) (order : List ℕ) → RunsInOrder l m order n → More m.state n.state
+pub more_run : (l : Limits) (m n : World) (order : List ℕ) → RunsInOrder l m order None n → More m.state n.state
 more_run l m n [] h = more_same m.state n.state (ap (λ (x : World). x.state) h)
 more_run l m n (i ∷ order) h = more_then m.state h.0.state n.state (more_place l m h.0 i (nat_eq i (m.state.opened + 1)) h.1) (more_run l h.0 n order h.2)
 
@@ -91,8 +90,8 @@ still : (i : ℕ) (s n : RecordedStore) (p q : SessionState) (g : Advances i s n
 still i s n p q g some none =
     let before = blanks (i - 1) in
     let here : i ≡ length before + 1 = let k = length-blanks (i - 1) in omega (arith, k, some) in
-    let run : RunsInOrder s.limits (world s.state (before ++ p ∷ [])) [] (world n.state (before ++ q ∷ [])) =
-    subst (λ (is : List ℕ). RunsInOrder s.limits (world s.state (before ++ p ∷ [])) is (world n.state (before ++ q ∷ []))) none (g.runs before [] here) in
+    let run : RunsInOrder s.limits (world s.state (before ++ p ∷ [])) [] None (world n.state (before ++ q ∷ [])) =
+    subst (λ (is : List ℕ). RunsInOrder s.limits (world s.state (before ++ p ∷ [])) is None (world n.state (before ++ q ∷ []))) none (g.runs before [] here) in
     let state : n.state ≡ s.state = ap (λ (m : World). m.state) run in
     let history : n.history ≡ s.history = g.history ∙ (ap (λ (es : List Event). s.history ++ es) (no_events g.events none) ∙ append-nil s.history) in
     let limits = g.limits in
@@ -153,7 +152,7 @@ takes_head i s n w cs was kept replies o now some h k =
     let to = up_to_event-event (Some (headed w)) Commit cs replies none_u in
     let head : action_of (Some w) Commit ≡ Some actions.Head = ap (λ b. Some (commit_action b w.transaction)) now.head_taken in
     let one : Advances i s n (record { current = Some w; commands = Commit ∷ cs; replies = replies }) (record { current = Some (headed w); commands = Commit ∷ cs; replies = replies }) =
-    Advances-event i s n (Some w) Commit cs replies actions.Head (Version h.number) _ o (record { event = head; next = refl }) h.step in
+    Advances-event i s n (Some w) Commit cs replies actions.Head (Version h.number) _ o (record { event = head; next = refl }) refl h.step in
     record {
       ready = record { current = current_later s n (Some w) (more_step s.limits s.state n.state i actions.Head (Version h.number) h.step.step) now; held = (refl, some); kept = k };
       advances = subst (λ (x : SessionState). Advances i s n x (up_to_event (Some (headed w)) (Commit ∷ cs) replies)) (sym from)
@@ -177,7 +176,7 @@ takes_answer i s n w cs was replies reply o bare some h =
     let none = local-change (headed w) w.transaction.net w.transaction.staged some in
     let from = up_to_event-event (Some (headed w)) Commit cs replies none in
     let one : Advances i s n (record { current = Some (headed w); commands = Commit ∷ cs; replies = replies }) (up_to_event None cs (replies ++ reply ∷ [])) =
-    Advances-commit i s n (headed w) cs replies h.verdict h.answer _ o bare refl (h.told w.graph cs replies) h.step in
+    Advances-commit i s n (headed w) cs replies h.verdict h.answer _ o bare refl (h.told w.graph cs replies) h.sound h.step in
     record {
       ready = record { current = tt; held = tt; kept = tt };
       advances = subst (λ (x : SessionState). Advances i s n x (up_to_event None cs (replies ++ reply ∷ []))) (sym from) one;
@@ -262,8 +261,8 @@ plays_middle i s n before rest p q at ready h =
     let back = map state_of rest in
     let here : i ≡ length front + 1 = let e = length-map before state_of in omega (arith, e, at) in
     let one : order_of h.advances.events ≡ i ∷ [] = places i s n _ _ h.advances (i ∷ []) h.order in
-    let run : RunsInOrder s.limits (world s.state (front ++ state_of p ∷ back)) (i ∷ []) (world n.state (front ++ state_of q ∷ back)) =
-    subst (λ (is : List ℕ). RunsInOrder s.limits (world s.state (front ++ state_of p ∷ back)) is (world n.state (front ++ state_of q ∷ back))) one (h.advances.runs front back here) in
+    let run : RunsInOrder s.limits (world s.state (front ++ state_of p ∷ back)) (i ∷ []) None (world n.state (front ++ state_of q ∷ back)) =
+    subst (λ (is : List ℕ). RunsInOrder s.limits (world s.state (front ++ state_of p ∷ back)) is None (world n.state (front ++ state_of q ∷ back))) one (h.advances.runs front back here) in
     let grows : More s.state n.state = more_run s.limits (world s.state (front ++ state_of p ∷ back)) (world n.state (front ++ state_of q ∷ back)) (i ∷ []) run in
     record {
       ready = all_middle n before rest p q (all_later s n (before ++ p ∷ rest) (record { more = grows; limits = h.advances.limits; start = h.advances.start; events = h.advances.events; history = h.advances.history }) ready) h.ready;
@@ -271,8 +270,8 @@ plays_middle i s n before rest p q at ready h =
           let b : length (before ++ p ∷ rest) ≡ length before + suc (length rest) = length-append before (p ∷ rest) in a ∙ sym b;
       limits = h.advances.limits;
       history = h.order;
-      runs = subst (λ (xs : List SessionState). RunsInOrder s.limits (world s.state xs) (i ∷ []) (world n.state (map state_of (before ++ q ∷ rest)))) (sym (map-append state_of before (p ∷ rest)))
-          (subst (λ (xs : List SessionState). RunsInOrder s.limits (world s.state (front ++ state_of p ∷ back)) (i ∷ []) (world n.state xs)) (sym (map-append state_of before (q ∷ rest))) run);
+      runs = subst (λ (xs : List SessionState). RunsInOrder s.limits (world s.state xs) (i ∷ []) None (world n.state (map state_of (before ++ q ∷ rest)))) (sym (map-append state_of before (p ∷ rest)))
+          (subst (λ (xs : List SessionState). RunsInOrder s.limits (world s.state (front ++ state_of p ∷ back)) (i ∷ []) None (world n.state xs)) (sym (map-append state_of before (q ∷ rest))) run);
     }
 
 plays_event : (i : ℕ) (s n : RecordedStore) (ps : List Player) (p q : Player) → AreReady s ps → 1 ≤ i → i ≤ s.state.opened → p ≡ get_or ps (i - 1) p → TakesEvent i s n p q → Plays (i ∷ []) s n ps (set ps (i - 1) q)
@@ -335,7 +334,7 @@ place_of_opening i k o s n ps a ek eo le h =
           count = refl;
           limits = h.limits;
           history = one_place s n (record { session = i; action = actions.Open; reply = Session i }) h ∙ ap (λ (x : ℕ). order_of s.history ++ x ∷ []) is;
-          runs = subst (λ (x : ℕ). RunsInOrder s.limits (world s.state (states_of ps)) (x ∷ []) (world n.state (states_of ps))) is run.0;
+          runs = subst (λ (x : ℕ). RunsInOrder s.limits (world s.state (states_of ps)) (x ∷ []) None (world n.state (states_of ps))) is run.0;
         },
         omega (arith, up, lt),
       ),
@@ -357,7 +356,7 @@ plays_then a b s m n ps qs rs g h = record {
   limits = h.limits ∙ g.limits;
   history = h.history ∙ (ap (λ is. is ++ b) g.history ∙ append_assoc (order_of s.history) a b);
   runs = RunsInOrder-append s.limits (world s.state (states_of ps)) (world m.state (states_of qs)) (world n.state (states_of rs)) a b g.runs
-      (subst (λ (l : Limits). RunsInOrder l (world m.state (states_of qs)) b (world n.state (states_of rs))) g.limits h.runs);
+      (subst (λ (l : Limits). RunsInOrder l (world m.state (states_of qs)) b None (world n.state (states_of rs))) g.limits h.runs);
 }
 
 take-next : {X : Type 0} (xs : List X) (k : ℕ) (x : X) → k < length xs → x ≡ get_or xs k x → take (k + 1) xs ≡ take k xs ++ x ∷ []
@@ -408,9 +407,9 @@ are_ready_start l s ps files es ep few =
     subst (λ (x : RecordedStore). AreReady x ps) (sym es) (subst (λ (x : List Player). AreReady (opening l) x) (sym ep)
     (let count = length-map files new_player in record { ready = ready_start (opening l) files; few = omega (arith, count, few); opened = omega arith }))
 
-runs_start : (l : Limits) (s : RecordedStore) (ps : List Player) (files : List (List Command)) (order : List ℕ) (m : World) → s ≡ opening l → ps ≡ map new_player files → RunsInOrder s.limits (world s.state (states_of ps)) order m → RunsInOrder l (start empty_store files) order m
+runs_start : (l : Limits) (s : RecordedStore) (ps : List Player) (files : List (List Command)) (order : List ℕ) (m : World) → s ≡ opening l → ps ≡ map new_player files → RunsInOrder s.limits (world s.state (states_of ps)) order None m → RunsInOrder l (start empty_store files) order None m
 runs_start l s ps files order m es ep h =
-    subst (λ (xs : List SessionState). RunsInOrder l (world empty_store xs) order m) (ap states_of ep ∙ states_start files) (subst (λ (x : RecordedStore). RunsInOrder x.limits (world x.state (states_of ps)) order m) es h)
+    subst (λ (xs : List SessionState). RunsInOrder l (world empty_store xs) order None m) (ap states_of ep ∙ states_start files) (subst (λ (x : RecordedStore). RunsInOrder x.limits (world x.state (states_of ps)) order None m) es h)
 
 pub stops_start : (l : Limits) (s : RecordedStore) (ps : List Player) (files : List (List Command)) (places : List (Option ℕ)) (fault : ReplayFault) → s ≡ opening l → ps ≡ map new_player files → RefusesFrom s ps places fault → RefusesHistory files l empty_store places fault
 stops_start l s ps files places (Place k) es ep h = (h.0, h.1, h.2, h.3, runs_start l s ps files h.0 h.2 es ep h.4, h.5, h.6)

@@ -23,8 +23,8 @@ BreaksOff m (place ∷ more) = IsBadPlace m place
 -- Place k is the first that isn't valid, over a store that begins in state s; where the places end early, it is the one after
 -- the last.
 abbrev pub IsFirstBad : List (List Command) → Limits → State → List (Option ℕ) → ℕ → Type 0
-IsFirstBad files l s places k = (order : List ℕ) × (rest : List (Option ℕ)) × (m : World) × (places ≡ map Some order ++ rest) × RunsInOrder l (start s files) order m × BreaksOff m rest × (k ≡ length order + 1)
+IsFirstBad files l s places k = (order : List ℕ) × (rest : List (Option ℕ)) × (m : World) × (places ≡ map Some order ++ rest) × RunsInOrder l (start s files) order None m × BreaksOff m rest × (k ≡ length order + 1)
 
 -- All places are valid, and the sessions are answered so.
 abbrev pub IsReplayed : List (List Command) → Limits → State → List (Option ℕ) → List ℕ → List (List SessionReply) → Type 0
-IsReplayed files l s places order all = (places ≡ map Some order) × HasReplies files l s order all
+IsReplayed files l s places order all = (places ≡ map Some order) × HasReplies files l s order None all

@@ -1,5 +1,5 @@
 -- Laws of histories that are handed in.
-use Rattle.std.specs.Prelude.{◌≡◌, ℕ, List, map, Option, Some}
+use Rattle.std.specs.Prelude.{◌≡◌, ℕ, List, map, Option, Some, None}
 use Rattle.store_model.specs.declared.event.Limits.{Limits}
 use Rattle.store_model.specs.Store.{State}
 use Rattle.session_model.specs.declared.command.Command.{Command}
@@ -13,4 +13,4 @@ NeverBoth = (files : List (List Command)) (l : Limits) (s : State) (places : Lis
 
 -- the order of a run, handed in again, gives the same replies in the same order
 abbrev pub ReplaysAgain : Type 0
-ReplaysAgain = (files : List (List Command)) (l : Limits) (s : State) (order again : List ℕ) (all told : List (List SessionReply)) → HasReplies files l s order all → IsReplayed files l s (map Some order) again told → (again ≡ order) × (told ≡ all)
+ReplaysAgain = (files : List (List Command)) (l : Limits) (s : State) (order again : List ℕ) (all told : List (List SessionReply)) → HasReplies files l s order None all → IsReplayed files l s (map Some order) again told → (again ≡ order) × (told ≡ all)

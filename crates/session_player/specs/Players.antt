@@ -95,7 +95,7 @@ pub record Plays (order : List ℕ) (old new : RecordedStore) (ps qs : List Play
   pub count : length qs ≡ length ps
   pub limits : new.limits ≡ old.limits
   pub history : order_of new.history ≡ order_of old.history ++ order
-  pub runs : RunsInOrder old.limits (world old.state (states_of ps)) order (world new.state (states_of qs))
+  pub runs : RunsInOrder old.limits (world old.state (states_of ps)) order None (world new.state (states_of qs))
 
 -- where the players may go on, and no session without a file was given out
 pub record AreReady (s : RecordedStore) (ps : List Player) : Type 0 where
@@ -105,7 +105,7 @@ pub record AreReady (s : RecordedStore) (ps : List Player) : Type 0 where
 
 -- place k is the first that isn't valid, from where the sessions are now
 abbrev pub StopsAt : RecordedStore → List Player → List (Option ℕ) → ℕ → Type 0
-StopsAt s ps places k = (order : List ℕ) × (rest : List (Option ℕ)) × (m : World) × (places ≡ map Some order ++ rest) × RunsInOrder s.limits (world s.state (states_of ps)) order m × BreaksOff m rest × (k ≡ length order + 1)
+StopsAt s ps places k = (order : List ℕ) × (rest : List (Option ℕ)) × (m : World) × (places ≡ map Some order ++ rest) × RunsInOrder s.limits (world s.state (states_of ps)) order None m × BreaksOff m rest × (k ≡ length order + 1)
 
 -- the places were taken, all of them
 pub record PlaysAll (places : List (Option ℕ)) (old new : RecordedStore) (ps qs : List Player) : Type 0 where

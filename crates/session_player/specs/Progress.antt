@@ -19,7 +19,7 @@ pub record Advances (i : ℕ) (old new : RecordedStore) (p q : SessionState) : T
   pub limits : new.limits ≡ old.limits
   pub start : new.start ≡ old.start
   pub opened : new.state.opened ≡ old.state.opened
-  pub runs : (before after : List SessionState) → i ≡ length before + 1 → RunsInOrder old.limits (world old.state (before ++ p ∷ after)) (order_of events) (world new.state (before ++ q ∷ after))
+  pub runs : (before after : List SessionState) → i ≡ length before + 1 → RunsInOrder old.limits (world old.state (before ++ p ∷ after)) (order_of events) None (world new.state (before ++ q ∷ after))
 
 -- so many sessions were opened
 pub record OpensSessions (old new : RecordedStore) (count : ℕ) : Type 0 where
@@ -27,7 +27,7 @@ pub record OpensSessions (old new : RecordedStore) (count : ℕ) : Type 0 where
   pub history : new.history ≡ old.history ++ events
   pub limits : new.limits ≡ old.limits
   pub opened : new.state.opened ≡ old.state.opened + count
-  pub runs : (sessions : List SessionState) → new.state.opened ≤ length sessions → RunsInOrder old.limits (world old.state sessions) (order_of events) (world new.state sessions)
+  pub runs : (sessions : List SessionState) → new.state.opened ≤ length sessions → RunsInOrder old.limits (world old.state sessions) (order_of events) None (world new.state sessions)
 
 -- from a state on, the first k files were played to their end, one after another
 pub record HasRun (files : List (List Command)) (l : Limits) (s : State) (store : RecordedStore) (k : ℕ) (all : List (List SessionReply)) : Type 0 where
@@ -37,4 +37,4 @@ pub record HasRun (files : List (List Command)) (l : Limits) (s : State) (store 
   pub replies : all ≡ map (λ p. p.replies) over
   pub limits : store.limits ≡ l
   pub opened : store.state.opened ≡ length files
-  pub runs : RunsInOrder l (start s files) (order_of store.history) (world store.state (over ++ map (λ cs. up_to_event None cs []) (drop k files)))
+  pub runs : RunsInOrder l (start s files) (order_of store.history) None (world store.state (over ++ map (λ cs. up_to_event None cs []) (drop k files)))

@@ -8,10 +8,11 @@ use Rattle.store_model.specs.declared.event.Reply.TheVariants as replies
 use Rattle.store_model.specs.declared.commit.Transaction.{Transaction}
 use Rattle.store_model.specs.declared.commit.Verdict.{Verdict}
 use Rattle.session_model.specs.declared.command.Command.{Command}
-use Rattle.session_model.specs.declared.command.Command.TheVariants.{Commit, Begin, Add, BadAdd, Remove, BadRemove, Attach, BadAttach, Shapes, BadShapes, BrokenShapes, RefusedPattern, Find, Abort}
+use Rattle.session_model.specs.declared.command.Command.TheVariants.{Commit, Begin, Add, BadAdd, Remove, BadRemove, Attach, BadAttach, Shapes, BadShapes, BrokenShapes, RefusedPattern, Find, Select, BadSelect, Abort}
 use Rattle.session_model.specs.declared.reply.SessionReply.{SessionReply}
 use Rattle.session_model.specs.declared.reply.SessionReply.TheVariants.{UnknownNode, FullTerms}
-use Rattle.store_model.specs.Store.{RecordedStore, TakesStep, IsOpened, version}
+use Rattle.store_model.specs.Logs.{is_fault}
+use Rattle.store_model.specs.Store.{RecordedStore, TakesStep, IsOpened}
 use Rattle.session_model.specs.Sessions.{OpenTransaction, LocalAnswer, local_answer, after_reply, parts_of, up_to_event}
 use Rattle.session_transaction.specs.Transactions.{FitsState}
 use Rattle.session_player.specs.Progress.{Advances, order_of}
@@ -45,12 +46,13 @@ pub record TakesHead (i : ℕ) (old new : RecordedStore) : Type 0 where
   pub number : ℕ
   pub step : TakesStep old new (record { session = i; action = actions.Head; reply = replies.Version number })
 
--- The store answered the commit of the transaction, with the verdict of a check or without one, and the session tells that
--- answer so, whatever commands are left.
+-- The store answered the commit of the transaction, with the verdict of a check or without one, by no fault of a log, and the
+-- session tells that answer so, whatever commands are left.
 pub record CommitsWith (i : ℕ) (old new : RecordedStore) (x : Transaction) (reply : SessionReply) : Type 0 where
   pub verdict : Option Verdict
   pub answer : Reply
   pub step : TakesStep old new (record { session = i; action = actions.Commit (record x { verdict = verdict }); reply = answer })
+  pub sound : is_fault answer ≡ false
   pub told : (graph : List Triple) (cs : List Command) (replies : List SessionReply) → after_reply old.state (Some (record { transaction = x; graph = graph; head_taken = true })) Commit cs replies answer ≡ Some (up_to_event None cs (replies ++ reply ∷ []))
 
 -- a command that is an event is one, but for a commit, which takes the newest version first
@@ -68,6 +70,8 @@ is_commit (BadShapes n kind) = false
 is_commit (BrokenShapes rule node) = false
 is_commit (RefusedPattern node) = false
 is_commit (Find p) = false
+is_commit (Select ps) = false
+is_commit (BadSelect n) = false
 is_commit Abort = false
 
 abbrev pub places_with : ℕ → Bool → Option LocalAnswer → List ℕ

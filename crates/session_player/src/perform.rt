@@ -5,7 +5,7 @@ ghost use Rattle.session_transaction.specs.Checks.{KeepsIn};
 ghost use Rattle.session_transaction.specs.Transactions.{FitsState, plain, plain_in};
 ghost use Rattle.session_player.specs.Ready.{CommitsWith, IsReady, Performs, TakesHead};
 
-use crate::find::{abort, find};
+use crate::find::{abort, find, select};
 use crate::stage::{change, refuse, stage};
 use collections::{Sequence, let_go};
 use commit_core::Core;
@@ -136,6 +136,7 @@ pub fn perform<L: Ledger>(
             Ok(None)
         }
         Command::Find(pattern) => find(alloc, core, session, current, pattern, replies),
+        Command::Select(patterns) => select(alloc, core, session, current, patterns, replies),
         Command::Abort => {
             abort(core, session, current, replies)?;
             Ok(None)
@@ -145,6 +146,7 @@ pub fn perform<L: Ledger>(
         | Command::BadAttach { line: _, kind: _ }
         | Command::BadShapes { line: _, kind: _ }
         | Command::BrokenShapes { rule: _, node: _ }
-        | Command::RefusedPattern { node: _ } => refuse(core, session, current, command, replies),
+        | Command::RefusedPattern { node: _ }
+        | Command::BadSelect { line: _ } => refuse(core, session, current, command, replies),
     }
 }

@@ -64,6 +64,8 @@ fn is_event_within(transaction: &OpenTransaction, command: &Command) -> bool
         | Command::BrokenShapes { .. }
         | Command::RefusedPattern { .. }
         | Command::Find(_)
+        | Command::Select(_)
+        | Command::BadSelect { .. }
         | Command::Abort => false,
     }
 }

@@ -88,7 +88,7 @@ fn run_in<L: Ledger>(
     requires name { blank.name ≡ L.name }
     requires parts { blank.parts ≡ L.parts }
     requires some { 0 < L.parts }
-    ensures { IfOk result (λ run. HasReplies files.now limits empty_store run.order.items run.replies.items) }
+    ensures { IfOk result (λ run. HasReplies files.now limits empty_store run.order.items None run.replies.items) }
 {
     let mut core = Core::open(alloc, limits)?;
     let mut steps = Steps::<L>::begin(blank);
@@ -107,7 +107,7 @@ pub fn run_all(
     requires small { limits.terms + 2 < 2 ^ 32 }
     requires mode { limits.mode ≡ BlockMode.All }
     requires few { length files.now ≤ 64 }
-    ensures { IfOk result (λ run. HasReplies files.now limits empty_store run.order.items run.replies.items) }
+    ensures { IfOk result (λ run. HasReplies files.now limits empty_store run.order.items None run.replies.items) }
 {
     run_in::<Brand>(alloc, limits, files, Blank::new(1))
 }

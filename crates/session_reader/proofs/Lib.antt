@@ -6,3 +6,4 @@ pub mod Lengths
 pub mod OneSession
 pub mod Ordering
 pub mod Pieces
+pub mod Selects

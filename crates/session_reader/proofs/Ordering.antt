@@ -2,7 +2,9 @@
 use Rattle.std.proofs.Common.{◌≡◌, ℕ, List, [], ◌∷◌, Option, Some, None, Result, Ok, Err, refl, subst}
 use Rattle.std.specs.List.{AllByRecursion}
 use Rattle.collections.specs.Ordered.{IsAscending}
+use Rattle.rdf_model.specs.declared.term.Term.{Term}
 use Rattle.rdf_model.specs.declared.triple.Triple.{Triple}
+use Rattle.bgp_query.specs.declared.pattern.JoinPattern.{JoinPattern}
 use Rattle.rdf_model.specs.Terms.{triple_cmp}
 use Rattle.rdf_lexical.specs.declared.refusal.RefusalKind.{RefusalKind}
 use Rattle.ntriples_text.proofs.Gives.{gives_readable}
@@ -12,10 +14,11 @@ use Rattle.session_reader.specs.declared.line.Syntax.TheVariants.{NTriples, Turt
 use Rattle.session_reader.specs.declared.line.BlockKind.{BlockKind}
 use Rattle.session_reader.specs.declared.line.BlockKind.TheVariants as blocks
 use Rattle.session_reader.specs.declared.line.LineKind.{LineKind}
-use Rattle.session_reader.specs.declared.line.LineKind.TheVariants.{Skipped, BeginCommand, CommitCommand, AbortCommand, FindCommand, Block, Other}
+use Rattle.session_reader.specs.declared.line.LineKind.TheVariants.{Skipped, BeginCommand, CommitCommand, AbortCommand, FindCommand, Block, SelectBlock, Other}
 use Rattle.session_reader.specs.declared.read_command.ReadCommand.{ReadCommand}
 use Rattle.session_reader.specs.declared.read_command.ReadCommand.TheVariants.{Begin, Commit, Find, Abort}
 use Rattle.session_reader.specs.Checking.{IsOrdered}
+use Rattle.session_reader.specs.SelectBlock.{block_names, command_of, patterns_from, select_of}
 use Rattle.session_reader.specs.SessionFile.{Item, add_of, remove_of, attach_of, shapes_of, block_command, block_reading, block_text, commands_of, file_lines, items_of, new_reading, next_after, session_of, with_command, with_item}
 
 -- what a reading in one of the languages gives
@@ -46,6 +49,14 @@ block_ordered blocks.Remove text s first = remove_ordered (block_reading blocks.
 block_ordered blocks.Attach text s first = attach_ordered (block_reading blocks.Attach text s first)
 block_ordered (blocks.Shapes syntax) text s first = shapes_ordered (new_reading syntax text s first) (λ ts next h. new_ascends syntax text s first next ts h)
 
+read_ordered : (reading : Result (List (JoinPattern Term)) ℕ) → IsOrdered (command_of reading)
+read_ordered (Ok ps) = tt
+read_ordered (Err n) = tt
+
+select_ordered : (lines : List (List ℕ)) → IsOrdered (select_of lines)
+select_ordered [] = tt
+select_ordered (line ∷ lines) = read_ordered (patterns_from (block_names (line ∷ lines)) 1 (line ∷ lines))
+
 -- one command before the others
 command_ordered : (c : ReadCommand) (r : Result (List ReadCommand) ℕ) (all : List ReadCommand) → IsOrdered c → ((cs : List ReadCommand) → r ≡ Ok cs → AllByRecursion IsOrdered cs) → with_command c r ≡ Ok all → AllByRecursion IsOrdered all
 command_ordered c (Ok cs) all one rest h =
@@ -65,6 +76,8 @@ item_ordered s first n (Block k) (Some lines) more all rest h =
     let reading = block_reading k (block_text lines) s first in
     command_ordered (block_command k reading) (more (next_after first reading)) all (block_ordered k (block_text lines) s first) (rest (next_after first reading)) h
 item_ordered s first n (Block k) None more all rest h = cc
+item_ordered s first n SelectBlock (Some lines) more all rest h = command_ordered (select_of lines) (more first) all (select_ordered lines) (rest first) h
+item_ordered s first n SelectBlock None more all rest h = cc
 item_ordered s first n Other block more all rest h = cc
 
 items_ordered : (s first : ℕ) (items : List Item) (all : List ReadCommand) → commands_of s first items ≡ Ok all → AllByRecursion IsOrdered all

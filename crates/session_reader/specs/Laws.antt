@@ -5,7 +5,7 @@ use Rattle.outside.specs.Faults.{Refusal}
 use Rattle.session_model.specs.declared.command.Command.{Command}
 use Rattle.session_reader.specs.declared.line.Language.TheVariants.{One}
 use Rattle.session_reader.specs.declared.read_command.ReadCommand.{ReadCommand}
-use Rattle.session_reader.specs.declared.read_command.ReadCommand.TheVariants.{Attach, BadAttach}
+use Rattle.session_reader.specs.declared.read_command.ReadCommand.TheVariants.{Attach, BadAttach, Select, BadSelect}
 use Rattle.session_reader.specs.SessionFile.{IsSession, file_lines, language_of, session_of}
 
 -- a file of which no pattern is refused has one list of commands
@@ -20,11 +20,14 @@ ReadsWithoutHeader s bytes read = (language_of (file_lines bytes) ≡ One) × (s
 abbrev pub HeaderKeepsCommands : Type 0
 HeaderKeepsCommands = (s : ℕ) (bytes : List ℕ) (read : List ReadCommand) → ReadsWithoutHeader s bytes read → session_of s (codes "%session 2" ++ 10 ∷ bytes) ≡ Ok read
 
-abbrev pub is_attachment : ReadCommand → Bool
-is_attachment (Attach ts) = true
-is_attachment (BadAttach n kind) = true
-is_attachment _ = false
+-- a command that the second language adds
+abbrev pub is_added : ReadCommand → Bool
+is_added (Attach ts) = true
+is_added (BadAttach n kind) = true
+is_added (Select ps) = true
+is_added (BadSelect n) = true
+is_added _ = false
 
--- and none of them is an attachment
-abbrev pub AttachmentsNeedHeader : Type 0
-AttachmentsNeedHeader = (s : ℕ) (bytes : List ℕ) (read : List ReadCommand) → ReadsWithoutHeader s bytes read → AllByRecursion (λ c. is_attachment c ≡ false) read
+-- and none of them is one that the second language adds
+abbrev pub AddedCommandsNeedHeader : Type 0
+AddedCommandsNeedHeader = (s : ℕ) (bytes : List ℕ) (read : List ReadCommand) → ReadsWithoutHeader s bytes read → AllByRecursion (λ c. is_added c ≡ false) read

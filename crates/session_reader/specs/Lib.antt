@@ -1,5 +1,7 @@
 pub mod Checking
 pub mod FindLine
+pub mod LineEnds
+pub mod SelectBlock
 pub mod SessionFile
 pub mod Asked
 pub mod Faults

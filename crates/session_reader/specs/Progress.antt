@@ -1,5 +1,7 @@
 -- How far the reading of a session file has come: what its loops carry.
 use Rattle.std.specs.Prelude.{ℕ, List, [], ◌++◌, Option, Some, None, Result, Ok, Err}
+use Rattle.rdf_model.specs.declared.term.Term.{Term}
+use Rattle.bgp_query.specs.declared.pattern.JoinPattern.{JoinPattern}
 use Rattle.session_reader.specs.declared.find_line.Place.TheVariants.{Outside}
 use Rattle.session_reader.specs.declared.read_command.ReadCommand.{ReadCommand}
 use Rattle.session_reader.specs.FindLine.{pieces}
@@ -13,3 +15,8 @@ with_commands cs (Err n) = Err n
 abbrev pub pieces_behind : Option (List ℕ) → List (List ℕ)
 pieces_behind None = []
 pieces_behind (Some rest) = pieces Outside rest
+
+-- the patterns so far, before those of the rest
+abbrev pub with_patterns : List (JoinPattern Term) → Result (List (JoinPattern Term)) ℕ → Result (List (JoinPattern Term)) ℕ
+with_patterns ps (Ok qs) = Ok (ps ++ qs)
+with_patterns ps (Err n) = Err n

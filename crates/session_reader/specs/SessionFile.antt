@@ -1,6 +1,6 @@
 -- The commands of a session file, or the number of its first line that is no command. They are read first, and then the
 -- shapes graphs among them are judged and their patterns made.
-use Rattle.std.specs.Prelude.{◌≡◌, Bool, ℕ, zero, suc, ◌+◌, ◌-◌, ◌&&◌, ◌||◌, List, [], ◌∷◌, ◌++◌, length, take, Option, Some, None, Result, Ok, Err, nat_lt, ◌==◌, if◌then◌else◌, slice_index, codes, bytes_eq}
+use Rattle.std.specs.Prelude.{◌≡◌, Bool, false, ℕ, zero, suc, ◌+◌, ◌||◌, List, [], ◌∷◌, ◌++◌, length, take, Option, Some, None, Result, Ok, Err, ◌==◌, if◌then◌else◌, slice_index, codes, bytes_eq}
 use Rattle.std.specs.Option.{option_map}
 use Rattle.std.specs.List.{slice_split, flat_map}
 use Rattle.rdf_model.specs.declared.triple.Triple.{Triple}
@@ -14,7 +14,7 @@ use Rattle.session_reader.specs.declared.line.Syntax.TheVariants.{NTriples, Turt
 use Rattle.session_reader.specs.declared.line.BlockKind.{BlockKind}
 use Rattle.session_reader.specs.declared.line.BlockKind.TheVariants as blocks
 use Rattle.session_reader.specs.declared.line.LineKind.{LineKind}
-use Rattle.session_reader.specs.declared.line.LineKind.TheVariants.{Skipped, BeginCommand, CommitCommand, AbortCommand, FindCommand, Block, Other}
+use Rattle.session_reader.specs.declared.line.LineKind.TheVariants.{Skipped, BeginCommand, CommitCommand, AbortCommand, FindCommand, Block, SelectBlock, Other}
 use Rattle.session_reader.specs.declared.read_command.ReadCommand.{ReadCommand}
 use Rattle.session_reader.specs.declared.read_command.ReadCommand.TheVariants.{Begin, Add, BadAdd, Remove, BadRemove, Attach, BadAttach, Shapes, BadShapes, Commit, Find, Abort}
 use Rattle.rdf_lexical.specs.declared.refusal.RefusalKind.{RefusalKind}
@@ -22,11 +22,9 @@ use Rattle.ntriples_text.specs.Document.{reads, reads_named}
 use Rattle.turtle_reader.specs.Document.{reads as turtle_reads}
 use Rattle.rdf_lexical.specs.Refusals.{number_of}
 use Rattle.session_reader.specs.FindLine.{find_of}
+use Rattle.session_reader.specs.LineEnds.{without_cr}
+use Rattle.session_reader.specs.SelectBlock.{select_of}
 use Rattle.session_reader.specs.Checking.{AreChecked}
-
--- a line without a CR at its end
-abbrev pub without_cr : List ℕ → List ℕ
-without_cr line = if nat_lt 0 (length line) && slice_index line (length line - 1) == 13 then take (length line - 1) line else line
 
 -- A line between commands, given the lines after it: the CR before an LF isn't part of it, and the last has no LF.
 abbrev pub command_text : List ℕ → List (List ℕ) → List ℕ
@@ -63,7 +61,7 @@ common_block_kind line = if bytes_eq line (codes "add ntriples") then Some (bloc
     (if bytes_eq line (codes "shapes ntriples") then Some (blocks.Shapes NTriples) else
     (if bytes_eq line (codes "shapes turtle") then Some (blocks.Shapes Turtle) else None))))
 
--- the kind of block that follows a line, if one does; language 2 has one more
+-- the kind of block of triples that follows a line, if one does; language 2 has one more
 abbrev pub block_kind : Language → List ℕ → Option BlockKind
 block_kind One line = common_block_kind line
 block_kind Two line = if bytes_eq line (codes "attach ntriples") then Some blocks.Attach else common_block_kind line
@@ -77,12 +75,18 @@ abbrev pub kind_of_words : Option BlockKind → Option Pattern → LineKind
 kind_of_words (Some kind) pattern = Block kind
 kind_of_words None pattern = find_or_other pattern
 
+-- a select, in language 2 alone
+abbrev pub is_select : Language → List ℕ → Bool
+is_select One line = false
+is_select Two line = bytes_eq line (codes "select")
+
 -- what a line between commands is
 abbrev pub kind_of : Language → List ℕ → LineKind
 kind_of language line = if is_skipped line then Skipped else
     (if bytes_eq line (codes "begin") then BeginCommand else
     (if bytes_eq line (codes "commit") then CommitCommand else
-    (if bytes_eq line (codes "abort") then AbortCommand else kind_of_words (block_kind language line) (find_of line))))
+    (if bytes_eq line (codes "abort") then AbortCommand else
+    (if is_select language line then SelectBlock else kind_of_words (block_kind language line) (find_of line)))))
 
 -- the end of a block is `%%`, or that and a CR
 abbrev pub is_block_end : List ℕ → Bool
@@ -159,9 +163,14 @@ pub record Item : Type 0 where
   pub kind : LineKind
   pub block : Option (List (List ℕ))
 
+-- the lines before the first that ends a block, if one does
+abbrev pub block_lines : List (List ℕ) → Option (List (List ℕ))
+block_lines lines = option_map (λ n. take n lines) (block_length lines)
+
 -- the block of a command, given the lines after it
 abbrev pub block_after : LineKind → List (List ℕ) → Option (List (List ℕ))
-block_after (Block k) lines = option_map (λ n. take n lines) (block_length lines)
+block_after (Block k) lines = block_lines lines
+block_after SelectBlock lines = block_lines lines
 block_after _ lines = None
 
 -- how many lines an item has after its first: those of its block, and the one that ends it
@@ -192,6 +201,8 @@ with_item s first n AbortCommand block more = with_command Abort (more first)
 with_item s first n (FindCommand pattern) block more = with_command (Find pattern) (more first)
 with_item s first n (Block k) (Some lines) more = let reading = block_reading k (block_text lines) s first in with_command (block_command k reading) (more (next_after first reading))
 with_item s first n (Block k) None more = Err n
+with_item s first n SelectBlock (Some lines) more = with_command (select_of lines) (more first)
+with_item s first n SelectBlock None more = Err n
 with_item s first n Other block more = Err n
 
 -- the commands of items, or the number of the first line that is no command; the session's next blank node has the number

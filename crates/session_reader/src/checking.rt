@@ -62,6 +62,8 @@ fn check_command<M: Maker>(
         ReadCommand::BadShapes { line, kind } => Ok(Command::BadShapes { line, kind }),
         ReadCommand::Commit => Ok(Command::Commit),
         ReadCommand::Find(pattern) => Ok(Command::Find(pattern)),
+        ReadCommand::Select(patterns) => Ok(Command::Select(patterns)),
+        ReadCommand::BadSelect { line } => Ok(Command::BadSelect { line }),
         ReadCommand::Abort => Ok(Command::Abort),
     }
 }

@@ -86,8 +86,8 @@ fn split_piece(line: &[u8]) -> (&[u8], Option<&[u8]>)
     (line, None)
 }
 
-// The parts of a line, which blanks separate.
-fn parts_of(alloc: Global, line: &[u8]) -> Result<Vec<&[u8]>, AllocError>
+/// The parts of a line, which blanks separate.
+pub fn parts_of(alloc: Global, line: &[u8]) -> Result<Vec<&[u8]>, AllocError>
     ensures { IfOk result (λ v. map (λ p. p.now) v.items ≡ FindLine.parts line.now) }
 {
     let mut parts = Vec::new(alloc);
@@ -132,8 +132,8 @@ impl Role {
         }
     }
 
-    // What a part asks for in this role: any term, or this one.
-    fn asked(self, alloc: Global, text: &[u8]) -> Result<Option<Option<Term>>, AllocError>
+    /// What a part asks for in this role: any term, or this one.
+    pub fn asked(self, alloc: Global, text: &[u8]) -> Result<Option<Option<Term>>, AllocError>
         ensures { IfOk result (λ part. part ≡ FindLine.asked self text.now) }
     {
         if text == b"?".as_slice() {
@@ -192,7 +192,8 @@ fn pattern_of(alloc: Global, parts: &[&[u8]]) -> Result<Option<Pattern>, AllocEr
     }
 }
 
-fn has_blank_end(line: &[u8]) -> bool
+/// Whether a line begins or ends with a blank.
+pub fn has_blank_end(line: &[u8]) -> bool
     ensures { result ≡ FindLine.has_blank_end line.now }
 {
     if line.is_empty() {

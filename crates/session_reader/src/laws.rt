@@ -1,5 +1,5 @@
 //! Laws of session files, each proved on a function of its own that does nothing.
-ghost use Rattle.session_reader.specs.Laws.{AttachmentsNeedHeader, FileHasOneSession, HeaderKeepsCommands};
+ghost use Rattle.session_reader.specs.Laws.{AddedCommandsNeedHeader, FileHasOneSession, HeaderKeepsCommands};
 
 /// A file of which no pattern is refused has one list of commands: each shapes graph is either staged or refused, by one
 /// broken rule.
@@ -13,7 +13,7 @@ pub fn a_header_keeps_commands()
     ensures { HeaderKeepsCommands }
 {}
 
-/// No command of a file of language 1 is an attachment.
-pub fn attachments_need_a_header()
-    ensures { AttachmentsNeedHeader }
+/// No command of a file of language 1 is an attachment or a select.
+pub fn added_commands_need_a_header()
+    ensures { AddedCommandsNeedHeader }
 {}

@@ -1,7 +1,8 @@
 ghost use Rattle.std.specs.Prelude.{◌≡◌, IfOk};
 ghost use Rattle.session_reader.specs.FindLine.{find_of};
 ghost use Rattle.session_reader.specs.SessionFile;
-ghost use Rattle.session_reader.specs.SessionFile.{is_skipped, without_cr};
+ghost use Rattle.session_reader.specs.LineEnds.{without_cr};
+ghost use Rattle.session_reader.specs.SessionFile.{is_skipped};
 
 use crate::find_line::find_pattern;
 use rdf_model::Pattern;
@@ -12,7 +13,7 @@ use std::alloc::{AllocError, Global};
 pub enum Language {
     /// That of a file without a header.
     One,
-    /// That of a file with the header `%session 2`: it has `attach ntriples` too.
+    /// That of a file with the header `%session 2`: it has `attach ntriples` and `select` too.
     Two,
 }
 
@@ -46,8 +47,10 @@ pub enum LineKind {
     AbortCommand,
     /// A find of these triples.
     FindCommand(Pattern),
-    /// A command that a block follows.
+    /// A command that a block of triples follows.
     Block(BlockKind),
+    /// A select, which a block of patterns follows.
+    SelectBlock,
     /// No command.
     Other,
 }
@@ -127,6 +130,16 @@ fn block_kind(language: Language, line: &[u8]) -> Option<BlockKind>
     }
 }
 
+// Whether a line is a select, in language 2 alone.
+fn is_select(language: Language, line: &[u8]) -> bool
+    ensures { result ≡ SessionFile.is_select language line.now }
+{
+    match language {
+        Language::One => false,
+        Language::Two => line == b"select".as_slice(),
+    }
+}
+
 // A line that no block follows, and that is no single word: a find, or no command.
 fn find_or_other(alloc: Global, line: &[u8]) -> Result<LineKind, AllocError>
     ensures { IfOk result (λ kind. kind ≡ SessionFile.find_or_other (find_of line.now)) }
@@ -159,6 +172,8 @@ pub fn kind_of(alloc: Global, language: Language, line: &[u8]) -> Result<LineKin
         Ok(LineKind::CommitCommand)
     } else if line == b"abort".as_slice() {
         Ok(LineKind::AbortCommand)
+    } else if is_select(language, line) {
+        Ok(LineKind::SelectBlock)
     } else {
         kind_of_words(alloc, language, line)
     }

@@ -1,5 +1,6 @@
+use bgp_query::JoinPattern;
 use collections::Sequence;
-use rdf_model::{Pattern, Triple};
+use rdf_model::{Pattern, Term, Triple};
 
 /// A command as its lines are read, before its shapes graph is judged.
 #[derive(Debug, Drop)]
@@ -23,5 +24,9 @@ pub enum ReadCommand {
     BadShapes { line: u64, kind: u8 },
     Commit,
     Find(Pattern),
+    /// A select of the bindings of these patterns.
+    Select(Sequence<JoinPattern<Term>>),
+    /// A select whose block is refused: the first line of the block, from 1, that is no pattern or one too many.
+    BadSelect { line: u64 },
     Abort,
 }

@@ -14,6 +14,7 @@ use crate::checking::check_commands;
 use crate::line::{BlockKind, Language, LineKind, Syntax, is_block_end, kind_of, trimmed};
 use crate::prepare_fault::PrepareFault;
 use crate::read_command::ReadCommand;
+use crate::select_block::read_select;
 use collections::Sequence;
 use ntriples_text::{ReadFault, RefusalKind};
 use outside::Maker;
@@ -200,6 +201,28 @@ fn read_block_item(
     Ok(count + 1)
 }
 
+// Reads the block of the select in line `number`, and gives how many lines it has with the one that ends it.
+fn read_select_item(
+    alloc: Global,
+    number: u64,
+    after: &[&[u8]],
+    commands: &mut Sequence<ReadCommand>,
+) -> Result<usize, PrepareFault>
+    requires room { length (block_text (map (λ l. l.now) after.now)) < 2 ^ 32 }
+    ensures item { (session next : ℕ) (more : ℕ → Result (List CommandData) ℕ) → let lines = block_after kinds.SelectBlock (map (λ l. l.now) after.now) in
+        let before = with_commands commands.old (with_item session next number kinds.SelectBlock lines more) in
+        MatchResult result (λ taken. (taken ≡ lines_of_block lines) × (before ≡ with_commands commands.new (more next))) (λ fault. Fails fault before) }
+    ensures rest { IfOk result (λ taken. (taken ≤ length after.now) × (length (block_text (drop taken (map (λ l. l.now) after.now))) ≤ length (block_text (map (λ l. l.now) after.now)))) }
+{
+    let Some(count) = block_length(after) else {
+        return Err(PrepareFault::Line(number));
+    };
+    let (lines, _) = after.split_at(count);
+    let command = read_select(alloc, lines)?;
+    commands.push(command)?;
+    Ok(count + 1)
+}
+
 // Adds the command of a line that no block follows.
 fn push_command(
     commands: &mut Sequence<ReadCommand>,
@@ -239,6 +262,7 @@ fn read_item_of(
         LineKind::Block(block) => {
             read_block_item(alloc, session, next, number, block, after, commands)
         }
+        LineKind::SelectBlock => read_select_item(alloc, number, after, commands),
         LineKind::Other => Err(PrepareFault::Line(number)),
     }
 }
@@ -312,9 +336,10 @@ fn read_session(
 }
 
 /// The commands of the file of a session, 1 to 64. A file whose first line is `%session 2` is of language 2, which has
-/// `attach ntriples`; any other is of language 1, which hasn't. A block that can't be read in its language,
+/// `attach ntriples` and `select`; any other is of language 1, which hasn't. A block that can't be read in its language,
 /// N-Triples 1.1 or Turtle 1.1, gives a command that tells its refusal, and so does a shapes graph that isn't well-formed (SHACL section
-/// 3.4.2), by the broken rule that is reported, or that has a pattern which the maker refuses (SHACL section 4.4.3). The
+/// 3.4.2), by the broken rule that is reported, or that has a pattern which the maker refuses (SHACL section 4.4.3); and so does
+/// a select with a line that is no pattern, by that line. The
 /// numbers of blank nodes go on from block to block.
 ///
 /// The error is the number of the first line that is no command, or of the command of a block that

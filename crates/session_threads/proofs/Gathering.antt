@@ -10,9 +10,10 @@ use Rattle.store_model.specs.declared.event.Event.{Event}
 use Rattle.store_model.specs.Store.{RecordedStore, Replays, State}
 use Rattle.session_model.specs.declared.command.Command.{Command}
 use Rattle.session_model.specs.declared.reply.SessionReply.{SessionReply}
-use Rattle.session_model.specs.Sessions.{SessionState, no_session}
+use Rattle.session_model.specs.Sessions.{HasReplies, SessionState, no_session}
 use Rattle.thread_model.specs.Following.{Follows, first_state}
 use Rattle.thread_model.proofs.Running.{following_runs}
+use Rattle.thread_model.proofs.Unfailed.{never_failed}
 use Rattle.guard_store.specs.declared.session.Keeper.{Keeper}
 use Rattle.guard_store.specs.declared.session.Session.{Session}
 use Rattle.guard_store.specs.Fronts.{SharedStore, session_of}
@@ -89,11 +90,13 @@ met_next store files k c after s all replies m is this that o =
 
 -- all were met, and the store was closed, with so many triples
 pub runs : (store : SharedStore) (files : List (List Command)) (k : Keeper) (core : RecordedStore) (all : List (List SessionReply)) (triples : ℕ) → IsSound store k → k.opened ≡ length files → Met files store 0 k.pass all → core.history ≡ k.pass.known.front → core.limits ≡ store.limits → core.start ≡ store.start
-    → Replays core.limits core.start core.history core.state → triples ≡ length core.state.graph → HasEnd files store.limits store.start (map (λ e. e.session) core.history) all triples
-runs store files k core all triples sound n m is limits begins replays size =
+    → Replays core.limits core.start core.history core.state → core.state.stopped ≡ false → triples ≡ length core.state.graph → HasEnd files store.limits store.start (map (λ e. e.session) core.history) all triples
+runs store files k core all triples sound n m is limits begins replays on size =
     let count : length m.over ≡ length files = omega (arith, m.count) in
     let follow = closes store files k core m.over sound n is limits begins replays count (λ i lt. m.each i i (omega arith) (omega (arith, lt, count))) m.left in
-    let run = following_runs files store.limits store.start core.history (map (λ s. s.replies) m.over) follow.0 in
+    let replies : List (List SessionReply) = map (λ s. s.replies) m.over in
+    let run = subst (λ (o : Option ℕ). (h : HasReplies files store.limits store.start (map (λ e. e.session) core.history) o replies) × (h.last.state ≡ follow.0.state)) (never_failed core.limits core.start core.state core.history on replays)
+    (following_runs files store.limits store.start core.history replies follow.0) in
     let ends : run.0.last.state ≡ core.state = run.1 ∙ follow.1 in
     subst (λ (rs : List (List SessionReply)). HasEnd files store.limits store.start (map (λ e. e.session) core.history) rs triples) (sym m.replies)
     (run.0, size ∙ ap (λ (s : State). length s.graph) (sym ends))

@@ -1,8 +1,13 @@
 -- One command more, by a call of the store.
-use Rattle.std.proofs.Common.{◌≡◌, suc, drop, drop-cons, get_or, add-one, Result, Ok, Err, IfOk, MatchResult, ℕ, ◌+◌, ◌<◌, Bool, true, false, List, [], ◌∷◌, ◌++◌, length, Option, Some, None, refl, sym, ap, ◌∙◌, subst, ◌≤◌, zero, arith}
+use Rattle.std.proofs.Common.{◌≡◌, suc, drop, drop-cons, get_or, add-one, Result, Ok, Err, IfOk, MatchResult, ℕ, ◌+◌, ◌<◌, Bool, true, false, List, [], ◌∷◌, ◌++◌, length, map, Option, Some, None, refl, sym, ap, ◌∙◌, subst, ◌≤◌, zero, arith}
 use Rattle.std.specs.Prelude.{MatchBool}
 use Rattle.turn_lock.specs.Callers.{Caller}
+use Rattle.rdf_model.specs.declared.term.Term.{Term}
 use Rattle.rdf_model.specs.declared.triple.Triple.{Triple}
+use Rattle.bgp_query.specs.declared.pattern.JoinPattern.{JoinPattern}
+use Rattle.bgp_query.specs.Bindings.{most_bindings}
+use Rattle.bgp_query.specs.Selected.{AreSelected}
+use Rattle.bgp_query.specs.TermBindings.{opened}
 use Rattle.rdf_model.specs.declared.change.Change.{Change}
 use Rattle.rdf_model.specs.declared.pattern.Pattern.{Pattern}
 use Rattle.store_model.specs.declared.event.NameKind.{NameKind}
@@ -16,7 +21,7 @@ use Rattle.store_model.specs.declared.commit.Transaction.{Transaction}
 use Rattle.store_model.specs.Snapshots.{snapshot_of}
 use Rattle.store_model.specs.Store.{RecordedStore, version, HasChange}
 use Rattle.session_model.specs.declared.command.Command.{Command}
-use Rattle.session_model.specs.declared.command.Command.TheVariants.{Attach, Begin, Commit, Find, Abort}
+use Rattle.session_model.specs.declared.command.Command.TheVariants.{Attach, Begin, Commit, Find, Select, Abort}
 use Rattle.session_model.specs.declared.reply.SessionReply.{SessionReply}
 use Rattle.session_model.specs.declared.reply.SessionReply.TheVariants as said
 use Rattle.session_model.specs.Sessions as Sessions
@@ -32,28 +37,31 @@ use Rattle.guard_store.specs.declared.faults.AttachFault.{AttachFault}
 use Rattle.guard_store.specs.declared.faults.AttachFault.TheVariants as attaches
 use Rattle.guard_store.specs.declared.faults.FindFault.{FindFault}
 use Rattle.guard_store.specs.declared.faults.FindFault.TheVariants as finds
+use Rattle.guard_store.specs.declared.faults.SelectFault.{SelectFault}
+use Rattle.guard_store.specs.declared.faults.SelectFault.TheVariants as selects
 use Rattle.guard_store.specs.declared.faults.HeadFault.{HeadFault}
 use Rattle.guard_store.specs.declared.faults.CommitFault.{CommitFault}
 use Rattle.guard_store.specs.declared.faults.CommitFault.TheVariants as commits
 use Rattle.session_transaction.specs.declared.committing.Committed.{Committed}
-use Rattle.session_transaction.specs.declared.committing.Committed.TheVariants.{ReadOnly, Done, Conflict, FullTriples, Refused}
+use Rattle.session_transaction.specs.declared.committing.Committed.TheVariants.{ReadOnly, Done, Conflict, FullTriples, Refused, LogFault, Stopped}
 use Rattle.session_transaction.specs.declared.transaction.OpenTransaction.{OpenTransaction}
 use Rattle.session_transaction.specs.declared.transaction.ChangeKind.TheVariants.{Attachment}
 use Rattle.guard_store.specs.declared.session.Session.{Session}
 use Rattle.guard_store.specs.Fronts.{SharedStore, Turn}
 use Rattle.guard_store.specs.Callers.{IsCaller, IsSession, FitsIn, HasWork, OnlyReads}
-use Rattle.session_transaction.specs.Transactions.{FitsState, plain, plain_in, begun_at, with_changes, with_find}
+use Rattle.session_transaction.specs.Transactions.{FitsState, plain, plain_in, begun_at, graph_so_far, with_changes, with_find, with_finds}
 use Rattle.session_transaction.specs.Checks.{committing}
 use Rattle.session_transaction.proofs.Checking.{check_same}
 use Rattle.guard_store.specs.declared.faults.CheckFault.{CheckFault}
-use Rattle.guard_store.specs.Answers.{Attaches, AttachesNot, ChecksHead, ChecksNot, Begins, BeginsNot, NamesForNot, Stages, StagesNot, Heads, HeadsNot, Commits, CommitsNot, AnswersCommit, FindsNot, IsOpen, attach_fault, event_of}
+use Rattle.guard_store.specs.Answers.{Attaches, AttachesNot, ChecksHead, ChecksNot, Begins, BeginsNot, NamesForNot, Stages, StagesNot, Heads, HeadsNot, Commits, CommitsNot, AnswersCommit, FindsNot, SelectsNot, IsOpen, attach_fault, event_of}
 use Rattle.guard_store.proofs.Turning.{front_is}
-use Rattle.guard_store.proofs.Fitting.{fits_before, found_session, open_fits, session_ended}
+use Rattle.guard_store.proofs.Fitting.{fits_before, found_session, open_fits, selected_session, session_ended}
 use Rattle.session_transaction.specs.Replies.{IsCommitReply, IsListed, IsRefused, answer_in}
 use Rattle.session_transaction.proofs.Blocks.{IsBlock, block_change}
 use Rattle.session_transaction.proofs.Fitting.{unknown_attaches}
 use Rattle.session_transaction.proofs.Refusing.{refused_by}
-use Rattle.session_threads.specs.Replies.{IsAttachReply, IsBeginReply, IsBlockRefusal, IsStageReply, IsFindRefusal, IsAbortReply}
+use Rattle.session_transaction.proofs.Selecting.{too_many_selected}
+use Rattle.session_threads.specs.Replies.{IsAttachReply, IsBeginReply, IsBlockRefusal, IsStageReply, IsFindRefusal, IsSelectRefusal, IsAbortReply}
 use Rattle.session_threads.specs.Playing.{HasPlayed, Plays, PlaysAll}
 use Rattle.session_threads.proofs.Keeping.{played_still, played_on}
 
@@ -165,7 +173,7 @@ plays_attach {U} store old new ts (Err f) r rs more was is b told em =
 pub plays_refused : (store : SharedStore) (s : Session) (c : Command) (r : SessionReply) (rs more : List SessionReply) → IsSession store s → IsRefused c r → more ≡ rs ++ answer_in (plain_in s.current) r ∷ [] → Plays store s s c rs more
 plays_refused store s c r rs more is h em = plays_local store s s (plain_in s.current) (plain_in s.current) c rs more (answer_in (plain_in s.current) r) is refl refl refl refl (refused_by c r (plain_in s.current) h) em
 
--- finds and aborts
+-- finds, selects and aborts
 pub plays_found : (store : SharedStore) (old new : Session) (p : Pattern) (w : OpenTransaction) (r : SessionReply) (rs more : List SessionReply) (ts : List Triple) → IsSession store new → IsOpen old w → ts ≡ found_by (plain w) p
     → new ≡ record old { current = Some (with_find w p) } → r ≡ Sessions.find_reply ts → more ≡ rs ++ r ∷ [] → Plays store old new (Find p) rs more
 plays_found store old new p w r rs more ts is o found e told em =
@@ -177,6 +185,32 @@ plays_not_found store old new p finds.NoTransaction r rs more is b told em =
     let new_is : IsSession store new = subst (IsSession store) (sym b.1) is in
     plays_local store old new None None (Find p) rs more said.NoTransaction new_is (ap (λ s. s.number) b.1) (ap (λ s. s.pass) b.1) (plain_none old b.0) (plain_none new (ap (λ s. s.current) b.1 ∙ b.0)) refl (em ∙ ap (λ x. rs ++ x ∷ []) told)
 plays_not_found store old new p finds.Memory r rs more is b told em = absurd told
+
+plays_selected : (store : SharedStore) (old new : Session) (ps : List (JoinPattern Term)) (w : OpenTransaction) (r : SessionReply) (rs more : List SessionReply) → IsSession store old → IsOpen old w → new ≡ record old { current = Some (with_finds w (map opened ps)) }
+    → r ≡ Sessions.select_reply (Sessions.selected_by (plain w) ps) → more ≡ rs ++ r ∷ [] → Plays store old new (Select ps) rs more
+plays_selected store old new ps w r rs more is o e told em =
+    plays_local store old new (Some (plain w)) (Some (plain (with_finds w (map opened ps)))) (Select ps) rs more (Sessions.select_reply (Sessions.selected_by (plain w) ps)) (selected_session store old new w (map opened ps) is o e) (ap (λ s. s.number) e) (ap (λ s. s.pass) e)
+    (plain_open old w o) (plain_open new (with_finds w (map opened ps)) (ap (λ s. s.current) e)) refl (em ∙ ap (λ x. rs ++ x ∷ []) told)
+
+plays_not_selected : (store : SharedStore) (old new : Session) (ps : List (JoinPattern Term)) (f : SelectFault) (r : SessionReply) (rs more : List SessionReply) → IsSession store old → SelectsNot f ps old new → IsSelectRefusal f r → more ≡ rs ++ r ∷ [] → Plays store old new (Select ps) rs more
+plays_not_selected store old new ps selects.NoTransaction r rs more is b told em =
+    let new_is : IsSession store new = subst (IsSession store) (sym b.1) is in
+    plays_local store old new None None (Select ps) rs more said.NoTransaction new_is (ap (λ s. s.number) b.1) (ap (λ s. s.pass) b.1) (plain_none old b.0) (plain_none new (ap (λ s. s.current) b.1 ∙ b.0)) refl (em ∙ ap (λ x. rs ++ x ∷ []) told)
+plays_not_selected store old new ps selects.TooMany r rs more is b told em =
+    plays_selected store old new ps b.0 r rs more is b.1 b.3 (told ∙ sym (too_many_selected (Sessions.selected_by (plain b.0) ps) b.2)) em
+plays_not_selected store old new ps selects.Memory r rs more is b told em = absurd told
+
+-- what a select is answered: `rows_of` are the terms of an answer
+pub plays_select : {V : Type 0} (rows_of : V → List (List Term)) (store : SharedStore) (old new : Session) (ps : List (JoinPattern Term)) (a : Result V SelectFault) (r : SessionReply) (rs more : List SessionReply) → IsSession store old
+    → MatchResult a (λ v. (w : OpenTransaction) × IsOpen old w × AreSelected (graph_so_far w) ps (rows_of v) × (new ≡ record old { current = Some (with_finds w (map opened ps)) })) (λ f. SelectsNot f ps old new)
+    → MatchResult a (λ v. r ≡ Sessions.select_reply (rows_of v)) (λ f. IsSelectRefusal f r) → more ≡ rs ++ r ∷ [] → Plays store old new (Select ps) rs more
+plays_select {V} rows_of store old new ps (Ok v) r rs more is h reply em = plays_selected store old new ps h.0 r rs more is h.1 h.3 (reply ∙ ap Sessions.select_reply h.2.all) em
+plays_select {V} rows_of store old new ps (Err f) r rs more is h reply em = plays_not_selected store old new ps f r rs more is h reply em
+
+pub few_rows : {V : Type 0} (rows_of : V → List (List Term)) (old new : Session) (ps : List (JoinPattern Term)) (a : Result V SelectFault)
+    → MatchResult a (λ v. (w : OpenTransaction) × IsOpen old w × AreSelected (graph_so_far w) ps (rows_of v) × (new ≡ record old { current = Some (with_finds w (map opened ps)) })) (λ f. SelectsNot f ps old new) → IfOk a (λ v. length (rows_of v) ≤ most_bindings)
+few_rows {V} rows_of old new ps (Ok v) h = h.2.few
+few_rows {V} rows_of old new ps (Err f) h = tt
 
 pub plays_abort : (store : SharedStore) (old new : Session) (b : Bool) (r : SessionReply) (rs more : List SessionReply) → IsSession store old
     → MatchBool b (((w : OpenTransaction) × IsOpen old w) × (new ≡ record old { current = None; head = None })) ((old.current ≡ None) × (new ≡ old)) → IsAbortReply b r → more ≡ rs ++ r ∷ [] → Plays store old new Abort rs more
@@ -206,6 +240,8 @@ plays_reading store old new (Ok (ReadOnly v)) r rs more was is reads b told em =
 plays_reading store old new (Ok (Done n why)) r rs more was is reads b told em = absurd (no_work old b.0 b.1 reads b.2.0)
 plays_reading store old new (Ok (Conflict n t)) r rs more was is reads b told em = absurd (no_work old b.0 b.1 reads b.2.0)
 plays_reading store old new (Ok (FullTriples n)) r rs more was is reads b told em = absurd (no_work old b.0 b.1 reads b.2.0)
+plays_reading store old new (Ok LogFault) r rs more was is reads b told em = absurd (no_work old b.0 b.1 reads b.2.0)
+plays_reading store old new (Ok (Stopped n)) r rs more was is reads b told em = absurd (no_work old b.0 b.1 reads b.2.0)
 plays_reading store old new (Ok (Refused rows why shapes)) r rs more was is reads b told em = absurd (no_work old b.0 b.1 reads b.2.0)
 plays_reading store old new (Err commits.NoTransaction) r rs more was is reads b told em =
     plays_local store old new None None Commit rs more said.NoTransaction is (ap (λ s. s.number) b.1) (ap (λ s. s.pass) b.1) (plain_none old b.0) (plain_none new (ap (λ s. s.current) b.1 ∙ b.0)) refl (em ∙ ap (λ x. rs ++ x ∷ []) told.1)
@@ -296,6 +332,10 @@ plays_work store old mid new v (Ok (Conflict n t)) r rs more was mid_is is work 
     plays_committed store old mid new b.0 v (replies.Conflict n t) (said.Overtaken n t) rs more was mid_is is b.1 b.2.0 h b.2.1 (λ cs. refl) (ap (λ s. s.number) b.3) (ap (λ s. s.current) b.3) (em ∙ ap (λ x. rs ++ x ∷ []) told)
 plays_work store old mid new v (Ok (FullTriples n)) r rs more was mid_is is work h b told em =
     plays_committed store old mid new b.0 v (replies.FullTriples n) said.FullGraph rs more was mid_is is b.1 b.2.0 h b.2.1 (λ cs. refl) (ap (λ s. s.number) b.3) (ap (λ s. s.current) b.3) (em ∙ ap (λ x. rs ++ x ∷ []) told)
+plays_work store old mid new v (Ok LogFault) r rs more was mid_is is work h b told em =
+    plays_committed store old mid new b.0 v replies.LogFault said.LogFailed rs more was mid_is is b.1 b.2.0 h b.2.1 (λ cs. refl) (ap (λ s. s.number) b.3) (ap (λ s. s.current) b.3) (em ∙ ap (λ x. rs ++ x ∷ []) told)
+plays_work store old mid new v (Ok (Stopped n)) r rs more was mid_is is work h b told em =
+    plays_committed store old mid new b.0 v (replies.Stopped n) (said.Stopped n) rs more was mid_is is b.1 b.2.0 h b.2.1 (λ cs. refl) (ap (λ s. s.number) b.3) (ap (λ s. s.current) b.3) (em ∙ ap (λ x. rs ++ x ∷ []) told)
 plays_work store old mid new v (Ok (Refused rows why shapes)) r rs more was mid_is is work h b told em =
     plays_committed store old mid new b.0 v (replies.Refused rows why) (said.Refused (length rows) (report_text shapes rows)) rs more was mid_is is b.1 b.2.0 h b.2.1.0
     (λ cs. ap (λ (x : SessionReply). Some (up_to_event None cs (rs ++ x ∷ []))) (told_refused rows shapes _ b.2.1.1)) (ap (λ s. s.number) b.3) (ap (λ s. s.current) b.3) (em ∙ ap (λ x. rs ++ x ∷ []) told)
@@ -309,6 +349,8 @@ listed_by store old new w (ReadOnly v) b = tt
 listed_by store old new w (Done n why) b = tt
 listed_by store old new w (Conflict n t) b = tt
 listed_by store old new w (FullTriples n) b = tt
+listed_by store old new w LogFault b = tt
+listed_by store old new w (Stopped n) b = tt
 listed_by store old new w (Refused rows why shapes) b = (_, b.1.2)
 
 pub listed : (store : SharedStore) (old new : Session) (a : Result Committed CommitFault) → MatchResult a (Commits store old new) (λ f. CommitsNot f store old new) → IfOk a IsListed

@@ -62,11 +62,14 @@ use Rattle.turn_lock.proofs.turns.Pass.TheSendSync as pass_sent
 use Rattle.turn_lock.proofs.turns.Turns.TheSendSync as turns_sent
 use Rattle.session_model.proofs.reply.SessionReply.TheSendSync as reply_sent
 use Rattle.session_model.specs.contracts.command.Command as command
+use Rattle.bgp_query.specs.contracts.pattern.Part as part
+use Rattle.bgp_query.specs.contracts.pattern.JoinPattern as join_pattern
 use Rattle.collections.proofs.sequence.Sequence.TheSendSync as sequence_sent
 use Rattle.commit_core.specs.contracts.checked.CheckedNet as checked
 use Rattle.commit_core.specs.contracts.history.History as history
 use Rattle.commit_core.specs.contracts.snapshot.Snap as snap
 use Rattle.commit_core.specs.contracts.store.Core as core
+use Rattle.record_text.specs.contracts.record.Record as record_row
 use Rattle.guard_store.specs.contracts.shared.Shared as shared
 use Rattle.session_transaction.specs.contracts.transaction.OpenTransaction as open_transaction
 use Rattle.guard_store.specs.contracts.session.Session as session
@@ -136,8 +139,11 @@ event_send = search (action_send, answer_send, crosses, sendable) depth 60 fits 
 history_send : IsSend history.the_row
 history_send = search (event_send, history_knot.crosses, crosses, sendable) depth 60 fits 20000
 
+record_send : IsSend record_row.the_row
+record_send = search (triple_sent.the_send, sequence_sent.the_send, crosses, sendable) depth 60 fits 20000
+
 core_send : IsSend core.the_row
-core_send = search (data_graph_send, shapes_send, given_send, accepted_sent.the_send, history_send, crosses, sendable) depth 60 fits 20000
+core_send = search (record_send, data_graph_send, shapes_send, given_send, accepted_sent.the_send, history_send, crosses, sendable) depth 60 fits 20000
 
 shared_send : IsSend shared.the_row
 shared_send = search (core_send, crosses, sendable) depth 60 fits 20000
@@ -157,8 +163,14 @@ session_send = search (shared_send, pass_sent.the_send, open_send, snap_send, cr
 pub player_send : IsSend player.the_row
 player_send = search (session_send, reply_sent.the_send, sequence_sent.the_send, crosses, sendable) depth 60 fits 20000
 
+part_sync : IsSync (part.the_row term.the_row)
+part_sync = search (term_sent.the_sync, crosses, sendable) depth 60 fits 20000
+
+join_sync : IsSync (join_pattern.the_row term.the_row)
+join_sync = search (part_sync, crosses, sendable) depth 60 fits 20000
+
 command_sync : IsSync command.the_row
-command_sync = search (triple_sent.the_sync, shapes_sync, term_sent.the_sync, sequence_sent.the_sync, crosses, sendable) depth 60 fits 20000
+command_sync = search (join_sync, triple_sent.the_sync, shapes_sync, term_sent.the_sync, sequence_sent.the_sync, crosses, sendable) depth 60 fits 20000
 
 store_sync : IsSync store.the_row
 store_sync = search (turns_sent.the_sync, shared_send, crosses, sendable) depth 60 fits 20000

@@ -10,7 +10,7 @@ use Rattle.session_model.specs.declared.command.Command.{Command}
 use Rattle.session_model.specs.Sessions.{LocalAnswer, OpenTransaction, action_of, local_answer}
 use Rattle.guard_store.specs.declared.faults.CommitFault.{CommitFault}
 use Rattle.session_transaction.specs.declared.committing.Committed.{Committed}
-use Rattle.session_transaction.specs.declared.committing.Committed.TheVariants.{ReadOnly, Done, Conflict, FullTriples, Refused}
+use Rattle.session_transaction.specs.declared.committing.Committed.TheVariants.{ReadOnly, Done, Conflict, FullTriples, Refused, LogFault, Stopped}
 
 abbrev pub kind_of : Action → EventKind
 kind_of actions.Open = kinds.Open
@@ -40,6 +40,8 @@ is_ready_as (ReadOnly v) = false
 is_ready_as (Done n why) = is_no why
 is_ready_as (Conflict n t) = false
 is_ready_as (FullTriples n) = false
+is_ready_as LogFault = false
+is_ready_as (Stopped v) = false
 is_ready_as (Refused rows why shapes) = is_no why
 
 -- a commit that was accepted, or refused, and not evaluated again

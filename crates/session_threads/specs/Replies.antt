@@ -9,6 +9,8 @@ use Rattle.guard_store.specs.declared.faults.AttachFault.{AttachFault}
 use Rattle.guard_store.specs.declared.faults.AttachFault.TheVariants as attaches
 use Rattle.guard_store.specs.declared.faults.FindFault.{FindFault}
 use Rattle.guard_store.specs.declared.faults.FindFault.TheVariants as finds
+use Rattle.guard_store.specs.declared.faults.SelectFault.{SelectFault}
+use Rattle.guard_store.specs.declared.faults.SelectFault.TheVariants as selects
 use Rattle.guard_store.specs.Answers.{attach_fault}
 
 abbrev pub IsBeginReply : Result ℕ BeginFault → SessionReply → Type 0
@@ -34,6 +36,11 @@ IsAttachReply (Err f) done r = IsBlockRefusal f r
 abbrev pub IsFindRefusal : FindFault → SessionReply → Type 0
 IsFindRefusal finds.NoTransaction r = r ≡ told.NoTransaction
 IsFindRefusal finds.Memory r = ⊥
+
+abbrev pub IsSelectRefusal : SelectFault → SessionReply → Type 0
+IsSelectRefusal selects.NoTransaction r = r ≡ told.NoTransaction
+IsSelectRefusal selects.TooMany r = r ≡ told.SelectFull
+IsSelectRefusal selects.Memory r = ⊥
 
 abbrev pub IsAbortReply : Bool → SessionReply → Type 0
 IsAbortReply true r = r ≡ told.Aborted

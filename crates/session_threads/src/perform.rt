@@ -6,13 +6,14 @@ ghost use Rattle.session_transaction.specs.Replies.{IsRefusedBlock, answer_in};
 ghost use Rattle.session_threads.specs.Playing.{Plays};
 
 use crate::replies::{
-    abort_reply, attach_reply, begin_reply, commit_reply, find_reply, stage_reply,
+    abort_reply, attach_reply, begin_reply, commit_reply, find_reply, select_reply, stage_reply,
 };
 use crate::watch::{Watch, is_ready, next_event};
+use bgp_query::JoinPattern;
 use collections::Sequence;
 use guard_store::{AttachFault, BeginFault, CommitFault, Session, StageFault, Store};
 use outside::{EventKind, Gate};
-use rdf_model::{Pattern, Triple};
+use rdf_model::{Pattern, Term, Triple};
 use session_model::{Command, SessionReply};
 use session_transaction::block_refusal;
 use shape_eval::Steps;
@@ -156,6 +157,23 @@ fn find(
     Ok(session)
 }
 
+fn select(
+    store: &Store,
+    session: Session,
+    patterns: &Sequence<JoinPattern<Term>>,
+    replies: &mut Sequence<SessionReply>,
+) -> Result<Session, AllocError>
+    requires { IsSession store.now session }
+    ensures { IfOk result (λ next. Plays store.now session next (Command.Select patterns.now) replies.old replies.new) }
+{
+    let alloc = store.allocator();
+    let mut session = session;
+    let answer = session.select(alloc, patterns.as_slice());
+    let reply = select_reply(alloc, answer)?;
+    replies.push(reply)?;
+    Ok(session)
+}
+
 fn abort(
     store: &Store,
     session: Session,
@@ -278,12 +296,14 @@ pub fn perform<L: Ledger, R: Wait, G: Gate>(
         Command::Shapes(shapes) => stage(rt, store, watch, session, shapes, replies),
         Command::Commit => commit(rt, store, watch, session, replies, steps),
         Command::Find(pattern) => find(store, session, pattern, replies),
+        Command::Select(patterns) => select(store, session, patterns, replies),
         Command::Abort => abort(store, session, replies),
         Command::BadAdd { line: _, kind: _ }
         | Command::BadRemove { line: _, kind: _ }
         | Command::BadAttach { line: _, kind: _ }
         | Command::BadShapes { line: _, kind: _ }
         | Command::BrokenShapes { rule: _, node: _ }
-        | Command::RefusedPattern { node: _ } => refuse(store, session, command, replies),
+        | Command::RefusedPattern { node: _ }
+        | Command::BadSelect { line: _ } => refuse(store, session, command, replies),
     }
 }

@@ -1,13 +1,17 @@
 //! What a session is told of the store's answers.
-ghost use Rattle.std.specs.Prelude.{◌≡◌, IfOk, MatchResult};
+ghost use Rattle.std.specs.Prelude.{◌≡◌, ◌≤◌, IfOk, MatchResult, length};
+ghost use Rattle.bgp_query.specs.Bindings.{most_bindings};
 ghost use Rattle.session_model.specs.Sessions;
 ghost use Rattle.session_transaction.specs.Replies.{IsCommitReply, IsListed};
-ghost use Rattle.session_threads.specs.Replies.{IsAbortReply, IsAttachReply, IsBeginReply, IsFindRefusal, IsStageReply};
+ghost use Rattle.session_threads.specs.Replies.{IsAbortReply, IsAttachReply, IsBeginReply, IsFindRefusal, IsSelectRefusal, IsStageReply};
 
-use guard_store::{AttachFault, BeginFault, CommitFault, Committed, FindFault, StageFault};
-use rdf_model::Triple;
+use collections::Sequence;
+use guard_store::{
+    AttachFault, BeginFault, CommitFault, Committed, FindFault, SelectFault, StageFault,
+};
+use rdf_model::{Term, Triple};
 use session_model::SessionReply;
-use session_transaction::{reply_of_commit, reply_of_find};
+use session_transaction::{reply_of_commit, reply_of_find, reply_of_select};
 use std::alloc::{AllocError, Global};
 
 /// The reply to the begin of a transaction.
@@ -63,6 +67,22 @@ pub fn find_reply(
         Ok(triples) => reply_of_find(alloc, &triples),
         Err(FindFault::NoTransaction) => Ok(SessionReply::NoTransaction),
         Err(FindFault::Memory) => Err(AllocError),
+    }
+}
+
+/// The reply to a select.
+pub fn select_reply(
+    alloc: Global,
+    answer: Result<Vec<Sequence<Term>>, SelectFault>,
+) -> Result<SessionReply, AllocError>
+    requires { IfOk answer (λ rows. length rows.items ≤ most_bindings) }
+    ensures { IfOk result (λ reply. MatchResult answer (λ rows. reply ≡ Sessions.select_reply rows.items) (λ fault. IsSelectRefusal fault reply)) }
+{
+    match answer {
+        Ok(bindings) => reply_of_select(alloc, &bindings),
+        Err(SelectFault::NoTransaction) => Ok(SessionReply::NoTransaction),
+        Err(SelectFault::TooMany) => Ok(SessionReply::SelectFull),
+        Err(SelectFault::Memory) => Err(AllocError),
     }
 }
 

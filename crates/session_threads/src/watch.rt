@@ -68,6 +68,8 @@ pub fn next_event(session: &Session, command: &Command) -> Option<EventKind>
         }
         Command::Commit => session.has_work().then_some(EventKind::Head),
         Command::Find(_)
+        | Command::Select(_)
+        | Command::BadSelect { line: _ }
         | Command::Abort
         | Command::BadAdd { line: _, kind: _ }
         | Command::BadRemove { line: _, kind: _ }

@@ -4,3 +4,4 @@ pub mod Blocks
 pub mod Refusing
 pub mod Listed
 pub mod Checking
+pub mod Selecting

@@ -3,7 +3,7 @@ use Rattle.std.specs.Prelude.{◌⊎◌}
 use Rattle.std.proofs.Common.{◌≡◌, ℕ, Option, Some, None, inl, inr, refl, sym, ap, subst}
 use Rattle.rdf_model.specs.declared.term.Term.{Term}
 use Rattle.session_model.specs.declared.command.Command.{Command}
-use Rattle.session_model.specs.declared.command.Command.TheVariants.{Begin, Add, BadAdd, Remove, BadRemove, Attach, BadAttach, Shapes, BadShapes, BrokenShapes, RefusedPattern, Commit, Find, Abort}
+use Rattle.session_model.specs.declared.command.Command.TheVariants.{Begin, Add, BadAdd, Remove, BadRemove, Attach, BadAttach, Shapes, BadShapes, BrokenShapes, RefusedPattern, Commit, Find, Select, BadSelect, Abort}
 use Rattle.session_model.specs.declared.reply.SessionReply.{SessionReply}
 use Rattle.session_model.specs.declared.reply.SessionReply.TheVariants as said
 use Rattle.session_model.specs.Sessions.{OpenTransaction, local_answer, answers}
@@ -11,14 +11,15 @@ use Rattle.session_transaction.specs.Replies.{IsRefused, IsRefusedBlock, answer_
 
 pub refused_block : (c : Command)
     → ((n : ℕ) × (kind : ℕ) × (c ≡ BadAdd n kind)) ⊎ (((n : ℕ) × (kind : ℕ) × (c ≡ BadRemove n kind)) ⊎ (((n : ℕ) × (kind : ℕ) × (c ≡ BadAttach n kind))
-    ⊎ (((n : ℕ) × (kind : ℕ) × (c ≡ BadShapes n kind)) ⊎ (((rule : ℕ) × (node : Term) × (c ≡ BrokenShapes rule node)) ⊎ ((node : Term) × (c ≡ RefusedPattern node))))))
+    ⊎ (((n : ℕ) × (kind : ℕ) × (c ≡ BadShapes n kind)) ⊎ (((rule : ℕ) × (node : Term) × (c ≡ BrokenShapes rule node)) ⊎ (((node : Term) × (c ≡ RefusedPattern node)) ⊎ ((n : ℕ) × (c ≡ BadSelect n)))))))
     → IsRefusedBlock c
 refused_block c (inl h) = subst IsRefusedBlock (sym h.2) (said.AddRefused h.0 h.1, refl)
 refused_block c (inr (inl h)) = subst IsRefusedBlock (sym h.2) (said.RemoveRefused h.0 h.1, refl)
 refused_block c (inr (inr (inl h))) = subst IsRefusedBlock (sym h.2) (said.AttachRefused h.0 h.1, refl)
 refused_block c (inr (inr (inr (inl h)))) = subst IsRefusedBlock (sym h.2) (said.ShapesRefused h.0 h.1, refl)
 refused_block c (inr (inr (inr (inr (inl h))))) = subst IsRefusedBlock (sym h.2) (said.ShapesBroken h.0 h.1, refl)
-refused_block c (inr (inr (inr (inr (inr h))))) = subst IsRefusedBlock (sym h.1) (said.PatternRefused h.0, refl)
+refused_block c (inr (inr (inr (inr (inr (inl h)))))) = subst IsRefusedBlock (sym h.1) (said.PatternRefused h.0, refl)
+refused_block c (inr (inr (inr (inr (inr (inr h)))))) = subst IsRefusedBlock (sym h.1) (said.SelectRefused h.0, refl)
 
 refused_none : (c : Command) (r : SessionReply) → IsRefused c r → local_answer None c ≡ answers said.NoTransaction None
 refused_none Begin r h = absurd h
@@ -34,6 +35,8 @@ refused_none (BrokenShapes rule node) r h = refl
 refused_none (RefusedPattern node) r h = refl
 refused_none Commit r h = absurd h
 refused_none (Find p) r h = absurd h
+refused_none (Select ps) r h = absurd h
+refused_none (BadSelect n) r h = refl
 refused_none Abort r h = absurd h
 
 refused_some : (c : Command) (r : SessionReply) (w : OpenTransaction) → IsRefused c r → local_answer (Some w) c ≡ answers r (Some w)
@@ -50,6 +53,8 @@ refused_some (BrokenShapes rule node) r w h = ap (λ x. answers x (Some w)) (sym
 refused_some (RefusedPattern node) r w h = ap (λ x. answers x (Some w)) (sym h)
 refused_some Commit r w h = absurd h
 refused_some (Find p) r w h = absurd h
+refused_some (Select ps) r w h = absurd h
+refused_some (BadSelect n) r w h = ap (λ x. answers x (Some w)) (sym h)
 refused_some Abort r w h = absurd h
 
 -- such a command changes nothing

@@ -1,9 +1,16 @@
 -- A session's open transaction, as its caller keeps it.
-use Rattle.std.specs.Prelude.{◌≡◌, ℕ, ◌≤◌, List, [], ◌∷◌, ◌++◌, Option, Some, None, false}
+use Rattle.std.specs.Prelude.{◌≡◌, ℕ, ◌≤◌, List, [], ◌∷◌, ◌++◌, map, Option, Some, None, false}
+use Rattle.rdf_model.specs.declared.term.Term.{Term}
 use Rattle.rdf_model.specs.declared.triple.Triple.{Triple}
 use Rattle.rdf_model.specs.declared.pattern.Pattern.{Pattern}
 use Rattle.rdf_model.specs.declared.change.Change.{Change}
 use Rattle.rdf_model.specs.declared.change.Change.TheVariants as changes
+use Rattle.rdf_model.specs.Graphs.{after}
+use Rattle.bgp_query.specs.declared.fault.SelectFault.{SelectFault}
+use Rattle.bgp_query.specs.declared.fault.SelectFault.TheVariants.{TooMany, Memory}
+use Rattle.bgp_query.specs.declared.pattern.JoinPattern.{JoinPattern}
+use Rattle.bgp_query.specs.Selected.{AreTooMany}
+use Rattle.bgp_query.specs.TermBindings.{opened}
 use Rattle.store_model.specs.declared.commit.Transaction.{Transaction}
 use Rattle.store_model.specs.declared.event.NameKind.{NameKind}
 use Rattle.store_model.specs.declared.event.NameKind.TheVariants as kinds
@@ -61,6 +68,20 @@ with_shapes w ts = record w { transaction = record w.transaction { staged = Some
 -- a find's pattern is recorded
 abbrev pub with_find : OpenTransaction → Pattern → OpenTransaction
 with_find w p = record w { transaction = record w.transaction { finds = w.transaction.finds ++ p ∷ [] } }
+
+-- so are the patterns of several
+abbrev pub with_finds : OpenTransaction → List Pattern → OpenTransaction
+with_finds w ps = record w { transaction = record w.transaction { finds = w.transaction.finds ++ ps } }
+
+-- the graph at its begin with its changes so far
+abbrev pub graph_so_far : OpenTransaction → List Triple
+graph_so_far w = after w.snap.graph w.transaction.net
+
+-- The bindings of the patterns were answered, or there were too many: each pattern, its variables open, is recorded. Without
+-- memory for them all is as it was.
+abbrev pub SelectsNot : SelectFault → List (JoinPattern Term) → OpenTransaction → OpenTransaction → Type 0
+SelectsNot TooMany ps old new = AreTooMany (graph_so_far old) ps × (new ≡ with_finds old (map opened ps))
+SelectsNot Memory ps old new = new ≡ old
 
 -- the plain session's transaction; its commit has taken no head yet
 abbrev pub plain : OpenTransaction → Sessions.OpenTransaction

@@ -1,8 +1,8 @@
 //! The commit of a transaction over a core.
-ghost use Rattle.std.specs.Prelude.{◌≡◌, ◌≤◌, MatchResult};
+ghost use Rattle.std.specs.Prelude.{◌≡◌, ◌≤◌, IfOk, MatchResult};
 ghost use Rattle.store_model.specs.Store.{IsCommittable, IsOpened};
 ghost use Rattle.commit_core.specs.Verdicts.{AreOfVerdict};
-ghost use Rattle.session_transaction.specs.Commits.{IsCommitted};
+ghost use Rattle.session_transaction.specs.Commits.{IsCommitted, IsNoFault};
 
 use collections::Sequence;
 use commit_core::{CheckedTransaction, Commit, Core};
@@ -40,10 +40,18 @@ pub enum Committed {
         again: Again,
         shapes: ShapesGraph,
     },
+    /// The store's log failed where the commit would have been accepted; from here on the store is
+    /// stopped.
+    LogFault,
+    /// The version of a store that is stopped.
+    Stopped {
+        version: u64,
+    },
 }
 
 /// Commits a transaction that changes something or stages shapes, with the results of its verdict, if it has one, and counts its
-/// evaluations in `steps`. Without memory it is handed back, and nothing has happened but what was counted.
+/// evaluations in `steps`. No log is written to, so that none fails. Without memory it is handed back, and nothing has happened
+/// but what was counted.
 pub fn commit<L: Ledger>(
     core: &mut Core,
     session: u32,
@@ -53,7 +61,8 @@ pub fn commit<L: Ledger>(
     requires opened { IsOpened core.old.state session }
     requires committable { IsCommittable core.old.state checked.transaction }
     requires verdict { AreOfVerdict core.old checked.transaction.net checked.transaction.verdict checked.rows }
-    ensures { MatchResult result (IsCommitted core.old core.new session checked.transaction steps.old steps.new) (λ back. (back ≡ checked) × (core.new ≡ core.old) × (steps.old ≤ steps.new)) }
+    ensures answer { MatchResult result (IsCommitted core.old core.new session checked.transaction steps.old steps.new) (λ back. (back ≡ checked) × (core.new ≡ core.old) × (steps.old ≤ steps.new)) }
+    ensures no_fault { IfOk result IsNoFault }
 {
     match core.commit(session, checked, steps) {
         Commit::Done { number, again } => Ok(Committed::Done { number, again }),
@@ -68,6 +77,8 @@ pub fn commit<L: Ledger>(
             again,
             shapes,
         }),
+        Commit::LogFault => unreachable!(),
+        Commit::Stopped { version } => Ok(Committed::Stopped { version }),
         Commit::Memory(checked) => Err(checked),
     }
 }

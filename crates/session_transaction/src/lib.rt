@@ -1,17 +1,19 @@
 //! A session's open transaction, however its store is reached.
 //!
 //! `OpenTransaction` has what its commit hands in and the snapshot of its begin. Its changes, its staged shapes and the
-//! patterns of its finds are kept in their order, and a find sees the snapshot with the changes so far. `check` evaluates what
+//! patterns of its finds are kept in their order, and a find and a select see the snapshot with the changes so far. `check` evaluates what
 //! the changes touch at a later version, and keeps the verdict until a change is staged. `commit` hands all of it to a core, and
-//! `Committed` is the answer. What a session is told of a find, of a refused block and of a commit is told here too.
+//! `Committed` is the answer. What a session is told of a find, of a select, of a refused block and of a commit is told
+//! here too.
 #![tactic(auto)]
 
 mod committing;
 mod replies;
+mod select;
 mod terms;
 mod transaction;
 
 pub use committing::{Committed, commit};
-pub use replies::{block_refusal, reply_of_commit, reply_of_find};
+pub use replies::{block_refusal, reply_of_commit, reply_of_find, reply_of_select};
 pub use terms::terms_in;
 pub use transaction::{ChangeKind, OpenTransaction};

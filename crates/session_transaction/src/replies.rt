@@ -1,14 +1,15 @@
-//! What a session is told of a find, of a refused block and of a commit.
-ghost use Rattle.std.specs.Prelude.{◌≡◌, List, IfOk, length};
+//! What a session is told of a find, of a select, of a refused block and of a commit.
+ghost use Rattle.std.specs.Prelude.{◌≡◌, ◌≤◌, ◌∷◌, ◌++◌, List, IfOk, OnOk, length, string_bytes};
+ghost use Rattle.bgp_query.specs.Bindings.{most_bindings};
 ghost use Rattle.rdf_model.specs.declared.triple.Triple.{Triple};
 ghost use Rattle.report_writer.specs.Report.{report_text};
 ghost use Rattle.shape_model.specs.Validation.{Listing};
-ghost use Rattle.session_model.specs.Sessions.{find_reply};
+ghost use Rattle.session_model.specs.Sessions.{binding_text, find_reply, select_reply};
 ghost use Rattle.session_transaction.specs.Replies.{IsCommitReply, IsListed, IsRefused, IsRefusedBlock};
 
 use crate::committing::Committed;
 use collections::{Sequence, let_go};
-use rdf_model::{Text, Triple};
+use rdf_model::{Term, Text, Triple};
 use report_writer::report;
 use session_model::{Command, SessionReply};
 use shape_model::ResultRow;
@@ -29,7 +30,38 @@ pub fn reply_of_find(alloc: Global, triples: &[Triple]) -> Result<SessionReply, 
     })
 }
 
-/// The reply, within a transaction, to a command whose block can't be read, isn't well-formed, or has a pattern that was refused.
+// Adds the line of a binding, an LF before it.
+fn push_binding(lines: &mut String, binding: &[Term]) -> Result<(), AllocError>
+    ensures { OnOk result (string_bytes lines.new ≡ string_bytes lines.old ++ 10 ∷ binding_text binding.now) }
+{
+    lines.push('\n')?;
+    for term in binding {
+        write!(lines, "{term} ")?;
+    }
+    lines.push('.')?;
+    Ok(())
+}
+
+/// The reply to a select that gave these bindings.
+pub fn reply_of_select(
+    alloc: Global,
+    bindings: &[Sequence<Term>],
+) -> Result<SessionReply, AllocError>
+    requires { length bindings.now ≤ most_bindings }
+    ensures { IfOk result (λ reply. reply ≡ select_reply bindings.now) }
+{
+    let mut lines = String::new(alloc);
+    for binding in bindings {
+        push_binding(&mut lines, binding.as_slice())?;
+    }
+    Ok(SessionReply::Selected {
+        count: bindings.len(),
+        lines: Text::from_string(lines)?,
+    })
+}
+
+/// The reply, within a transaction, to a command whose block can't be read, isn't well-formed, has a pattern that was refused, or
+/// has a line that is no pattern of a select.
 pub fn block_refusal(command: &Command) -> Result<SessionReply, AllocError>
     requires { IsRefusedBlock command.now }
     ensures { IfOk result (IsRefused command.now) }
@@ -58,6 +90,7 @@ pub fn block_refusal(command: &Command) -> Result<SessionReply, AllocError>
         Command::RefusedPattern { node } => Ok(SessionReply::PatternRefused {
             node: node.clone()?,
         }),
+        Command::BadSelect { line } => Ok(SessionReply::SelectRefused { line: *line }),
         _ => unreachable!(),
     }
 }
@@ -99,5 +132,7 @@ pub fn reply_of_commit(alloc: Global, committed: Committed) -> Result<SessionRep
             let_go(again);
             refusal(alloc, &rows, &shapes)
         }
+        Committed::LogFault => Ok(SessionReply::LogFailed),
+        Committed::Stopped { version } => Ok(SessionReply::Stopped(version)),
     }
 }

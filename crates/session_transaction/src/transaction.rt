@@ -21,9 +21,9 @@ use store_model::NameKind;
 /// A session's open transaction, with the snapshot of its begin, and with what was checked of its changes since the last of them.
 pub struct OpenTransaction {
     // It has no verdict itself.
-    transaction: Transaction,
+    pub(crate) transaction: Transaction,
     checked: Option<CheckedNet>,
-    snap: Snap,
+    pub(crate) snap: Snap,
 }
 
 // Written by hand, so that what owns one calls it in place of having it written out.
@@ -96,14 +96,14 @@ fn changes_for(
     Ok(changes)
 }
 
-// Puts the changes at the end, or answers false where there is no room for them.
-fn appended(net: Net, more: Vec<Change>) -> (Net, bool)
-    ensures { MatchBool result.1 (result.0 ≡ net ++ more.items) (result.0 ≡ net) }
+/// Puts items at the end, or answers false where there is no room for them.
+pub(crate) fn appended<T: Drop>(list: Sequence<T>, more: Vec<T>) -> (Sequence<T>, bool)
+    ensures { MatchBool result.1 (result.0 ≡ list ++ more.items) (result.0 ≡ list) }
 {
-    let mut changes = net.into_vec();
+    let mut items = list.into_vec();
     let mut more = more;
-    let grew = changes.append(&mut more).is_ok();
-    (Sequence::from_vec(changes), grew)
+    let grew = items.append(&mut more).is_ok();
+    (Sequence::from_vec(items), grew)
 }
 
 fn record_find(finds: &mut Sequence<Pattern>, pattern: &Pattern) -> Result<(), AllocError>

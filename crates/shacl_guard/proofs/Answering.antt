@@ -1,35 +1,38 @@
 -- What is due for the words, from what their request gives.
-use Rattle.std.proofs.Common.{◌≡◌, ◌∙◌, ℕ, List, [], ◌++◌, Option, Some, None, refl, sym, ap, subst, inl, inr}
+use Rattle.std.proofs.Common.{◌≡◌, ◌∙◌, ℕ, List, [], Option, Some, None, refl, sym, ap, subst, inl, inr}
 use Rattle.std.proofs.lemmas.List.{append-nil}
-use Rattle.std.specs.Prelude.{◌≢◌, ◌⊎◌, Bool, true, false, length, take, map, MatchResult, Result, Ok, Err}
+use Rattle.std.specs.Prelude.{◌≢◌, ◌⊎◌, true, false, MatchResult, Result, Ok, Err}
 use Rattle.outside.specs.Faults.{Refusal}
-use Rattle.outside.specs.Files.{Contents, grown}
+use Rattle.outside.specs.Files.{Contents}
 use Rattle.session_reader.specs.Checking.{OnlyGrows}
 use Rattle.guard_words.specs.declared.call.WordsFault.{WordsFault}
 use Rattle.guard_words.specs.declared.call.WordsFault.TheVariants as words
-use Rattle.input_files.specs.Loads.{Loads, LoadsFirst, NoneFailed}
+use Rattle.input_files.specs.Loads.{Loads}
 use Rattle.file_validation.specs.declared.fault.InputFault.{InputFault}
 use Rattle.file_validation.specs.declared.fault.InputFault.TheVariants as texts
 use Rattle.file_validation.specs.declared.validating.Explanation.{Explanation as Evidence}
 use Rattle.file_validation.specs.declared.validating.Validation.{Validation as Outcome}
+use Rattle.file_validation.specs.declared.validating.Verdict.{Verdict}
+use Rattle.file_validation.specs.declared.validating.Verdict.TheVariants.{Verified, Wrong}
 use Rattle.file_validation.specs.Validations.{IsCause}
 use Rattle.session_files.specs.declared.fault.RunFault.{RunFault}
 use Rattle.session_files.specs.declared.fault.RunFault.TheVariants as run
 use Rattle.session_files.specs.declared.session_run.SessionRun.{SessionRun}
-use Rattle.session_files.specs.Runs.{all_files}
 use Rattle.session_files.specs.Faults.{IsStopped, StopsRun, count_loaded}
 use Rattle.validate_command.specs.declared.fault.ValidateFault.{ValidateFault}
 use Rattle.validate_command.specs.declared.fault.ValidateFault.TheVariants as validation
 use Rattle.validate_command.specs.declared.validated_files.ValidatedFiles.{ValidatedFiles}
-use Rattle.validate_command.specs.Validated.{AreExplained, AreValidated, both_files}
+use Rattle.validate_command.specs.declared.validated_files.VerifiedFiles.{VerifiedFiles}
+use Rattle.validate_command.specs.Validated.{AreExplained, AreValidated}
 use Rattle.validate_command.specs.Faults.{StopsValidation}
+use Rattle.validate_command.specs.Verified.{AreVerified, StopsVerification}
 use Rattle.shacl_guard.specs.declared.request.Request.{Request}
-use Rattle.shacl_guard.specs.declared.request.Request.TheVariants.{Sessions, Validation, Explanation, Load}
+use Rattle.shacl_guard.specs.declared.request.Request.TheVariants.{Sessions, Validation, Explanation, Verification, Load}
 use Rattle.shacl_guard.specs.declared.status.Status.{Status}
-use Rattle.shacl_guard.specs.declared.status.Status.TheVariants.{Done, Invalid, Usage, ReadFault, WriteFault, BadSession, Memory, TooLong, TooManyFiles, BadHistory, BadInput}
-use Rattle.shacl_guard.specs.Requests.{Unasked, files_in, request_of}
+use Rattle.shacl_guard.specs.declared.status.Status.TheVariants.{Done, Invalid, Usage, ReadFault, WriteFault, BadSession, Memory, TooLong, TooManyFiles, BadHistory, BadInput, BadEvidence}
+use Rattle.shacl_guard.specs.Requests.{Unasked, request_of}
 use Rattle.shacl_guard.specs.Statuses.{error_line, of_run, of_validation, of_words}
-use Rattle.shacl_guard.specs.Due.{Fails, FailsLoad, Gives, IsDue, IsDueOf, IsRequestDue, LoadsNone, RunsOut, StopsCall, StopsRequest}
+use Rattle.shacl_guard.specs.Due.{Fails, Gives, IsDueOf, IsTold, LoadsNone, RunsOut, StopsCall, StopsRequest, TellsNone}
 use Rattle.shacl_guard.specs.Outcome.{Call, IsOutcome, PrintsAll}
 
 -- nothing was loaded
@@ -93,6 +96,17 @@ explanation_fails validation.Memory held v before after h none = (h.0, h.1)
 explanation_fails (validation.TooLong f) held v before after h none = cc
 explanation_fails (validation.BadInput bad) held v before after h none = cc
 
+verification_fails : (fault : ValidateFault) (held : Option Contents) (v : VerifiedFiles) (before after : Loads) → StopsVerification fault held v before after → error_line (of_validation fault) ≡ None → Fails (of_validation fault) held (Some (Verification v)) before after
+verification_fails validation.ReadFault held v before after h none = inl (validation.ReadFault, refl, h)
+verification_fails validation.Memory held v before after h none = (h.0, h.1)
+verification_fails (validation.TooLong f) held v before after h none = cc
+verification_fails (validation.BadInput bad) held v before after h none = cc
+
+-- a verdict without a text or a line
+verdict_fails : (verdict : Verdict) (s : Status) (held : Option Contents) (v : VerifiedFiles) (before after : Loads) → AreVerified held v before after verdict → TellsNone verdict s → error_line s ≡ None → Fails s held (Some (Verification v)) before after
+verdict_fails (Verified n) s held v before after h t none = subst (λ (x : Status). Fails x held (Some (Verification v)) before after) (sym t) ((3, h.5.0), h.5.1)
+verdict_fails (Wrong i) s held v before after h t none = let no : None ≡ Some _ = sym none ∙ ap error_line t in cc
+
 -- a generated load loads nothing
 load_out : (n : ℕ) (before after : Loads) → LoadsNone before after → RunsOut (Some (Load n)) before after
 load_out n before after h = ((0, h.0 ∙ sym (append-nil before.loaded)), h.1)
@@ -104,6 +118,9 @@ request_fails s held (Validation v) before after none h =
     subst (λ (x : Status). Fails x held (Some (Validation v)) before after) (sym h.1) (validation_fails h.0 held v before after h.2 (subst (λ (x : Status). error_line x ≡ None) h.1 none))
 request_fails s held (Explanation v) before after none h =
     subst (λ (x : Status). Fails x held (Some (Explanation v)) before after) (sym h.1) (explanation_fails h.0 held v before after h.2 (subst (λ (x : Status). error_line x ≡ None) h.1 none))
+request_fails s held (Verification v) before after none (inl h) =
+    subst (λ (x : Status). Fails x held (Some (Verification v)) before after) (sym h.1) (verification_fails h.0 held v before after h.2 (subst (λ (x : Status). error_line x ≡ None) h.1 none))
+request_fails s held (Verification v) before after none (inr h) = verdict_fails h.0 s held v before after h.1 h.2 none
 request_fails s held (Load n) before after none h = subst (λ (x : Status). Fails x held (Some (Load n)) before after) (sym h.0) (load_out n before after h.1)
 
 memory_fails : (s : Status) (held : Option Contents) (q : Option Request) (before after : Loads) → s ≡ Memory → after ≡ before → Fails s held q before after
@@ -137,10 +154,18 @@ validation_out validation.Memory held v before after line h = (h.0, h.1)
 validation_out (validation.TooLong f) held v before after line h = ((f, h.1), h.2)
 validation_out (validation.BadInput bad) held v before after line h = ((2, h.1.0), h.1.1)
 
+verification_out : (fault : ValidateFault) (held : Option Contents) (v : VerifiedFiles) (before after : Loads) → error_line (of_validation fault) ≢ None → StopsVerification fault held v before after → RunsOut (Some (Verification v)) before after
+verification_out validation.ReadFault held v before after line h = absurd (line refl)
+verification_out validation.Memory held v before after line h = (h.0, h.1)
+verification_out (validation.TooLong f) held v before after line h = ((f, h.1), h.2)
+verification_out (validation.BadInput bad) held v before after line h = ((3, h.1.0), h.1.1)
+
 request_out : (s : Status) (held : Option Contents) (q : Request) (before after : Loads) → error_line s ≢ None → StopsRequest s held q before after → RunsOut (Some q) before after
 request_out s held (Sessions r) before after line h = run_out h.0 held r before after (subst (λ (x : Status). error_line x ≢ None) h.1 line) h.2
 request_out s held (Validation v) before after line h = validation_out h.0 held v before after (subst (λ (x : Status). error_line x ≢ None) h.1 line) h.2
 request_out s held (Explanation v) before after line h = validation_out h.0 held v before after (subst (λ (x : Status). error_line x ≢ None) h.1 line) h.2
+request_out s held (Verification v) before after line (inl h) = verification_out h.0 held v before after (subst (λ (x : Status). error_line x ≢ None) h.1 line) h.2
+request_out s held (Verification v) before after line (inr h) = ((3, h.1.5.0), h.1.5.1)
 request_out s held (Load n) before after line h = load_out n before after h.1
 
 pub runs_out : (s : Status) (held : Option Contents) (q : Option Request) (before after : Loads) → error_line s ≢ None → StopsCall s held q before after → RunsOut q before after
@@ -156,6 +181,8 @@ tells_request held (Validation v) s before after text (true, e, h) = inl e
 tells_request held (Validation v) s before after text (false, e, h) = inr e
 tells_request held (Explanation v) s before after text (true, e, h) = inl e
 tells_request held (Explanation v) s before after text (false, e, h) = inr e
+tells_request held (Verification v) s before after text (Verified n, h, t) = inl t.0
+tells_request held (Verification v) s before after text (Wrong i, h, t) = absurd t
 tells_request held (Load n) s before after text h = inl h.0
 
 tells : (held : Option Contents) (q : Option Request) (s : Status) (before after : Loads) (text : List ℕ) → IsDueOf held q s before after text → ((s ≡ Done) ⊎ (s ≡ Invalid)) ⊎ (error_line s ≡ Some text)
@@ -182,6 +209,7 @@ printed (TooLong f) c p = p
 printed TooManyFiles c p = p
 printed (BadHistory k) c p = p
 printed (BadInput bad) c p = p
+printed (BadEvidence i) c p = p
 printed ReadFault c p = absurd (never c.held (request_of c.words) ReadFault c.before.loads c.after.loads p.0 (λ e. cc) (λ e. cc) refl p.1)
 printed WriteFault c p = absurd (never c.held (request_of c.words) WriteFault c.before.loads c.after.loads p.0 (λ e. cc) (λ e. cc) refl p.1)
 printed Memory c p = absurd (never c.held (request_of c.words) Memory c.before.loads c.after.loads p.0 (λ e. cc) (λ e. cc) refl p.1)
@@ -199,6 +227,7 @@ not_printed (TooLong i) c f same = absurd f
 not_printed TooManyFiles c f same = absurd f
 not_printed (BadHistory k) c f same = absurd f
 not_printed (BadInput bad) c f same = absurd f
+not_printed (BadEvidence i) c f same = absurd f
 
 -- What the maker refused grows by the pattern that is told alone.
 
@@ -225,3 +254,20 @@ validation_grows held v before after (Err fault) h = fault_grows fault held v be
 pub explanation_grows : (held : Option Contents) (v : ValidatedFiles) (before after : Loads) (r : Result Evidence ValidateFault) → MatchResult r (AreExplained held v before after) (λ fault. StopsValidation fault held v before after) → OnlyGrows before.refused after.refused
 explanation_grows held v before after (Ok o) h = same_grows before.refused after.refused h.5
 explanation_grows held v before after (Err fault) h = fault_grows fault held v before after h
+
+verdict_fault_grows : (fault : ValidateFault) (held : Option Contents) (v : VerifiedFiles) (before after : Loads) → StopsVerification fault held v before after → OnlyGrows before.refused after.refused
+verdict_fault_grows validation.ReadFault held v before after h = same_grows before.refused after.refused h.3
+verdict_fault_grows (validation.TooLong f) held v before after h = same_grows before.refused after.refused h.3
+verdict_fault_grows (validation.BadInput bad) held v before after h = let k = h.0.3 in cause_grows h.0.0 h.0.1 before.refused after.refused k.0 k.2
+verdict_fault_grows validation.Memory held v before after h = same_grows before.refused after.refused h.2
+
+pub verification_grows : (held : Option Contents) (v : VerifiedFiles) (before after : Loads) (r : Result Verdict ValidateFault) → MatchResult r (AreVerified held v before after) (λ fault. StopsVerification fault held v before after) → OnlyGrows before.refused after.refused
+verification_grows held v before after (Ok o) h = same_grows before.refused after.refused h.6
+verification_grows held v before after (Err fault) h = verdict_fault_grows fault held v before after h
+
+-- what a verdict gives
+pub verdict_gives : {X : Type 0} (status : X → Status) (text : X → List ℕ) (held : Option Contents) (v : VerifiedFiles) (before after : Loads) (verdict : Verdict) (r : Result X Status) → AreVerified held v before after verdict
+    → MatchResult r (λ a. IsTold verdict (status a) (text a)) (λ s. TellsNone verdict s)
+    → MatchResult r (λ a. Gives held (Verification v) (status a) before after (text a)) (λ s. StopsRequest s held (Verification v) before after)
+verdict_gives status text held v before after verdict (Ok a) is told = (verdict, is, told)
+verdict_gives status text held v before after verdict (Err s) is told = inr (verdict, is, told)

@@ -1,7 +1,7 @@
 -- Where the words name files that are there, nothing but what they give is due, or the first bad place of their history, or what is
 -- wrong with the files of a validation.
 use Rattle.std.proofs.Common.{◌≡◌, ◌≢◌, ℕ, zero, suc, ◌+◌, ◌<◌, ◌≤◌, List, [], ◌∷◌, ◌++◌, length, length-append, take, get_or, Option, Some, None, Ok, Err, refl, inl, inr, sym, ap, subst, ◌∙◌, arith}
-use Rattle.std.specs.Prelude.{Bool, true, false}
+use Rattle.std.specs.Prelude.{true, false}
 use Rattle.std.proofs.lemmas.List.{take_all}
 use Rattle.store_model.specs.declared.event.Limits.{Limits}
 use Rattle.session_reader.specs.declared.read_command.ReadCommand.{ReadCommand}
@@ -19,13 +19,17 @@ use Rattle.session_files.specs.Faults.{IsRefused, SomeFailed, StopsRun}
 use Rattle.validate_command.specs.declared.fault.ValidateFault.{ValidateFault}
 use Rattle.validate_command.specs.declared.fault.ValidateFault.TheVariants as validation
 use Rattle.validate_command.specs.declared.validated_files.ValidatedFiles.{ValidatedFiles}
+use Rattle.validate_command.specs.declared.validated_files.VerifiedFiles.{VerifiedFiles}
+use Rattle.file_validation.specs.declared.validating.Verdict.{Verdict}
+use Rattle.file_validation.specs.declared.validating.Verdict.TheVariants.{Verified, Wrong}
 use Rattle.validate_command.specs.Faults.{IsFirst, StopsValidation}
+use Rattle.validate_command.specs.Verified.{IsFirstOf, StopsVerification}
 use Rattle.shacl_guard.specs.declared.request.Request.{Request}
-use Rattle.shacl_guard.specs.declared.request.Request.TheVariants.{Sessions, Validation, Explanation, Load}
+use Rattle.shacl_guard.specs.declared.request.Request.TheVariants.{Sessions, Validation, Explanation, Verification, Load}
 use Rattle.shacl_guard.specs.declared.status.Status.{Status}
-use Rattle.shacl_guard.specs.declared.status.Status.TheVariants.{Done, Invalid, Usage, ReadFault, WriteFault, BadSession, Memory, TooLong, TooManyFiles, BadHistory, BadInput}
+use Rattle.shacl_guard.specs.declared.status.Status.TheVariants.{Done, Invalid, Usage, ReadFault, WriteFault, BadSession, Memory, TooLong, TooManyFiles, BadHistory, BadInput, BadEvidence}
 use Rattle.shacl_guard.specs.Statuses.{error_line, of_run, of_validation}
-use Rattle.shacl_guard.specs.Due.{Fails, FailsLoad, IsDueOf}
+use Rattle.shacl_guard.specs.Due.{Fails, FailsLoad, IsDueOf, IsTold, TellsNone}
 use Rattle.shacl_guard.specs.Outcome.{AreThere, HasFiles, IsAnswered, IsHistoryThere, IsThere}
 
 -- a file that is there and holds session i
@@ -101,6 +105,25 @@ validation_complete validation.Memory held v s before after text there e l h = a
 validation_complete (validation.TooLong f) held v s before after text there e l h = absurd (never_first held v f there.0 there.1 h.0)
 validation_complete (validation.BadInput bad) held v s before after text there e l h = inr (inr (inr (bad, e)))
 
+-- none of the three files is too long
+never_first_of : (held : List ℕ → Option (List ℕ)) (v : VerifiedFiles) (f : ℕ) → IsThere held v.graphs.data_file → IsThere held v.graphs.shapes_file → IsThere held v.evidence_file → IsFirstOf (Some held) v f (IsTooLong (Some held)) → ⊥
+never_first_of held v f d s e (inl h) = never_first held v.graphs f d s h
+never_first_of held v f d s e (inr h) = short_enough held v.evidence_file e.0 e.1 e.2 h.2
+
+verification_complete : (fault : ValidateFault) (held : List ℕ → Option (List ℕ)) (v : VerifiedFiles) (s : Status) (before after : Loads) (text : List ℕ) → HasFiles (Some held) (Some (Verification v)) → s ≡ of_validation fault → error_line s ≡ Some text → StopsVerification fault (Some held) v before after → IsAnswered (Some (Verification v)) s
+verification_complete validation.ReadFault held v s before after text there e l h = absurd (no_line s ReadFault text e refl l)
+verification_complete validation.Memory held v s before after text there e l h = absurd (no_line s Memory text e refl l)
+verification_complete (validation.TooLong f) held v s before after text there e l h = absurd (never_first_of held v f there.0 there.1 there.2 h.0)
+verification_complete (validation.BadInput bad) held v s before after text there e l h = inr (inr (inl (bad, e)))
+
+verdict_complete : (verdict : Verdict) (v : VerifiedFiles) (s : Status) (text : List ℕ) → TellsNone verdict s → error_line s ≡ Some text → IsAnswered (Some (Verification v)) s
+verdict_complete (Verified n) v s text t l = absurd (no_line s Memory text t refl l)
+verdict_complete (Wrong i) v s text t l = inr (inr (inr (i, t)))
+
+told_complete : (verdict : Verdict) (v : VerifiedFiles) (s : Status) (text : List ℕ) → IsTold verdict s text → IsAnswered (Some (Verification v)) s
+told_complete (Verified n) v s text t = inl t.0
+told_complete (Wrong i) v s text t = absurd t
+
 -- a generated load is run, or memory runs out
 load_complete : (held : Option Contents) (n : ℕ) (s : Status) (before after : Loads) (text : List ℕ) → IsDueOf held (Some (Load n)) s before after text → IsAnswered (Some (Load n)) s
 load_complete held n s before after text (inl g) = inl g.0
@@ -111,6 +134,7 @@ complete None None s before after text d there = absurd there
 complete None (Some (Sessions r)) s before after text d there = absurd there
 complete None (Some (Validation v)) s before after text d there = absurd there
 complete None (Some (Explanation v)) s before after text d there = absurd there
+complete None (Some (Verification v)) s before after text d there = absurd there
 complete None (Some (Load n)) s before after text d there = load_complete None n s before after text d
 complete (Some held) None s before after text d there = absurd there
 complete (Some held) (Some (Load n)) s before after text d there = load_complete (Some held) n s before after text d
@@ -122,6 +146,9 @@ complete (Some held) (Some (Validation v)) s before after text (inr d) there = v
 complete (Some held) (Some (Explanation v)) s before after text (inl (true, e, g)) there = inl e
 complete (Some held) (Some (Explanation v)) s before after text (inl (false, e, g)) there = inr (inl e)
 complete (Some held) (Some (Explanation v)) s before after text (inr d) there = validation_complete d.0.0 held v s before after text there d.0.1 d.1 d.0.2
+complete (Some held) (Some (Verification v)) s before after text (inl g) there = told_complete g.0 v s text g.2
+complete (Some held) (Some (Verification v)) s before after text (inr (inl d, l)) there = verification_complete d.0 held v s before after text there d.1 l d.2
+complete (Some held) (Some (Verification v)) s before after text (inr (inr d, l)) there = verdict_complete d.0 v s text d.2 l
 
 -- memory ran out, without a text
 memory_answer : (held : Option Contents) (q : Option Request) → HasFiles held q → IsAnswered q Memory
@@ -129,12 +156,14 @@ memory_answer None None there = absurd there
 memory_answer None (Some (Sessions r)) there = absurd there
 memory_answer None (Some (Validation v)) there = absurd there
 memory_answer None (Some (Explanation v)) there = absurd there
+memory_answer None (Some (Verification v)) there = absurd there
 memory_answer None (Some (Load n)) there = inr refl
 memory_answer (Some held) None there = absurd there
 memory_answer (Some held) (Some (Load n)) there = inr refl
 memory_answer (Some held) (Some (Sessions r)) there = inr (inl refl)
 memory_answer (Some held) (Some (Validation v)) there = inr (inr (inl refl))
 memory_answer (Some held) (Some (Explanation v)) there = inr (inr (inl refl))
+memory_answer (Some held) (Some (Verification v)) there = inr (inl refl)
 
 -- A load that failed joined the list of those that did.
 
@@ -167,11 +196,27 @@ validation_failed validation.Memory held v before after same e h = cc
 validation_failed (validation.TooLong f) held v before after same e h = cc
 validation_failed (validation.BadInput bad) held v before after same e h = cc
 
+first_failed_of : (held : Option Contents) (v : VerifiedFiles) (f : ℕ) (before after : Loads) → after.failed ≡ before.failed → IsFirstOf held v f (λ name. OnlyFailed name before after) → ⊥
+first_failed_of held v f before after same (inl h) = first_failed held v.graphs f before after same h
+first_failed_of held v f before after same (inr h) = one_failed before after v.evidence_file same h.2
+
+verification_failed : (fault : ValidateFault) (held : Option Contents) (v : VerifiedFiles) (before after : Loads) → after.failed ≡ before.failed → ReadFault ≡ of_validation fault → StopsVerification fault held v before after → ⊥
+verification_failed validation.ReadFault held v before after same e h = first_failed_of held v h.0 before after same h.1
+verification_failed validation.Memory held v before after same e h = cc
+verification_failed (validation.TooLong f) held v before after same e h = cc
+verification_failed (validation.BadInput bad) held v before after same e h = cc
+
+verdict_failed : (verdict : Verdict) → TellsNone verdict ReadFault → ⊥
+verdict_failed (Verified n) t = let no : ReadFault ≡ Memory = t in cc
+verdict_failed (Wrong i) t = let no : ReadFault ≡ BadEvidence i = t in cc
+
 load_failed : (held : Option Contents) (q : Option Request) (before after : Loads) → after.failed ≡ before.failed → FailsLoad held q before after → ⊥
 load_failed held None before after same h = h
 load_failed held (Some (Sessions r)) before after same h = run_failed h.0 held r before after same h.1 h.2
 load_failed held (Some (Validation v)) before after same h = validation_failed h.0 held v before after same h.1 h.2
 load_failed held (Some (Explanation v)) before after same h = validation_failed h.0 held v before after same h.1 h.2
+load_failed held (Some (Verification v)) before after same (inl h) = verification_failed h.0 held v before after same h.1 h.2
+load_failed held (Some (Verification v)) before after same (inr h) = verdict_failed h.0 h.2
 load_failed held (Some (Load n)) before after same h = let no : ReadFault ≡ Memory = h.0 in cc
 
 -- nothing was due, and no load failed
@@ -187,3 +232,4 @@ not_failed (TooLong i) held q before after f there same = absurd f
 not_failed TooManyFiles held q before after f there same = absurd f
 not_failed (BadHistory k) held q before after f there same = absurd f
 not_failed (BadInput bad) held q before after f there same = absurd f
+not_failed (BadEvidence i) held q before after f there same = absurd f

@@ -7,9 +7,9 @@ use Rattle.input_files.specs.Lengths.{room}
 use Rattle.input_files.specs.Loads.{Loads}
 use Rattle.validate_command.specs.declared.bad_input.BadInput.{BadInput as InputFault}
 use Rattle.shacl_guard.specs.declared.request.Request.{Request}
-use Rattle.shacl_guard.specs.declared.request.Request.TheVariants.{Sessions, Validation, Explanation, Load}
+use Rattle.shacl_guard.specs.declared.request.Request.TheVariants.{Sessions, Validation, Explanation, Verification, Load}
 use Rattle.shacl_guard.specs.declared.status.Status.{Status}
-use Rattle.shacl_guard.specs.declared.status.Status.TheVariants.{Done, Invalid, ReadFault, WriteFault, Memory, BadHistory, BadInput}
+use Rattle.shacl_guard.specs.declared.status.Status.TheVariants.{Done, Invalid, ReadFault, WriteFault, Memory, BadHistory, BadInput, BadEvidence}
 use Rattle.shacl_guard.specs.Requests.{request_of}
 use Rattle.shacl_guard.specs.Due.{FailsLoad, IsDue, RunsOut}
 
@@ -55,25 +55,28 @@ abbrev pub IsHistoryThere : (List ℕ → Option (List ℕ)) → Option (List �
 IsHistoryThere held None = Unit {0}
 IsHistoryThere held (Some name) = IsThere held name
 
--- the request is a run of up to 64 such files, or a replay of them, or a validation of two files, which may be explained, or a
--- generated load
+-- the request is a run of up to 64 such files, or a replay of them, or a validation of two files, which may be explained, or whose
+-- evidence in a third is verified, or a generated load
 abbrev pub HasFiles : Option Contents → Option Request → Type 0
 HasFiles None None = ⊥
 HasFiles None (Some (Sessions r)) = ⊥
 HasFiles None (Some (Validation v)) = ⊥
 HasFiles None (Some (Explanation v)) = ⊥
+HasFiles None (Some (Verification v)) = ⊥
 HasFiles None (Some (Load n)) = Unit {0}
 HasFiles (Some held) None = ⊥
 HasFiles (Some held) (Some (Load n)) = Unit {0}
 HasFiles (Some held) (Some (Sessions r)) = IsHistoryThere held r.history × (length r.files ≤ 64) × AreThere held 1 r.files
 HasFiles (Some held) (Some (Validation v)) = IsThere held v.data_file × IsThere held v.shapes_file
 HasFiles (Some held) (Some (Explanation v)) = IsThere held v.data_file × IsThere held v.shapes_file
+HasFiles (Some held) (Some (Verification v)) = IsThere held v.graphs.data_file × IsThere held v.graphs.shapes_file × IsThere held v.evidence_file
 
 -- The sessions were run, or the history that was handed in isn't valid for them; the files were validated, or aren't what
--- they should be; the load was run; or memory ran out.
+-- they should be; the evidence is verified, or a block of it is wrong; the load was run; or memory ran out.
 abbrev pub IsAnswered : Option Request → Status → Type 0
 IsAnswered None s = ⊥
 IsAnswered (Some (Sessions r)) s = (s ≡ Done) ⊎ ((s ≡ Memory) ⊎ ((k : ℕ) × (r.history ≢ None) × (s ≡ BadHistory k)))
 IsAnswered (Some (Validation v)) s = (s ≡ Done) ⊎ ((s ≡ Invalid) ⊎ ((s ≡ Memory) ⊎ ((bad : InputFault) × (s ≡ BadInput bad))))
 IsAnswered (Some (Explanation v)) s = (s ≡ Done) ⊎ ((s ≡ Invalid) ⊎ ((s ≡ Memory) ⊎ ((bad : InputFault) × (s ≡ BadInput bad))))
+IsAnswered (Some (Verification v)) s = (s ≡ Done) ⊎ ((s ≡ Memory) ⊎ (((bad : InputFault) × (s ≡ BadInput bad)) ⊎ ((block : ℕ) × (s ≡ BadEvidence block))))
 IsAnswered (Some (Load n)) s = (s ≡ Done) ⊎ (s ≡ Memory)

@@ -10,7 +10,7 @@ use Rattle.validate_command.specs.Lines.{bad_input_text}
 use Rattle.validate_command.specs.declared.fault.ValidateFault.{ValidateFault}
 use Rattle.validate_command.specs.declared.fault.ValidateFault.TheVariants as validation
 use Rattle.shacl_guard.specs.declared.status.Status.{Status}
-use Rattle.shacl_guard.specs.declared.status.Status.TheVariants.{Done, Invalid, Usage, ReadFault, WriteFault, BadSession, Memory, TooLong, TooManyFiles, BadHistory, BadInput}
+use Rattle.shacl_guard.specs.declared.status.Status.TheVariants.{Done, Invalid, Usage, ReadFault, WriteFault, BadSession, Memory, TooLong, TooManyFiles, BadHistory, BadInput, BadEvidence}
 
 abbrev pub code_of : Status → ℕ
 code_of Done = 0
@@ -24,6 +24,7 @@ code_of (TooLong file) = 7
 code_of TooManyFiles = 8
 code_of (BadHistory place) = 9
 code_of (BadInput bad) = 10
+code_of (BadEvidence block) = 16
 
 -- the line of a status that is an error with a line
 abbrev pub error_line : Status → Option (List ℕ)
@@ -33,6 +34,7 @@ error_line (TooLong i) = Some (line (codes "error file " ++ decimal i ++ codes "
 error_line TooManyFiles = Some (line (codes "error too many files"))
 error_line (BadHistory k) = Some (line (codes "error history " ++ decimal k))
 error_line (BadInput bad) = Some (line (codes "error " ++ bad_input_text bad))
+error_line (BadEvidence i) = Some (line (codes "error evidence " ++ decimal i))
 error_line Done = None
 error_line Invalid = None
 error_line ReadFault = None

@@ -5,7 +5,7 @@ ghost use Rattle.session_reader.specs.Checking.{OnlyGrows};
 ghost use Rattle.input_files.specs.Loads.{Loads};
 ghost use Rattle.load_command.specs.Load.{IsLoad};
 ghost use Rattle.validate_command.specs.Lines.{bad_input_text};
-ghost use Rattle.shacl_guard.specs.Due.{Fails, Gives, IsDue, StopsCall, StopsRequest};
+ghost use Rattle.shacl_guard.specs.Due.{Fails, Gives, IsDue, IsTold, StopsCall, StopsRequest, TellsNone};
 ghost use Rattle.shacl_guard.specs.Requests.{IsWithin, request_of};
 ghost use Rattle.shacl_guard.specs.Statuses.{error_line};
 
@@ -19,7 +19,9 @@ use std::alloc::{AllocError, Global};
 use std::sync::Wait;
 use std::thread::Threads;
 use store_model::BlockMode;
-use validate_command::{BadInput, ValidatedFiles, explain_files, validate_files};
+use validate_command::{
+    BadInput, ValidatedFiles, Verdict, VerifiedFiles, explain_files, validate_files, verify_files,
+};
 
 /// A text that is due, and its status.
 #[derive(Drop)]
@@ -59,7 +61,8 @@ fn answer_sessions<R: Threads + Wait + Sync, F: Files, M: Maker, G: Gate>(
 }
 
 // What a validation gives.
-fn answer_validation<F: Files, M: Maker>(
+fn answer_validation<R: Threads + Sync, F: Files, M: Maker>(
+    rt: &R,
     alloc: Global,
     validated: &ValidatedFiles,
     files: &mut F,
@@ -71,7 +74,7 @@ fn answer_validation<F: Files, M: Maker>(
         (λ s. StopsRequest s (F.holds files.old) (Request.Validation validated.now) before after) }
     ensures refused { OnlyGrows (M.refused maker.old) (M.refused maker.new) }
 {
-    match validate_files(alloc, validated, files, maker) {
+    match validate_files(rt, alloc, validated, files, maker) {
         Ok(validation) => Ok(Answer {
             status: Status::of_conforms(validation.conforms),
             text: validation.report,
@@ -98,6 +101,48 @@ fn answer_explanation<F: Files, M: Maker>(
             status: Status::of_conforms(explanation.conforms),
             text: explanation.blocks,
         }),
+        Err(fault) => Err(Status::from(fault)),
+    }
+}
+
+// The line that evidence is verified.
+fn verified_line(alloc: Global, blocks: u32) -> Result<Text, AllocError>
+    ensures { IfOk result (λ text. text ≡ line (codes "valid " ++ decimal blocks)) }
+{
+    Ok(Text::from_string(format!(in alloc; "valid {blocks}\n")?)?)
+}
+
+// The text of a verdict, if it has one.
+fn told_verdict(alloc: Global, verdict: &Verdict) -> Result<Answer, Status>
+    ensures { MatchResult result (λ a. IsTold verdict.now a.status a.text) (λ s. TellsNone verdict.now s) }
+{
+    match verdict {
+        Verdict::Verified { blocks } => match verified_line(alloc, *blocks) {
+            Ok(text) => Ok(Answer {
+                status: Status::Done,
+                text,
+            }),
+            Err(_) => Err(Status::Memory),
+        },
+        Verdict::Wrong { block } => Err(Status::BadEvidence { block: *block }),
+    }
+}
+
+// What the verification of evidence gives.
+fn answer_verification<F: Files, M: Maker>(
+    alloc: Global,
+    verified: &VerifiedFiles,
+    files: &mut F,
+    maker: &mut M,
+) -> Result<Answer, Status>
+    ensures answer { let before : Loads = record { loaded = F.loaded files.old; failed = F.failed files.old; refused = M.refused maker.old } in
+        let after : Loads = record { loaded = F.loaded files.new; failed = F.failed files.new; refused = M.refused maker.new } in
+        MatchResult result (λ a. Gives (F.holds files.old) (Request.Verification verified.now) a.status before after a.text)
+        (λ s. StopsRequest s (F.holds files.old) (Request.Verification verified.now) before after) }
+    ensures refused { OnlyGrows (M.refused maker.old) (M.refused maker.new) }
+{
+    match verify_files(alloc, verified, files, maker) {
+        Ok(verdict) => told_verdict(alloc, &verdict),
         Err(fault) => Err(Status::from(fault)),
     }
 }
@@ -144,8 +189,9 @@ fn answer_request<R: Threads + Wait + Sync, F: Files, M: Maker, G: Gate>(
 {
     match request {
         Request::Sessions(run) => answer_sessions(rt, alloc, run, files, maker, gate),
-        Request::Validation(validated) => answer_validation(alloc, validated, files, maker),
+        Request::Validation(validated) => answer_validation(rt, alloc, validated, files, maker),
         Request::Explanation(explained) => answer_explanation(alloc, explained, files, maker),
+        Request::Verification(verified) => answer_verification(alloc, verified, files, maker),
         Request::Load(n) => answer_load(rt, alloc, *n, maker, gate),
     }
 }
@@ -191,6 +237,12 @@ fn bad_history_line(alloc: Global, place: u64) -> Result<Text, AllocError>
     Ok(Text::from_string(format!(in alloc; "error history {place}\n")?)?)
 }
 
+fn bad_evidence_line(alloc: Global, block: u32) -> Result<Text, AllocError>
+    ensures { IfOk result (λ text. text ≡ line (codes "error evidence " ++ decimal block)) }
+{
+    Ok(Text::from_string(format!(in alloc; "error evidence {block}\n")?)?)
+}
+
 fn bad_input_line(alloc: Global, bad: &BadInput) -> Result<Text, AllocError>
     ensures { IfOk result (λ text. text ≡ line (codes "error " ++ bad_input_text bad.now)) }
 {
@@ -209,6 +261,7 @@ fn error_text(alloc: Global, status: &Status) -> Result<Option<Text>, AllocError
         Status::TooManyFiles => Ok(Some(Text::new(alloc, "error too many files\n")?)),
         Status::BadHistory { place } => Ok(Some(bad_history_line(alloc, *place)?)),
         Status::BadInput(bad) => Ok(Some(bad_input_line(alloc, bad)?)),
+        Status::BadEvidence { block } => Ok(Some(bad_evidence_line(alloc, *block)?)),
         Status::Done | Status::Invalid | Status::ReadFault | Status::WriteFault | Status::Memory =>
             Ok(None),
     }

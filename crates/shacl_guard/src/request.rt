@@ -6,7 +6,7 @@ use guard_words::{Call, Limits as Bounds, WordsFault, read_call};
 use session_files::SessionRun;
 use std::alloc::Global;
 use store_model::{BlockMode, Limits};
-use validate_command::ValidatedFiles;
+use validate_command::{ValidatedFiles, VerifiedFiles};
 
 /// What the words ask for.
 #[derive(Debug, Drop)]
@@ -17,6 +17,8 @@ pub enum Request {
     Validation(ValidatedFiles),
     /// Such a validation is explained.
     Explanation(ValidatedFiles),
+    /// Evidence of the results of such a validation is verified.
+    Verification(VerifiedFiles),
     /// The generated load of so many numbers is run.
     Load(u32),
 }
@@ -64,6 +66,17 @@ fn request_in(call: Call) -> Request
         } => Request::Explanation(ValidatedFiles {
             data_file,
             shapes_file: shapes,
+        }),
+        Call::Verify {
+            data: data_file,
+            shapes,
+            evidence,
+        } => Request::Verification(VerifiedFiles {
+            graphs: ValidatedFiles {
+                data_file,
+                shapes_file: shapes,
+            },
+            evidence_file: evidence,
         }),
         Call::Generate { numbers } => Request::Load(numbers),
     }

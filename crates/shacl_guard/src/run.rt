@@ -19,6 +19,7 @@ use std::thread::Threads;
 /// `replay HISTORY FILES..` does the same in the history that is handed in, and tells no gate.
 /// `validate DATA SHAPES` validates the data file's graph by the shapes file's graph: the sink takes the report.
 /// `explain DATA SHAPES` does the same, and the sink takes the evidence of each result in place of the report.
+/// `verify DATA SHAPES EVIDENCE` says how many blocks of evidence the third file has, where each shows its result of that validation.
 /// `generate N` runs the four session files of a generated load as `run` does, and loads no file: the sink takes N, how many
 /// transactions were committed and how many refused, and how many triples the data graph has at the end.
 pub fn run_command<R: Threads + Wait + Sync, F: Files, K: Sink, M: Maker, G: Gate>(
@@ -41,8 +42,8 @@ pub fn run_command<R: Threads + Wait + Sync, F: Files, K: Sink, M: Maker, G: Gat
     ensures write_fault { result ≡ Status.WriteFault → Rose (K.faults out.old) (K.faults out.new) }
 
     // Up to 64 session files within their length are run, or the history that was handed in isn't valid for them, and two files
-    // within their length are validated, and that is explained where it is asked for, or their texts are refused, and a generated
-    // load is run; unless a load or a write failed or memory ran out.
+    // within their length are validated, and that is explained where it is asked for, or its evidence is verified or isn't, or their
+    // texts are refused, and a generated load is run; unless a load or a write failed or memory ran out.
     ensures complete { HasFiles (F.holds files.old) (request_of (map (λ w. w.now) words.now)) → F.failed files.new ≡ F.failed files.old
         → (Rose (K.faults out.old) (K.faults out.new) → ⊥) → IsAnswered (request_of (map (λ w. w.now) words.now)) result }
 

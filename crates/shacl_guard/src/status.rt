@@ -9,7 +9,7 @@ use validate_command::{BadInput, ValidateFault};
 /// How the program ends.
 #[derive(Debug, Drop, PartialEq, Eq)]
 pub enum Status {
-    /// All input was read to its end, and all was written. A graph that was validated conforms.
+    /// All input was read to its end, and all was written. A graph that was validated conforms; evidence is verified.
     Done,
     /// A graph that was validated doesn't conform; its report was written, or the evidence of its results.
     Invalid,
@@ -31,6 +31,8 @@ pub enum Status {
     BadHistory { place: u64 },
     /// The files of a validation aren't what they should be.
     BadInput(BadInput),
+    /// The first block of evidence, from 1, that isn't spelled as blocks are, or doesn't show its result.
+    BadEvidence { block: u32 },
 }
 
 impl From<WordsFault> for Status {
@@ -108,6 +110,7 @@ impl Status {
             Status::TooManyFiles => 8,
             Status::BadHistory { .. } => 9,
             Status::BadInput(_) => 10,
+            Status::BadEvidence { .. } => 16,
         }
     }
 

@@ -1,6 +1,7 @@
 pub mod Blocking
 pub mod Changes
 pub mod Commits
+pub mod Joins
 pub mod Nodes
 pub mod Numbers
 pub mod Serial

@@ -1,6 +1,7 @@
 pub mod Blocking
 pub mod Commits
 pub mod Graphs
+pub mod Joins
 pub mod Names
 pub mod Nodes
 pub mod Runs

@@ -9,6 +9,7 @@ ghost use Rattle.store_model.specs.Store.{ReplyGivesOneState, StepGivesOneReply}
 ghost use Rattle.store_laws.specs.Blocking.{ListingsTellBlocking, NoBlockingIsNoResult, NoBlockingStays, RowsRefuseAll};
 ghost use Rattle.store_laws.specs.Commits.{CleanCommitsAreAccepted, UnloggedCleanCommits};
 ghost use Rattle.store_laws.specs.Graphs.{LastChangeWins, GraphsStayAscending, ChangedIsInOneGraph, ChangedAscends};
+ghost use Rattle.store_laws.specs.Joins.{SelectsAreSerializable};
 ghost use Rattle.store_laws.specs.Names.{NumbersStay};
 ghost use Rattle.store_laws.specs.Nodes.{AttachedAreGiven, GivenAreBlank, OnlyFreshGives, UnknownAscend, UnknownAreNotGiven, UnknownComesFirst};
 ghost use Rattle.store_laws.specs.Runs.{OrderGivesOneRun};
@@ -69,7 +70,7 @@ pub fn unlogged_run()
     ensures { UnloggedRun }
 {}
 
-/// Files and an order of sessions have one run at most.
+/// Files, an order of sessions and the place at which the log fails, if it does, have one run at most.
 pub fn order_gives_one_run()
     ensures { OrderGivesOneRun }
 {}
@@ -156,4 +157,10 @@ pub fn attached_are_given()
 /// commit as they gave on the graph at its begin.
 pub fn finds_are_serializable()
     ensures { FindsAreSerializable }
+{}
+
+/// Patterns that are all, with their variables open, among the finds of a transaction whose commit was accepted have the
+/// same bindings on the graph just before that commit as they had on the graph at its begin.
+pub fn selects_are_serializable()
+    ensures { SelectsAreSerializable }
 {}

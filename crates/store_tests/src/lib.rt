@@ -15,3 +15,5 @@ mod patterns;
 mod refused_patterns;
 #[cfg(test)]
 mod replay;
+#[cfg(test)]
+mod selects;

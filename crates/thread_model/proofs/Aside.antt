@@ -9,6 +9,7 @@ use Rattle.store_model.specs.declared.event.Action.{Action}
 use Rattle.store_model.specs.declared.event.Action.TheVariants as actions
 use Rattle.store_model.specs.declared.event.Reply.{Reply}
 use Rattle.store_model.specs.declared.event.Reply.TheVariants.{Refused, Done}
+use Rattle.store_model.specs.Logs.{is_fault}
 use Rattle.store_model.specs.Store.{State, StepOf}
 use Rattle.session_model.specs.declared.command.Command.{Command}
 use Rattle.session_model.specs.declared.command.Command.TheVariants.{Commit}
@@ -34,13 +35,19 @@ same_told s w c cs replies commits staged (Refused rows why) = same_refused s w 
 same_told s w c cs replies commits staged (Done n why) = same_done s w c cs replies n _ why
 same_told s w c cs replies commits staged r = refl
 
+-- nor is whether the log failed another
+same_fault : (commits : List Accepted) (staged : Option (List Triple)) (r : Reply) → is_fault (reply_unaided commits staged r) ≡ is_fault r
+same_fault commits staged (Refused rows why) = refl
+same_fault commits staged (Done n why) = refl
+same_fault commits staged r = refl
+
 -- an event with its verdict aside is a step too, and its session goes on alike
 pub goes_aside : (l : Limits) (s t : State) (i : ℕ) (a : Action) (r : Reply) (w : Option OpenTransaction) (c : Command) (cs : List Command) (replies : List SessionReply) (q : SessionState) → StepOf l s i a r t → GoesOn s w c cs replies (unaided a) r q
-    → (u : Reply) × GoesOn s w c cs replies (unaided a) u q × StepOf l s i (unaided a) u t
-goes_aside l s t i actions.Open r w c cs replies q h g = (r, g, h)
-goes_aside l s t i actions.Begin r w c cs replies q h g = (r, g, h)
-goes_aside l s t i (actions.Name kind ts) r w c cs replies q h g = (r, g, h)
-goes_aside l s t i actions.Head r w c cs replies q h g = (r, g, h)
-goes_aside l s t i actions.Void r w c cs replies q h g = (r, g, h)
+    → (u : Reply) × GoesOn s w c cs replies (unaided a) u q × StepOf l s i (unaided a) u t × (is_fault u ≡ is_fault r)
+goes_aside l s t i actions.Open r w c cs replies q h g = (r, g, h, refl)
+goes_aside l s t i actions.Begin r w c cs replies q h g = (r, g, h, refl)
+goes_aside l s t i (actions.Name kind ts) r w c cs replies q h g = (r, g, h, refl)
+goes_aside l s t i actions.Head r w c cs replies q h g = (r, g, h, refl)
+goes_aside l s t i actions.Void r w c cs replies q h g = (r, g, h, refl)
 goes_aside l s t i (actions.Commit x) r w c cs replies q h g =
-    (reply_unaided s.commits x.staged r, record { event = g.event; next = same_told s w c cs replies s.commits x.staged r ∙ g.next }, VerdictAside-holds l s t i x r h)
+    (reply_unaided s.commits x.staged r, record { event = g.event; next = same_told s w c cs replies s.commits x.staged r ∙ g.next }, VerdictAside-holds l s t i x r h, same_fault s.commits x.staged r)

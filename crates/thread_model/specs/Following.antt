@@ -1,11 +1,13 @@
 -- A session's own events in the one history of all sessions.
-use Rattle.std.specs.Prelude.{◌≡◌, ℕ, ◌+◌, ◌<◌, Bool, true, false, List, [], ◌∷◌, length, map, get_or, Option, None, nat_eq, MatchBool}
+use Rattle.std.specs.Prelude.{◌≡◌, ℕ, suc, ◌+◌, ◌<◌, Bool, true, false, List, [], ◌∷◌, length, map, get_or, Option, Some, None, nat_eq, MatchBool, if◌then◌else◌}
+use Rattle.std.specs.Option.{option_map}
 use Rattle.std.specs.List.{AllByRecursion}
 use Rattle.store_model.specs.declared.event.Limits.{Limits}
 use Rattle.store_model.specs.declared.event.Event.{Event}
 use Rattle.store_model.specs.declared.event.Action.{Action}
 use Rattle.store_model.specs.declared.event.Action.TheVariants.{Open, Begin, Name, Head, Commit, Void}
 use Rattle.store_model.specs.declared.event.Reply.{Reply}
+use Rattle.store_model.specs.Logs.{is_fault}
 use Rattle.store_model.specs.Store.{State, Step, Replays}
 use Rattle.session_model.specs.declared.command.Command.{Command}
 use Rattle.session_model.specs.declared.reply.SessionReply.{SessionReply}
@@ -60,8 +62,13 @@ pub record Follow (files : List (List Command)) (l : Limits) (s : State) (histor
   pub left : AllByRecursion (λ p. p.commands ≡ []) last
   pub replies : all ≡ map (λ p. p.replies) last
 
+-- the place of the first event at which the log failed, from 0, if there is one
+abbrev pub fault_place : List Event → Option ℕ
+fault_place [] = None
+fault_place (e ∷ es) = if is_fault e.reply then Some 0 else option_map suc (fault_place es)
+
 -- A law: such a history is a run of the files in its own order, from the same state, at whose end the store is in the
--- history's state.
+-- history's state. The log fails where it did in the history.
 abbrev pub FollowingRuns : Type 0
 FollowingRuns =
-    (files : List (List Command)) (l : Limits) (s : State) (history : List Event) (all : List (List SessionReply)) (f : Follow files l s history all) → (run : HasReplies files l s (map (λ e. e.session) history) all) × (run.last.state ≡ f.state)
+    (files : List (List Command)) (l : Limits) (s : State) (history : List Event) (all : List (List SessionReply)) (f : Follow files l s history all) → (run : HasReplies files l s (map (λ e. e.session) history) (fault_place history) all) × (run.last.state ≡ f.state)

@@ -2,12 +2,16 @@
 ghost use Rattle.std.specs.Prelude.{◌≡◌, ◌<◌, IfOk};
 ghost use Rattle.guard_store.specs.Callers.{IsKeeper, IsSession};
 
-use commit_core::{BlockMode, Core, Limits};
+use crate::held::{self, STAGES, commands_of};
+use commit_core::{Again, BlockMode, Core, Limits};
 use guard_store::{
-    BeginFault, CommitFault, Committed, HeadFault, Keeper, OpenFault, Session, StageFault, Store,
+    BeginFault, CheckFault, CommitFault, Committed, HeadFault, Keeper, OpenFault, Session,
+    StageFault, Store,
 };
 use rdf_model::{Pattern, Term, Text, Triple};
+use session_model::Command;
 use shape_eval::Steps;
+use shapes_graph::ShapesGraph;
 use std::alloc::{AllocError, Global};
 use std::marker::Brand;
 use std::process::Abort;
@@ -87,6 +91,30 @@ fn is_done(answer: &Result<Committed, CommitFault>, wanted: u64) -> bool {
     matches!(answer, Ok(Committed::Done { number, again: _ }) if *number == wanted)
 }
 
+// The same of one whose verdict held.
+fn has_held(answer: &Result<Committed, CommitFault>, wanted: u64) -> bool {
+    matches!(answer, Ok(Committed::Done { number, again: Again::No }) if *number == wanted)
+}
+
+// And of one that was evaluated in its turn under its own shapes.
+fn has_shapes(answer: &Result<Committed, CommitFault>, wanted: u64) -> bool {
+    matches!(answer, Ok(Committed::Done { number, again: Again::OwnShapes }) if *number == wanted)
+}
+
+// How many results a refusal has, and the first triple of the other commit that made it evaluate again.
+fn refused_by(answer: &Result<Committed, CommitFault>) -> Option<(usize, u64, &Triple)> {
+    match answer {
+        Ok(
+            Committed::Refused {
+                rows,
+                again: Again::Touched(commit, triple),
+                shapes: _,
+            },
+        ) => Some((rows.len(), *commit, triple)),
+        _ => None,
+    }
+}
+
 fn is_read_only(answer: &Result<Committed, CommitFault>, wanted: u64) -> bool {
     matches!(answer, Ok(Committed::ReadOnly { version }) if *version == wanted)
 }
@@ -137,6 +165,125 @@ fn commit_and_read<L: Ledger, R: Wait + Abort>(
 #[test]
 fn a_store_by_hand(rt: HostRuntime) -> Result<(), Fail> {
     commit_and_read::<Brand, HostRuntime>(&rt, rt.alloc(), Blank::new(1))
+}
+
+// Begins, adds triples, takes a head, and checks there; before the head nothing can be checked.
+fn add_checked<L: Ledger, R: Wait + Abort>(
+    rt: &R,
+    store: &Store,
+    session: Session,
+    triples: &[Triple],
+    steps: &mut Steps<L>,
+) -> Result<Session, Fail>
+    requires { IsSession store.now session }
+    ensures { IfOk result (IsSession store.now) }
+{
+    let (session, begun) = store.begin(rt, session);
+    assert!(rt; begun.is_ok());
+    let (session, added) = store.stage_add(rt, session, triples);
+    assert_eq!(rt; added, Ok(()));
+    let mut session = session;
+    let early = session.check(steps);
+    assert_eq!(rt; early, Err(CheckFault::NoHead));
+    let (session, head) = store.head(rt, session);
+    assert!(rt; head.is_ok());
+    let mut session = session;
+    let kept = session.check(steps);
+    assert_eq!(rt; kept, Ok(true));
+    Ok(session)
+}
+
+// Commits shapes, of which a check keeps nothing.
+fn commit_shapes<L: Ledger, R: Wait + Abort>(
+    rt: &R,
+    store: &Store,
+    session: Session,
+    shapes: ShapesGraph,
+    steps: &mut Steps<L>,
+) -> Result<Session, Fail>
+    requires { IsSession store.now session }
+    ensures { IfOk result (IsSession store.now) }
+{
+    let (session, begun) = store.begin(rt, session);
+    assert_eq!(rt; begun, Ok(0));
+    let (session, staged) = store.stage_shapes(rt, session, shapes);
+    assert_eq!(rt; staged, Ok(()));
+    let (session, head) = store.head(rt, session);
+    assert_eq!(rt; head, Ok(0));
+    let mut session = session;
+    let kept = session.check(steps);
+    assert_eq!(rt; kept, Ok(false));
+    let (session, done) = store.commit(rt, session, steps);
+    assert!(rt; has_shapes(&done, 1));
+    Ok(session)
+}
+
+// The answer to the commit of a value of e:p at e:a, under shapes that allow one value, where another session commits a value at this
+// subject between its check and its turn.
+fn overtaken<L: Ledger, R: Wait + Abort>(
+    rt: &R,
+    alloc: Global,
+    shapes: ShapesGraph,
+    subject: &str,
+    steps: &mut Steps<L>,
+) -> Result<Result<Committed, CommitFault>, Fail> {
+    let (store, keeper) = Store::new(alloc, held::LIMITS)?;
+    let Ok((keeper, first)) = store.open(rt, keeper) else {
+        return Err(Fail::new("a session is opened"));
+    };
+    let Ok((_keeper, second)) = store.open(rt, keeper) else {
+        return Err(Fail::new("another session is opened"));
+    };
+    let first = commit_shapes(rt, &store, first, shapes, steps)?;
+    let first = add_checked(rt, &store, first, &[triple(alloc, "e:a", "e:b")?], steps)?;
+    let second = add_checked(rt, &store, second, &[triple(alloc, subject, "e:c")?], steps)?;
+    let (_second, done) = store.commit(rt, second, steps);
+    assert!(rt; has_held(&done, 2));
+    let (_first, answer) = store.commit(rt, first, steps);
+    Ok(answer)
+}
+
+// The shapes of a file that begins with them.
+fn staged_shapes(alloc: Global) -> Result<ShapesGraph, Fail> {
+    let files = commands_of(alloc, &[STAGES])?;
+    let Some(commands) = files.first() else {
+        return Err(Fail::new("the file is read"));
+    };
+    for command in commands.as_slice() {
+        if let Command::Shapes(shapes) = command {
+            return Ok(shapes.share()?);
+        }
+    }
+    Err(Fail::new("shapes are staged"))
+}
+
+// A verdict that the other commit touched is no longer taken: the commit is evaluated again, and refused. One that it didn't
+// touch holds: nothing is evaluated in the turn.
+fn overtaken_rows<L: Ledger, R: Wait + Abort>(
+    rt: &R,
+    alloc: Global,
+    blank: Blank,
+) -> Result<(), Fail>
+    requires name { blank.name ≡ L.name }
+    requires parts { blank.parts ≡ L.parts }
+    requires some { 0 < L.parts }
+{
+    let mut steps = Steps::<L>::begin(blank);
+    let touched = overtaken(rt, alloc, staged_shapes(alloc)?, "e:a", &mut steps)?;
+    let Some((count, commit, touching)) = refused_by(&touched) else {
+        return Err(Fail::new("the commit is refused"));
+    };
+    assert_eq!(rt; count, 1);
+    assert_eq!(rt; commit, 2);
+    assert!(rt; *touching == triple(alloc, "e:a", "e:c")?);
+    let left = overtaken(rt, alloc, staged_shapes(alloc)?, "e:d", &mut steps)?;
+    assert!(rt; has_held(&left, 3));
+    Ok(())
+}
+
+#[test]
+fn verdicts_are_overtaken(rt: HostRuntime) -> Result<(), Fail> {
+    overtaken_rows::<Brand, HostRuntime>(&rt, rt.alloc(), Blank::new(1))
 }
 
 // Opens a session and meets it again.

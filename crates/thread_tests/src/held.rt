@@ -71,7 +71,7 @@ add ntriples
 commit
 ";
 
-const STAGES: &str = "\
+pub const STAGES: &str = "\
 begin
 shapes turtle
 @prefix sh: <http://www.w3.org/ns/shacl#> .

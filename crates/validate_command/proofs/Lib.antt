@@ -1,1 +1,2 @@
 mod Stopping
+mod ThreeFiles

@@ -13,7 +13,7 @@ use Rattle.file_validation.specs.Validations.{IsCause}
 use Rattle.validate_command.specs.declared.fault.ValidateFault.{ValidateFault}
 use Rattle.validate_command.specs.declared.validated_files.ValidatedFiles.{ValidatedFiles}
 use Rattle.validate_command.specs.Validated.{HoldTexts, LoadsBoth}
-use Rattle.validate_command.specs.Faults.{IsTold, StopsValidation, of_file, of_texts}
+use Rattle.validate_command.specs.Faults.{IsFileFault, IsTold, StopsValidation, of_file, of_texts}
 
 -- one name after another was loaded
 two : (a b : List ℕ) (old mid new : List (List ℕ)) → mid ≡ old ++ a ∷ [] → new ≡ mid ++ b ∷ [] → new ≡ old ++ a ∷ b ∷ []
@@ -47,6 +47,15 @@ texts_stop cause told held v d s before after (inl e) h loads c = subst (λ (x :
 texts_stop cause told held v d s before after (inr lost) h loads c =
     let k = subst (λ (x : InputFault). IsCause d s before.refused after.refused x) lost.1 c in
     subst (λ (x : ValidateFault). StopsValidation x held v before after) (sym lost.2) ((2, loads.0), loads.1, k.4)
+
+-- the fault is one of a file
+pub of_a_file : (f : FileFault) (k : ℕ) (told : ValidateFault) → told ≡ of_file f k → IsFileFault told
+of_a_file f k told e = subst (λ (x : ValidateFault). IsFileFault x) (sym e) (each f)
+  where
+    each : (h : FileFault) → IsFileFault (of_file h k)
+    each file.Failed = tt
+    each file.TooLong = tt
+    each file.Memory = tt
 
 -- The same where what the names hold is told again at the second load, and a name is that of its file.
 

@@ -33,6 +33,13 @@ of_file file.Failed f = fault.ReadFault
 of_file file.TooLong f = fault.TooLong f
 of_file file.Memory f = fault.Memory
 
+-- the fault is one of a file that gave no text
+abbrev pub IsFileFault : ValidateFault → Type 0
+IsFileFault fault.ReadFault = Unit {0}
+IsFileFault (fault.TooLong f) = Unit {0}
+IsFileFault (fault.BadInput bad) = ⊥
+IsFileFault fault.Memory = Unit {0}
+
 -- file f is the first of the two that is so: the data is file 1, and holds a text where the shapes, file 2, are so
 abbrev pub IsFirst : Option Contents → ValidatedFiles → ℕ → (List ℕ → Type 0) → Type 0
 IsFirst held v f P = ((f ≡ 1) × P v.data_file) ⊎ ((f ≡ 2) × ((text : List ℕ) × HoldsText held v.data_file text) × P v.shapes_file)

@@ -1,3 +1,4 @@
 pub mod Lines
 pub mod Validated
 pub mod Faults
+pub mod Verified

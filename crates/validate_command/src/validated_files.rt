@@ -8,3 +8,12 @@ pub struct ValidatedFiles {
     /// The shapes graph, whose blank nodes are those of session 2.
     pub shapes_file: Text,
 }
+
+/// The names of the files of a verification.
+#[derive(Debug, Drop)]
+pub struct VerifiedFiles {
+    /// The files of the validation whose results are shown.
+    pub graphs: ValidatedFiles,
+    /// The evidence.
+    pub evidence_file: Text,
+}

@@ -1,7 +1,7 @@
-ghost use Rattle.std.specs.Prelude.{◌≡◌, List, IfOk, MatchResult};
+ghost use Rattle.std.specs.Prelude.{◌≡◌, List, IfErr, IfOk, MatchResult};
 ghost use Rattle.outside.specs.Faults.{Refusal};
 ghost use Rattle.input_files.specs.Loads.{Loads};
-ghost use Rattle.validate_command.specs.Faults.{IsTold, StopsValidation, of_file};
+ghost use Rattle.validate_command.specs.Faults.{IsFileFault, IsTold, StopsValidation, of_file};
 ghost use Rattle.validate_command.specs.Validated.{AreExplained, AreValidated, HoldTexts, LoadsBoth};
 
 use crate::{BadInput, ValidateFault, ValidatedFiles};
@@ -10,6 +10,7 @@ use input_files::{FileFault, load_file};
 use outside::{Files, Maker};
 use shape_rules::RuleRow;
 use std::alloc::{AllocError, Global};
+use std::thread::Threads;
 
 // The numbers of the files.
 const DATA_FILE: u32 = 1;
@@ -17,7 +18,7 @@ const DATA_FILE: u32 = 1;
 const SHAPES_FILE: u32 = 2;
 
 // Why a file of this number gave no text.
-fn file_fault(fault: FileFault, file: u32) -> ValidateFault
+pub(crate) fn file_fault(fault: FileFault, file: u32) -> ValidateFault
     ensures { result ≡ of_file fault file }
 {
     match fault {
@@ -38,7 +39,7 @@ fn rule_fault(row: &RuleRow) -> Result<BadInput, AllocError>
 }
 
 // Why the texts were not validated.
-fn text_fault(fault: InputFault) -> ValidateFault
+pub(crate) fn text_fault(fault: InputFault) -> ValidateFault
     ensures { IsTold fault result }
 {
     match fault {
@@ -56,15 +57,17 @@ fn text_fault(fault: InputFault) -> ValidateFault
 }
 
 // The texts of the data and of the shapes.
-fn load_texts<F: Files>(
+pub(crate) fn load_texts<F: Files>(
     alloc: Global,
     validated: &ValidatedFiles,
     files: &mut F,
 ) -> Result<(Vec<u8>, Vec<u8>), ValidateFault>
-    ensures { (refused : List Refusal) → let before : Loads = record { loaded = F.loaded files.old; failed = F.failed files.old; refused = refused } in
+    ensures answer { (refused : List Refusal) → let before : Loads = record { loaded = F.loaded files.old; failed = F.failed files.old; refused = refused } in
         let after : Loads = record { loaded = F.loaded files.new; failed = F.failed files.new; refused = refused } in
         MatchResult result (λ both. HoldTexts (F.holds files.old) validated.now both.0.items both.1.items × LoadsBoth validated.now before after)
         (λ fault. StopsValidation fault (F.holds files.old) validated.now before after) }
+    ensures fault { IfErr result IsFileFault }
+    ensures holds { F.holds files.new ≡ F.holds files.old }
 {
     let data_text = match load_file(alloc, files, validated.data_file.as_str()) {
         Ok(text) => text,
@@ -80,7 +83,8 @@ fn load_texts<F: Files>(
 /// Validates the data file's graph by the shapes file's graph (SHACL section 3.4), and writes the report. Both are Turtle; the
 /// maker builds the patterns of the shapes. The data is loaded and read first. A pattern that is told joined those that the
 /// maker refused; no other one did.
-pub fn validate_files<F: Files, M: Maker>(
+pub fn validate_files<F: Files, M: Maker, R: Threads + Sync>(
+    rt: &R,
     alloc: Global,
     validated: &ValidatedFiles,
     files: &mut F,
@@ -94,7 +98,7 @@ pub fn validate_files<F: Files, M: Maker>(
         Ok(both) => both,
         Err(fault) => return Err(fault),
     };
-    match validate(alloc, maker, &data_text, &shapes_text) {
+    match validate(rt, alloc, maker, &data_text, &shapes_text) {
         Ok(validation) => Ok(validation),
         Err(fault) => Err(text_fault(fault)),
     }

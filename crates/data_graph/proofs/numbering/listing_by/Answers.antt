@@ -1,8 +1,3 @@
-use Rattle.std.proofs.Common.{sym, subst}
-use Rattle.rdf_model.specs.Numbers.{term_at}
-use Rattle.shape_ast.specs.Readings.{AreBound}
-use Rattle.shape_ast.specs.Standing.{AreBuilt}
-use Rattle.shape_plans.specs.declared.planned.PlannedShapes.{PlannedShapes}
 use Rattle.data_graph.proofs.numbering.listing_by.Goals as goal
 
 pub returns-clause-rows : goal.returns-clause-rows

@@ -8,10 +8,10 @@ use Rattle.term_validation.specs.Named.{AreNamedTriples}
 use Rattle.file_validation.proofs.results.listing.Goals as goal
 
 pub listing_in-requires-clause-shapes : goal.listing_in-requires-clause-shapes
-listing_in-requires-clause-shapes c = subst (λ (ts : List Triple). AreNamedTriples c.in_ok-numbered.numbered.names.terms ts) c.triples.ensures c.in_ok-numbered.ensures.named
+listing_in-requires-clause-shapes g c κs within = subst (λ (ts : List Triple). AreNamedTriples c.in_ok-numbered.numbered.names.terms ts) c.triples.ensures c.in_ok-numbered.ensures.named
 
 pub returns : goal.returns
-returns c =
+returns g c =
     let numbered = c.in_ok-numbered.numbered in
     let graph = graph_of numbered.names.terms numbered.triples in
     let s = c.args.shapes.now in

@@ -15,9 +15,9 @@ commit-requires-clause-verdict g c =
     rw c.into_parts-handed.ensures (rows_kept s.limits s.start s.history c.args.open.transaction.net c.args.open.checked c.requires.kept)
 
 pub reply_of_commit-requires : goal.reply_of_commit-requires
-reply_of_commit-requires g c = listed_answer c.args.core.now.state c.into_parts-handed.result.0.transaction c.in-Ok.ensures.reply c.in-Ok.committed c.in-Ok.ensures.told
+reply_of_commit-requires g c = listed_answer c.args.core.now.state c.into_parts-handed.result.0.transaction c.in-Ok.ensures.answer.reply c.in-Ok.committed c.in-Ok.ensures.answer.told
 
 pub returns-in-Ok : goal.returns-in-Ok
 returns-in-Ok g c =
     let x = c.args.open in
-    commits_with _ _ _ x.transaction (verdict_of x.checked) _ _ c.in-Ok.committed _ (rw c.into_parts-handed.ensures at c.in-Ok.ensures) c.reply_of_commit.ensures
+    commits_with _ _ _ x.transaction (verdict_of x.checked) _ _ c.in-Ok.committed _ (rw c.into_parts-handed.ensures at c.in-Ok.ensures.answer) c.in-Ok.ensures.no_fault c.reply_of_commit.ensures

@@ -25,3 +25,6 @@ returns-in-FindCommand-clause-item c = λ more. rw c.in-FindCommand.is (c.push_c
 
 pub returns-in-FindCommand-clause-next : goal.returns-in-FindCommand-clause-next
 returns-in-FindCommand-clause-next c = single_next c.push_command-in-FindCommand.result c.args.next.now (length c.args.after.now) (map (λ l. l.now) c.args.after.now) _ _ (c.push_command-in-FindCommand.ensures (Ok []))
+
+pub returns-in-SelectBlock-clause-item : goal.returns-in-SelectBlock-clause-item
+returns-in-SelectBlock-clause-item c = λ more. rw c.in-SelectBlock.is (c.read_select_item.ensures.item c.args.session c.args.next.now more)

@@ -21,7 +21,7 @@ returns g c =
     let all = reverse met.all.items in
     let limits : core.limits ≡ store.limits = c.close-core.ensures.limits in
     let n = c.triples-triples.result in
-    let base = runs store files met.keeper core all n met.ensures.keeper met.ensures.opened met.ensures.met c.close-core.ensures.history limits c.close-core.ensures.start c.close-core.ensures.replays c.triples-triples.ensures in
+    let base = runs store files met.keeper core all n met.ensures.keeper met.ensures.opened met.ensures.met c.close-core.ensures.history limits c.close-core.ensures.start c.close-core.ensures.replays c.close-core.ensures.running c.triples-triples.ensures in
     subst (λ (x : State). HasEnd files c.args.limits x c.in_ok-order.order.items c.reverse.new.self.items n) c.in_ok-store.ensures.start
     (subst (λ (x : Limits). HasEnd files x store.start c.in_ok-order.order.items c.reverse.new.self.items n) c.in_ok-store.ensures.limits
     (subst (λ (x : List (List SessionReply)). HasEnd files store.limits store.start c.in_ok-order.order.items x n) (sym c.reverse.ensures.items)

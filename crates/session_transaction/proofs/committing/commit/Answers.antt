@@ -1,19 +1,22 @@
 use Rattle.std.proofs.Common.{refl}
 use Rattle.session_transaction.proofs.committing.commit.Goals as goal
 
-pub returns-in-Done : goal.returns-in-Done
-returns-in-Done g c = record { reply = _; step = c.in-Done.ensures.answer; told = refl; counts = c.in-Done.ensures.steps }
+pub returns-in-Done-clause-answer : goal.returns-in-Done-clause-answer
+returns-in-Done-clause-answer g c = record { reply = _; step = c.in-Done.ensures.answer; told = refl; counts = c.in-Done.ensures.steps }
 
-pub returns-in-Conflict : goal.returns-in-Conflict
-returns-in-Conflict g c = record { reply = _; step = c.in-Conflict.ensures.answer; told = refl; counts = c.in-Conflict.ensures.steps }
+pub returns-in-Conflict-clause-answer : goal.returns-in-Conflict-clause-answer
+returns-in-Conflict-clause-answer g c = record { reply = _; step = c.in-Conflict.ensures.answer; told = refl; counts = c.in-Conflict.ensures.steps }
 
-pub returns-in-FullTriples : goal.returns-in-FullTriples
-returns-in-FullTriples g c = record { reply = _; step = c.in-FullTriples.ensures.answer; told = refl; counts = c.in-FullTriples.ensures.steps }
+pub returns-in-FullTriples-clause-answer : goal.returns-in-FullTriples-clause-answer
+returns-in-FullTriples-clause-answer g c = record { reply = _; step = c.in-FullTriples.ensures.answer; told = refl; counts = c.in-FullTriples.ensures.steps }
 
-pub returns-in-Refused : goal.returns-in-Refused
-returns-in-Refused g c =
+pub returns-in-Refused-clause-answer : goal.returns-in-Refused-clause-answer
+returns-in-Refused-clause-answer g c =
     let refused = c.in-Refused.ensures.answer in
     record { reply = _; step = refused.0; told = (refl, refused.1, refused.2); counts = c.in-Refused.ensures.steps }
 
-pub returns-in-Memory : goal.returns-in-Memory
-returns-in-Memory g c = (c.in-Memory.ensures.answer.0, c.in-Memory.ensures.answer.1, c.in-Memory.ensures.steps)
+pub returns-in-Stopped-clause-answer : goal.returns-in-Stopped-clause-answer
+returns-in-Stopped-clause-answer g c = record { reply = _; step = c.in-Stopped.ensures.answer; told = refl; counts = c.in-Stopped.ensures.steps }
+
+pub returns-in-Memory-clause-answer : goal.returns-in-Memory-clause-answer
+returns-in-Memory-clause-answer g c = (c.in-Memory.ensures.answer.0, c.in-Memory.ensures.answer.1, c.in-Memory.ensures.steps)

@@ -11,5 +11,5 @@ replay_commit-requires-clause-committable g c =
     let s = c.args.self.now.state in
     let i = c.args.session in
     let x = c.in-Ok.transaction in
-    let h : may_ask s i (Commit x) ≡ true = subst (λ (a : Action). may_ask s i a ≡ true) c.in-Ok.ensures c.requires in
+    let h : may_ask s i (Commit x) ≡ true = subst (λ (a : Action). may_ask s i a ≡ true) c.in-Ok.ensures c.requires.asked in
     committable s x (both (was_opened s.opened i) (may_commit (version s) s.named x) h).1

@@ -1,7 +1,5 @@
-use Rattle.std.proofs.Common.{List, ap, arith, sym, subst}
-use Rattle.rdf_model.specs.declared.triple.Triple.{Triple}
+use Rattle.std.proofs.Common.{ap}
 use Rattle.term_dict.specs.Names.{Named}
-use Rattle.term_validation.specs.Named.{AreNamedTriples}
 use Rattle.data_graph.proofs.Growing.{no_triple_named, words_first}
 use Rattle.data_graph.proofs.graph.DataGraph.new.Goals as goal
 

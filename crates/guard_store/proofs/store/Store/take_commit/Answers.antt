@@ -1,6 +1,7 @@
-use Rattle.std.proofs.Common.{◌≡◌, ◌≤◌, inr, sym, subst}
+use Rattle.std.proofs.Common.{◌≤◌, inr, sym, subst}
 use Rattle.store_model.specs.Store.{State, RecordedStore, TakesStep}
 use Rattle.session_transaction.specs.Commits.{CountsFor, IsAnswer}
+use Rattle.session_transaction.proofs.Listed.{sound_answer}
 use Rattle.guard_store.specs.Fronts.{void_of}
 use Rattle.guard_store.proofs.Turning.{may_own, opened_now, turned, turned_with}
 use Rattle.guard_store.proofs.Fitting.{committable_now, verdict_now}
@@ -19,18 +20,20 @@ commit-requires-clause-verdict g c =
     verdict_now c.args.self.now c.args.pass c.start-held.result.0 c.start-held.result.1 x.transaction.net x.transaction.verdict x.rows c.start-held.ensures c.requires.kept
 
 pub finish-requires-clause-step : goal.finish-requires-clause-step
-finish-requires-clause-step g c = may_own c.args.self.now c.args.pass c.start-held.result.0 c.start-held.result.1 c.commit.new.core _ c.requires.caller.own c.start-held.ensures c.in-Ok-commit.ensures.step
+finish-requires-clause-step g c = may_own c.args.self.now c.args.pass c.start-held.result.0 c.start-held.result.1 c.commit.new.core _ c.requires.caller.own
+    (sound_answer c.start-held.result.1.state c.args.handed.transaction c.in-Ok-commit.ensures.answer.reply c.in-Ok-commit.committed c.in-Ok-commit.ensures.answer.told c.in-Ok-commit.ensures.no_fault)
+    c.start-held.ensures c.in-Ok-commit.ensures.answer.step
 
 pub returns-in-Ok-commit-clause-commits : goal.returns-in-Ok-commit-clause-commits
 returns-in-Ok-commit-clause-commits g c =
-    let done = c.in-Ok-commit.ensures in
+    let done = c.in-Ok-commit.ensures.answer in
     let t = turned_with c.args.self.now c.args.pass c.start-held.result.0 c.finish.result c.start-held.result.1 c.commit.new.core _ (λ (s : State). IsAnswer s c.args.handed.transaction done.reply c.in-Ok-commit.committed)
     c.start-held.ensures done.step (c.finish.ensures c.args.pass c.start-held.result.1 _ c.start-held.ensures done.step) done.told in
     turn_commits c.args.self.now c.args.pass c.finish.result c.args.number c.args.handed.transaction done.reply c.in-Ok-commit.committed t.0 t.1
 
 pub returns-in-Ok-commit-clause-steps : goal.returns-in-Ok-commit-clause-steps
 returns-in-Ok-commit-clause-steps g c =
-    let done = c.in-Ok-commit.ensures in
+    let done = c.in-Ok-commit.ensures.answer in
     let x = c.args.handed.transaction in
     let t = turned_with c.args.self.now c.args.pass c.start-held.result.0 c.finish.result c.start-held.result.1 c.commit.new.core _
     (λ (s : State). IsAnswer s x done.reply c.in-Ok-commit.committed × CountsFor c.in-Ok-commit.committed s x c.args.steps.now c.commit.new.steps)
@@ -38,13 +41,13 @@ returns-in-Ok-commit-clause-steps g c =
     turn_counts c.args.self.now c.args.pass c.finish.result c.args.number x done.reply c.in-Ok-commit.committed _ _ t.0 t.1.0 t.1.1
 
 pub void-requires : goal.void-requires
-void-requires g c = subst (λ (s : RecordedStore). c.args.number ≤ s.state.opened) (sym c.in-Err.ensures.1)
+void-requires g c = subst (λ (s : RecordedStore). c.args.number ≤ s.state.opened) (sym c.in-Err.ensures.answer.1)
     (opened_now c.args.self.now c.args.number c.args.pass c.start-held.result.0 c.start-held.result.1 c.requires.caller c.start-held.ensures).1
 
 pub returns-in-Err-clause-commits : goal.returns-in-Err-clause-commits
 returns-in-Err-clause-commits g c =
-    let step = subst (λ (s : RecordedStore). TakesStep s c.void.new.self (void_of c.args.number)) c.in-Err.ensures.1 c.void.ensures in (
-      c.in-Err.ensures.0,
+    let step = subst (λ (s : RecordedStore). TakesStep s c.void.new.self (void_of c.args.number)) c.in-Err.ensures.answer.1 c.void.ensures in (
+      c.in-Err.ensures.answer.0,
       inr (turned c.args.self.now c.args.pass c.start-held.result.0 c.finish-in-Err.result c.start-held.result.1 c.void.new.self _ c.start-held.ensures step
           (c.finish-in-Err.ensures c.args.pass c.start-held.result.1 _ c.start-held.ensures step)),
     )

@@ -7,7 +7,7 @@ use Rattle.guard_store.proofs.store.Store.take_opening.Goals as goal
 pub finish-requires-clause-step : goal.finish-requires-clause-step
 finish-requires-clause-step g c =
     may_first c.args.self.now c.args.pass c.start-held.result.0 c.start-held.result.1 c.session.new.self _ c.requires.first
-    (open_reserved c.args.self.now c.args.pass c.start-held.result.0 c.start-held.result.1 c.session.new.self _ refl c.start-held.ensures c.in-Ok-session.ensures) c.start-held.ensures c.in-Ok-session.ensures
+    (open_reserved c.args.self.now c.args.pass c.start-held.result.0 c.start-held.result.1 c.session.new.self _ refl c.start-held.ensures c.in-Ok-session.ensures) refl c.start-held.ensures c.in-Ok-session.ensures
 
 pub returns-in-Err-SessionsFull : goal.returns-in-Err-SessionsFull
 returns-in-Err-SessionsFull g c =

@@ -1,0 +1,307 @@
+//! A commit that is appended to a log before it is answered.
+ghost use Rattle.std.specs.Prelude.{false, ◌≡◌, ◌<◌, IfOk, OnOk, MatchBool, List, not};
+ghost use Rattle.std.specs.Vec.{vec_capacity, vec_len};
+ghost use Rattle.std.specs.List.{filter};
+ghost use Rattle.collections.specs.Ordered.{has_item};
+ghost use Rattle.rdf_model.specs.Graphs.{after, differing};
+ghost use Rattle.rdf_model.specs.Terms.{triple_cmp};
+ghost use Rattle.shape_model.specs.Validation.{Listing};
+ghost use Rattle.disk.specs.Crashes.{Throughout};
+ghost use Rattle.commit_log.specs.Log.{IsSameLater, OpensOneOf};
+ghost use Rattle.record_text.specs.declared.record.Record.{Record as RecordData};
+ghost use Rattle.record_text.specs.Records.{IsReadableRecord};
+ghost use Rattle.store_model.specs.Store.{IsCommittable, IsOpened, shapes_under, version};
+ghost use Rattle.commit_core.specs.Commits.{Answers, IsPlan, data_of};
+ghost use Rattle.commit_core.specs.Logged.{IsBeside, IsInStep, IsLoggable, IsRecordOf, LogsCommit, logged, record_of};
+ghost use Rattle.commit_core.specs.Verdicts.{AreOfVerdict, AreReasons};
+ghost use Rattle.commit_core.specs.Work.{AnswerSteps, CommitSteps, IsByResults, is_no};
+
+use crate::commit::{Acceptance, CheckedTransaction, Commit, Plan, Reasons};
+use crate::reasons::{find_reasons, has_held};
+use crate::room::Slip;
+use crate::store::{Core, slip, version_of};
+use collections::Sequence;
+use commit_log::{AppendFault, Log};
+use disk::Disk;
+use page_index::Pages;
+use rdf_model::Triple;
+use record_text::Record;
+use shape_eval::Steps;
+use shapes_graph::ShapesGraph;
+use std::alloc::{AllocError, Global};
+use std::sync::ledger::Ledger;
+use store_model::{Accepted, Action, Event, Overtaker, Reply, Transaction};
+
+// Those of the triples that are in the graph.
+fn those_in(
+    alloc: Global,
+    graph: &Pages<Triple>,
+    triples: &[Triple],
+) -> Result<Vec<Triple>, AllocError>
+    ensures { IfOk result (λ v. v.items ≡ filter (λ t. has_item triple_cmp t graph.now) triples.now) }
+{
+    let mut found = Vec::new(alloc);
+    for triple in triples {
+        if graph.contains(triple) {
+            found.push(triple.clone()?)?;
+        }
+    }
+    Ok(found)
+}
+
+// Those of the triples that aren't.
+fn those_not_in(
+    alloc: Global,
+    graph: &Pages<Triple>,
+    triples: &[Triple],
+) -> Result<Vec<Triple>, AllocError>
+    ensures { IfOk result (λ v. v.items ≡ filter (λ t. not (has_item triple_cmp t graph.now)) triples.now) }
+{
+    let mut found = Vec::new(alloc);
+    for triple in triples {
+        if !graph.contains(triple) {
+            found.push(triple.clone()?)?;
+        }
+    }
+    Ok(found)
+}
+
+// The triples of the staged shapes graph, if there is one.
+fn staged_triples(
+    alloc: Global,
+    staged: &Option<ShapesGraph>,
+) -> Result<Option<Sequence<Triple>>, AllocError>
+    ensures { IfOk result (λ triples. triples ≡ staged.now) }
+{
+    match staged {
+        Some(shapes) => Ok(Some(Sequence::copied_from(alloc, shapes.triples())?)),
+        None => Ok(None),
+    }
+}
+
+// The record of a commit with this number, by the graph before it and the triples that it changes.
+fn record_of_changes(
+    alloc: Global,
+    number: u64,
+    graph: &Pages<Triple>,
+    changed: &[Triple],
+    staged: &Option<ShapesGraph>,
+) -> Result<Record, AllocError>
+    ensures { IfOk result (IsRecordOf number graph.now changed.now staged.now) }
+{
+    let removed = those_in(alloc, graph, changed)?;
+    let added = those_not_in(alloc, graph, changed)?;
+    Ok(Record {
+        number,
+        removed: Sequence::from_vec(removed),
+        added: Sequence::from_vec(added),
+        shapes: staged_triples(alloc, staged)?,
+    })
+}
+
+// Makes room for one commit.
+fn make_room(commits: &mut Vec<Accepted>) -> Result<(), AllocError>
+    ensures items { commits.new.items ≡ commits.old.items }
+    ensures room { OnOk result (vec_len commits.new < vec_capacity commits.new) }
+{
+    commits.reserve(1)?;
+    Ok(())
+}
+
+impl Core {
+    // The record of a commit that is accepted.
+    fn record_of_commit(
+        &self,
+        transaction: &Transaction,
+        acceptance: &Acceptance,
+    ) -> Result<Record, AllocError>
+        requires loggable { IsLoggable transaction.now }
+        requires changed { acceptance.now.accepted.changed ≡ differing self.now.state.graph (after self.now.state.graph transaction.now.net) }
+        ensures is { IfOk result (λ entry. entry ≡ record_of self.now.state.graph (version self.now.state) transaction.now) }
+        ensures readable { IfOk result IsReadableRecord }
+    {
+        self.recall_consistent();
+        record_of_changes(
+            self.alloc,
+            version_of(&self.commits) + 1,
+            self.graph.triples(),
+            acceptance.accepted.changed.as_slice(),
+            &transaction.staged,
+        )
+    }
+
+    // Appends the record of a commit, then puts the next graphs in place, and records the commit that makes them. Where the log
+    // fails, the core is stopped.
+    fn accept_logged<D: Disk>(
+        &mut self,
+        slip: Slip,
+        session: u32,
+        checked: CheckedTransaction,
+        acceptance: Acceptance,
+        reasons: Reasons,
+        log: &mut Log<D>,
+    ) -> Commit
+        requires running { self.old.state.stopped ≡ false }
+        requires opened { IsOpened self.old.state session }
+        requires committable { IsCommittable self.old.state checked.transaction }
+        requires plan { IsPlan self.old.limits (data_of self.old) self.old.state.commits checked.transaction (Plan.Accept acceptance) }
+        requires reasons { AreReasons self.old.state.commits checked.transaction reasons }
+        requires beside { IsBeside self.old log.old }
+        requires loggable { IsLoggable checked.transaction }
+        ensures answer { Answers result self.old self.new session checked }
+        ensures by_results { IsByResults reasons.answer result }
+        ensures log { LogsCommit D.tells D.bytes D.history D.faults (record_of self.old.state.graph (version self.old.state) checked.transaction) log.old log.new result }
+        ensures same { IsSameLater D.chosen D.faults log.old.disk log.new.disk }
+    {
+        let Ok(entry) = self.record_of_commit(&checked.transaction, &acceptance) else {
+            return Commit::Memory(checked);
+        };
+        let Ok(()) = make_room(&mut self.commits) else {
+            return Commit::Memory(checked);
+        };
+        match log.append(self.alloc, &entry) {
+            Err(AppendFault::Closed) => unreachable!(),
+            Err(AppendFault::Memory) => Commit::Memory(checked),
+            Err(AppendFault::Failed) => {
+                self.stopped = true;
+                self.history.push(
+                    slip.room,
+                    Event {
+                        session,
+                        action: Action::Commit(checked.into_transaction()),
+                        reply: Reply::LogFault,
+                    },
+                );
+                Commit::LogFault
+            }
+            Ok(()) => {
+                let (graph, accepted) = acceptance.into_parts();
+                self.commits.push_reserved(accepted);
+                let number = version_of(&self.commits);
+                let (again, recorded) = reasons.into_parts();
+                self.history.push(
+                    slip.room,
+                    Event {
+                        session,
+                        action: Action::Commit(checked.into_transaction()),
+                        reply: Reply::Done(number, recorded),
+                    },
+                );
+                self.graph = graph;
+                Commit::Done { number, again }
+            }
+        }
+    }
+
+    // Carries out the plan of a commit to a log.
+    fn commit_logged_by_plan<D: Disk, L: Ledger>(
+        &mut self,
+        slip: Slip,
+        session: u32,
+        checked: CheckedTransaction,
+        reasons: Reasons,
+        log: &mut Log<D>,
+        steps: &mut Steps<L>,
+    ) -> Commit
+        requires running { self.old.state.stopped ≡ false }
+        requires opened { IsOpened self.old.state session }
+        requires committable { IsCommittable self.old.state checked.transaction }
+        requires reasons { AreReasons self.old.state.commits checked.transaction reasons }
+        requires found { MatchBool (is_no reasons.answer) (Listing (after self.old.state.graph checked.transaction.net) (shapes_under self.old.state.shapes checked.transaction.staged) checked.rows) (Unit {0}) }
+        requires beside { IsBeside self.old log.old }
+        requires loggable { IsLoggable checked.transaction }
+        ensures answer { Answers result self.old self.new session checked }
+        ensures steps { AnswerSteps (is_no reasons.answer) reasons.answer self.old.state checked.transaction steps.old steps.new result }
+        ensures log { LogsCommit D.tells D.bytes D.history D.faults (record_of self.old.state.graph (version self.old.state) checked.transaction) log.old log.new result }
+        ensures same { IsSameLater D.chosen D.faults log.old.disk log.new.disk }
+    {
+        let held = has_held(&reasons.answer);
+        match self.plan(&checked, held, steps) {
+            Err(_) => Commit::Memory(checked),
+            Ok(Plan::Overtaken(overtaker, triple)) => {
+                let Overtaker {
+                    commit,
+                    triple: first,
+                } = overtaker;
+                let reply = Reply::Conflict(commit, first);
+                self.refuse(slip, session, checked.into_transaction(), reply);
+                Commit::Conflict { commit, triple }
+            }
+            Ok(Plan::TooLarge(count)) => {
+                let reply = Reply::FullTriples(count);
+                self.refuse(slip, session, checked.into_transaction(), reply);
+                Commit::FullTriples { count }
+            }
+            Ok(Plan::Refuse(refusal)) => {
+                self.refuse_invalid(slip, session, checked, refusal, reasons)
+            }
+            Ok(Plan::Accept(acceptance)) => {
+                self.accept_logged(slip, session, checked, acceptance, reasons, log)
+            }
+        }
+    }
+
+    // The commit of a transaction, by its answer.
+    fn commit_to_log<D: Disk, L: Ledger>(
+        &mut self,
+        session: u32,
+        checked: CheckedTransaction,
+        log: &mut Log<D>,
+        steps: &mut Steps<L>,
+    ) -> Commit
+        requires opened { IsOpened self.old.state session }
+        requires committable { IsCommittable self.old.state checked.transaction }
+        requires verdict { AreOfVerdict self.old checked.transaction.net checked.transaction.verdict checked.rows }
+        requires beside { IsBeside self.old log.old }
+        requires loggable { IsLoggable checked.transaction }
+        ensures answer { Answers result self.old self.new session checked }
+        ensures steps { CommitSteps result self.old.state checked.transaction steps.old steps.new }
+        ensures log { LogsCommit D.tells D.bytes D.history D.faults (record_of self.old.state.graph (version self.old.state) checked.transaction) log.old log.new result }
+        ensures same { IsSameLater D.chosen D.faults log.old.disk log.new.disk }
+    {
+        let Ok(slip) = slip(self.alloc) else {
+            return Commit::Memory(checked);
+        };
+        if self.stopped {
+            let version = version_of(&self.commits);
+            let reply = Reply::Stopped(version);
+            self.refuse(slip, session, checked.into_transaction(), reply);
+            return Commit::Stopped { version };
+        }
+        let Ok(reasons) = find_reasons(self.alloc, &self.commits, &checked.transaction) else {
+            return Commit::Memory(checked);
+        };
+        self.commit_logged_by_plan(slip, session, checked, reasons, log, steps)
+    }
+
+    /// Commits a transaction as `commit` does, and appends its record to the log of this core, after all memory is taken and
+    /// before its graph is in place. Until the log fails its last number is the core's version; what the record has to give back
+    /// can be read.
+    ///
+    /// Where the log fails, for which its disk is to blame, nothing is committed, and the core is stopped. `Done` is answered
+    /// only where each crash leaves the record; at each moment of the call a crash leaves the records that there were, or these
+    /// and the new one. After all other answers the log is as it was.
+    pub fn commit_logged<D: Disk, L: Ledger>(
+        &mut self,
+        session: u32,
+        checked: CheckedTransaction,
+        log: &mut Log<D>,
+        steps: &mut Steps<L>,
+    ) -> Commit
+        requires opened { IsOpened self.old.state session }
+        requires committable { IsCommittable self.old.state checked.transaction }
+        requires verdict { AreOfVerdict self.old checked.transaction.net checked.transaction.verdict checked.rows }
+        requires beside { IsBeside self.old log.old }
+        requires loggable { IsLoggable checked.transaction }
+        ensures answer { Answers result self.old self.new session checked }
+        ensures steps { CommitSteps result self.old.state checked.transaction steps.old steps.new }
+        ensures log { LogsCommit D.tells D.bytes D.history D.faults (record_of self.old.state.graph (version self.old.state) checked.transaction) log.old log.new result }
+        ensures step { (base : List RecordData) → IsInStep D.tells D.bytes D.history base self.old log.old → IsInStep D.tells D.bytes D.history base self.new log.new }
+        ensures crash { (base : List RecordData) → IsInStep D.tells D.bytes D.history base self.old log.old → self.old.state.stopped ≡ false → D.tells →
+            Throughout (D.history log.old.disk) (D.history log.new.disk) (OpensOneOf (logged base self.old) (record_of self.old.state.graph (version self.old.state) checked.transaction)) }
+        ensures same { IsSameLater D.chosen D.faults log.old.disk log.new.disk }
+    {
+        self.recall_consistent();
+        self.commit_to_log(session, checked, log, steps)
+    }
+}

@@ -1,0 +1,361 @@
+//! A store restored from the records of a log.
+ghost use Rattle.std.specs.Prelude.{◌≡◌, ◌≤◌, ◌<◌, ◌+◌, ◌^◌, ◌++◌, [], IfErr, IfOk, MatchBool, MatchOption, MatchResult, OnOk, length, map, not};
+ghost use Rattle.std.specs.List.{flat_map, list_all};
+ghost use Rattle.rdf_model.specs.Graphs.{with_each};
+ghost use Rattle.rdf_model.specs.Terms.{triple_cmp};
+ghost use Rattle.collections.specs.Ordered.{IsAscending, has_item};
+ghost use Rattle.shape_model.specs.Validation.{NoResult};
+ghost use Rattle.graph_validation.specs.Counting.{GrowsByCount, IsTargetPair};
+ghost use Rattle.commit_log.specs.Format.{AreRecordsFrom};
+ghost use Rattle.store_model.specs.Nodes.{given_with};
+ghost use Rattle.store_model.specs.Store.{shapes_under, terms_of};
+ghost use Rattle.term_dict.specs.Faults.{IsCause};
+ghost use Rattle.term_dict.specs.Names.{with_terms};
+ghost use Rattle.term_validation.specs.Named.{AreNamedTriples};
+ghost use Rattle.data_graph.specs.DataGraphs.{names_of, with_names};
+ghost use Rattle.commit_core.specs.Restored.{FitInTurn, HasBlocking, IsRestoreFault, IsRestored, accepted_by, fits_record, graph_after, record_terms, restored, shapes_terms, without_each};
+ghost use Rattle.commit_core.specs.RestoredParts.{IsLastGraph, IsNamedStart, IsNamingFault, givens, with_names_of};
+
+use crate::history::History;
+use crate::naming::give_all;
+use crate::store::Core;
+use collections::{Sequence, sorted_once};
+use data_graph::DataGraph;
+use page_index::Pages;
+use rdf_model::{Change, Term, Triple};
+use record_text::Record;
+use shape_eval::Steps;
+use shapes_graph::ShapesGraph;
+use std::alloc::{AllocError, Global};
+use std::sync::ledger::Ledger;
+use store_model::{Accepted, BlockMode, Limits};
+use term_dict::NameFault;
+
+/// Why no store was restored.
+#[derive(Clone, Copy, Debug, PartialEq, Eq)]
+pub enum RestoreFault {
+    /// The record with this number removes a triple that is absent, or adds one that is present; it is
+    /// the first such.
+    Misfit { record: u64 },
+    /// The terms of the records, or the triples of the last graph, are more than the limit.
+    TooLarge,
+    /// The last graph has a result that blocks.
+    Blocked,
+    Memory,
+}
+
+impl From<AllocError> for RestoreFault {
+    ghost use Rattle.commit_core.specs.declared.restoring.RestoreFault.TheVariants as faults;
+    ghost use Rattle.std.specs.Prelude.{◌≡◌};
+
+    ghost from_gives = { λ _ e. e ≡ faults.Memory };
+
+    fn from(_error: AllocError) -> Self {
+        RestoreFault::Memory
+    }
+}
+
+/// The last record that staged a shapes graph: that is the shapes graph that the records lead to, or the empty one where none
+/// did.
+pub fn last_staged(records: &[Record]) -> Option<&Record>
+    ensures { MatchOption result ((restored records.now).shapes ≡ []) (λ entry. (restored records.now).shapes ≡ shapes_under [] entry.now.shapes) }
+{
+    let mut last = None;
+    for entry in records {
+        match &entry.shapes {
+            Some(_) => last = Some(entry),
+            None => {}
+        }
+    }
+    last
+}
+
+// Whether the graph has each of the triples.
+fn has_each(graph: &Pages<Triple>, triples: &[Triple]) -> bool
+    ensures { result ≡ list_all (λ t. has_item triple_cmp t graph.now) triples.now }
+{
+    triples.iter().all(|triple| graph.contains(triple))
+}
+
+// Whether the graph has none of the triples.
+fn has_none(graph: &Pages<Triple>, triples: &[Triple]) -> bool
+    ensures { result ≡ list_all (λ t. not (has_item triple_cmp t graph.now)) triples.now }
+{
+    triples.iter().all(|triple| !graph.contains(triple))
+}
+
+// Whether the record removes only what is in the graph, and adds nothing that is.
+fn does_fit(graph: &Pages<Triple>, entry: &Record) -> bool
+    ensures { result ≡ fits_record graph.now entry.now }
+{
+    has_each(graph, entry.removed.as_slice()) && has_none(graph, entry.added.as_slice())
+}
+
+fn take_out(graph: &mut Pages<Triple>, triples: &[Triple]) -> Result<(), AllocError>
+    ensures { OnOk result (graph.new ≡ without_each graph.old triples.now) }
+{
+    for triple in triples {
+        graph.remove(triple)?;
+    }
+    Ok(())
+}
+
+fn put_in(graph: &mut Pages<Triple>, triples: &[Triple]) -> Result<(), AllocError>
+    ensures { OnOk result (graph.new ≡ with_each graph.old triples.now) }
+{
+    for triple in triples {
+        graph.insert(triple.clone()?)?;
+    }
+    Ok(())
+}
+
+fn apply_record(graph: &mut Pages<Triple>, entry: &Record) -> Result<(), AllocError>
+    ensures { OnOk result (graph.new ≡ graph_after graph.old entry.now) }
+{
+    take_out(graph, entry.removed.as_slice())?;
+    put_in(graph, entry.added.as_slice())
+}
+
+// The graph that the records lead to, where each fits and the limit allows it.
+fn last_graph(
+    alloc: Global,
+    limits: Limits,
+    records: &[Record],
+) -> Result<Pages<Triple>, RestoreFault>
+    requires { AreRecordsFrom 1 records.now }
+    ensures { MatchResult result (IsLastGraph limits records.now) (IsRestoreFault limits records.now) }
+{
+    let mut graph = Pages::new(alloc);
+    for entry in records {
+        if !does_fit(&graph, entry) {
+            return Err(RestoreFault::Misfit {
+                record: entry.number,
+            });
+        }
+        apply_record(&mut graph, entry)?;
+    }
+    if graph.len() > limits.triples {
+        return Err(RestoreFault::TooLarge);
+    }
+    Ok(graph)
+}
+
+// Adds the terms of the triples, in order.
+fn add_terms(terms: &mut Vec<Term>, triples: &[Triple]) -> Result<(), AllocError>
+    ensures { OnOk result (terms.new.items ≡ terms.old.items ++ flat_map terms_of triples.now) }
+{
+    for triple in triples {
+        terms.push(triple.subject.clone()?)?;
+        terms.push(triple.predicate.clone()?)?;
+        terms.push(triple.object.clone()?)?;
+    }
+    Ok(())
+}
+
+fn add_shapes_terms(
+    terms: &mut Vec<Term>,
+    shapes: &Option<Sequence<Triple>>,
+) -> Result<(), AllocError>
+    ensures { OnOk result (terms.new.items ≡ terms.old.items ++ shapes_terms shapes.now) }
+{
+    match shapes {
+        Some(triples) => add_terms(terms, triples.as_slice()),
+        None => Ok(()),
+    }
+}
+
+// The terms of a record, in order.
+fn terms_of_record(alloc: Global, entry: &Record) -> Result<Vec<Term>, AllocError>
+    ensures { IfOk result (λ terms. terms.items ≡ record_terms entry.now) }
+{
+    let mut terms = Vec::new(alloc);
+    add_terms(&mut terms, entry.removed.as_slice())?;
+    add_terms(&mut terms, entry.added.as_slice())?;
+    add_shapes_terms(&mut terms, &entry.shapes)?;
+    Ok(terms)
+}
+
+// Names the terms of a record, and gives out its blank nodes.
+fn name_record(
+    alloc: Global,
+    graph: &mut DataGraph,
+    given: &mut Pages<Term>,
+    entry: &Record,
+) -> Result<(), NameFault>
+    ensures named { OnOk result (graph.new ≡ with_names graph.old (record_terms entry.now)) }
+    ensures given { OnOk result (given.new ≡ given_with given.old (record_terms entry.now)) }
+    ensures fits { OnOk result (length graph.new.terms ≤ graph.old.limit + 2) }
+    ensures cause { IfErr result (λ fault. IsCause fault (names_of graph.old) (record_terms entry.now)) }
+{
+    let terms = terms_of_record(alloc, entry)?;
+    graph.name_all(&terms)?;
+    give_all(given, &terms)?;
+    Ok(())
+}
+
+// Names the terms of the records, and gives out their blank nodes.
+fn name_records(
+    alloc: Global,
+    graph: &mut DataGraph,
+    given: &mut Pages<Term>,
+    records: &[Record],
+) -> Result<(), RestoreFault>
+    requires { length graph.old.terms ≤ graph.old.limit + 2 }
+    ensures named { OnOk result ((graph.new ≡ with_names_of graph.old records.now) × (length graph.new.terms ≤ graph.old.limit + 2)) }
+    ensures given { OnOk result (given.new ≡ givens given.old records.now) }
+    ensures cause { IfErr result (IsNamingFault graph.old records.now) }
+{
+    for entry in records {
+        match name_record(alloc, graph, given, entry) {
+            Ok(()) => {}
+            Err(NameFault::Full { count: _ }) => return Err(RestoreFault::TooLarge),
+            Err(NameFault::Memory) => return Err(RestoreFault::Memory),
+        }
+    }
+    Ok(())
+}
+
+// The graph with no triple where the terms of the records are named, and their blank nodes.
+fn named_graph(
+    alloc: Global,
+    limits: Limits,
+    records: &[Record],
+) -> Result<(DataGraph, Pages<Term>), RestoreFault>
+    requires small { limits.terms + 2 < 2 ^ 32 }
+    requires fit { FitInTurn [] records.now }
+    ensures { MatchResult result (λ named. IsNamedStart limits records.now named.0 named.1) (IsRestoreFault limits records.now) }
+{
+    let mut graph = DataGraph::new(alloc, limits.terms)?;
+    let mut given = Pages::new(alloc);
+    match name_records(alloc, &mut graph, &mut given, records) {
+        Ok(()) => Ok((graph, given)),
+        Err(fault) => Err(fault),
+    }
+}
+
+// The triples that a record changed.
+fn changed_by(alloc: Global, entry: &Record) -> Result<Vec<Triple>, AllocError>
+    requires { IsAscending triple_cmp entry.now.removed }
+    ensures { IfOk result (λ changed. changed.items ≡ with_each entry.now.removed entry.now.added) }
+{
+    let mut changed = Sequence::copied_from(alloc, entry.removed.as_slice())?.into_vec();
+    let mut added = Sequence::copied_from(alloc, entry.added.as_slice())?.into_vec();
+    changed.append(&mut added)?;
+    Ok(sorted_once(changed)?)
+}
+
+// The commit of a record, as a store keeps it.
+fn accepted_of(alloc: Global, entry: &Record) -> Result<Accepted, AllocError>
+    requires { IsAscending triple_cmp entry.now.removed }
+    ensures { IfOk result (λ accepted. accepted ≡ accepted_by entry.now) }
+{
+    let changed = changed_by(alloc, entry)?;
+    Ok(Accepted {
+        changed: Sequence::from_vec(changed),
+        staged: entry.shapes.is_some(),
+    })
+}
+
+// The commits of the records.
+fn commits_of(alloc: Global, records: &[Record]) -> Result<Vec<Accepted>, AllocError>
+    requires { AreRecordsFrom 1 records.now }
+    ensures { IfOk result (λ commits. commits.items ≡ (restored records.now).commits) }
+{
+    let mut commits = Vec::new(alloc);
+    for entry in records {
+        commits.push(accepted_of(alloc, entry)?)?;
+    }
+    Ok(commits)
+}
+
+// The changes that add these triples.
+fn additions(alloc: Global, triples: &Pages<Triple>) -> Result<Vec<Change>, AllocError>
+    ensures { IfOk result (λ net. net.items ≡ map Change.Add triples.now) }
+{
+    let mut net = Vec::with_capacity(alloc, triples.len())?;
+    for triple in triples.iter() {
+        net.push(Change::Add(triple.clone()?))?;
+    }
+    Ok(net)
+}
+
+// The graph with these triples and these shapes, where it has none.
+fn filled(
+    alloc: Global,
+    graph: &DataGraph,
+    triples: &Pages<Triple>,
+    shapes: ShapesGraph,
+) -> Result<DataGraph, AllocError>
+    requires empty { graph.now.triples ≡ [] }
+    requires triples { AreNamedTriples graph.now.terms triples.now }
+    requires shapes { AreNamedTriples graph.now.terms shapes }
+    ensures { IfOk result (λ filled. filled ≡ record { triples = triples.now; shapes = shapes; terms = graph.now.terms; limit = graph.now.limit }) }
+{
+    triples.recall_ascending();
+    let net = additions(alloc, triples)?;
+    let mut filled = graph.after(&net)?;
+    filled.replace_shapes(shapes)?;
+    Ok(filled)
+}
+
+// Whether the graph has a result.
+fn has_result<L: Ledger>(graph: &mut DataGraph, steps: &mut Steps<L>) -> Result<bool, AllocError>
+    requires { AreNamedTriples graph.old.terms graph.old.triples }
+    ensures same { graph.new ≡ graph.old }
+    ensures found { IfOk result (λ found. MatchBool found (HasBlocking BlockMode.All graph.old.triples graph.old.shapes) (NoResult graph.old.triples graph.old.shapes)) }
+    ensures steps { OnOk result (GrowsByCount (IsTargetPair graph.old.triples graph.old.shapes) steps.old steps.new) }
+    ensures counted { steps.old ≤ steps.new }
+{
+    let rows = Sequence::from_vec(graph.listing(steps)?);
+    Ok(!rows.is_empty())
+}
+
+impl Core {
+    /// The store that the records of a log lead to, in which every result blocks: their graphs and commits, their terms named,
+    /// and their blank nodes given out. No session is, and the history is empty. The shapes graph is the last that a record
+    /// staged, or the empty one.
+    ///
+    /// `Misfit` comes before the other faults, and `TooLarge` before `Blocked`. The last graph is validated whole; the
+    /// evaluations are counted in `steps`, one for each pair of a shape and its target.
+    pub fn restore<L: Ledger>(
+        alloc: Global,
+        limits: Limits,
+        records: Vec<Record>,
+        shapes: ShapesGraph,
+        steps: &mut Steps<L>,
+    ) -> Result<Core, RestoreFault>
+        requires small { limits.terms + 2 < 2 ^ 32 }
+        requires mode { limits.mode ≡ BlockMode.All }
+        requires numbered { AreRecordsFrom 1 records.items }
+        requires shapes { shapes ≡ (restored records.items).shapes }
+        ensures store { MatchResult result (IsRestored limits records.items) (IsRestoreFault limits records.items) }
+        ensures steps { OnOk result (GrowsByCount (IsTargetPair (restored records.items).graph (restored records.items).shapes) steps.old steps.new) }
+        ensures counted { steps.old ≤ steps.new }
+    {
+        let triples = last_graph(alloc, limits, &records)?;
+        let (named, given) = named_graph(alloc, limits, &records)?;
+        let mut graph = filled(alloc, &named, &triples, shapes)?;
+        if has_result(&mut graph, steps)? {
+            return Err(RestoreFault::Blocked);
+        }
+        let commits = commits_of(alloc, &records)?;
+        Ok(Core {
+            alloc,
+            most_triples: limits.triples,
+            records,
+            graph,
+            commits,
+            given,
+            opened: 0,
+            stopped: false,
+            history: History::new(),
+        })
+    }
+
+    /// The records that the store was restored from.
+    pub fn records(&self) -> &[Record]
+        ensures { self.now.start ≡ restored result.now }
+    {
+        &self.records
+    }
+}

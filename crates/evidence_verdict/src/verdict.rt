@@ -1,0 +1,121 @@
+//! The verdict on a text.
+ghost use Rattle.std.specs.Prelude.{◌≡◌, ◌+◌, ◌<◌, ◌≤◌, ◌^◌, IfOk, IfSome, MatchResult, length};
+ghost use Rattle.rdf_model.specs.Numbers.{AreNumbered, IsNumbering, graph_of, term_at};
+ghost use Rattle.path_eval.specs.Instances.{AreClassWords};
+ghost use Rattle.shape_ast.specs.Readings.{AreBound};
+ghost use Rattle.shape_ast.specs.Standing.{AreBuilt};
+ghost use Rattle.term_validation.specs.Named.{AreNamedTriples};
+ghost use Rattle.evidence_blocks.specs.Verdicts.{IsVerified};
+ghost use Rattle.result_evidence.specs.Standing.{ForEach, HaveGraph};
+ghost use Rattle.evidence_verdict.specs.Causes.{IsCause};
+ghost use Rattle.evidence_verdict.specs.Judging.{IsNextShown};
+
+use crate::VerdictFault;
+use crate::judging::shows;
+use evidence_reader::read_block;
+use path_eval::ClassWords;
+use rdf_model::{Names, Triples};
+use shape_ast::{Bound, bind};
+use shape_eval::{Evaluation, Steps};
+use shapes_graph::ShapesGraph;
+use std::alloc::{AllocError, Global};
+use std::sync::ledger::Ledger;
+
+// What follows the block with this number, if the text begins with it and it shows its result.
+fn next_shown<'a, R: Triples, N: Names, L: Ledger>(
+    evaluation: &Evaluation<'_, R, N>,
+    names: &N,
+    number: u32,
+    text: &'a [u8],
+    steps: &mut Steps<L>,
+) -> Result<Option<&'a [u8]>, AllocError>
+    requires names { N.terms names.now ≡ evaluation.now.terms }
+    requires shapes { HaveGraph evaluation.now.terms evaluation.now.shapes }
+    ensures block { IfOk result (λ found. ForEach evaluation.now.terms evaluation.now.shapes
+        (λ s. IsNextShown (graph_of evaluation.now.terms evaluation.now.ids) s number text.now found)) }
+    ensures shorter { IfOk result (λ found. IfSome found (λ rest. length rest.now < length text.now)) }
+{
+    let Some((block, rest)) = read_block(evaluation.alloc(), u64::from(number), text)? else {
+        return Ok(None);
+    };
+    let is_shown = shows(evaluation, names, &block, steps)?;
+    if is_shown { Ok(Some(rest)) } else { Ok(None) }
+}
+
+// How many blocks the text has, which all show their results.
+fn count_of<R: Triples, N: Names, L: Ledger>(
+    evaluation: &Evaluation<'_, R, N>,
+    names: &N,
+    text: &[u8],
+    steps: &mut Steps<L>,
+) -> Result<u32, VerdictFault>
+    requires names { N.terms names.now ≡ evaluation.now.terms }
+    requires shapes { HaveGraph evaluation.now.terms evaluation.now.shapes }
+    requires text { length text.now < 2 ^ 32 }
+    ensures { ForEach evaluation.now.terms evaluation.now.shapes
+        (λ s. MatchResult result (IsVerified (graph_of evaluation.now.terms evaluation.now.ids) s text.now) (IsCause (graph_of evaluation.now.terms evaluation.now.ids) s text.now)) }
+{
+    let mut count = 0;
+    let mut rest = text;
+    while !rest.is_empty() {
+        let number = count + 1;
+        let found = next_shown(evaluation, names, number, rest, steps)?;
+        match found {
+            Some(behind) => rest = behind,
+            None => return Err(VerdictFault::Block { number }),
+        }
+        count = number;
+    }
+    Ok(count)
+}
+
+/// How many blocks of evidence a text has, where all of it is spelled as blocks are, numbered from 1, and each shows its result
+/// (SHACL section 3.6): under its looks, which ascend, stand just the triples of the graph that match them, and by these triples
+/// alone its shape gives the result at its focus node, a target, looking at listed looks alone. It is so under each shapes graph
+/// that the shapes stand for, in which no shape refers to itself and no chain of references is longer than 256.
+///
+/// Else the first block, from 1, that isn't so, or memory. Each block is evaluated once, over its own triples, which is counted
+/// in `steps`.
+pub fn verify<R: Triples, N: Names, L: Ledger>(
+    alloc: Global,
+    graph: &R,
+    names: &N,
+    words: ClassWords,
+    bound: &Bound,
+    text: &[u8],
+    steps: &mut Steps<L>,
+) -> Result<u32, VerdictFault>
+    requires numbering { IsNumbering (N.terms names.now) }
+    requires graph { AreNumbered (N.terms names.now) (R.triples graph.now) }
+    requires words { AreClassWords (N.terms names.now) words }
+    requires bound { AreBound (N.terms names.now) bound.now.shapes }
+    requires built { AreBuilt (term_at (N.terms names.now)) bound.now.shapes }
+    requires shapes { HaveGraph (N.terms names.now) bound.now.shapes }
+    requires text { length text.now < 2 ^ 32 }
+    ensures { ForEach (N.terms names.now) bound.now.shapes
+        (λ s. MatchResult result (IsVerified (graph_of (N.terms names.now) (R.triples graph.now)) s text.now) (IsCause (graph_of (N.terms names.now) (R.triples graph.now)) s text.now)) }
+{
+    let evaluation = Evaluation::new(alloc, graph, names, words, bound);
+    count_of(&evaluation, names, text, steps)
+}
+
+/// The same under a shapes graph. All terms of the shapes, rdf:type and rdfs:subClassOf are among the names.
+pub fn verdict_over<R: Triples, N: Names, L: Ledger>(
+    alloc: Global,
+    graph: &R,
+    names: &N,
+    words: ClassWords,
+    shapes: &ShapesGraph,
+    text: &[u8],
+    steps: &mut Steps<L>,
+) -> Result<u32, VerdictFault>
+    requires numbering { IsNumbering (N.terms names.now) }
+    requires words { AreClassWords (N.terms names.now) words }
+    requires graph { AreNumbered (N.terms names.now) (R.triples graph.now) }
+    requires shapes { AreNamedTriples (N.terms names.now) shapes.now }
+    requires text { length text.now < 2 ^ 32 }
+    ensures { MatchResult result (IsVerified (graph_of (N.terms names.now) (R.triples graph.now)) shapes.now text.now) (IsCause (graph_of (N.terms names.now) (R.triples graph.now)) shapes.now text.now) }
+{
+    let bound = bind(alloc, shapes.shapes(), names)?;
+    verify(alloc, graph, names, words, &bound, text, steps)
+}

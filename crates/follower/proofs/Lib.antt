@@ -1,0 +1,13 @@
+pub mod Members
+pub mod Tests
+pub mod Changing
+pub mod Growing
+pub mod Misfits
+pub mod Sequences
+pub mod Placed
+pub mod Names
+pub mod Runs
+pub mod Stays
+pub mod Leaders
+pub mod Accepted
+pub mod OneAnswer

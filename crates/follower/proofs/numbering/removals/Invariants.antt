@@ -1,0 +1,7 @@
+use Rattle.std.proofs.Common.{map, take}
+use Rattle.rdf_model.specs.declared.change.Change.TheVariants.{Remove}
+use Rattle.follower.specs.Numbered.{StandFor}
+use Rattle.follower.proofs.numbering.removals.Given as goal
+
+abbrev pub invariant-loop-triple : goal.invariant-loop-triple
+invariant-loop-triple l = StandFor l.names.terms l.changes.items (map Remove (take l.triple-index l.triples))

@@ -1,0 +1,5 @@
+pub mod Records
+pub mod Numbered
+pub mod Followed
+pub mod Versions
+pub mod Laws

@@ -1,0 +1,4 @@
+use Rattle.log_tests.proofs.restoring.other_nodes_were_not_given.Given as goal
+
+abbrev pub ghosts-restored : goal.ghosts-restored
+ghosts-restored g a = record { name = a.blank.name; parts = a.blank.parts }

@@ -1,0 +1,4 @@
+pub mod Assigned
+pub mod Standing
+pub mod Naming
+pub mod Selecting

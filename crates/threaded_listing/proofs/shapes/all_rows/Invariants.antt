@@ -1,0 +1,11 @@
+use Rattle.std.proofs.Common.{◌≤◌}
+use Rattle.graph_validation.specs.Counting.{StepsOfFirst}
+use Rattle.graph_validation.specs.Whole.{CollectsResults}
+use Rattle.threaded_listing.proofs.shapes.all_rows.Given as goal
+
+abbrev pub invariant-loop-shape : goal.invariant-loop-shape
+invariant-loop-shape g l = record {
+  rows : CollectsResults l.evaluation.terms l.evaluation.ids l.evaluation.shapes l.shape l.rows.items;
+  steps : StepsOfFirst l.evaluation.terms l.evaluation.ids l.evaluation.shapes l.shape l.fn.steps l.steps;
+  counted : l.fn.steps ≤ l.steps;
+}

@@ -1,0 +1,9 @@
+//! A focus node that a shape is evaluated at.
+use shape_eval::Permit;
+
+/// A focus node with the permit for one evaluation there.
+#[derive(Drop)]
+pub struct Visit {
+    pub node: u32,
+    pub allowed: Permit,
+}
