@@ -1,0 +1,5 @@
+pub mod Order
+pub mod Printing
+pub mod Followed
+pub mod Faults
+pub mod Laws

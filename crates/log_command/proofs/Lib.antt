@@ -1,0 +1,4 @@
+pub mod Greatest
+pub mod LastStaged
+pub mod InStep
+pub mod Stopping

@@ -1,0 +1,4 @@
+pub mod Devices
+pub mod Nodes
+pub mod Restoring
+pub mod Opened
