@@ -23,8 +23,8 @@ _guard_count() {
   local word count=0 is_number=
   for word in "${COMP_WORDS[@]:2:COMP_CWORD-2}"; do
     case $word in
-      --max-terms | --max-triples) is_number=yes ;;
-      --max-terms=* | --max-triples=* | =) ;;
+      --max-terms | --max-triples | --log) is_number=yes ;;
+      --max-terms=* | --max-triples=* | --log=* | =) ;;
       *)
         [ "$is_number" ] || count=$((count + 1))
         is_number=
@@ -40,13 +40,21 @@ _guard() {
   if [ "$COMP_CWORD" -eq 1 ]; then
     # The wrapper is called by its place, beside the list of its crates.
     if [[ $1 == */* && -e ${1%/*}/crates.txt ]]; then own="help check build install"; fi
-    _guard_words run replay validate explain verify generate $own
+    _guard_words run create-log replay validate explain verify generate follow $own
     return
   fi
   case ${COMP_WORDS[1]} in
     run | replay)
-      case $before in --max-terms | --max-triples | =) return ;; esac
-      if [[ $current == -* ]]; then
+      case $before in
+        --max-terms | --max-triples | =) return ;;
+        --log)
+          _guard_files log
+          return
+          ;;
+      esac
+      if [[ $current == -* && ${COMP_WORDS[1]} == run ]]; then
+        _guard_words --max-terms --max-triples --log
+      elif [[ $current == -* ]]; then
         _guard_words --max-terms --max-triples
       elif [ "${COMP_WORDS[1]}" = replay ] && [ "$(_guard_count)" -eq 0 ]; then
         _guard_files history
@@ -54,6 +62,8 @@ _guard() {
         _guard_files session
       fi
       ;;
+    create-log) [ "$COMP_CWORD" -gt 2 ] || _guard_files log ;;
+    follow) [ "$COMP_CWORD" -gt 3 ] || _guard_files ;;
     validate | explain) [ "$COMP_CWORD" -gt 3 ] || _guard_files ttl ;;
     verify)
       case $COMP_CWORD in

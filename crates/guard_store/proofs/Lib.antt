@@ -1,5 +1,6 @@
 pub mod Cases
 pub mod Growing
+pub mod Slots
 pub mod Turning
 pub mod Opening
 pub mod Fitting

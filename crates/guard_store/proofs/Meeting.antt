@@ -13,10 +13,11 @@ use Rattle.store_model.specs.declared.event.Limits.{Limits}
 use Rattle.store_model.specs.declared.event.Event.{Event}
 use Rattle.store_model.specs.declared.event.Action.TheVariants as actions
 use Rattle.store_model.specs.declared.event.Reply.TheVariants as replies
-use Rattle.store_model.specs.Store.{State, RecordedStore, Step, Replays, IsOpened}
+use Rattle.store_model.specs.Store.{State, Step, Replays, IsOpened}
 use Rattle.store_model.proofs.Histories.{Replays-push}
 use Rattle.thread_model.specs.Following.{is_opening}
 use Rattle.thread_model.proofs.Placing.{within, opening}
+use Rattle.guard_store.specs.Slots.{Origin}
 use Rattle.guard_store.specs.declared.faults.OpenFault.{OpenFault}
 use Rattle.guard_store.specs.declared.faults.OpenFault.TheVariants.{SessionsFull, Memory}
 use Rattle.guard_store.specs.Fronts.{SharedStore, At, Turn, session_of, void_of}
@@ -79,26 +80,26 @@ keepers_from store old new more none p same t h =
     sym (front_reserved l start none t new h) ∙ (same ∙ ap (λ (xs : List Event). xs ++ more) (front_reserved l start none r.0 old r.1))
 
 -- what was seen begins what is seen then
-turn_begins : (store : SharedStore) (old new : Caller Event RecordedStore) (e : Event) → Turn store old new e → IsPrefix old.known.front new.known.front
+turn_begins : (store : SharedStore) (old new : Caller Event Origin) (e : Event) → Turn store old new e → IsPrefix old.known.front new.known.front
 turn_begins store old new e t = (
   t.others.begins.0 ++ e ∷ [],
   sym (append_assoc old.known.front t.others.begins.0 (e ∷ [])) ∙ (ap (λ (x : List Event). x ++ e ∷ []) t.others.begins.1 ∙ sym (front_is store old new e t)),
 )
 
 -- a session that was opened before the turn
-opened_before : (store : SharedStore) (i : ℕ) (old new : Caller Event RecordedStore) (e : Event) → IsCaller store i old → (t : Turn store old new e) → IsOpened t.before i
+opened_before : (store : SharedStore) (i : ℕ) (old new : Caller Event Origin) (e : Event) → IsCaller store i old → (t : Turn store old new e) → IsOpened t.before i
 opened_before store i old new e is t =
     let at : At store (old.known.front ++ t.others.begins.0) (λ s. IsOpened s i) = still_at store (λ s. IsOpened s i) (λ s t m o. opened_more i s t m o) old.known.front t.others.begins.0 is.opened in
     at t.before (subst (λ (x : List Event). Replays store.limits store.start x t.before) (sym t.others.begins.1) t.replays)
 
 -- another's entry adds none to those of a session that was met
-met_turned : (store : SharedStore) (i : ℕ) (last : List Event) (old new : Caller Event RecordedStore) (e : Event) → HasMet store old i last → Turn store old new e → e.session ≢ i → HasMet store new i last
+met_turned : (store : SharedStore) (i : ℕ) (last : List Event) (old new : Caller Event Origin) (e : Event) → HasMet store old i last → Turn store old new e → e.session ≢ i → HasMet store new i last
 met_turned store i last old new e h t other = record {
   caller = caller_turned store i old new e h.caller t;
   entries = ap (under session_of i) (front_is store old new e t) ∙ (under_other session_of i t.seen e other ∙ (t.others.own i h.caller.own ∙ h.entries));
 }
 
-kept_from : (store : SharedStore) (i n : ℕ) (last : List Event) (mid : Caller Event RecordedStore) → i ≢ n → HasMet store mid i last → HasMet store (kept_caller n mid) i last
+kept_from : (store : SharedStore) (i n : ℕ) (last : List Event) (mid : Caller Event Origin) → i ≢ n → HasMet store mid i last → HasMet store (kept_caller n mid) i last
 kept_from store i n last mid other h = record {
   caller = record { lock = h.caller.lock; opening = h.caller.opening; own = has_without n i mid.known.numbers other h.caller.own; opened = h.caller.opened };
   entries = h.entries;
@@ -116,10 +117,10 @@ openings_keep_entries store old new s is o =
           let before = opened_before store i old.pass o.opens.mid e h.caller t in
           let here = next_number store.limits t.before t.after n t.step in
           let other : n ≢ i = λ same. omega (arith, same, here.0, before.1) in
-          subst (λ (c : Caller Event RecordedStore). HasMet store c i last) (sym o.opens.kept_is) (kept_from store i n last o.opens.mid (λ same. other (sym same)) (met_turned store i last old.pass o.opens.mid e h t other));
+          subst (λ (c : Caller Event Origin). HasMet store c i last) (sym o.opens.kept_is) (kept_from store i n last o.opens.mid (λ same. other (sym same)) (met_turned store i last old.pass o.opens.mid e h t other));
     }
 
-zero_keeps : (store : SharedStore) (old new : Caller Event RecordedStore) (e : Event) → store.start.opened ≡ 0 → old.known.first ≡ true → e.session ≡ 0 → Turn store old new e → KeepsEntries store old new (e ∷ [])
+zero_keeps : (store : SharedStore) (old new : Caller Event Origin) (e : Event) → store.start.opened ≡ 0 → old.known.first ≡ true → e.session ≡ 0 → Turn store old new e → KeepsEntries store old new (e ∷ [])
 zero_keeps store old new e none first zero t =
     let own : is_reserved session_of false t.seen e ≡ true = ap (λ b. cond b true (is_empty (under session_of e.session t.seen))) (eq-eqb e.session 0 zero) in record {
       keepers = keepers_from store old.known.front new.known.front (e ∷ []) none (turn_begins store old new e t)
@@ -129,13 +130,13 @@ zero_keeps store old new e none first zero t =
           met_turned store i last old new e h t (λ same. omega (arith, same, zero, before.0));
     }
 
-none_keeps : (store : SharedStore) (old : Caller Event RecordedStore) → KeepsEntries store old old []
+none_keeps : (store : SharedStore) (old : Caller Event Origin) → KeepsEntries store old old []
 none_keeps store old = record { keepers = λ s h. sym (append-nil (keepers_entries old.known.front)); met = λ i last h. h }
 
-fault_keeps : (store : SharedStore) (f : OpenFault) (old new : Caller Event RecordedStore) → store.start.opened ≡ 0 → old.known.first ≡ true → OpensNot f store old new → (more : List Event) × AreOfFault f more × KeepsEntries store old new more
+fault_keeps : (store : SharedStore) (f : OpenFault) (old new : Caller Event Origin) → store.start.opened ≡ 0 → old.known.first ≡ true → OpensNot f store old new → (more : List Event) × AreOfFault f more × KeepsEntries store old new more
 fault_keeps store SessionsFull old new none first t = (event_of 0 actions.Open replies.SessionsFull ∷ [], refl, zero_keeps store old new (event_of 0 actions.Open replies.SessionsFull) none first refl t)
 fault_keeps store Memory old new none first t = ⊎_elim
-    (λ (same : new ≡ old). let p : (more : List Event) × AreOfFault Memory more × KeepsEntries store old new more = ([], inl refl, subst (λ (c : Caller Event RecordedStore). KeepsEntries store old c []) (sym same) (none_keeps store old)) in p)
+    (λ (same : new ≡ old). let p : (more : List Event) × AreOfFault Memory more × KeepsEntries store old new more = ([], inl refl, subst (λ (c : Caller Event Origin). KeepsEntries store old c []) (sym same) (none_keeps store old)) in p)
     (λ (turn : Turn store old new (void_of 0)). let p : (more : List Event) × AreOfFault Memory more × KeepsEntries store old new more = (void_of 0 ∷ [], inr refl, zero_keeps store old new (void_of 0) none first refl turn) in p) t
 
 pub failed_openings_keep_entries : FailedOpeningsKeepEntries
@@ -152,7 +153,7 @@ meetings_keep_entries store keeper after session is has e this that =
       caller = record {
         lock = lock;
         opening = start;
-        own = subst (λ (c : Caller Event RecordedStore). has_number c.known.numbers session.number ≡ true) (sym p) (has_right keeper.pass.known.numbers session.pass.known.numbers session.number has.caller.own);
+        own = subst (λ (c : Caller Event Origin). has_number c.known.numbers session.number ≡ true) (sym p) (has_right keeper.pass.known.numbers session.pass.known.numbers session.number has.caller.own);
         opened = opens session.number session.pass.known.front that.begins.0 that.begins.1 has.caller.opened;
       };
       entries = that.own session.number has.caller.own;
@@ -163,7 +164,7 @@ meetings_keep_entries store keeper after session is has e this that =
         caller = record {
           lock = lock;
           opening = start;
-          own = subst (λ (c : Caller Event RecordedStore). has_number c.known.numbers i ≡ true) (sym p) (has_left keeper.pass.known.numbers session.pass.known.numbers i h.caller.own);
+          own = subst (λ (c : Caller Event Origin). has_number c.known.numbers i ≡ true) (sym p) (has_left keeper.pass.known.numbers session.pass.known.numbers i h.caller.own);
           opened = opens i keeper.pass.known.front this.begins.0 this.begins.1 h.caller.opened;
         };
         entries = this.own i h.caller.own ∙ h.entries;

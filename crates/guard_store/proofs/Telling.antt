@@ -5,7 +5,8 @@ use Rattle.turn_lock.specs.Callers.{Caller}
 use Rattle.turn_lock.proofs.Added.{reserved_own, under_own}
 use Rattle.turn_lock.proofs.Numbers.{has_among}
 use Rattle.store_model.specs.declared.event.Event.{Event}
-use Rattle.store_model.specs.Store.{RecordedStore, Replays}
+use Rattle.store_model.specs.Store.{Replays}
+use Rattle.guard_store.specs.Slots.{Origin}
 use Rattle.guard_store.specs.Fronts.{session_of}
 use Rattle.guard_store.specs.Laws.{AddsOne, TurnsAddOne, OpeningsAddOne, MeetingsKeepFronts}
 use Rattle.guard_store.proofs.Turning.{front_is, opening_reserved}
@@ -42,7 +43,7 @@ openings_add_one store old kept new i first o =
       same = ap (λ c. c.known.front) o.new_is ∙ sym same;
       reserved = ap (reserved session_of false) (same ∙ front_is store old o.mid e t)
           ∙ (reserved_own session_of false t.seen e (opening_reserved store.limits store.start t.seen t.before t.after e t.replays t.step refl) ∙ ap (λ (x : List Event). x ++ e ∷ []) (t.others.first first));
-      own = subst (λ (c : Caller Event RecordedStore). has_number c.known.numbers i ≡ true) (sym o.new_is) (has_among i o.mid.known.numbers (number_made store old o.mid i t));
+      own = subst (λ (c : Caller Event Origin). has_number c.known.numbers i ≡ true) (sym o.new_is) (has_among i o.mid.known.numbers (number_made store old o.mid i t));
     }
 
 pub meetings_keep_fronts : MeetingsKeepFronts

@@ -15,11 +15,13 @@ use Rattle.store_model.specs.declared.event.Reply.TheVariants as replies
 use Rattle.store_model.specs.declared.commit.Transaction.{Transaction}
 use Rattle.store_model.specs.Snapshots.{Snapshot, snapshot_of}
 use Rattle.store_model.specs.Nodes.{not_given}
-use Rattle.store_model.specs.Store.{again, State, RecordedStore, HasChange, shapes_under}
+use Rattle.store_model.specs.Store.{again, State, HasChange, shapes_under}
 use Rattle.session_model.specs.Sessions.{additions, parts_of}
 use Rattle.commit_core.specs.Work.{StepsBy}
 use Rattle.commit_core.specs.declared.naming.NamingFault.{NamingFault}
 use Rattle.commit_core.specs.declared.naming.NamingFault.TheVariants as names
+use Rattle.guard_store.specs.Slots.{Origin}
+use Rattle.guard_store.specs.Sessions.{StoreKeeper, StoreSession}
 use Rattle.guard_store.specs.declared.faults.OpenFault.{OpenFault}
 use Rattle.guard_store.specs.declared.faults.OpenFault.TheVariants as openings
 use Rattle.guard_store.specs.declared.faults.BeginFault.{BeginFault}
@@ -44,8 +46,6 @@ use Rattle.bgp_query.specs.TermBindings.{opened}
 use Rattle.session_transaction.specs.declared.committing.Committed.{Committed}
 use Rattle.session_transaction.specs.declared.committing.Committed.TheVariants.{ReadOnly, Done, Conflict, FullTriples, Refused, LogFault, Stopped}
 use Rattle.session_transaction.specs.declared.transaction.OpenTransaction.{OpenTransaction}
-use Rattle.guard_store.specs.declared.session.Session.{Session}
-use Rattle.guard_store.specs.declared.session.Keeper.{Keeper}
 use Rattle.guard_store.specs.Fronts.{SharedStore, Turn, Fails}
 use Rattle.session_transaction.specs.Checks.{CheckSteps, Checks, committing}
 use Rattle.session_transaction.specs.Transactions.{begun_at, graph_so_far, with_changes, with_finds}
@@ -55,24 +55,24 @@ abbrev pub event_of : ℕ → Action → Reply → Event
 event_of i a r = record { session = i; action = a; reply = r }
 
 -- a transaction is open, this one
-abbrev pub IsOpen : Session → OpenTransaction → Type 0
+abbrev pub IsOpen : StoreSession → OpenTransaction → Type 0
 IsOpen s w = s.current ≡ Some w
 
 -- The keeper opened session i, and split its caller off; both have seen the same.
-pub record Opens (store : SharedStore) (old kept new : Caller Event RecordedStore) (i : ℕ) : Type 0 where
-  pub mid : Caller Event RecordedStore
+pub record Opens (store : SharedStore) (old kept new : Caller Event Origin) (i : ℕ) : Type 0 where
+  pub mid : Caller Event Origin
   pub turn : Turn store old mid (event_of i actions.Open (replies.Session i))
   pub kept_is : kept ≡ kept_caller i mid
   pub new_is : new ≡ new_caller i mid
   pub room : 0 < mid.spare
 
 -- Why no session was opened: 64 were given out, or memory ran out. The entry of such a turn stands under 0.
-abbrev pub OpensNot : OpenFault → SharedStore → Caller Event RecordedStore → Caller Event RecordedStore → Type 0
+abbrev pub OpensNot : OpenFault → SharedStore → Caller Event Origin → Caller Event Origin → Type 0
 OpensNot openings.SessionsFull store old new = Turn store old new (event_of 0 actions.Open replies.SessionsFull)
 OpensNot openings.Memory store old new = Fails store old new 0
 
 -- The keeper opened the next session, which has no transaction, and may go on.
-pub record OpensSession (store : SharedStore) (old new : Keeper) (s : Session) : Type 0 where
+pub record OpensSession (store : SharedStore) (old new : StoreKeeper) (s : StoreSession) : Type 0 where
   pub keeper : IsKeeper store new
   pub session : IsSession store s
   pub opens : Opens store old.pass new.pass s.pass s.number
@@ -88,20 +88,20 @@ IsFull openings.SessionsFull n = 64 ≤ n
 IsFull openings.Memory n = Unit {0}
 
 -- The keeper opened no session, and may go on.
-pub record OpensNothing (f : OpenFault) (store : SharedStore) (old new : Keeper) : Type 0 where
+pub record OpensNothing (f : OpenFault) (store : SharedStore) (old new : StoreKeeper) : Type 0 where
   pub keeper : IsKeeper store new
   pub fault : OpensNot f store old.pass new.pass
   pub full : IsFull f old.opened
   pub opened : new.opened ≡ old.opened
 
 -- why terms were not named
-abbrev pub NamesNot : NamingFault → SharedStore → Caller Event RecordedStore → Caller Event RecordedStore → ℕ → NameKind → List Term → Type 0
+abbrev pub NamesNot : NamingFault → SharedStore → Caller Event Origin → Caller Event Origin → ℕ → NameKind → List Term → Type 0
 NamesNot (names.Unknown node) store old new i kind terms = Turn store old new (event_of i (actions.Name kind terms) (replies.Unknown node))
 NamesNot (names.Full count) store old new i kind terms = Turn store old new (event_of i (actions.Name kind terms) (replies.Full count))
 NamesNot names.Memory store old new i kind terms = Fails store old new i
 
 -- the turn of a commit; want of memory hands the transaction back
-abbrev pub TurnCommits : SharedStore → Caller Event RecordedStore → Caller Event RecordedStore → ℕ → Transaction → Committed → Type 0
+abbrev pub TurnCommits : SharedStore → Caller Event Origin → Caller Event Origin → ℕ → Transaction → Committed → Type 0
 TurnCommits store old new i x (ReadOnly v) = ⊥
 TurnCommits store old new i x (Done n why) = Turn store old new (event_of i (actions.Commit x) (replies.Done n why))
 TurnCommits store old new i x (Conflict n t) = Turn store old new (event_of i (actions.Commit x) (replies.Conflict n t))
@@ -113,7 +113,7 @@ TurnCommits store old new i x (Refused rows why shapes) =
 
 -- How many evaluations were counted in the turn of a commit, from the one number to the other: by the answer, and by the
 -- graph and the shapes that the turn found.
-abbrev pub TurnCounts : SharedStore → Caller Event RecordedStore → Caller Event RecordedStore → ℕ → Transaction → ℕ → ℕ → Committed → Type 0
+abbrev pub TurnCounts : SharedStore → Caller Event Origin → Caller Event Origin → ℕ → Transaction → ℕ → ℕ → Committed → Type 0
 TurnCounts store old new i x counted now (ReadOnly v) = now ≡ counted
 TurnCounts store old new i x counted now (Done n why) = (t : Turn store old new (event_of i (actions.Commit x) (replies.Done n why))) × StepsBy why t.before.graph t.before.shapes x counted now
 TurnCounts store old new i x counted now (Conflict n t) = now ≡ counted
@@ -123,11 +123,11 @@ TurnCounts store old new i x counted now (Stopped v) = now ≡ counted
 TurnCounts store old new i x counted now (Refused rows why shapes) = (t : Turn store old new (event_of i (actions.Commit x) (replies.Refused rows why))) × StepsBy why t.before.graph t.before.shapes x counted now
 
 -- A transaction begins at the version where the history then leads; or one is open, and nothing happens.
-abbrev pub BeginsNot : BeginFault → SharedStore → Session → Session → Type 0
+abbrev pub BeginsNot : BeginFault → SharedStore → StoreSession → StoreSession → Type 0
 BeginsNot begins.AlreadyOpen store old new = ((w : OpenTransaction) × IsOpen old w) × (new ≡ old)
 BeginsNot begins.Memory store old new = (old.current ≡ None) × Fails store old.pass new.pass old.number × (new ≡ record old { pass = new.pass })
 
-abbrev pub Begins : SharedStore → Session → Session → ℕ → Type 0
+abbrev pub Begins : SharedStore → StoreSession → StoreSession → ℕ → Type 0
 Begins store old new v = (old.current ≡ None)
     × ((t : Turn store old.pass new.pass (event_of old.number actions.Begin (replies.Version v))) × (new ≡ record old { pass = new.pass; current = Some (begun_at (snapshot_of t.before)); head = None }))
 
@@ -136,18 +136,18 @@ abbrev pub naming_of : ℕ → NameKind → List Triple → Reply → Event
 naming_of i kind ts r = event_of i (actions.Name kind (parts_of ts)) r
 
 -- The terms of a block were named; the transaction is as it was.
-abbrev pub NamesFor : SharedStore → Session → Session → NameKind → List Triple → Type 0
+abbrev pub NamesFor : SharedStore → StoreSession → StoreSession → NameKind → List Triple → Type 0
 NamesFor store old new kind ts = ((w : OpenTransaction) × IsOpen old w) × Turn store old.pass new.pass (naming_of old.number kind ts replies.Named) × (new ≡ record old { pass = new.pass })
 
 -- Nothing of a block was staged. Memory may have run out once the terms were named.
-abbrev pub NamesForNot : AttachFault → SharedStore → Session → Session → NameKind → List Triple → Type 0
+abbrev pub NamesForNot : AttachFault → SharedStore → StoreSession → StoreSession → NameKind → List Triple → Type 0
 NamesForNot attaches.NoTransaction store old new kind ts = (old.current ≡ None) × (new ≡ old)
 NamesForNot (attaches.Unknown node) store old new kind ts = ((w : OpenTransaction) × IsOpen old w) × Turn store old.pass new.pass (naming_of old.number kind ts (replies.Unknown node)) × (new ≡ record old { pass = new.pass })
 NamesForNot (attaches.Full count) store old new kind ts = ((w : OpenTransaction) × IsOpen old w) × Turn store old.pass new.pass (naming_of old.number kind ts (replies.Full count)) × (new ≡ record old { pass = new.pass })
 NamesForNot attaches.Memory store old new kind ts = ((w : OpenTransaction) × IsOpen old w) × (Fails store old.pass new.pass old.number ⊎ Turn store old.pass new.pass (naming_of old.number kind ts replies.Named)) × (new ≡ record old { pass = new.pass })
 
 -- The terms of a block were named, and it is staged: the transaction is `staged` of what it was.
-abbrev pub Stages : SharedStore → Session → Session → NameKind → List Triple → (OpenTransaction → OpenTransaction) → Type 0
+abbrev pub Stages : SharedStore → StoreSession → StoreSession → NameKind → List Triple → (OpenTransaction → OpenTransaction) → Type 0
 Stages store old new kind ts staged = (w : OpenTransaction) × IsOpen old w × Turn store old.pass new.pass (naming_of old.number kind ts replies.Named) × (new ≡ record old { pass = new.pass; current = Some (staged w); head = None })
 
 -- the faults of staging, among those of attaching
@@ -161,7 +161,7 @@ attach_answer (Ok u) = Ok u
 attach_answer (Err f) = Err (attach_fault f)
 
 -- nothing was staged
-abbrev pub StagesNot : StageFault → SharedStore → Session → Session → NameKind → List Triple → Type 0
+abbrev pub StagesNot : StageFault → SharedStore → StoreSession → StoreSession → NameKind → List Triple → Type 0
 StagesNot f store old new kind ts = NamesForNot (attach_fault f) store old new kind ts
 
 -- the blank nodes of a block that weren't given out before a turn, as a set
@@ -169,13 +169,13 @@ abbrev pub unknown_at : State → List Triple → List Term
 unknown_at before ts = not_given before.given (parts_of ts)
 
 -- The block was attached: an addition of each triple is staged, and each blank node of it had been given out before the turn.
-abbrev pub Attaches : SharedStore → Session → Session → List Triple → Type 0
+abbrev pub Attaches : SharedStore → StoreSession → StoreSession → List Triple → Type 0
 Attaches store old new ts = (w : OpenTransaction) × IsOpen old w × ((t : Turn store old.pass new.pass (naming_of old.number kinds.Attach ts replies.Named)) × (unknown_at t.before ts ≡ []))
     × (new ≡ record old { pass = new.pass; current = Some (with_changes w (additions ts)); head = None })
 
 -- Nothing was attached. Where a blank node of the block wasn't given out before the turn, the least of these is told, and
 -- nothing was named; only else may the limit be passed. Memory may have run out once the terms were named.
-abbrev pub AttachesNot : AttachFault → SharedStore → Session → Session → List Triple → Type 0
+abbrev pub AttachesNot : AttachFault → SharedStore → StoreSession → StoreSession → List Triple → Type 0
 AttachesNot attaches.NoTransaction store old new ts = (old.current ≡ None) × (new ≡ old)
 AttachesNot (attaches.Unknown node) store old new ts = ((w : OpenTransaction) × IsOpen old w)
     × ((t : Turn store old.pass new.pass (naming_of old.number kinds.Attach ts (replies.Unknown node))) × ((more : List Term) × (unknown_at t.before ts ≡ node ∷ more)) × (t.after ≡ t.before)) × (new ≡ record old { pass = new.pass })
@@ -184,16 +184,16 @@ AttachesNot (attaches.Full count) store old new ts = ((w : OpenTransaction) × I
 AttachesNot attaches.Memory store old new ts = ((w : OpenTransaction) × IsOpen old w) × (Fails store old.pass new.pass old.number ⊎ Turn store old.pass new.pass (naming_of old.number kinds.Attach ts replies.Named)) × (new ≡ record old { pass = new.pass })
 
 -- The newest version, whose snapshot the session keeps.
-abbrev pub Heads : SharedStore → Session → Session → ℕ → Type 0
+abbrev pub Heads : SharedStore → StoreSession → StoreSession → ℕ → Type 0
 Heads store old new v = ((w : OpenTransaction) × IsOpen old w)
     × ((t : Turn store old.pass new.pass (event_of old.number actions.Head (replies.Version v))) × (new ≡ record old { pass = new.pass; head = Some (snapshot_of t.before) }))
 
-abbrev pub HeadsNot : HeadFault → SharedStore → Session → Session → Type 0
+abbrev pub HeadsNot : HeadFault → SharedStore → StoreSession → StoreSession → Type 0
 HeadsNot heads.NoTransaction store old new = (old.current ≡ None) × (new ≡ old)
 HeadsNot heads.Memory store old new = ((w : OpenTransaction) × IsOpen old w) × Fails store old.pass new.pass old.number × (new ≡ record old { pass = new.pass })
 
 -- The commit's answer ends the transaction, which was handed in with what is kept of its check. One that only reads is no event.
-abbrev pub AnswersCommit : SharedStore → Session → Session → OpenTransaction → Committed → Type 0
+abbrev pub AnswersCommit : SharedStore → StoreSession → StoreSession → OpenTransaction → Committed → Type 0
 AnswersCommit store old new w (ReadOnly v) = OnlyReads (Some w) × (v ≡ w.transaction.base) × (new.pass ≡ old.pass)
 AnswersCommit store old new w (Done n why) = HasChange w.transaction.net w.transaction.staged × TurnCommits store old.pass new.pass old.number (committing w) (Done n why)
 AnswersCommit store old new w (Conflict n t) = HasChange w.transaction.net w.transaction.staged × TurnCommits store old.pass new.pass old.number (committing w) (Conflict n t)
@@ -202,53 +202,53 @@ AnswersCommit store old new w LogFault = HasChange w.transaction.net w.transacti
 AnswersCommit store old new w (Stopped v) = HasChange w.transaction.net w.transaction.staged × TurnCommits store old.pass new.pass old.number (committing w) (Stopped v)
 AnswersCommit store old new w (Refused rows why shapes) = HasChange w.transaction.net w.transaction.staged × TurnCommits store old.pass new.pass old.number (committing w) (Refused rows why shapes)
 
-abbrev pub Commits : SharedStore → Session → Session → Committed → Type 0
+abbrev pub Commits : SharedStore → StoreSession → StoreSession → Committed → Type 0
 Commits store old new answer = (w : OpenTransaction) × IsOpen old w × AnswersCommit store old new w answer × (new ≡ record old { pass = new.pass; current = None; head = None })
 
 -- Want of memory leaves the transaction open.
-abbrev pub CommitsNot : CommitFault → SharedStore → Session → Session → Type 0
+abbrev pub CommitsNot : CommitFault → SharedStore → StoreSession → StoreSession → Type 0
 CommitsNot commits.NoTransaction store old new = (old.current ≡ None) × (new ≡ old)
 CommitsNot commits.Memory store old new = (w : OpenTransaction) × IsOpen old w × HasChange w.transaction.net w.transaction.staged × Fails store old.pass new.pass old.number × (new ≡ record old { pass = new.pass })
 
 -- How many evaluations a session's commit counted: none where it only reads, or where no transaction is open. After want of
 -- memory the count is what it was, or more.
-abbrev pub CommitCounts : SharedStore → Session → Session → ℕ → ℕ → Result Committed CommitFault → Type 0
+abbrev pub CommitCounts : SharedStore → StoreSession → StoreSession → ℕ → ℕ → Result Committed CommitFault → Type 0
 CommitCounts store old new counted now (Ok answer) = (w : OpenTransaction) × IsOpen old w × TurnCounts store old.pass new.pass old.number (committing w) counted now answer
 CommitCounts store old new counted now (Err commits.NoTransaction) = now ≡ counted
 CommitCounts store old new counted now (Err commits.Memory) = counted ≤ now
 
 -- the commit of a transaction that only reads, and of none
-abbrev pub EndsReading : Session → Session → Result Committed CommitFault → Type 0
+abbrev pub EndsReading : StoreSession → StoreSession → Result Committed CommitFault → Type 0
 EndsReading old new (Ok answer) = (w : OpenTransaction) × IsOpen old w × (answer ≡ ReadOnly w.transaction.base) × (new ≡ record old { current = None; head = None })
 EndsReading old new (Err fault) = (old.current ≡ None) × (fault ≡ commits.NoTransaction) × (new ≡ old)
 
 -- why a find has no answer; the session is as it was
-abbrev pub FindsNot : FindFault → Session → Session → Type 0
+abbrev pub FindsNot : FindFault → StoreSession → StoreSession → Type 0
 FindsNot finds.NoTransaction old new = (old.current ≡ None) × (new ≡ old)
 FindsNot finds.Memory old new = ((w : OpenTransaction) × IsOpen old w) × (new ≡ old)
 
 -- why no bindings are answered: where there are too many the patterns are recorded all the same, else the session is as it was
-abbrev pub SelectsNot : SelectFault → List (JoinPattern Term) → Session → Session → Type 0
+abbrev pub SelectsNot : SelectFault → List (JoinPattern Term) → StoreSession → StoreSession → Type 0
 SelectsNot selects.NoTransaction ps old new = (old.current ≡ None) × (new ≡ old)
 SelectsNot selects.TooMany ps old new = (w : OpenTransaction) × IsOpen old w × AreTooMany (graph_so_far w) ps × (new ≡ record old { current = Some (with_finds w (map opened ps)) })
 SelectsNot selects.Memory ps old new = ((w : OpenTransaction) × IsOpen old w) × (new ≡ old)
 
 -- The open transaction was checked at the version of the last head, and is as the check left it; the rest of the session is as
 -- it was.
-abbrev pub ChecksHead : Bool → Session → Session → Type 0
+abbrev pub ChecksHead : Bool → StoreSession → StoreSession → Type 0
 ChecksHead kept old new = (w : OpenTransaction) × IsOpen old w × ((n : Snapshot) × (old.head ≡ Some n) × ((v : OpenTransaction) × Checks kept n w v × (new ≡ record old { current = Some v })))
 
 -- No transaction is open, or no head was taken since its begin and its last staged change; a head is kept until then.
-abbrev pub HasNoHead : Session → Type 0
+abbrev pub HasNoHead : StoreSession → Type 0
 HasNoHead s = (s.current ≡ None) ⊎ (s.head ≡ None)
 
 -- why nothing was checked; the session is as it was
-abbrev pub ChecksNot : CheckFault → Session → Session → Type 0
+abbrev pub ChecksNot : CheckFault → StoreSession → StoreSession → Type 0
 ChecksNot checks.NoHead old new = HasNoHead old × (new ≡ old)
 ChecksNot checks.Memory old new = ((w : OpenTransaction) × IsOpen old w) × ((n : Snapshot) × (old.head ≡ Some n)) × (new ≡ old)
 
 -- How many evaluations a session's check counted; after want of memory the count is what it was, or more.
-abbrev pub CheckCounts : Session → ℕ → ℕ → Result Bool CheckFault → Type 0
+abbrev pub CheckCounts : StoreSession → ℕ → ℕ → Result Bool CheckFault → Type 0
 CheckCounts old counted now (Ok kept) = (w : OpenTransaction) × IsOpen old w × ((n : Snapshot) × (old.head ≡ Some n) × CheckSteps n w.transaction counted now)
 CheckCounts old counted now (Err checks.NoHead) = now ≡ counted
 CheckCounts old counted now (Err checks.Memory) = counted ≤ now

@@ -1,3 +1,5 @@
+pub mod Slots
+pub mod Sessions
 pub mod Fronts
 pub mod Callers
 pub mod Answers

@@ -1,6 +1,9 @@
 //! The calls of a session that are events.
 ghost use Rattle.std.specs.Prelude.{◌≡◌, ◌≢◌, Err, MatchResult};
 ghost use Rattle.rdf_model.specs.declared.term.Term.{Term};
+ghost use Rattle.std.specs.List.{AllByRecursion};
+ghost use Rattle.ntriples_text.specs.Laws.{IsReadable, IsStored};
+ghost use Rattle.record_text.specs.Records.{IsReadableGraph};
 ghost use Rattle.session_model.specs.Sessions.{additions, removals};
 ghost use Rattle.session_transaction.specs.Transactions;
 ghost use Rattle.session_transaction.specs.Transactions.{changes_of, name_kind_of};
@@ -11,6 +14,7 @@ use crate::faults::{AttachFault, BeginFault, CommitFault, HeadFault, StageFault}
 use crate::session::Session;
 use crate::store::Store;
 use commit_core::NamingFault;
+use disk::Disk;
 use rdf_model::Triple;
 use session_transaction::{ChangeKind, Committed, OpenTransaction};
 use shape_eval::Steps;
@@ -33,14 +37,18 @@ fn stage_answer(answer: Result<(), AttachFault>) -> Result<(), StageFault>
     }
 }
 
-impl Store {
+impl<D: Disk> Store<D> {
     /// Begins a transaction, and answers its version: the newest one. AlreadyOpen comes where one is open; it is no event.
-    pub fn begin<R: Wait>(&self, rt: &R, session: Session) -> (Session, Result<u64, BeginFault>)
+    pub fn begin<R: Wait>(
+        &self,
+        rt: &R,
+        session: Session<D>,
+    ) -> (Session<D>, Result<u64, BeginFault>)
         requires { IsSession self.now session }
         ensures session { IsSession self.now result.0 }
         ensures begins { MatchResult result.1 (λ version. Begins self.now session result.0 version) (λ fault. BeginsNot fault self.now session result.0) }
     {
-        if session.current.is_some() {
+        if session.is_open() {
             return (session, Err(BeginFault::AlreadyOpen));
         }
         let (pass, number, current, head) = session.into_parts();
@@ -65,10 +73,10 @@ impl Store {
     fn name_for<R: Wait>(
         &self,
         rt: &R,
-        session: Session,
+        session: Session<D>,
         kind: NameKind,
         triples: &[Triple],
-    ) -> (Session, Result<(), AttachFault>)
+    ) -> (Session<D>, Result<(), AttachFault>)
         requires { IsSession self.now session }
         ensures { MatchResult result.1
             (λ _. NamesFor self.now session result.0 kind triples.now)
@@ -92,11 +100,12 @@ impl Store {
     fn stage<R: Wait>(
         &self,
         rt: &R,
-        session: Session,
+        session: Session<D>,
         kind: ChangeKind,
         triples: &[Triple],
-    ) -> (Session, Result<(), AttachFault>)
-        requires { IsSession self.now session }
+    ) -> (Session<D>, Result<(), AttachFault>)
+        requires session { IsSession self.now session }
+        requires readable { AllByRecursion (IsReadable IsStored) triples.now }
         ensures session { IsSession self.now result.0 }
         ensures stages { MatchResult result.1
             (λ _. Stages self.now session result.0 (name_kind_of kind) triples.now (λ w. Transactions.with_changes w (changes_of kind triples.now)))
@@ -114,10 +123,11 @@ impl Store {
     pub fn stage_add<R: Wait>(
         &self,
         rt: &R,
-        session: Session,
+        session: Session<D>,
         triples: &[Triple],
-    ) -> (Session, Result<(), StageFault>)
-        requires { IsSession self.now session }
+    ) -> (Session<D>, Result<(), StageFault>)
+        requires session { IsSession self.now session }
+        requires readable { AllByRecursion (IsReadable IsStored) triples.now }
         ensures session { IsSession self.now result.0 }
         ensures stages { MatchResult result.1
             (λ _. Stages self.now session result.0 NameKind.Fresh triples.now (λ w. Transactions.with_changes w (additions triples.now)))
@@ -131,10 +141,11 @@ impl Store {
     pub fn stage_remove<R: Wait>(
         &self,
         rt: &R,
-        session: Session,
+        session: Session<D>,
         triples: &[Triple],
-    ) -> (Session, Result<(), StageFault>)
-        requires { IsSession self.now session }
+    ) -> (Session<D>, Result<(), StageFault>)
+        requires session { IsSession self.now session }
+        requires readable { AllByRecursion (IsReadable IsStored) triples.now }
         ensures session { IsSession self.now result.0 }
         ensures stages { MatchResult result.1
             (λ _. Stages self.now session result.0 NameKind.Known triples.now (λ w. Transactions.with_changes w (removals triples.now)))
@@ -151,10 +162,11 @@ impl Store {
     pub fn stage_attach<R: Wait>(
         &self,
         rt: &R,
-        session: Session,
+        session: Session<D>,
         triples: &[Triple],
-    ) -> (Session, Result<(), AttachFault>)
-        requires { IsSession self.now session }
+    ) -> (Session<D>, Result<(), AttachFault>)
+        requires session { IsSession self.now session }
+        requires readable { AllByRecursion (IsReadable IsStored) triples.now }
         ensures session { IsSession self.now result.0 }
         ensures attaches { MatchResult result.1 (λ _. Attaches self.now session result.0 triples.now) (λ fault. AttachesNot fault self.now session result.0 triples.now) }
     {
@@ -166,10 +178,11 @@ impl Store {
     pub fn stage_shapes<R: Wait>(
         &self,
         rt: &R,
-        session: Session,
+        session: Session<D>,
         shapes: ShapesGraph,
-    ) -> (Session, Result<(), StageFault>)
-        requires { IsSession self.now session }
+    ) -> (Session<D>, Result<(), StageFault>)
+        requires session { IsSession self.now session }
+        requires readable { IsReadableGraph shapes }
         ensures session { IsSession self.now result.0 }
         ensures stages { MatchResult result.1
             (λ _. Stages self.now session result.0 NameKind.Fresh shapes (λ w. Transactions.with_shapes w shapes))
@@ -184,7 +197,7 @@ impl Store {
 
     /// Takes the newest snapshot, which the session keeps, and answers its version. NoTransaction comes where none is
     /// open; it is no event.
-    pub fn head<R: Wait>(&self, rt: &R, session: Session) -> (Session, Result<u64, HeadFault>)
+    pub fn head<R: Wait>(&self, rt: &R, session: Session<D>) -> (Session<D>, Result<u64, HeadFault>)
         requires { IsSession self.now session }
         ensures session { IsSession self.now result.0 }
         ensures heads { MatchResult result.1 (λ version. Heads self.now session result.0 version) (λ fault. HeadsNot fault self.now session result.0) }
@@ -211,9 +224,9 @@ impl Store {
     fn commit_work<L: Ledger, R: Wait>(
         &self,
         rt: &R,
-        session: Session,
+        session: Session<D>,
         steps: &mut Steps<L>,
-    ) -> (Session, Result<Committed, CommitFault>)
+    ) -> (Session<D>, Result<Committed, CommitFault>)
         requires session { IsSession self.now session }
         requires work { HasWork session.current }
         ensures session { IsSession self.now result.0 }
@@ -240,9 +253,9 @@ impl Store {
     pub fn commit<L: Ledger, R: Wait>(
         &self,
         rt: &R,
-        session: Session,
+        session: Session<D>,
         steps: &mut Steps<L>,
-    ) -> (Session, Result<Committed, CommitFault>)
+    ) -> (Session<D>, Result<Committed, CommitFault>)
         requires { IsSession self.now session }
         ensures session { IsSession self.now result.0 }
         ensures commits { MatchResult result.1 (Commits self.now session result.0) (λ fault. CommitsNot fault self.now session result.0) }

@@ -6,10 +6,11 @@ ghost use Rattle.guard_store.specs.Answers.{CheckCounts, ChecksHead, ChecksNot};
 
 use crate::faults::CheckFault;
 use crate::session::Session;
+use disk::Disk;
 use shape_eval::Steps;
 use std::sync::ledger::Ledger;
 
-impl Session {
+impl<D: Disk> Session<D> {
     /// Checks the changes of the open transaction at the version of its last head, beside the turns of others, and keeps the
     /// verdict for its commit, until a change is staged. Answers whether one is kept: none is where shapes are staged. NoHead
     /// comes where no transaction is open, or no head was taken since its begin and its last staged change. The evaluations

@@ -8,10 +8,11 @@ ghost use Rattle.guard_store.specs.Answers.{FindsNot, IsOpen};
 use crate::faults::FindFault;
 use crate::session::Session;
 use collections::let_go;
+use disk::Disk;
 use rdf_model::{Pattern, Triple};
 use std::alloc::Global;
 
-impl Session {
+impl<D: Disk> Session<D> {
     /// The triples that the pattern asks for in the graph at the begin of the open transaction with its changes so far,
     /// in their order. The pattern is recorded. After a fault the session is as it was.
     pub fn find(&mut self, alloc: Global, pattern: &Pattern) -> Result<Vec<Triple>, FindFault>

@@ -9,10 +9,11 @@ use crate::faults::SelectFault;
 use crate::session::Session;
 use bgp_query::JoinPattern;
 use collections::Sequence;
+use disk::Disk;
 use rdf_model::Term;
 use std::alloc::Global;
 
-impl Session {
+impl<D: Disk> Session<D> {
     /// The bindings of the patterns in the graph at the begin of the open transaction with its changes so far: the terms of
     /// the variables, from the first on, under which each pattern stands there (SPARQL 1.1 Query, section 18.3), each once,
     /// ascending. Each pattern, its variables open, is recorded as a find's is, also where there are too many bindings. It

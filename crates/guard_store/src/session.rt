@@ -9,31 +9,66 @@ use crate::faults::{AttachFault, CommitFault};
 use crate::shared::Shared;
 use collections::let_go;
 use commit_core::Snap;
+use disk::Disk;
 use rdf_model::Triple;
 use session_transaction::{ChangeKind, Committed, OpenTransaction};
 use shapes_graph::ShapesGraph;
 use std::alloc::Global;
+use std::marker::Model;
 use turn_lock::Pass;
 
 /// The first caller, which opens sessions and meets them again. It isn't to be dropped where `close` is to follow.
 #[derive(Drop)]
-pub struct Keeper {
-    pub(crate) pass: Pass<Shared>,
+pub struct Keeper<D: Disk> {
+    pass: Pass<Shared<D>>,
     // How many sessions it opened.
-    pub(crate) opened: u32,
+    opened: u32,
+}
+
+impl<D: Disk> Model for Keeper<D> {
+    ghost use Rattle.guard_store.specs.Sessions.{StoreKeeper};
+
+    ghost Value = { StoreKeeper };
+
+    ghost view = { λ k. record { pass = k.pass; opened = k.opened } };
+}
+
+impl<D: Disk> Keeper<D> {
+    // Its pass, and how many sessions it opened.
+    pub(crate) fn into_parts(self) -> (Pass<Shared<D>>, u32)
+        ensures { result ≡ (self.pass, self.opened) }
+    {
+        let Keeper { pass, opened } = self;
+        (pass, opened)
+    }
+
+    // The keeper of these parts.
+    pub(crate) fn from_parts(pass: Pass<Shared<D>>, opened: u32) -> Keeper<D>
+        ensures { result ≡ record { pass = pass; opened = opened } }
+    {
+        Keeper { pass, opened }
+    }
 }
 
 /// A caller with a number of its own, and with its open transaction. The snapshot of its last head is kept until a
 /// transaction begins or a change is staged.
-pub struct Session {
-    pub(crate) pass: Pass<Shared>,
-    pub(crate) number: u32,
+pub struct Session<D: Disk> {
+    pass: Pass<Shared<D>>,
+    number: u32,
     pub(crate) current: Option<OpenTransaction>,
     pub(crate) head: Option<Snap>,
 }
 
+impl<D: Disk> Model for Session<D> {
+    ghost use Rattle.guard_store.specs.Sessions.{StoreSession};
+
+    ghost Value = { StoreSession };
+
+    ghost view = { λ s. record { pass = s.pass; number = s.number; current = s.current; head = s.head } };
+}
+
 // Written by hand, so that what owns one calls it in place of having it written out.
-impl Drop for Session {
+impl<D: Disk + Drop> Drop for Session<D> {
     fn drop(self) {
         let Session {
             pass: _,
@@ -44,7 +79,7 @@ impl Drop for Session {
     }
 }
 
-impl Session {
+impl<D: Disk> Session<D> {
     /// Its number, from 1.
     pub fn number(&self) -> u32
         ensures { result ≡ self.now.number }
@@ -70,7 +105,7 @@ impl Session {
     }
 
     // Its pass, its number, its open transaction, and the snapshot of its last head.
-    pub(crate) fn into_parts(self) -> (Pass<Shared>, u32, Option<OpenTransaction>, Option<Snap>)
+    pub(crate) fn into_parts(self) -> (Pass<Shared<D>>, u32, Option<OpenTransaction>, Option<Snap>)
         ensures { result ≡ (self.pass, self.number, self.current, self.head) }
     {
         let Session {
@@ -84,11 +119,11 @@ impl Session {
 
     // The session of these parts.
     pub(crate) fn from_parts(
-        pass: Pass<Shared>,
+        pass: Pass<Shared<D>>,
         number: u32,
         current: Option<OpenTransaction>,
         head: Option<Snap>,
-    ) -> Session
+    ) -> Session<D>
         ensures { result ≡ record { pass = pass; number = number; current = current; head = head } }
     {
         Session {
@@ -100,7 +135,7 @@ impl Session {
     }
 
     // Its pass alone.
-    pub(crate) fn into_pass(self) -> Pass<Shared>
+    pub(crate) fn into_pass(self) -> Pass<Shared<D>>
         ensures { result ≡ self.pass }
     {
         let Session {
@@ -118,7 +153,7 @@ impl Session {
         alloc: Global,
         kind: ChangeKind,
         triples: &[Triple],
-    ) -> (Session, Result<(), AttachFault>)
+    ) -> (Session<D>, Result<(), AttachFault>)
         requires { self.current ≢ None }
         ensures { MatchResult result.1
             (λ _. (w : OpenTransaction) → self.current ≡ Some w → result.0 ≡ record self { current = Some (Transactions.with_changes w (changes_of kind triples.now)); head = None })
@@ -135,7 +170,7 @@ impl Session {
     }
 
     // Stages a shapes graph in the open transaction.
-    pub(crate) fn with_shapes(self, shapes: ShapesGraph) -> Session
+    pub(crate) fn with_shapes(self, shapes: ShapesGraph) -> Session<D>
         requires { self.current ≢ None }
         ensures { (w : OpenTransaction) → self.current ≡ Some w → result ≡ record self { current = Some (Transactions.with_shapes w shapes); head = None } }
     {
@@ -146,7 +181,7 @@ impl Session {
     }
 
     // Commits a transaction that changes nothing and stages no shapes, where one is open.
-    pub(crate) fn end_reading(self) -> (Session, Result<Committed, CommitFault>)
+    pub(crate) fn end_reading(self) -> (Session<D>, Result<Committed, CommitFault>)
         requires { OnlyReads self.current }
         ensures { EndsReading self result.0 result.1 }
     {

@@ -4,6 +4,7 @@ ghost use Rattle.store_model.specs.Store.{IsCommittable};
 ghost use Rattle.store_model.specs.Snapshots.{snapshot_of};
 ghost use Rattle.session_model.specs.Sessions.{parts_of};
 ghost use Rattle.guard_store.specs.Fronts.{At, Fails, Turn};
+ghost use Rattle.commit_core.specs.Logged.{IsLoggable};
 ghost use Rattle.commit_core.specs.Verdicts.{AreOfVerdictIn};
 ghost use Rattle.guard_store.specs.Callers.{IsCaller};
 ghost use Rattle.guard_store.specs.Answers.{NamesNot, TurnCommits, TurnCounts, event_of};
@@ -11,8 +12,9 @@ ghost use Rattle.guard_store.specs.Answers.{NamesNot, TurnCommits, TurnCounts, e
 use crate::shared::Shared;
 use crate::store::Store;
 use commit_core::{CheckedTransaction, NamingFault, Snap, slip};
+use disk::Disk;
 use rdf_model::{Term, Triple};
-use session_transaction::{Committed, commit, terms_in};
+use session_transaction::{Committed, terms_in};
 use shape_eval::Steps;
 use std::alloc::AllocError;
 use std::sync::Wait;
@@ -20,14 +22,14 @@ use std::sync::ledger::Ledger;
 use store_model::{Action, NameKind, Reply};
 use turn_lock::Pass;
 
-impl Store {
+impl<D: Disk> Store<D> {
     /// The newest snapshot, at which a transaction begins.
     pub(crate) fn take_begin<R: Wait>(
         &self,
         rt: &R,
-        pass: Pass<Shared>,
+        pass: Pass<Shared<D>>,
         number: u32,
-    ) -> (Pass<Shared>, Result<Snap, AllocError>)
+    ) -> (Pass<Shared<D>>, Result<Snap, AllocError>)
         requires { IsCaller self.now number pass }
         ensures { MatchResult result.1
             (λ snap. (t : Turn self.now pass result.0 (event_of number Action.Begin (Reply.Version snap.number))) × (snap ≡ snapshot_of t.before))
@@ -36,12 +38,12 @@ impl Store {
         let Ok(slip) = slip(self.alloc) else {
             return (pass, Err(AllocError));
         };
-        let (held, mut core) = self.start(rt, pass);
-        match core.begin(number) {
-            Ok(snap) => (self.finish(held, core), Ok(snap)),
+        let (held, mut shared) = self.start(rt, pass);
+        match shared.begin(number) {
+            Ok(snap) => (self.finish(held, shared), Ok(snap)),
             Err(error) => {
-                core.void(number, slip);
-                (self.finish(held, core), Err(error))
+                shared.void(number, slip);
+                (self.finish(held, shared), Err(error))
             }
         }
     }
@@ -50,9 +52,9 @@ impl Store {
     pub(crate) fn take_head<R: Wait>(
         &self,
         rt: &R,
-        pass: Pass<Shared>,
+        pass: Pass<Shared<D>>,
         number: u32,
-    ) -> (Pass<Shared>, Result<Snap, AllocError>)
+    ) -> (Pass<Shared<D>>, Result<Snap, AllocError>)
         requires { IsCaller self.now number pass }
         ensures { MatchResult result.1
             (λ snap. (t : Turn self.now pass result.0 (event_of number Action.Head (Reply.Version snap.number))) × (snap ≡ snapshot_of t.before))
@@ -61,12 +63,12 @@ impl Store {
         let Ok(slip) = slip(self.alloc) else {
             return (pass, Err(AllocError));
         };
-        let (held, mut core) = self.start(rt, pass);
-        match core.head(number) {
-            Ok(snap) => (self.finish(held, core), Ok(snap)),
+        let (held, mut shared) = self.start(rt, pass);
+        match shared.head(number) {
+            Ok(snap) => (self.finish(held, shared), Ok(snap)),
             Err(error) => {
-                core.void(number, slip);
-                (self.finish(held, core), Err(error))
+                shared.void(number, slip);
+                (self.finish(held, shared), Err(error))
             }
         }
     }
@@ -75,11 +77,11 @@ impl Store {
     fn take_names<R: Wait>(
         &self,
         rt: &R,
-        pass: Pass<Shared>,
+        pass: Pass<Shared<D>>,
         number: u32,
         kind: NameKind,
         terms: &[Term],
-    ) -> (Pass<Shared>, Result<(), NamingFault>)
+    ) -> (Pass<Shared<D>>, Result<(), NamingFault>)
         requires { IsCaller self.now number pass }
         ensures { MatchResult result.1
             (λ _. Turn self.now pass result.0 (event_of number (Action.Name kind terms.now) Reply.Named))
@@ -88,18 +90,21 @@ impl Store {
         let Ok(slip) = slip(self.alloc) else {
             return (pass, Err(NamingFault::Memory));
         };
-        let (held, mut core) = self.start(rt, pass);
-        match core.name(number, kind, terms) {
-            Ok(_) => (self.finish(held, core), Ok(())),
+        let (held, mut shared) = self.start(rt, pass);
+        match shared.name(number, kind, terms) {
+            Ok(_) => (self.finish(held, shared), Ok(())),
             Err(NamingFault::Unknown { node }) => {
-                (self.finish(held, core), Err(NamingFault::Unknown { node }))
+                (
+                    self.finish(held, shared),
+                    Err(NamingFault::Unknown { node }),
+                )
             }
             Err(NamingFault::Full { count }) => {
-                (self.finish(held, core), Err(NamingFault::Full { count }))
+                (self.finish(held, shared), Err(NamingFault::Full { count }))
             }
             Err(NamingFault::Memory) => {
-                core.void(number, slip);
-                (self.finish(held, core), Err(NamingFault::Memory))
+                shared.void(number, slip);
+                (self.finish(held, shared), Err(NamingFault::Memory))
             }
         }
     }
@@ -108,11 +113,11 @@ impl Store {
     pub(crate) fn name_parts<R: Wait>(
         &self,
         rt: &R,
-        pass: Pass<Shared>,
+        pass: Pass<Shared<D>>,
         number: u32,
         kind: NameKind,
         triples: &[Triple],
-    ) -> (Pass<Shared>, Result<(), NamingFault>)
+    ) -> (Pass<Shared<D>>, Result<(), NamingFault>)
         requires { IsCaller self.now number pass }
         ensures { MatchResult result.1
             (λ _. Turn self.now pass result.0 (event_of number (Action.Name kind (parts_of triples.now)) Reply.Named))
@@ -129,13 +134,14 @@ impl Store {
     pub(crate) fn take_commit<L: Ledger, R: Wait>(
         &self,
         rt: &R,
-        pass: Pass<Shared>,
+        pass: Pass<Shared<D>>,
         number: u32,
         handed: CheckedTransaction,
         steps: &mut Steps<L>,
-    ) -> (Pass<Shared>, Result<Committed, CheckedTransaction>)
+    ) -> (Pass<Shared<D>>, Result<Committed, CheckedTransaction>)
         requires caller { IsCaller self.now number pass }
         requires committable { At self.now pass.known.front (λ s. IsCommittable s handed.transaction) }
+        requires loggable { IsLoggable handed.transaction }
         requires kept { AreOfVerdictIn self.now.limits self.now.start pass.known.front handed.transaction.net handed.transaction.verdict handed.rows }
         ensures commits { MatchResult result.1
             (TurnCommits self.now pass result.0 number handed.transaction)
@@ -145,12 +151,12 @@ impl Store {
         let Ok(slip) = slip(self.alloc) else {
             return (pass, Err(handed));
         };
-        let (held, mut core) = self.start(rt, pass);
-        match commit(&mut core, number, handed, steps) {
-            Ok(committed) => (self.finish(held, core), Ok(committed)),
+        let (held, mut shared) = self.start(rt, pass);
+        match shared.commit(number, handed, steps) {
+            Ok(committed) => (self.finish(held, shared), Ok(committed)),
             Err(handed) => {
-                core.void(number, slip);
-                (self.finish(held, core), Err(handed))
+                shared.void(number, slip);
+                (self.finish(held, shared), Err(handed))
             }
         }
     }

@@ -1,14 +1,14 @@
 -- The limits of a call are within their bounds.
-use Rattle.std.proofs.Common.{◌≡◌, ℕ, ◌≤◌, ◌&&◌, Bool, true, false, List, Option, Some, None, refl, ap, arith, nat_le, bytes_eq, codes, if◌then◌else◌}
+use Rattle.std.proofs.Common.{◌≡◌, ℕ, ◌≤◌, ◌&&◌, Bool, true, false, List, Option, Some, None, refl, ap, subst, arith, nat_le, bytes_eq, codes, if◌then◌else◌}
 use Rattle.std.specs.Fmt.{decimal}
 use Rattle.std.specs.Str.Parse.{digits_value}
 use Rattle.std.proofs.lemmas.Bool.Decides.{nat_tests}
-use Rattle.clap.specs.Words.{Row, Text, subcommand_of}
+use Rattle.clap.specs.Words.{Row, Text, first_of, subcommand_of}
 use Rattle.guard_words.specs.CommandLine.{command_line}
-use Rattle.guard_words.specs.Words.{limit_of, limit_or_default, limits_of_both, limits_in, run_of, replay_of, validate_of, explain_of, verify_of, names_of, generate_of, size_of_word, up_to, files_in, history_in, data_in, shapes_in, evidence_in, size_in, call_in, call_of}
+use Rattle.guard_words.specs.Words.{limit_of, limit_or_default, limits_of_both, limits_in, run_of, replay_of, create_log_of, follow_of, validate_of, explain_of, verify_of, names_of, generate_of, size_of_word, version_of_word, up_to, files_in, history_in, log_in, name_in, order_in, version_in, data_in, shapes_in, evidence_in, size_in, call_in, call_of}
 use Rattle.guard_words.specs.declared.call.Limits.{Limits}
 use Rattle.guard_words.specs.declared.call.Call.{Call}
-use Rattle.guard_words.specs.declared.call.Call.TheVariants.{Run, Replay, Validate, Explain, Verify, Generate}
+use Rattle.guard_words.specs.declared.call.Call.TheVariants.{Run, Replay, CreateLog, Follow, Validate, Explain, Verify, Generate}
 use Rattle.guard_words.proofs.Numbers.{both}
 
 -- a test that gave something held
@@ -33,99 +33,8 @@ terms_of_both (Some t) (Some u) l e = let same : record { terms = t; triples = u
 terms_of_both (Some t) None l e = cc
 terms_of_both None b l e = cc
 
-limits_of_run : (o : Option Limits) (f : Option (List (List ℕ))) (l : Limits) (fs : List (List ℕ)) → run_of o f ≡ Some (Run l fs) → o ≡ Some l
-limits_of_run (Some m) (Some gs) l fs e = let same : Run m gs ≡ Run l fs = cc in let one : m ≡ l = cc in ap Some one
-limits_of_run (Some m) None l fs e = cc
-limits_of_run None f l fs e = cc
-
-never_a_run : (o : Option Limits) (h : Option (List ℕ)) (f : Option (List (List ℕ))) (l : Limits) (fs : List (List ℕ)) → replay_of o h f ≡ Some (Run l fs) → ⊥
-never_a_run (Some m) (Some h) (Some gs) l fs e = let no : Replay m h gs ≡ Run l fs = cc in cc
-never_a_run (Some m) (Some h) None l fs e = cc
-never_a_run (Some m) None f l fs e = cc
-never_a_run None h f l fs e = cc
-
 rows_bound : (rows : List Row) (l : Limits) → limits_in rows ≡ Some l → l.terms ≤ 2000000
 rows_bound rows l e = default_bound _ l.terms (terms_of_both _ _ l e)
-
-never_run_of_validate : (o : Option (List ℕ × List ℕ)) (l : Limits) (fs : List (List ℕ)) → validate_of o ≡ Some (Run l fs) → ⊥
-never_run_of_validate None l fs e = cc
-never_run_of_validate (Some names) l fs e = let no : Validate names.0 names.1 ≡ Run l fs = cc in cc
-
-never_run_of_explain : (o : Option (List ℕ × List ℕ)) (l : Limits) (fs : List (List ℕ)) → explain_of o ≡ Some (Run l fs) → ⊥
-never_run_of_explain None l fs e = cc
-never_run_of_explain (Some names) l fs e = let no : Explain names.0 names.1 ≡ Run l fs = cc in cc
-
-never_run_of_verify : (o : Option (List ℕ × List ℕ)) (v : Option (List ℕ)) (l : Limits) (fs : List (List ℕ)) → verify_of o v ≡ Some (Run l fs) → ⊥
-never_run_of_verify o None l fs e = cc
-never_run_of_verify None (Some v) l fs e = cc
-never_run_of_verify (Some names) (Some v) l fs e = let no : Verify names.0 names.1 v ≡ Run l fs = cc in cc
-
-never_run_of_generate : (n : Option ℕ) (l : Limits) (fs : List (List ℕ)) → generate_of n ≡ Some (Run l fs) → ⊥
-never_run_of_generate (Some n) l fs e = let no : Generate n ≡ Run l fs = cc in cc
-never_run_of_generate None l fs e = cc
-
--- the call that the name of a subcommand chooses
-abbrev chosen : List Row → Bool → Bool → Bool → Bool → Bool → Option Call
-chosen rows a b c d f =
-    if a then run_of (limits_in rows) (files_in rows) else if b then replay_of (limits_in rows) (history_in rows) (files_in rows) else if c then validate_of (names_of (data_in rows) (shapes_in rows)) else if d then explain_of (names_of (data_in rows) (shapes_in rows)) else if f then verify_of (names_of (data_in rows) (shapes_in rows)) (evidence_in rows) else generate_of (size_in rows)
-
-run_bound_in : (rows : List Row) (a b c d f : Bool) (l : Limits) (fs : List (List ℕ)) → chosen rows a b c d f ≡ Some (Run l fs) → l.terms ≤ 2000000
-run_bound_in rows true b c d f l fs e = rows_bound rows l (limits_of_run (limits_in rows) (files_in rows) l fs e)
-run_bound_in rows false true c d f l fs e = absurd (never_a_run (limits_in rows) (history_in rows) (files_in rows) l fs e)
-run_bound_in rows false false true d f l fs e = absurd (never_run_of_validate (names_of (data_in rows) (shapes_in rows)) l fs e)
-run_bound_in rows false false false true f l fs e = absurd (never_run_of_explain (names_of (data_in rows) (shapes_in rows)) l fs e)
-run_bound_in rows false false false false true l fs e = absurd (never_run_of_verify (names_of (data_in rows) (shapes_in rows)) (evidence_in rows) l fs e)
-run_bound_in rows false false false false false l fs e = absurd (never_run_of_generate (size_in rows) l fs e)
-
-call_in_bound : (o : Option (Text × List Row)) (l : Limits) (fs : List (List ℕ)) → call_in o ≡ Some (Run l fs) → l.terms ≤ 2000000
-call_in_bound None l fs e = cc
-call_in_bound (Some p) l fs e = run_bound_in p.1 (bytes_eq p.0 (codes "run")) (bytes_eq p.0 (codes "replay")) (bytes_eq p.0 (codes "validate")) (bytes_eq p.0 (codes "explain")) (bytes_eq p.0 (codes "verify")) l fs e
-
-pub run_bound : (words : List Text) (l : Limits) (fs : List (List ℕ)) → call_of words ≡ Some (Run l fs) → l.terms ≤ 2000000
-run_bound words l fs e = call_in_bound (subcommand_of command_line words) l fs (given _ _ _ e).1
-
-limits_of_replay : (o : Option Limits) (h : Option (List ℕ)) (f : Option (List (List ℕ))) (l : Limits) (n : List ℕ) (fs : List (List ℕ)) → replay_of o h f ≡ Some (Replay l n fs) → o ≡ Some l
-limits_of_replay (Some m) (Some g) (Some gs) l n fs e = let same : Replay m g gs ≡ Replay l n fs = cc in let one : m ≡ l = cc in ap Some one
-limits_of_replay (Some m) (Some g) None l n fs e = cc
-limits_of_replay (Some m) None f l n fs e = cc
-limits_of_replay None h f l n fs e = cc
-
-never_a_replay : (o : Option Limits) (f : Option (List (List ℕ))) (l : Limits) (n : List ℕ) (fs : List (List ℕ)) → run_of o f ≡ Some (Replay l n fs) → ⊥
-never_a_replay (Some m) (Some gs) l n fs e = let no : Run m gs ≡ Replay l n fs = cc in cc
-never_a_replay (Some m) None l n fs e = cc
-never_a_replay None f l n fs e = cc
-
-never_replay_of_validate : (o : Option (List ℕ × List ℕ)) (l : Limits) (n : List ℕ) (fs : List (List ℕ)) → validate_of o ≡ Some (Replay l n fs) → ⊥
-never_replay_of_validate None l n fs e = cc
-never_replay_of_validate (Some names) l n fs e = let no : Validate names.0 names.1 ≡ Replay l n fs = cc in cc
-
-never_replay_of_explain : (o : Option (List ℕ × List ℕ)) (l : Limits) (n : List ℕ) (fs : List (List ℕ)) → explain_of o ≡ Some (Replay l n fs) → ⊥
-never_replay_of_explain None l n fs e = cc
-never_replay_of_explain (Some names) l n fs e = let no : Explain names.0 names.1 ≡ Replay l n fs = cc in cc
-
-never_replay_of_verify : (o : Option (List ℕ × List ℕ)) (v : Option (List ℕ)) (l : Limits) (n : List ℕ) (fs : List (List ℕ)) → verify_of o v ≡ Some (Replay l n fs) → ⊥
-never_replay_of_verify o None l n fs e = cc
-never_replay_of_verify None (Some v) l n fs e = cc
-never_replay_of_verify (Some names) (Some v) l n fs e = let no : Verify names.0 names.1 v ≡ Replay l n fs = cc in cc
-
-never_replay_of_generate : (m : Option ℕ) (l : Limits) (n : List ℕ) (fs : List (List ℕ)) → generate_of m ≡ Some (Replay l n fs) → ⊥
-never_replay_of_generate (Some m) l n fs e = let no : Generate m ≡ Replay l n fs = cc in cc
-never_replay_of_generate None l n fs e = cc
-
-replay_bound_in : (rows : List Row) (a b c d f : Bool) (l : Limits) (n : List ℕ) (fs : List (List ℕ)) → chosen rows a b c d f ≡ Some (Replay l n fs) → l.terms ≤ 2000000
-replay_bound_in rows true b c d f l n fs e = absurd (never_a_replay (limits_in rows) (files_in rows) l n fs e)
-replay_bound_in rows false true c d f l n fs e = rows_bound rows l (limits_of_replay (limits_in rows) (history_in rows) (files_in rows) l n fs e)
-replay_bound_in rows false false true d f l n fs e = absurd (never_replay_of_validate (names_of (data_in rows) (shapes_in rows)) l n fs e)
-replay_bound_in rows false false false true f l n fs e = absurd (never_replay_of_explain (names_of (data_in rows) (shapes_in rows)) l n fs e)
-replay_bound_in rows false false false false true l n fs e = absurd (never_replay_of_verify (names_of (data_in rows) (shapes_in rows)) (evidence_in rows) l n fs e)
-replay_bound_in rows false false false false false l n fs e = absurd (never_replay_of_generate (size_in rows) l n fs e)
-
-call_in_replay : (o : Option (Text × List Row)) (l : Limits) (n : List ℕ) (fs : List (List ℕ)) → call_in o ≡ Some (Replay l n fs) → l.terms ≤ 2000000
-call_in_replay None l n fs e = cc
-call_in_replay (Some p) l n fs e = replay_bound_in p.1 (bytes_eq p.0 (codes "run")) (bytes_eq p.0 (codes "replay")) (bytes_eq p.0 (codes "validate")) (bytes_eq p.0 (codes "explain")) (bytes_eq p.0 (codes "verify")) l n fs e
-
-pub replay_bound : (words : List Text) (l : Limits) (n : List ℕ) (fs : List (List ℕ)) → call_of words ≡ Some (Replay l n fs) → l.terms ≤ 2000000
-replay_bound words l n fs e = call_in_replay (subcommand_of command_line words) l n fs (given _ _ _ e).1
 
 -- The size of a load is within its bounds.
 
@@ -137,56 +46,109 @@ limit_some text n e =
     let same : v ≡ n = let s = g.1 in cc in
     grind (arith, nat_tests, least, same)
 
-within : (o : Option ℕ) (n : ℕ) → up_to 100000 o ≡ Some n → (o ≡ Some n) × (n ≤ 100000)
-within None n e = cc
-within (Some m) n e =
-    let g = given (nat_le m 100000) (Some m) n e in
+within : (most : ℕ) (o : Option ℕ) (n : ℕ) → up_to most o ≡ Some n → (o ≡ Some n) × (n ≤ most)
+within most None n e = cc
+within most (Some m) n e =
+    let g = given (nat_le m most) (Some m) n e in
     let same : m ≡ n = let s = g.1 in cc in
     (g.1, grind (arith, nat_tests, g.0, same))
 
 size_bound : (o : Option (List ℕ)) (n : ℕ) → size_of_word o ≡ Some n → (1 ≤ n) × (n ≤ 100000)
 size_bound None n e = cc
-size_bound (Some text) n e = let w = within (limit_of text) n e in (limit_some text n w.0, w.1)
+size_bound (Some text) n e = let w = within 100000 (limit_of text) n e in (limit_some text n w.0, w.1)
 
-size_of_generate : (o : Option ℕ) (n : ℕ) → generate_of o ≡ Some (Generate n) → o ≡ Some n
-size_of_generate (Some m) n e = let same : Generate m ≡ Generate n = cc in let one : m ≡ n = cc in ap Some one
-size_of_generate None n e = cc
+-- and so is the number of a version
+version_bound : (o : Option (List ℕ)) (n : ℕ) → version_of_word o ≡ Some n → n ≤ 1000000
+version_bound None n e = cc
+version_bound (Some text) n e = bound (bytes_eq text (codes "0")) e
+  where
+    bound : (b : Bool) → (if b then Some 0 else up_to 1000000 (limit_of text)) ≡ Some n → n ≤ 1000000
+    bound true e = let same : 0 ≡ n = cc in omega (arith, same)
+    bound false e = (within 1000000 (limit_of text) n e).1
 
-never_generate_of_run : (o : Option Limits) (f : Option (List (List ℕ))) (n : ℕ) → run_of o f ≡ Some (Generate n) → ⊥
-never_generate_of_run (Some m) (Some gs) n e = let no : Run m gs ≡ Generate n = cc in cc
-never_generate_of_run (Some m) None n e = cc
-never_generate_of_run None f n e = cc
+-- what each call keeps
+abbrev IsBounded : Call → Type 0
+IsBounded (Run l log fs) = l.terms ≤ 2000000
+IsBounded (Replay l h fs) = l.terms ≤ 2000000
+IsBounded (CreateLog name) = Unit {0}
+IsBounded (Follow log order version) = version ≤ 1000000
+IsBounded (Validate graph shapes) = Unit {0}
+IsBounded (Explain graph shapes) = Unit {0}
+IsBounded (Verify graph shapes evidence) = Unit {0}
+IsBounded (Generate n) = (1 ≤ n) × (n ≤ 100000)
 
-never_generate_of_replay : (o : Option Limits) (h : Option (List ℕ)) (f : Option (List (List ℕ))) (n : ℕ) → replay_of o h f ≡ Some (Generate n) → ⊥
-never_generate_of_replay (Some m) (Some h) (Some gs) n e = let no : Replay m h gs ≡ Generate n = cc in cc
-never_generate_of_replay (Some m) (Some h) None n e = cc
-never_generate_of_replay (Some m) None f n e = cc
-never_generate_of_replay None h f n e = cc
+abbrev Bounded : Option Call → Type 0
+Bounded None = Unit {0}
+Bounded (Some c) = IsBounded c
 
-never_generate_of_validate : (o : Option (List ℕ × List ℕ)) (n : ℕ) → validate_of o ≡ Some (Generate n) → ⊥
-never_generate_of_validate None n e = cc
-never_generate_of_validate (Some names) n e = let no : Validate names.0 names.1 ≡ Generate n = cc in cc
+run_bounded : (o : Option Limits) (log : Option (List ℕ)) (f : Option (List (List ℕ))) → ((l : Limits) → o ≡ Some l → l.terms ≤ 2000000) → Bounded (run_of o log f)
+run_bounded (Some l) log (Some fs) h = h l refl
+run_bounded (Some l) log None h = tt
+run_bounded None log f h = tt
 
-never_generate_of_explain : (o : Option (List ℕ × List ℕ)) (n : ℕ) → explain_of o ≡ Some (Generate n) → ⊥
-never_generate_of_explain None n e = cc
-never_generate_of_explain (Some names) n e = let no : Explain names.0 names.1 ≡ Generate n = cc in cc
+replay_bounded : (o : Option Limits) (n : Option (List ℕ)) (f : Option (List (List ℕ))) → ((l : Limits) → o ≡ Some l → l.terms ≤ 2000000) → Bounded (replay_of o n f)
+replay_bounded (Some l) (Some n) (Some fs) h = h l refl
+replay_bounded (Some l) (Some n) None h = tt
+replay_bounded (Some l) None f h = tt
+replay_bounded None n f h = tt
 
-never_generate_of_verify : (o : Option (List ℕ × List ℕ)) (v : Option (List ℕ)) (n : ℕ) → verify_of o v ≡ Some (Generate n) → ⊥
-never_generate_of_verify o None n e = cc
-never_generate_of_verify None (Some v) n e = cc
-never_generate_of_verify (Some names) (Some v) n e = let no : Verify names.0 names.1 v ≡ Generate n = cc in cc
+create_log_bounded : (o : Option (List ℕ)) → Bounded (create_log_of o)
+create_log_bounded None = tt
+create_log_bounded (Some name) = tt
 
-generate_bound_in : (rows : List Row) (a b c d f : Bool) (n : ℕ) → chosen rows a b c d f ≡ Some (Generate n) → (1 ≤ n) × (n ≤ 100000)
-generate_bound_in rows true b c d f n e = absurd (never_generate_of_run (limits_in rows) (files_in rows) n e)
-generate_bound_in rows false true c d f n e = absurd (never_generate_of_replay (limits_in rows) (history_in rows) (files_in rows) n e)
-generate_bound_in rows false false true d f n e = absurd (never_generate_of_validate (names_of (data_in rows) (shapes_in rows)) n e)
-generate_bound_in rows false false false true f n e = absurd (never_generate_of_explain (names_of (data_in rows) (shapes_in rows)) n e)
-generate_bound_in rows false false false false true n e = absurd (never_generate_of_verify (names_of (data_in rows) (shapes_in rows)) (evidence_in rows) n e)
-generate_bound_in rows false false false false false n e = size_bound _ n (size_of_generate (size_in rows) n e)
+follow_bounded : (l o : Option (List ℕ)) (v : Option ℕ) → ((n : ℕ) → v ≡ Some n → n ≤ 1000000) → Bounded (follow_of l o v)
+follow_bounded (Some l) (Some o) (Some n) h = h n refl
+follow_bounded (Some l) (Some o) None h = tt
+follow_bounded (Some l) None v h = tt
+follow_bounded None o v h = tt
 
-call_in_generate : (o : Option (Text × List Row)) (n : ℕ) → call_in o ≡ Some (Generate n) → (1 ≤ n) × (n ≤ 100000)
-call_in_generate None n e = cc
-call_in_generate (Some p) n e = generate_bound_in p.1 (bytes_eq p.0 (codes "run")) (bytes_eq p.0 (codes "replay")) (bytes_eq p.0 (codes "validate")) (bytes_eq p.0 (codes "explain")) (bytes_eq p.0 (codes "verify")) n e
+validate_bounded : (o : Option (List ℕ × List ℕ)) → Bounded (validate_of o)
+validate_bounded None = tt
+validate_bounded (Some names) = tt
+
+explain_bounded : (o : Option (List ℕ × List ℕ)) → Bounded (explain_of o)
+explain_bounded None = tt
+explain_bounded (Some names) = tt
+
+verify_bounded : (o : Option (List ℕ × List ℕ)) (v : Option (List ℕ)) → Bounded (verify_of o v)
+verify_bounded o None = tt
+verify_bounded None (Some v) = tt
+verify_bounded (Some names) (Some v) = tt
+
+generate_bounded : (o : Option ℕ) → ((n : ℕ) → o ≡ Some n → (1 ≤ n) × (n ≤ 100000)) → Bounded (generate_of o)
+generate_bounded None h = tt
+generate_bounded (Some n) h = h n refl
+
+-- the call that the name of a subcommand chooses
+abbrev chosen : List Row → Bool → Bool → Bool → Bool → Bool → Bool → Bool → Option Call
+chosen rows a b c w d e f =
+    if a then run_of (limits_in rows) (log_in rows) (files_in rows) else if b then replay_of (limits_in rows) (history_in rows) (files_in rows) else if c then create_log_of (name_in rows) else if w then follow_of (log_in rows) (order_in rows) (version_in rows) else if d then validate_of (names_of (data_in rows) (shapes_in rows)) else if e then explain_of (names_of (data_in rows) (shapes_in rows)) else if f then verify_of (names_of (data_in rows) (shapes_in rows)) (evidence_in rows) else generate_of (size_in rows)
+
+chosen_bounded : (rows : List Row) (a b c w d e f : Bool) → Bounded (chosen rows a b c w d e f)
+chosen_bounded rows true b c w d e f = run_bounded (limits_in rows) (log_in rows) (files_in rows) (rows_bound rows)
+chosen_bounded rows false true c w d e f = replay_bounded (limits_in rows) (history_in rows) (files_in rows) (rows_bound rows)
+chosen_bounded rows false false true w d e f = create_log_bounded (name_in rows)
+chosen_bounded rows false false false true d e f = follow_bounded (log_in rows) (order_in rows) (version_in rows) (version_bound (first_of (codes "number") rows))
+chosen_bounded rows false false false false true e f = validate_bounded (names_of (data_in rows) (shapes_in rows))
+chosen_bounded rows false false false false false true f = explain_bounded (names_of (data_in rows) (shapes_in rows))
+chosen_bounded rows false false false false false false true = verify_bounded (names_of (data_in rows) (shapes_in rows)) (evidence_in rows)
+chosen_bounded rows false false false false false false false = generate_bounded (size_in rows) (size_bound _)
+
+call_in_bounded : (o : Option (Text × List Row)) → Bounded (call_in o)
+call_in_bounded None = tt
+call_in_bounded (Some p) = chosen_bounded p.1 (bytes_eq p.0 (codes "run")) (bytes_eq p.0 (codes "replay")) (bytes_eq p.0 (codes "create-log")) (bytes_eq p.0 (codes "follow")) (bytes_eq p.0 (codes "validate")) (bytes_eq p.0 (codes "explain")) (bytes_eq p.0 (codes "verify"))
+
+bounded : (words : List Text) (c : Call) → call_of words ≡ Some c → IsBounded c
+bounded words c e = subst Bounded (given _ _ _ e).1 (call_in_bounded (subcommand_of command_line words))
+
+pub run_bound : (words : List Text) (l : Limits) (log : Option (List ℕ)) (fs : List (List ℕ)) → call_of words ≡ Some (Run l log fs) → l.terms ≤ 2000000
+run_bound words l log fs e = bounded words (Run l log fs) e
+
+pub replay_bound : (words : List Text) (l : Limits) (n : List ℕ) (fs : List (List ℕ)) → call_of words ≡ Some (Replay l n fs) → l.terms ≤ 2000000
+replay_bound words l n fs e = bounded words (Replay l n fs) e
 
 pub generate_bound : (words : List Text) (n : ℕ) → call_of words ≡ Some (Generate n) → (1 ≤ n) × (n ≤ 100000)
-generate_bound words n e = call_in_generate (subcommand_of command_line words) n (given _ _ _ e).1
+generate_bound words n e = bounded words (Generate n) e
+
+pub follow_bound : (words : List Text) (l o : List ℕ) (v : ℕ) → call_of words ≡ Some (Follow l o v) → v ≤ 1000000
+follow_bound words l o v e = bounded words (Follow l o v) e

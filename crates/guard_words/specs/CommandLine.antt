@@ -17,13 +17,21 @@ name_rule id = record (new_rule id) { required = true; action = Some Set }
 abbrev pub names_rule : Text → Rule
 names_rule id = record (new_rule id) { required = true; action = Some Append; range = Some (record { start_inclusive = 1; end_inclusive = usize_max }) }
 
--- `run [--max-terms N] [--max-triples N] FILES..`
+-- `run [--max-terms N] [--max-triples N] [--log NAME] FILES..`
 abbrev pub run : App
-run = with_rule (with_rule (with_rule (new_app (codes "run")) (option_rule (codes "max-terms"))) (option_rule (codes "max-triples"))) (names_rule (codes "files"))
+run = with_rule (with_rule (with_rule (with_rule (new_app (codes "run")) (option_rule (codes "max-terms"))) (option_rule (codes "max-triples"))) (option_rule (codes "log"))) (names_rule (codes "files"))
 
 -- `replay [--max-terms N] [--max-triples N] HISTORY FILES..`
 abbrev pub replay : App
 replay = with_rule (with_rule (with_rule (with_rule (new_app (codes "replay")) (option_rule (codes "max-terms"))) (option_rule (codes "max-triples"))) (name_rule (codes "history"))) (names_rule (codes "files"))
+
+-- `create-log NAME`
+abbrev pub create_log : App
+create_log = with_rule (new_app (codes "create-log")) (name_rule (codes "name"))
+
+-- `follow LOG ORDER NUMBER`
+abbrev pub follow : App
+follow = with_rule (with_rule (with_rule (new_app (codes "follow")) (name_rule (codes "log"))) (name_rule (codes "order"))) (name_rule (codes "number"))
 
 -- `validate DATA SHAPES`
 abbrev pub validate : App
@@ -45,9 +53,13 @@ generate = with_rule (new_app (codes "generate")) (name_rule (codes "numbers"))
 abbrev pub session_commands : App
 session_commands = with_subcommand (with_subcommand (on_top (λ s. record s { subcommand_required = true }) (new_app (codes "shacl_guard"))) run.top) replay.top
 
+-- and with those that make a log and follow one
+abbrev pub store_commands : App
+store_commands = with_subcommand (with_subcommand session_commands create_log.top) follow.top
+
 -- and with those that take a data graph and a shapes graph
 abbrev pub file_commands : App
-file_commands = with_subcommand (with_subcommand (with_subcommand session_commands validate.top) explain.top) verify.top
+file_commands = with_subcommand (with_subcommand (with_subcommand store_commands validate.top) explain.top) verify.top
 
 abbrev pub command_line : App
 command_line = with_subcommand file_commands generate.top

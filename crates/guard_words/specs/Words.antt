@@ -6,7 +6,7 @@ use Rattle.clap.specs.Words.{Row, Text, all_of, fault_of, first_of, subcommand_o
 use Rattle.guard_words.specs.CommandLine.{command_line}
 use Rattle.guard_words.specs.declared.call.Limits.{Limits}
 use Rattle.guard_words.specs.declared.call.Call.{Call}
-use Rattle.guard_words.specs.declared.call.Call.TheVariants.{Run, Replay, Validate, Explain, Verify, Generate}
+use Rattle.guard_words.specs.declared.call.Call.TheVariants.{Run, Replay, CreateLog, Follow, Validate, Explain, Verify, Generate}
 
 -- The number that a text is the decimal of, without sign or leading zero, from 1 to 2,000,000.
 abbrev pub limit_of : List ℕ → Option ℕ
@@ -19,6 +19,10 @@ up_to most (Some n) = if nat_le n most then Some n else None
 -- The size of a load that a text is the decimal of, without sign or leading zero, from 1 to 100,000.
 abbrev pub size_of : List ℕ → Option ℕ
 size_of text = up_to 100000 (limit_of text)
+
+-- The version that a text is the decimal of, without sign or leading zero, from 0 to 1,000,000.
+abbrev pub version_of : List ℕ → Option ℕ
+version_of text = if bytes_eq text (codes "0") then Some 0 else up_to 1000000 (limit_of text)
 
 -- an option that isn't given is 1,000,000
 abbrev pub limit_or_default : Option (List ℕ) → Option ℕ
@@ -33,16 +37,27 @@ limits_of_both (Some terms) None = None
 abbrev pub limits_in : List Row → Option Limits
 limits_in rows = limits_of_both (limit_or_default (first_of (codes "max-terms") rows)) (limit_or_default (first_of (codes "max-triples") rows))
 
-abbrev pub run_of : Option Limits → Option (List (List ℕ)) → Option Call
-run_of (Some limits) (Some files) = Some (Run limits files)
-run_of None files = None
-run_of (Some limits) None = None
+-- the option of a log may be absent
+abbrev pub run_of : Option Limits → Option (List ℕ) → Option (List (List ℕ)) → Option Call
+run_of (Some limits) log (Some files) = Some (Run limits log files)
+run_of None log files = None
+run_of (Some limits) log None = None
 
 abbrev pub replay_of : Option Limits → Option (List ℕ) → Option (List (List ℕ)) → Option Call
 replay_of (Some limits) (Some history) (Some files) = Some (Replay limits history files)
 replay_of None history files = None
 replay_of (Some limits) None files = None
 replay_of (Some limits) (Some history) None = None
+
+abbrev pub create_log_of : Option (List ℕ) → Option Call
+create_log_of None = None
+create_log_of (Some name) = Some (CreateLog name)
+
+abbrev pub follow_of : Option (List ℕ) → Option (List ℕ) → Option ℕ → Option Call
+follow_of (Some log) (Some order) (Some version) = Some (Follow log order version)
+follow_of None order version = None
+follow_of (Some log) None version = None
+follow_of (Some log) (Some order) None = None
 
 -- the names of a data graph and a shapes graph
 abbrev pub names_of : Option (List ℕ) → Option (List ℕ) → Option (List ℕ × List ℕ)
@@ -74,8 +89,24 @@ size_of_word (Some text) = size_of text
 abbrev pub size_in : List Row → Option ℕ
 size_in rows = size_of_word (first_of (codes "numbers") rows)
 
+abbrev pub version_of_word : Option (List ℕ) → Option ℕ
+version_of_word None = None
+version_of_word (Some text) = version_of text
+
+abbrev pub version_in : List Row → Option ℕ
+version_in rows = version_of_word (first_of (codes "number") rows)
+
 abbrev pub files_in : List Row → Option (List (List ℕ))
 files_in rows = all_of (codes "files") rows
+
+abbrev pub log_in : List Row → Option (List ℕ)
+log_in rows = first_of (codes "log") rows
+
+abbrev pub name_in : List Row → Option (List ℕ)
+name_in rows = first_of (codes "name") rows
+
+abbrev pub order_in : List Row → Option (List ℕ)
+order_in rows = first_of (codes "order") rows
 
 abbrev pub history_in : List Row → Option (List ℕ)
 history_in rows = first_of (codes "history") rows
@@ -93,8 +124,10 @@ evidence_in rows = first_of (codes "evidence") rows
 abbrev pub call_in : Option (Text × List Row) → Option Call
 call_in None = None
 call_in (Some p) =
-    if bytes_eq p.0 (codes "run") then run_of (limits_in p.1) (files_in p.1)
+    if bytes_eq p.0 (codes "run") then run_of (limits_in p.1) (log_in p.1) (files_in p.1)
     else if bytes_eq p.0 (codes "replay") then replay_of (limits_in p.1) (history_in p.1) (files_in p.1)
+    else if bytes_eq p.0 (codes "create-log") then create_log_of (name_in p.1)
+    else if bytes_eq p.0 (codes "follow") then follow_of (log_in p.1) (order_in p.1) (version_in p.1)
     else if bytes_eq p.0 (codes "validate") then validate_of (names_of (data_in p.1) (shapes_in p.1))
     else if bytes_eq p.0 (codes "explain") then explain_of (names_of (data_in p.1) (shapes_in p.1))
     else if bytes_eq p.0 (codes "verify") then verify_of (names_of (data_in p.1) (shapes_in p.1)) (evidence_in p.1)

@@ -5,7 +5,7 @@ ghost use Rattle.guard_words.specs.Faults.{Lacks, Refuses};
 ghost use Rattle.guard_words.specs.Words;
 
 use crate::command_line::command_line;
-use crate::number::{limit, size};
+use crate::number::{limit, size, version};
 use clap::error::ErrorKind;
 use clap::{ArgMatches, Error};
 use collections::Sequence;
@@ -25,9 +25,10 @@ pub struct Limits {
 /// What the words ask for. The names of files are as the words have them.
 #[derive(Debug, Drop)]
 pub enum Call {
-    /// Runs session files.
+    /// Runs session files, with the store of the log of this name if one is named.
     Run {
         limits: Limits,
+        log: Option<Text>,
         files: Sequence<Text>,
     },
     /// Runs session files in the order of a history.
@@ -35,6 +36,16 @@ pub enum Call {
         limits: Limits,
         history: Text,
         files: Sequence<Text>,
+    },
+    /// Makes a log of this name.
+    CreateLog {
+        name: Text,
+    },
+    /// Feeds a follower records of a log, and prints its answers and a version.
+    Follow {
+        log: Text,
+        order: Text,
+        version: u32,
     },
     /// Validates a data graph by a shapes graph.
     Validate {
@@ -123,9 +134,19 @@ fn texts_of(alloc: Global, words: &[&str]) -> Result<Sequence<Text>, AllocError>
     Ok(texts)
 }
 
+// The value of an option as a text of its own, if it is given.
+fn option_at(alloc: Global, found: &ArgMatches<'_>, id: &str) -> Result<Option<Text>, AllocError>
+    ensures { IfOk result (λ text. text ≡ first_of id.now (rows_of (found_of found.now))) }
+{
+    match text_at(found, id) {
+        Some(text) => Ok(Some(Text::new(alloc, text)?)),
+        None => Ok(None),
+    }
+}
+
 fn run_in(alloc: Global, found: &ArgMatches<'_>) -> Result<Call, WordsFault>
     ensures { let rows = rows_of (found_of found.now) in
-        let call = Words.run_of (Words.limits_in rows) (Words.files_in rows) in
+        let call = Words.run_of (Words.limits_in rows) (Words.log_in rows) (Words.files_in rows) in
         MatchResult result (λ c. call ≡ Some c) (λ fault. Refuses fault call) }
 {
     let Some(limits) = limits_in(found) else {
@@ -135,7 +156,8 @@ fn run_in(alloc: Global, found: &ArgMatches<'_>) -> Result<Call, WordsFault>
         return Err(WordsFault::Usage);
     };
     let files = texts_of(alloc, files)?;
-    Ok(Call::Run { limits, files })
+    let log = option_at(alloc, found, "log")?;
+    Ok(Call::Run { limits, log, files })
 }
 
 fn replay_in(alloc: Global, found: &ArgMatches<'_>) -> Result<Call, WordsFault>
@@ -158,6 +180,43 @@ fn replay_in(alloc: Global, found: &ArgMatches<'_>) -> Result<Call, WordsFault>
         limits,
         history,
         files,
+    })
+}
+
+fn create_log_in(alloc: Global, found: &ArgMatches<'_>) -> Result<Call, WordsFault>
+    ensures { let call = Words.create_log_of (Words.name_in (rows_of (found_of found.now))) in
+        MatchResult result (λ c. call ≡ Some c) (λ fault. Refuses fault call) }
+{
+    let Some(name) = text_at(found, "name") else {
+        return Err(WordsFault::Usage);
+    };
+    let name = Text::new(alloc, name)?;
+    Ok(Call::CreateLog { name })
+}
+
+fn follow_in(alloc: Global, found: &ArgMatches<'_>) -> Result<Call, WordsFault>
+    ensures { let rows = rows_of (found_of found.now) in
+        let call = Words.follow_of (Words.log_in rows) (Words.order_in rows) (Words.version_in rows) in
+        MatchResult result (λ c. call ≡ Some c) (λ fault. Refuses fault call) }
+{
+    let Some(log) = text_at(found, "log") else {
+        return Err(WordsFault::Usage);
+    };
+    let Some(order) = text_at(found, "order") else {
+        return Err(WordsFault::Usage);
+    };
+    let Some(text) = text_at(found, "number") else {
+        return Err(WordsFault::Usage);
+    };
+    let Some(version) = version(text) else {
+        return Err(WordsFault::Usage);
+    };
+    let log = Text::new(alloc, log)?;
+    let order = Text::new(alloc, order)?;
+    Ok(Call::Follow {
+        log,
+        order,
+        version,
     })
 }
 
@@ -246,6 +305,10 @@ fn call_in(alloc: Global, name: &str, found: &ArgMatches<'_>) -> Result<Call, Wo
         run_in(alloc, found)
     } else if name == "replay" {
         replay_in(alloc, found)
+    } else if name == "create-log" {
+        create_log_in(alloc, found)
+    } else if name == "follow" {
+        follow_in(alloc, found)
     } else if name == "validate" {
         validate_in(alloc, found)
     } else if name == "explain" {

@@ -37,6 +37,7 @@ fn run<'a>(alloc: Global) -> Result<Command<'a>, AllocError>
     Command::new(alloc, "run")
         .arg(option(alloc, "max-terms"))?
         .arg(option(alloc, "max-triples"))?
+        .arg(option(alloc, "log"))?
         .arg(names(alloc, "files"))
 }
 
@@ -49,6 +50,23 @@ fn replay<'a>(alloc: Global) -> Result<Command<'a>, AllocError>
         .arg(option(alloc, "max-triples"))?
         .arg(name(alloc, "history"))?
         .arg(names(alloc, "files"))
+}
+
+fn create_log<'a>(alloc: Global) -> Result<Command<'a>, AllocError>
+    ensures app { IfOk result (λ c. app_of c ≡ CommandLine.create_log) }
+    ensures local { IfOk result (λ c. (out-Command c).has_globals ≡ false) }
+{
+    Command::new(alloc, "create-log").arg(name(alloc, "name"))
+}
+
+fn follow<'a>(alloc: Global) -> Result<Command<'a>, AllocError>
+    ensures app { IfOk result (λ c. app_of c ≡ CommandLine.follow) }
+    ensures local { IfOk result (λ c. (out-Command c).has_globals ≡ false) }
+{
+    Command::new(alloc, "follow")
+        .arg(name(alloc, "log"))?
+        .arg(name(alloc, "order"))?
+        .arg(name(alloc, "number"))
 }
 
 fn validate<'a>(alloc: Global) -> Result<Command<'a>, AllocError>
@@ -96,11 +114,20 @@ fn session_commands<'a>(alloc: Global) -> Result<Command<'a>, AllocError>
         .subcommand(replay(alloc)?)
 }
 
+// The same with those that make a log and follow one.
+fn store_commands<'a>(alloc: Global) -> Result<Command<'a>, AllocError>
+    ensures { IfOk result (λ c. app_of c ≡ CommandLine.store_commands) }
+{
+    session_commands(alloc)?
+        .subcommand(create_log(alloc)?)?
+        .subcommand(follow(alloc)?)
+}
+
 // The same with those that take a data graph and a shapes graph.
 fn file_commands<'a>(alloc: Global) -> Result<Command<'a>, AllocError>
     ensures { IfOk result (λ c. app_of c ≡ CommandLine.file_commands) }
 {
-    session_commands(alloc)?
+    store_commands(alloc)?
         .subcommand(validate(alloc)?)?
         .subcommand(explain(alloc)?)?
         .subcommand(verify(alloc)?)

@@ -1,12 +1,15 @@
 ghost use Rattle.std.specs.Prelude.{◌≡◌};
 ghost use Rattle.guard_words.specs.Plain;
-ghost use Rattle.guard_words.specs.Words.{limit_of, size_of};
+ghost use Rattle.guard_words.specs.Words.{limit_of, size_of, version_of};
 
 // The greatest number of an option.
 const MOST: u32 = 2_000_000;
 
 // The greatest size of a load.
 const LARGEST: u32 = 100_000;
+
+// The greatest number of a version.
+const NEWEST: u32 = 1_000_000;
 
 // Whether a text begins with neither a zero nor a plus sign.
 fn begins_plainly(text: &str) -> bool
@@ -35,6 +38,20 @@ pub fn size(text: &str) -> Option<u32>
 {
     match limit(text) {
         Some(number) if number <= LARGEST => Some(number),
+        Some(_) => None,
+        None => None,
+    }
+}
+
+/// The number of a version: digits without sign or leading zero, from 0 to 1,000,000.
+pub fn version(text: &str) -> Option<u32>
+    ensures { result ≡ version_of text.now }
+{
+    if text == "0" {
+        return Some(0);
+    }
+    match limit(text) {
+        Some(number) if number <= NEWEST => Some(number),
         Some(_) => None,
         None => None,
     }

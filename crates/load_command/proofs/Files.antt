@@ -123,12 +123,12 @@ file_commands n s =
     let numbers = flat_map (own_lines n s) (range_with_len 1 n) in
     subst AreCommands (sym (append_assoc shapes_lines numbers ([] ∷ []))) (with_shapes (numbers ++ [] ∷ []) (with_pieces (own_lines n s) (own_commands n s) (range_with_len 1 n) ([] ∷ []) none_left))
 
-file_read : (n s : ℕ) → 0 < n → n ≤ 100000 → IsRead (session_of s (workload n s))
+file_read : (n s : ℕ) → 0 < n → n ≤ 100000 → IsRead (session_of s 1 (workload n s))
 unfolding workload shapes_lines
 file_read n s one most = subst (λ (lines : List (List ℕ)). IsRead (commands_of s 1 (items_of lines))) (sym (split_lines (lines_of n s) (file_no_lf n s one most))) (file_commands n s s 1 1)
 
 -- a file has no line that is no command
-pub no_bad_line : (n s k : ℕ) → 0 < n → n ≤ 100000 → session_of s (workload n s) ≡ Err k → ⊥
+pub no_bad_line : (n s k : ℕ) → 0 < n → n ≤ 100000 → session_of s 1 (workload n s) ≡ Err k → ⊥
 no_bad_line n s k one most e = let r = file_read n s one most in let no : Err k ≡ Ok r.0 = sym e ∙ r.1 in cc
 
 -- No file is too long.

@@ -27,7 +27,7 @@ order_count l m n (i ∷ order) h =
 pub count_of_run : (files : List (List Command)) (l : Limits) (s : State) (order : List ℕ) (all : List (List SessionReply)) → HasReplies files l s order None all → length all ≡ length files
 count_of_run files l s order all h = ap length h.replies ∙ (length-map h.last.sessions (λ p. p.replies) ∙ (order_count l (start s files) h.last order h.runs ∙ length-map files _))
 
-pub told : {X E : Type 0} (of : X → List ℕ) (r : Result X E) (n : ℕ) (old new : List Refusal) (all : List (List Command)) (order : List ℕ) (replies given : List (List SessionReply)) (triples : ℕ) → length all ≡ 4 → AreSessions n 1 all old new → HasEnd all load_limits empty_store order replies triples
+pub told : {X E : Type 0} (of : X → List ℕ) (r : Result X E) (n : ℕ) (old new : List Refusal) (all : List (List Command)) (order : List ℕ) (replies given : List (List SessionReply)) (triples : ℕ) → length all ≡ 4 → AreSessions n 1 all old new → HasEnd all load_limits empty_store order None replies triples
     → given ≡ replies → IfOk r (λ x. of x ≡ load_text n given triples) → IfOk r (λ x. IsLoad n old new (of x))
 told of (Ok x) n old new all order replies given triples four sessions end same is = record {
   all = all;

@@ -17,7 +17,7 @@ use Rattle.load_command.specs.Counts.{count_replies, is_commit, is_refusal}
 -- were refused so far.
 abbrev pub AreSessions : ℕ → ℕ → List (List Command) → List Refusal → List Refusal → Type 0
 AreSessions n k [] old new = new ≡ old
-AreSessions n k (commands ∷ all) old new = (mid : List Refusal) × IsSession k (workload n k) commands old mid × AreSessions n (k + 1) all mid new
+AreSessions n k (commands ∷ all) old new = (mid : List Refusal) × IsSession k 1 (workload n k) commands old mid × AreSessions n (k + 1) all mid new
 
 -- as an option that isn't given has them
 abbrev pub load_limits : Limits

@@ -23,11 +23,11 @@ fn read_session<M: Maker>(
 ) -> Result<Sequence<Command>, AllocError>
     requires n { (1 ≤ n) × (n ≤ 100000) }
     requires session { (1 ≤ session) × (session ≤ 4) }
-    ensures session { IfOk result (λ commands. IsSession session (Workload.workload n session) commands (M.refused maker.old) (M.refused maker.new)) }
+    ensures session { IfOk result (λ commands. IsSession session 1 (Workload.workload n session) commands (M.refused maker.old) (M.refused maker.new)) }
     ensures refused { OnlyGrows (M.refused maker.old) (M.refused maker.new) }
 {
     let text = workload(alloc, n, session)?;
-    match prepare(alloc, maker, session, &text) {
+    match prepare(alloc, maker, session, 1, &text) {
         Ok(commands) => Ok(commands),
         Err(PrepareFault::Line(_)) => unreachable!(),
         Err(PrepareFault::Memory) => Err(AllocError),

@@ -8,7 +8,7 @@ use crate::reading::read_sessions;
 use collections::Sequence;
 use outside::{Gate, Maker};
 use session_model::SessionReply;
-use session_threads::{EndedRun, run_all};
+use session_threads::{EndedRun, run_new};
 use std::alloc::{AllocError, Global};
 use std::sync::Wait;
 use std::thread::Threads;
@@ -54,6 +54,10 @@ pub fn run_load<R: Threads + Wait + Sync, M: Maker, G: Gate>(
     ensures refused { OnlyGrows (M.refused maker.old) (M.refused maker.new) }
 {
     let all = read_sessions(alloc, n, maker)?;
-    let EndedRun { run, triples } = run_all(rt, alloc, LIMITS, all.as_slice(), gate)?;
+    let EndedRun {
+        run,
+        triples,
+        log: _,
+    } = run_new(rt, alloc, LIMITS, all.as_slice(), gate)?;
     load_text(alloc, n, &run.replies, triples)
 }

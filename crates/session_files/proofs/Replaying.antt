@@ -19,7 +19,7 @@ use Rattle.session_reader.specs.Checking.{OnlyGrows}
 use Rattle.session_reader.specs.SessionFile.{IsSession}
 use Rattle.session_reader.proofs.Checks.{commands_grow, grows_on, grows_same}
 use Rattle.session_reader.proofs.OneSession.{one_session}
-use Rattle.session_files.specs.Loading.{HoldsSession, HoldSessions}
+use Rattle.session_files.specs.Loading.{HoldsSession, HoldSessions, first_of}
 use Rattle.session_files.specs.Runs.{IsBadPlace}
 use Rattle.session_files.specs.Laws.{EndsLine, IsLastLine, ReplaysPrint, UnrefusedReadAlike}
 
@@ -139,39 +139,39 @@ same_throughout old mid a b =
     let none : a.0 ≡ [] = none_left a.0 b.0 (append_cancel_left old (a.0 ++ b.0) [] whole) in
     a.1 ∙ (ap (λ (xs : List Refusal). old ++ xs) none ∙ append-nil old)
 
-session_grows : (held : Option Contents) (i : ℕ) (name : List ℕ) (commands : List Command) (old new : List Refusal) → HoldsSession held i name commands old new → OnlyGrows old new
-session_grows held i name commands old new h = commands_grow h.2.1.0 commands old new h.2.1.2
+session_grows : (held : Option Contents) (firsts : List ℕ) (i : ℕ) (name : List ℕ) (commands : List Command) (old new : List Refusal) → HoldsSession held firsts i name commands old new → OnlyGrows old new
+session_grows held firsts i name commands old new h = commands_grow h.2.1.0 commands old new h.2.1.2
 
-files_grow : (held : Option Contents) (i : ℕ) (names : List (List ℕ)) (all : List (List Command)) (old new : List Refusal) → HoldSessions held i names all old new → OnlyGrows old new
-files_grow held i [] [] old new h = grows_same old new h
-files_grow held i [] (c ∷ cs) old new h = absurd h
-files_grow held i (n ∷ ns) [] old new h = absurd h
-files_grow held i (n ∷ ns) (c ∷ cs) old new h = grows_on old h.0 new (session_grows held i n c old h.0 h.1) (files_grow held (i + 1) ns cs h.0 new h.2)
+files_grow : (held : Option Contents) (firsts : List ℕ) (i : ℕ) (names : List (List ℕ)) (all : List (List Command)) (old new : List Refusal) → HoldSessions held firsts i names all old new → OnlyGrows old new
+files_grow held firsts i [] [] old new h = grows_same old new h
+files_grow held firsts i [] (c ∷ cs) old new h = absurd h
+files_grow held firsts i (n ∷ ns) [] old new h = absurd h
+files_grow held firsts i (n ∷ ns) (c ∷ cs) old new h = grows_on old h.0 new (session_grows held firsts i n c old h.0 h.1) (files_grow held firsts (i + 1) ns cs h.0 new h.2)
 
 -- the first session and the others, of which no pattern was refused
-first_kept : (held : Option Contents) (i : ℕ) (name : List ℕ) (names : List (List ℕ)) (c : List Command) (cs : List (List Command)) (old : List Refusal)
-    → HoldSessions held i (name ∷ names) (c ∷ cs) old old → HoldsSession held i name c old old × HoldSessions held (i + 1) names cs old old
-first_kept held i name names c cs old h =
-    let same : h.0 ≡ old = same_throughout old h.0 (session_grows held i name c old h.0 h.1) (files_grow held (i + 1) names cs h.0 old h.2) in
-    (subst (λ (xs : List Refusal). HoldsSession held i name c old xs) same h.1, subst (λ (xs : List Refusal). HoldSessions held (i + 1) names cs xs old) same h.2)
+first_kept : (held : Option Contents) (firsts : List ℕ) (i : ℕ) (name : List ℕ) (names : List (List ℕ)) (c : List Command) (cs : List (List Command)) (old : List Refusal)
+    → HoldSessions held firsts i (name ∷ names) (c ∷ cs) old old → HoldsSession held firsts i name c old old × HoldSessions held firsts (i + 1) names cs old old
+first_kept held firsts i name names c cs old h =
+    let same : h.0 ≡ old = same_throughout old h.0 (session_grows held firsts i name c old h.0 h.1) (files_grow held firsts (i + 1) names cs h.0 old h.2) in
+    (subst (λ (xs : List Refusal). HoldsSession held firsts i name c old xs) same h.1, subst (λ (xs : List Refusal). HoldSessions held firsts (i + 1) names cs xs old) same h.2)
 
-session_one : (held : Contents) (i : ℕ) (name : List ℕ) (c d : List Command) (old other : List Refusal) → HoldsSession (Some held) i name c old old → HoldsSession (Some held) i name d other other → d ≡ c
-session_one held i name c d old other h k =
+session_one : (held : Contents) (firsts : List ℕ) (i : ℕ) (name : List ℕ) (c d : List Command) (old other : List Refusal) → HoldsSession (Some held) firsts i name c old old → HoldsSession (Some held) firsts i name d other other → d ≡ c
+session_one held firsts i name c d old other h k =
     let bytes : k.0 ≡ h.0 = one_text held name h.0 k.0 (h.1, h.2.0) (k.1, k.2.0) in
-    one_session i h.0 c d old other h.2.1 (subst (λ (b : List ℕ). IsSession i b d other other) bytes k.2.1)
+    one_session i (first_of firsts i) h.0 c d old other h.2.1 (subst (λ (b : List ℕ). IsSession i (first_of firsts i) b d other other) bytes k.2.1)
 
-sessions_one : (held : Contents) (i : ℕ) (names : List (List ℕ)) (all again : List (List Command)) (old other : List Refusal) → HoldSessions (Some held) i names all old old → HoldSessions (Some held) i names again other other → again ≡ all
-sessions_one held i [] [] [] old other h k = refl
-sessions_one held i [] [] (d ∷ ds) old other h k = absurd k
-sessions_one held i [] (c ∷ cs) again old other h k = absurd h
-sessions_one held i (n ∷ ns) [] again old other h k = absurd h
-sessions_one held i (n ∷ ns) (c ∷ cs) [] old other h k = absurd k
-sessions_one held i (n ∷ ns) (c ∷ cs) (d ∷ ds) old other h k =
-    let a = first_kept (Some held) i n ns c cs old h in
-    let b = first_kept (Some held) i n ns d ds other k in
-    let head : d ≡ c = session_one held i n c d old other a.0 b.0 in
-    let tail : ds ≡ cs = sessions_one held (i + 1) ns cs ds old other a.1 b.1 in
+sessions_one : (held : Contents) (firsts : List ℕ) (i : ℕ) (names : List (List ℕ)) (all again : List (List Command)) (old other : List Refusal) → HoldSessions (Some held) firsts i names all old old → HoldSessions (Some held) firsts i names again other other → again ≡ all
+sessions_one held firsts i [] [] [] old other h k = refl
+sessions_one held firsts i [] [] (d ∷ ds) old other h k = absurd k
+sessions_one held firsts i [] (c ∷ cs) again old other h k = absurd h
+sessions_one held firsts i (n ∷ ns) [] again old other h k = absurd h
+sessions_one held firsts i (n ∷ ns) (c ∷ cs) [] old other h k = absurd k
+sessions_one held firsts i (n ∷ ns) (c ∷ cs) (d ∷ ds) old other h k =
+    let a = first_kept (Some held) firsts i n ns c cs old h in
+    let b = first_kept (Some held) firsts i n ns d ds other k in
+    let head : d ≡ c = session_one held firsts i n c d old other a.0 b.0 in
+    let tail : ds ≡ cs = sessions_one held firsts (i + 1) ns cs ds old other a.1 b.1 in
     ap (λ (x : List Command). x ∷ ds) head ∙ ap (λ (xs : List (List Command)). c ∷ xs) tail
 
 pub unrefused_read_alike : UnrefusedReadAlike
-unrefused_read_alike held names old other all again h k = sessions_one held 1 names all again old other h k
+unrefused_read_alike held firsts names old other all again h k = sessions_one held firsts 1 names all again old other h k

@@ -1,5 +1,6 @@
 pub mod Loading
 pub mod Runs
+pub mod Logged
 pub mod Faults
 pub mod Progress
 pub mod Laws

@@ -1,7 +1,8 @@
 //! Runs of session files, beside each other or in the order of a history.
 //!
-//! `run_files` loads the files, in their order, and runs their sessions. It ensures that the text is exactly what the plain
-//! store prints for them, in an order that is valid for them, or exactly why the files gave no run.
+//! `run_files` loads the files, in their order, and runs their sessions over a core and its log; `replay_files` runs them over
+//! an empty store in the order of a history. Both ensure that the text is exactly what the plain store prints for them, in an
+//! order that is valid for them, or exactly why the files gave no run; and `run_files` what the log has then.
 #![tactic(auto)]
 
 mod fault;
@@ -9,8 +10,10 @@ mod laws;
 mod loading;
 mod running;
 mod session_run;
+mod stored;
 
 pub use fault::RunFault;
 pub use laws::{a_print_is_replayed, unrefused_files_read_alike};
-pub use running::run_files;
+pub use running::{replay_files, run_files};
 pub use session_run::SessionRun;
+pub use stored::Stored;

@@ -1,10 +1,11 @@
 ghost use Rattle.std.specs.Prelude.{◌≡◌, ◌<◌, ◌≤◌, [], ◌∷◌, ◌++◌, List, MatchResult, length};
+ghost use Rattle.std.specs.List.{AllByRecursion};
 ghost use Rattle.session_model.specs.declared.command.Command.{Command};
 ghost use Rattle.session_reader.specs.Checking.{OnlyGrows};
 ghost use Rattle.input_files.specs.Lengths.{room};
 ghost use Rattle.input_files.specs.Loads.{Loads, LoadsOne, NoneFailed};
 ghost use Rattle.session_files.specs.Faults.{Stops, Unloaded, Unread, of_file};
-ghost use Rattle.session_files.specs.Loading.{AreSession, HoldsSession, HoldSessions};
+ghost use Rattle.session_files.specs.Loading.{AreSession, HoldsSession, HoldSessions, IsFirstNumber, first_of};
 ghost use Rattle.session_files.specs.Runs.{LoadsAll};
 
 use crate::RunFault;
@@ -27,20 +28,35 @@ pub(crate) fn run_fault(fault: FileFault, file: u32) -> RunFault
     }
 }
 
-// The commands of the bytes of a session's file.
+// The number of the first blank node of a session.
+fn first_number(first_numbers: &[u32], session: u32) -> u32
+    requires session { 1 ≤ session }
+    requires numbers { AllByRecursion IsFirstNumber first_numbers.now }
+    ensures first { result ≡ first_of first_numbers.now session }
+    ensures number { IsFirstNumber result }
+{
+    match first_numbers.get(session as usize - 1) {
+        Some(first) => *first,
+        None => 1,
+    }
+}
+
+// The commands of the bytes of a session's file, whose first blank node has this number.
 fn session_in<M: Maker>(
     alloc: Global,
     maker: &mut M,
     session: u32,
+    first: u32,
     bytes: &[u8],
 ) -> Result<Sequence<Command>, RunFault>
     requires session { (1 ≤ session) × (session ≤ 64) }
+    requires first { IsFirstNumber first }
     requires room { length bytes.now < room }
-    ensures answer { MatchResult result (λ commands. AreSession session bytes.now commands (M.refused maker.old) (M.refused maker.new))
-        (λ fault. Unread fault session bytes.now (M.refused maker.old) (M.refused maker.new)) }
+    ensures answer { MatchResult result (λ commands. AreSession session first bytes.now commands (M.refused maker.old) (M.refused maker.new))
+        (λ fault. Unread fault session first bytes.now (M.refused maker.old) (M.refused maker.new)) }
     ensures refused { OnlyGrows (M.refused maker.old) (M.refused maker.new) }
 {
-    match prepare(alloc, maker, session, bytes) {
+    match prepare(alloc, maker, session, first, bytes) {
         Ok(commands) => Ok(commands),
         Err(PrepareFault::Line(line)) => Err(RunFault::BadSession { session, line }),
         Err(PrepareFault::Memory) => Err(RunFault::Memory),
@@ -52,19 +68,24 @@ fn load_session<F: Files, M: Maker>(
     alloc: Global,
     files: &mut F,
     maker: &mut M,
+    first_numbers: &[u32],
     session: u32,
     name: &str,
 ) -> Result<Sequence<Command>, RunFault>
-    requires { (1 ≤ session) × (session ≤ 64) }
+    requires session { (1 ≤ session) × (session ≤ 64) }
+    requires numbers { AllByRecursion IsFirstNumber first_numbers.now }
     ensures answer { let before : Loads = record { loaded = F.loaded files.old; failed = F.failed files.old; refused = M.refused maker.old } in
         let after : Loads = record { loaded = F.loaded files.new; failed = F.failed files.new; refused = M.refused maker.new } in
-        MatchResult result (λ commands. HoldsSession (F.holds files.old) session name.now commands before.refused after.refused × LoadsOne name.now before after × NoneFailed before after)
-        (λ fault. Unloaded fault (F.holds files.old) session name.now before after) }
+        MatchResult result (λ commands. HoldsSession (F.holds files.old) first_numbers.now session name.now commands before.refused after.refused × LoadsOne name.now before after × NoneFailed before after)
+        (λ fault. Unloaded fault (F.holds files.old) first_numbers.now session name.now before after) }
     ensures holds { F.holds files.new ≡ F.holds files.old }
     ensures refused { OnlyGrows (M.refused maker.old) (M.refused maker.new) }
 {
     match load_file(alloc, files, name) {
-        Ok(bytes) => session_in(alloc, maker, session, &bytes),
+        Ok(bytes) => {
+            let first = first_number(first_numbers, session);
+            session_in(alloc, maker, session, first, &bytes)
+        }
         Err(fault) => Err(run_fault(fault, session)),
     }
 }
@@ -74,42 +95,48 @@ fn load_next<F: Files, M: Maker>(
     alloc: Global,
     files: &mut F,
     maker: &mut M,
+    first_numbers: &[u32],
     session: u32,
     name: &str,
     all: &mut Sequence<Sequence<Command>>,
 ) -> Result<(), RunFault>
-    requires { (1 ≤ session) × (session ≤ 64) }
+    requires session { (1 ≤ session) × (session ≤ 64) }
+    requires numbers { AllByRecursion IsFirstNumber first_numbers.now }
     ensures answer { let before : Loads = record { loaded = F.loaded files.old; failed = F.failed files.old; refused = M.refused maker.old } in
         let after : Loads = record { loaded = F.loaded files.new; failed = F.failed files.new; refused = M.refused maker.new } in
-        MatchResult result (λ _. (commands : List Command) × (all.new ≡ all.old ++ commands ∷ []) × HoldsSession (F.holds files.old) session name.now commands before.refused after.refused × LoadsOne name.now before after × NoneFailed before after)
-        (λ fault. Unloaded fault (F.holds files.old) session name.now before after) }
+        MatchResult result (λ _. (commands : List Command) × (all.new ≡ all.old ++ commands ∷ []) × HoldsSession (F.holds files.old) first_numbers.now session name.now commands before.refused after.refused × LoadsOne name.now before after × NoneFailed before after)
+        (λ fault. Unloaded fault (F.holds files.old) first_numbers.now session name.now before after) }
     ensures holds { F.holds files.new ≡ F.holds files.old }
     ensures refused { OnlyGrows (M.refused maker.old) (M.refused maker.new) }
 {
-    let commands = load_session(alloc, files, maker, session, name)?;
+    let commands = load_session(alloc, files, maker, first_numbers, session, name)?;
     all.push(commands)?;
     Ok(())
 }
 
-/// The commands of each session's file, which are loaded in order up to the first that gives none.
+/// The commands of each session's file, which are loaded in order up to the first that gives none. The blank nodes of a
+/// session begin at its number among these, at 1 where it has none.
 pub(crate) fn load_all<F: Files, M: Maker>(
     alloc: Global,
     files: &mut F,
     maker: &mut M,
+    first_numbers: &[u32],
     names: &[Text],
 ) -> Result<Sequence<Sequence<Command>>, RunFault>
-    requires { length names.now ≤ 64 }
+    requires few { length names.now ≤ 64 }
+    requires numbers { AllByRecursion IsFirstNumber first_numbers.now }
     ensures answer { let before : Loads = record { loaded = F.loaded files.old; failed = F.failed files.old; refused = M.refused maker.old } in
         let after : Loads = record { loaded = F.loaded files.new; failed = F.failed files.new; refused = M.refused maker.new } in
-        MatchResult result (λ all. HoldSessions (F.holds files.old) 1 names.now all before.refused after.refused × LoadsAll names.now before after)
-        (λ fault. Stops fault (F.holds files.old) names.now before after) }
+        MatchResult result (λ all. HoldSessions (F.holds files.old) first_numbers.now 1 names.now all before.refused after.refused × LoadsAll names.now before after)
+        (λ fault. Stops fault (F.holds files.old) first_numbers.now names.now before after) }
     ensures refused { OnlyGrows (M.refused maker.old) (M.refused maker.new) }
 {
     let mut all = Sequence::new(alloc);
     let mut session = 0;
     for name in names {
         session += 1;
-        match load_next(alloc, files, maker, session, name.as_str(), &mut all) {
+        let name = name.as_str();
+        match load_next(alloc, files, maker, first_numbers, session, name, &mut all) {
             Ok(()) => {}
             Err(fault) => return Err(fault),
         }

@@ -1,25 +1,33 @@
-ghost use Rattle.std.specs.Prelude.{◌≡◌, ℕ, List, None, Some, ◌∷◌, ◌≤◌, IfOk, MatchResult, length, map, string_bytes};
-ghost use Rattle.store_model.specs.Store.{empty_store};
-ghost use Rattle.session_model.specs.Print.{IsPrint};
+ghost use Rattle.std.specs.Prelude.{◌≡◌, ◌⊎◌, ℕ, List, None, Some, [], ◌∷◌, ◌++◌, ◌≤◌, false, IfErr, MatchResult, length, map, string_bytes};
+ghost use Rattle.std.specs.List.{AllByRecursion};
+ghost use Rattle.store_model.specs.Store.{RecordedStore, empty_store};
+ghost use Rattle.session_model.specs.Print.{IsPrint, history_text, sessions_text};
 ghost use Rattle.history_reader.specs.History.{history_of};
 ghost use Rattle.session_reader.specs.Checking.{OnlyGrows};
 ghost use Rattle.input_files.specs.Loads.{Loads};
+ghost use Rattle.session_files.specs.declared.session_run.SessionRun.{SessionRun};
 ghost use Rattle.session_files.specs.Faults;
 ghost use Rattle.session_files.specs.Faults.{Stops, StopsRun, Unplayed};
-ghost use Rattle.session_files.specs.Loading.{HoldSessions};
-ghost use Rattle.session_files.specs.Runs.{AreRun, IsBadPlace, IsRun, LoadsAll};
+ghost use Rattle.session_transaction.specs.Logging.{StandsBeside};
+ghost use Rattle.session_threads.specs.Ends.{LeavesStore};
+ghost use Rattle.session_files.specs.Loading.{HoldSessions, IsFirstNumber};
+ghost use Rattle.session_files.specs.Logged.{AreLogged, PrintsRun, run_over};
+ghost use Rattle.session_files.specs.Runs.{AreRun, IsBadPlace, IsRun, LoadsAll, empty_start};
 
 use crate::loading::{load_all, run_fault};
-use crate::{RunFault, SessionRun};
+use crate::{RunFault, Stored};
 use collections::Sequence;
+use commit_core::Core;
+use commit_log::Log;
+use disk::Disk;
 use history_reader::read_history;
 use input_files::load_file;
 use outside::{Files, Gate, Maker};
 use rdf_text::Text;
 use session_model::Command;
-use session_player::{ReplayFault, replay_all, text_of};
-use session_threads::run_all;
-use std::alloc::{AllocError, Global};
+use session_player::{ReplayFault, Run, replay_all, text_of};
+use session_threads::{EndedRun, run_all};
+use std::alloc::Global;
 use std::sync::Wait;
 use std::thread::Threads;
 use store_model::{BlockMode, Limits};
@@ -27,46 +35,43 @@ use store_model::{BlockMode, Limits};
 // So many sessions may run.
 const MOST_FILES: usize = 64;
 
-// All that the sessions print.
-fn print_sessions<R: Threads + Wait + Sync, G: Gate>(
-    rt: &R,
-    alloc: Global,
-    limits: Limits,
-    all: &[Sequence<Command>],
-    gate: &G,
-) -> Result<String, AllocError>
-    requires terms { limits.terms ≤ 2000000 }
-    requires mode { limits.mode ≡ BlockMode.All }
-    requires few { length all.now ≤ 64 }
-    ensures { IfOk result (λ text. (order : List ℕ) × IsPrint all.now limits empty_store order None (string_bytes text)) }
+// What a run prints.
+fn run_text(alloc: Global, run: &Run) -> Result<String, RunFault>
+    ensures { MatchResult result (λ text. string_bytes text ≡ sessions_text 1 run.now.replies.items ++ history_text run.now.order.items) (λ fault. fault ≡ RunFault.Memory) }
 {
-    let ended = run_all(rt, alloc, limits, all, gate)?;
-    text_of(alloc, &ended.run)
-}
-
-// What a run of the session files prints.
-fn run_sessions<R: Threads + Wait + Sync, F: Files, M: Maker, G: Gate>(
-    rt: &R,
-    alloc: Global,
-    limits: Limits,
-    names: &[Text],
-    files: &mut F,
-    maker: &mut M,
-    gate: &G,
-) -> Result<String, RunFault>
-    requires terms { limits.terms ≤ 2000000 }
-    requires mode { limits.mode ≡ BlockMode.All }
-    requires few { length names.now ≤ 64 }
-    ensures answer { let before : Loads = record { loaded = F.loaded files.old; failed = F.failed files.old; refused = M.refused maker.old } in
-        let after : Loads = record { loaded = F.loaded files.new; failed = F.failed files.new; refused = M.refused maker.new } in
-        MatchResult result (λ text. IsRun (F.holds files.old) (record { limits = limits; history = None; files = names.now }) before.refused after.refused (string_bytes text) × LoadsAll names.now before after)
-        (λ fault. Stops fault (F.holds files.old) names.now before after) }
-    ensures refused { OnlyGrows (M.refused maker.old) (M.refused maker.new) }
-{
-    let all = load_all(alloc, files, maker, names)?;
-    match print_sessions(rt, alloc, limits, all.as_slice(), gate) {
+    match text_of(alloc, run) {
         Ok(text) => Ok(text),
         Err(_) => Err(RunFault::Memory),
+    }
+}
+
+// What a run of these sessions over a core and its log prints, and the log.
+fn run_sessions<D: Disk + Drop + Send, R: Threads + Wait + Sync, G: Gate>(
+    rt: &R,
+    alloc: Global,
+    core: Core,
+    log: Option<Log<D>>,
+    all: &[Sequence<Command>],
+    gate: &G,
+) -> (Result<String, RunFault>, Option<Log<D>>)
+    requires fresh { core.history ≡ [] }
+    requires unopened { core.start.opened ≡ 0 }
+    requires running { core.state.stopped ≡ false }
+    requires beside { StandsBeside core log }
+    requires few { length all.now ≤ 64 }
+    ensures prints { MatchResult result.0 (λ text. PrintsRun D.tells D.bytes D.history D.chosen D.faults all.now core log (string_bytes text) result.1) (λ fault. fault ≡ RunFault.Memory) }
+    ensures back { IfErr result.0 (λ _. (last : RecordedStore) × LeavesStore D.tells D.bytes D.history D.chosen D.faults core log last result.1) }
+{
+    match run_all(rt, alloc, core, log, all, gate) {
+        Ok(ended) => {
+            let EndedRun {
+                run,
+                triples: _,
+                log,
+            } = ended;
+            (run_text(alloc, &run), log)
+        }
+        Err((_, log)) => (Err(RunFault::Memory), log),
     }
 }
 
@@ -121,11 +126,11 @@ fn load_behind<F: Files, M: Maker>(
     requires { length names.now ≤ 64 }
     ensures answer { let before : Loads = record { loaded = F.loaded files.old; failed = F.failed files.old; refused = M.refused maker.old } in
         let after : Loads = record { loaded = F.loaded files.new; failed = F.failed files.new; refused = M.refused maker.new } in
-        MatchResult result (λ all. HoldSessions (F.holds files.old) 1 names.now all before.refused after.refused × LoadsAll names.now before after)
-        (λ fault. (other : RunFault) × (fault ≡ Faults.behind_history other) × Stops other (F.holds files.old) names.now before after) }
+        MatchResult result (λ all. HoldSessions (F.holds files.old) [] 1 names.now all before.refused after.refused × LoadsAll names.now before after)
+        (λ fault. (other : RunFault) × (fault ≡ Faults.behind_history other) × Stops other (F.holds files.old) [] names.now before after) }
     ensures refused { OnlyGrows (M.refused maker.old) (M.refused maker.new) }
 {
-    match load_all(alloc, files, maker, names) {
+    match load_all(alloc, files, maker, &[], names) {
         Ok(all) => Ok(all),
         Err(fault) => Err(behind_history(fault)),
     }
@@ -146,8 +151,8 @@ fn replay_sessions<F: Files, M: Maker>(
     ensures answer { let before : Loads = record { loaded = F.loaded files.old; failed = F.failed files.old; refused = M.refused maker.old } in
         let after : Loads = record { loaded = F.loaded files.new; failed = F.failed files.new; refused = M.refused maker.new } in
         let asked : SessionRun = record { limits = limits; history = Some history.now; files = names.now } in
-        MatchResult result (λ text. IsRun (F.holds files.old) asked before.refused after.refused (string_bytes text) × LoadsAll (history.now ∷ names.now) before after)
-        (λ fault. StopsRun fault (F.holds files.old) asked before after) }
+        MatchResult result (λ text. IsRun (F.holds files.old) empty_start asked None before.refused after.refused (string_bytes text) × LoadsAll (history.now ∷ names.now) before after)
+        (λ fault. StopsRun fault (F.holds files.old) [] asked before after) }
     ensures refused { OnlyGrows (M.refused maker.old) (M.refused maker.new) }
 {
     let text = match load_file(alloc, files, history) {
@@ -161,30 +166,64 @@ fn replay_sessions<F: Files, M: Maker>(
     print_replay(alloc, limits, &text, all.as_slice())
 }
 
-/// What at most 64 session files print, run beside each other in threads, or in the order of a history where one is handed
-/// in: what a plain store gives, asked one step at a time in an order that is valid for them. The gate is told of each step
-/// of a session but its opening, before it and after it, where no history is handed in.
-pub fn run_files<R: Threads + Wait + Sync, F: Files, M: Maker, G: Gate>(
+/// What at most 64 session files print in the order of a history, over an empty store: what a plain store gives, asked one step
+/// at a time in that order, which is valid for them.
+pub fn replay_files<F: Files, M: Maker>(
+    alloc: Global,
+    limits: Limits,
+    history: &str,
+    names: &[Text],
+    files: &mut F,
+    maker: &mut M,
+) -> Result<String, RunFault>
+    requires terms { limits.terms ≤ 2000000 }
+    requires mode { limits.mode ≡ BlockMode.All }
+    ensures answer { let before : Loads = record { loaded = F.loaded files.old; failed = F.failed files.old; refused = M.refused maker.old } in
+        let after : Loads = record { loaded = F.loaded files.new; failed = F.failed files.new; refused = M.refused maker.new } in
+        let asked : SessionRun = record { limits = limits; history = Some history.now; files = names.now } in
+        MatchResult result (λ text. AreRun (F.holds files.old) empty_start asked None before after (string_bytes text)) (λ fault. StopsRun fault (F.holds files.old) [] asked before after) }
+    ensures refused { OnlyGrows (M.refused maker.old) (M.refused maker.new) }
+{
+    if names.len() > MOST_FILES {
+        return Err(RunFault::TooManyFiles);
+    }
+    replay_sessions(alloc, limits, history, names, files, maker)
+}
+
+/// What at most 64 session files print, run beside each other in threads over a core and its log, if it has one: what a plain
+/// store gives, asked one step at a time in an order that is valid for them; and the log, whatever comes. The gate is told of
+/// each step of a session but its opening, before it and after it.
+pub fn run_files<D: Disk + Drop + Send, R: Threads + Wait + Sync, F: Files, M: Maker, G: Gate>(
     rt: &R,
     alloc: Global,
-    run: &SessionRun,
+    stored: Stored<D>,
+    names: &[Text],
     files: &mut F,
     maker: &mut M,
     gate: &G,
-) -> Result<String, RunFault>
-    requires terms { run.now.limits.terms ≤ 2000000 }
-    requires mode { run.now.limits.mode ≡ BlockMode.All }
+) -> (Result<String, RunFault>, Option<Log<D>>)
+    requires fresh { stored.core.history ≡ [] }
+    requires unopened { stored.core.start.opened ≡ 0 }
+    requires running { stored.core.state.stopped ≡ false }
+    requires beside { StandsBeside stored.core stored.log }
+    requires numbers { AllByRecursion IsFirstNumber stored.first_numbers }
     ensures answer { let before : Loads = record { loaded = F.loaded files.old; failed = F.failed files.old; refused = M.refused maker.old } in
         let after : Loads = record { loaded = F.loaded files.new; failed = F.failed files.new; refused = M.refused maker.new } in
-        MatchResult result (λ text. AreRun (F.holds files.old) run.now before after (string_bytes text)) (λ fault. StopsRun fault (F.holds files.old) run.now before after) }
+        MatchResult result.0 (λ text. AreLogged D.tells D.bytes D.history D.chosen D.faults (F.holds files.old) stored.first_numbers stored.core stored.log names.now before after (string_bytes text) result.1)
+        (λ fault. StopsRun fault (F.holds files.old) stored.first_numbers (run_over stored.core names.now) before after) }
+    ensures back { IfErr result.0 (λ _. (result.1 ≡ stored.log) ⊎ ((last : RecordedStore) × LeavesStore D.tells D.bytes D.history D.chosen D.faults stored.core stored.log last result.1)) }
     ensures refused { OnlyGrows (M.refused maker.old) (M.refused maker.new) }
 {
-    if run.files.len() > MOST_FILES {
-        return Err(RunFault::TooManyFiles);
+    let Stored {
+        core,
+        log,
+        first_numbers,
+    } = stored;
+    if names.len() > MOST_FILES {
+        return (Err(RunFault::TooManyFiles), log);
     }
-    let names = run.files.as_slice();
-    match &run.history {
-        None => run_sessions(rt, alloc, run.limits, names, files, maker, gate),
-        Some(history) => replay_sessions(alloc, run.limits, history.as_str(), names, files, maker),
+    match load_all(alloc, files, maker, first_numbers.as_slice(), names) {
+        Ok(all) => run_sessions(rt, alloc, core, log, all.as_slice(), gate),
+        Err(fault) => (Err(fault), log),
     }
 }

@@ -2,7 +2,7 @@ use collections::Sequence;
 use rdf_text::Text;
 use store_model::Limits;
 
-/// Session files that are to be run.
+/// Session files that are to be run, or the same in the order of a history.
 #[derive(Debug, Drop)]
 pub struct SessionRun {
     /// How many terms the store names, and how many triples its data graph has, at most.

@@ -1,26 +1,26 @@
+use crate::block::{Block, ShapesBlock};
 use bgp_query::JoinPattern;
 use collections::Sequence;
-use rdf_model::{Pattern, Term, Triple};
-use shapes_graph::ShapesGraph;
+use rdf_model::{Pattern, Term};
 
 /// A command of a session.
 #[derive(Debug)]
 pub enum Command {
     Begin,
     /// Adds the triples of its block, each once, ascending.
-    Add(Sequence<Triple>),
+    Add(Block),
     /// An addition whose block can't be read: the line of the block, from 1, and the number of the refusal's kind.
     BadAdd { line: u64, kind: u8 },
     /// Removes the triples of its block, each once, ascending.
-    Remove(Sequence<Triple>),
+    Remove(Block),
     /// A removal whose block can't be read: the line of the block, from 1, and the number of the refusal's kind.
     BadRemove { line: u64, kind: u8 },
     /// Adds the triples of its block, each once, ascending, whose blank nodes are stored ones.
-    Attach(Sequence<Triple>),
+    Attach(Block),
     /// An attachment whose block can't be read: the line of the block, from 1, and the number of the refusal's kind.
     BadAttach { line: u64, kind: u8 },
     /// Stages the shapes graph of its block.
-    Shapes(ShapesGraph),
+    Shapes(ShapesBlock),
     /// Shapes whose block can't be read: the line of the block, from 1, and the number of the refusal's kind.
     BadShapes { line: u64, kind: u8 },
     /// Shapes whose graph isn't well-formed: the number of the rule that is reported, and the node that breaks it.

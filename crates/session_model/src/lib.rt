@@ -2,11 +2,14 @@
 //!
 //! `specs/Sessions.antt` walks the commands of session files through the steps of the plain store,
 //! in the order of a history. `specs/Print.antt` is the text of such a run, byte for byte.
-//! `SessionReply` prints itself exactly as that text has it.
+//! `SessionReply` prints itself exactly as that text has it. A `Block` keeps that its triples are such as a text can
+//! give, so that a log can keep them.
 #![tactic(auto)]
 
+mod block;
 mod command;
 mod reply;
 
+pub use block::{Block, ShapesBlock};
 pub use command::Command;
 pub use reply::SessionReply;

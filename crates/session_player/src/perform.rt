@@ -118,17 +118,17 @@ pub fn perform<L: Ledger>(
 {
     match command {
         Command::Begin => begin(alloc, core, session, current, replies),
-        Command::Add(triples) => {
+        Command::Add(block) => {
             let kind = ChangeKind::Addition;
-            change(alloc, core, session, current, kind, triples, replies)
+            change(alloc, core, session, current, kind, block, replies)
         }
-        Command::Remove(triples) => {
+        Command::Remove(block) => {
             let kind = ChangeKind::Removal;
-            change(alloc, core, session, current, kind, triples, replies)
+            change(alloc, core, session, current, kind, block, replies)
         }
-        Command::Attach(triples) => {
+        Command::Attach(block) => {
             let kind = ChangeKind::Attachment;
-            change(alloc, core, session, current, kind, triples, replies)
+            change(alloc, core, session, current, kind, block, replies)
         }
         Command::Shapes(shapes) => stage(alloc, core, session, current, shapes, replies),
         Command::Commit => {

@@ -8,9 +8,8 @@ ghost use Rattle.session_player.specs.Ready.{IsReady, NamesAll, Performs};
 use collections::Sequence;
 use commit_core::{Core, NameKind, NamingFault};
 use rdf_model::Triple;
-use session_model::{Command, SessionReply};
+use session_model::{Block, Command, SessionReply, ShapesBlock};
 use session_transaction::{ChangeKind, OpenTransaction, block_refusal, terms_in};
-use shapes_graph::ShapesGraph;
 use std::alloc::{AllocError, Global};
 
 // Names the terms of the triples of a block of this kind, or gives the reply to one whose terms may not be named.
@@ -40,26 +39,27 @@ pub fn change(
     session: u32,
     current: Option<OpenTransaction>,
     kind: ChangeKind,
-    triples: &Sequence<Triple>,
+    block: &Block,
     replies: &mut Sequence<SessionReply>,
 ) -> Result<Option<OpenTransaction>, AllocError>
     requires { IsReady core.old session (plain_in current) }
-    ensures { IfOk result (λ next. Performs session core.old core.new (plain_in current) (plain_in next) (command_of kind triples.now) replies.old replies.new) }
+    ensures { IfOk result (λ next. Performs session core.old core.new (plain_in current) (plain_in next) (command_of kind block.now) replies.old replies.new) }
 {
     let Some(open) = current else {
         replies.push(SessionReply::NoTransaction)?;
         return Ok(None);
     };
-    let refusal = name_terms(alloc, core, session, kind.name_kind(), triples.as_slice())?;
+    let refusal = name_terms(alloc, core, session, kind.name_kind(), block.triples())?;
     if let Some(reply) = refusal {
         replies.push(reply)?;
         return Ok(Some(open));
     }
-    let (open, staged) = open.with_changes(alloc, kind, triples.as_slice());
+    block.recall_readable();
+    let (open, staged) = open.with_changes(alloc, kind, block.triples());
     if !staged {
         return Err(AllocError);
     }
-    replies.push(kind.reply(triples.len()))?;
+    replies.push(kind.reply(block.len()))?;
     Ok(Some(open))
 }
 
@@ -69,7 +69,7 @@ pub fn stage(
     core: &mut Core,
     session: u32,
     current: Option<OpenTransaction>,
-    shapes: &ShapesGraph,
+    shapes: &ShapesBlock,
     replies: &mut Sequence<SessionReply>,
 ) -> Result<Option<OpenTransaction>, AllocError>
     requires { IsReady core.old session (plain_in current) }
@@ -79,14 +79,16 @@ pub fn stage(
         replies.push(SessionReply::NoTransaction)?;
         return Ok(None);
     };
-    let refusal = name_terms(alloc, core, session, NameKind::Fresh, shapes.triples())?;
+    let graph = shapes.graph();
+    let refusal = name_terms(alloc, core, session, NameKind::Fresh, graph.triples())?;
     if let Some(reply) = refusal {
         replies.push(reply)?;
         return Ok(Some(open));
     }
-    let copy = shapes.share()?;
+    shapes.recall_readable();
+    let copy = graph.share()?;
     let open = open.with_shapes(copy);
-    replies.push(SessionReply::ShapesStaged(shapes.triples().len()))?;
+    replies.push(SessionReply::ShapesStaged(graph.triples().len()))?;
     Ok(Some(open))
 }
 

@@ -62,9 +62,9 @@ stopped_after (q ∷ qs) (d ∷ ds) rest refused after old new checked asked =
     inr (d, checked.0, asked.0, checked.1, asked.1, stopped_after qs ds rest checked.0 after asked.0 new checked.2 asked.2)
 
 -- where no session is prepared: before anything is asked, and in the middle
-pub vain_none : (s : ℕ) (bytes : List ℕ) (fault : PrepareFault) (refused : List Refusal) (xs : List Request) → AsksInVain s bytes fault refused refused xs xs
-vain_none s bytes (Line n) refused xs = refl
-vain_none s bytes Memory refused xs = first_of_none (session_of s bytes) refused xs
+pub vain_none : (s first : ℕ) (bytes : List ℕ) (fault : PrepareFault) (refused : List Refusal) (xs : List Request) → AsksInVain s first bytes fault refused refused xs xs
+vain_none s first bytes (Line n) refused xs = refl
+vain_none s first bytes Memory refused xs = first_of_none (session_of s first bytes) refused xs
 
-pub vain_first : (s : ℕ) (bytes : List ℕ) (read : List ReadCommand) (refused after : List Refusal) (old new : List Request) → session_of s bytes ≡ Ok read → AsksFirst read refused after old new → AsksInVain s bytes Memory refused after old new
-vain_first s bytes read refused after old new e h = subst (λ (r : Result (List ReadCommand) ℕ). AsksFirstOf r refused after old new) (sym e) h
+pub vain_first : (s first : ℕ) (bytes : List ℕ) (read : List ReadCommand) (refused after : List Refusal) (old new : List Request) → session_of s first bytes ≡ Ok read → AsksFirst read refused after old new → AsksInVain s first bytes Memory refused after old new
+vain_first s first bytes read refused after old new e h = subst (λ (r : Result (List ReadCommand) ℕ). AsksFirstOf r refused after old new) (sym e) h

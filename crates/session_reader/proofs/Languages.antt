@@ -81,19 +81,19 @@ items_kept s first zero n m (line ∷ lines) all h =
     item_by_kind s first n m (command_text line lines) lines all (kind_kept (command_text line lines)) (λ k next cs e. items_kept s next (lines_of_block (block_after k lines)) (n + 1) (m + 1) lines cs e) h
 
 -- a file without a header
-without_header : (s : ℕ) (lines : List (List ℕ)) (r : Result (List ReadCommand) ℕ) → language_of lines ≡ One → commands_of s 1 (items_of lines) ≡ r → commands_of s 1 (items_after One 0 1 lines) ≡ r
-without_header s lines r is h = ap (λ (l : Language). commands_of s 1 (items_after l (header_lines l) 1 lines)) (sym is) ∙ h
+without_header : (s first : ℕ) (lines : List (List ℕ)) (r : Result (List ReadCommand) ℕ) → language_of lines ≡ One → commands_of s first (items_of lines) ≡ r → commands_of s first (items_after One 0 1 lines) ≡ r
+without_header s first lines r is h = ap (λ (l : Language). commands_of s first (items_after l (header_lines l) 1 lines)) (sym is) ∙ h
 
 -- a header with lines behind it
 behind_header : (line : List ℕ) (rest lines : List (List ℕ)) → lines ≡ line ∷ rest → language_of (codes "%session 2" ∷ lines) ≡ Two
 behind_header line rest lines e = ap (λ ls. language_of (codes "%session 2" ∷ ls)) e
 
 pub header_keeps : HeaderKeepsCommands
-header_keeps s bytes read h =
+header_keeps s first bytes read h =
     let lines = file_lines bytes in
     let parts = split-cons (λ c. c == 10) bytes in
-    let two : commands_of s 1 (items_after Two 0 2 lines) ≡ Ok read = items_kept s 1 0 1 2 lines read (without_header s lines (Ok read) h.0 h.1) in
-    ap (λ (l : Language). commands_of s 1 (items_after l (header_lines l) 1 (codes "%session 2" ∷ lines))) (behind_header parts.0 parts.1 lines parts.2) ∙ two
+    let two : commands_of s first (items_after Two 0 2 lines) ≡ Ok read = items_kept s first 0 1 2 lines read (without_header s first lines (Ok read) h.0 h.1) in
+    ap (λ (l : Language). commands_of s first (items_after l (header_lines l) 1 (codes "%session 2" ∷ lines))) (behind_header parts.0 parts.1 lines parts.2) ∙ two
 
 -- No line of the first language begins an attachment or a select.
 
@@ -163,4 +163,4 @@ items_never s first zero n (line ∷ lines) all h =
     item_never s first n kind (block_after kind lines) (behind One s kind n lines) all (line_never (command_text line lines)) (λ next cs e. items_never s next (lines_of_block (block_after kind lines)) (n + 1) lines cs e) h
 
 pub need_header : AddedCommandsNeedHeader
-need_header s bytes read h = items_never s 1 0 1 (file_lines bytes) read (without_header s (file_lines bytes) (Ok read) h.0 h.1)
+need_header s first bytes read h = items_never s first 0 1 (file_lines bytes) read (without_header s first (file_lines bytes) (Ok read) h.0 h.1)

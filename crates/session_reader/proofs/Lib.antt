@@ -4,6 +4,6 @@ pub mod Items
 pub mod Languages
 pub mod Lengths
 pub mod OneSession
-pub mod Ordering
+pub mod Readable
 pub mod Pieces
 pub mod Selects

@@ -77,7 +77,7 @@ commands_one (r ∷ rs) (c ∷ cs) (d ∷ ds) old other h k =
     ap (λ (x : Command). x ∷ ds) head ∙ ap (λ (xs : List Command). c ∷ xs) tail
 
 pub one_session : FileHasOneSession
-one_session s bytes cs ds old other h k =
+one_session s first bytes cs ds old other h k =
     let same : Ok k.0 ≡ Ok h.0 = sym k.1 ∙ h.1 in
     let read : k.0 ≡ h.0 = cc in
     commands_one h.0 cs ds old other h.2 (subst (λ (rs : List ReadCommand). AreChecked rs ds other other) read k.2)

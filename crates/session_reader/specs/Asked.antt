@@ -49,11 +49,11 @@ abbrev pub AsksFirstOf : Result (List ReadCommand) ℕ → List Refusal → List
 AsksFirstOf (Ok read) refused after old new = AsksFirst read refused after old new
 AsksFirstOf (Err n) refused after old new = (after ≡ refused) × (new ≡ old)
 
--- of the file of session s that has these commands
-abbrev pub AsksOfSession : ℕ → List ℕ → List Command → List Request → List Request → Type 0
-AsksOfSession s bytes cs old new = (read : List ReadCommand) × (session_of s bytes ≡ Ok read) × AsksOfEach read cs old new
+-- of the file of session s that has these commands, whose first blank node has the number first
+abbrev pub AsksOfSession : ℕ → ℕ → List ℕ → List Command → List Request → List Request → Type 0
+AsksOfSession s first bytes cs old new = (read : List ReadCommand) × (session_of s first bytes ≡ Ok read) × AsksOfEach read cs old new
 
 -- of one of which no session was prepared
-abbrev pub AsksInVain : ℕ → List ℕ → PrepareFault → List Refusal → List Refusal → List Request → List Request → Type 0
-AsksInVain s bytes (Line n) refused after old new = new ≡ old
-AsksInVain s bytes Memory refused after old new = AsksFirstOf (session_of s bytes) refused after old new
+abbrev pub AsksInVain : ℕ → ℕ → List ℕ → PrepareFault → List Refusal → List Refusal → List Request → List Request → Type 0
+AsksInVain s first bytes (Line n) refused after old new = new ≡ old
+AsksInVain s first bytes Memory refused after old new = AsksFirstOf (session_of s first bytes) refused after old new

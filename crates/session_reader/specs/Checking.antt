@@ -1,9 +1,7 @@
 -- What becomes of the read commands of a session file once their shapes graphs are judged and their patterns are made.
 use Rattle.std.specs.Prelude.{◌≡◌, ◌⊎◌, List, [], ◌∷◌, ◌++◌}
-use Rattle.collections.specs.Ordered.{IsAscending}
 use Rattle.rdf_model.specs.declared.term.Term.{Term}
 use Rattle.rdf_model.specs.declared.triple.Triple.{Triple}
-use Rattle.rdf_model.specs.Terms.{triple_cmp}
 use Rattle.outside.specs.Faults.{Refusal}
 use Rattle.shape_rules.specs.declared.rule_row.RuleRow.{RuleRow}
 use Rattle.shape_rules.specs.Broken.{IsLeast, IsWellFormed}
@@ -61,8 +59,3 @@ AreChecked [] [] old new = new ≡ old
 AreChecked [] (c ∷ cs) old new = ⊥
 AreChecked (r ∷ rs) [] old new = ⊥
 AreChecked (r ∷ rs) (c ∷ cs) old new = (mid : List Refusal) × IsChecked r c old mid × AreChecked rs cs mid new
-
--- the triples of a shapes graph ascend
-abbrev pub IsOrdered : ReadCommand → Type 0
-IsOrdered (Shapes ts) = IsAscending triple_cmp ts
-IsOrdered _ = Unit {0}

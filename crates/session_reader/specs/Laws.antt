@@ -10,15 +10,15 @@ use Rattle.session_reader.specs.SessionFile.{IsSession, file_lines, language_of,
 
 -- a file of which no pattern is refused has one list of commands
 abbrev pub FileHasOneSession : Type 0
-FileHasOneSession = (s : ℕ) (bytes : List ℕ) (cs ds : List Command) (old other : List Refusal) → IsSession s bytes cs old old → IsSession s bytes ds other other → ds ≡ cs
+FileHasOneSession = (s first : ℕ) (bytes : List ℕ) (cs ds : List Command) (old other : List Refusal) → IsSession s first bytes cs old old → IsSession s first bytes ds other other → ds ≡ cs
 
 -- the file without a header has these commands
-abbrev pub ReadsWithoutHeader : ℕ → List ℕ → List ReadCommand → Type 0
-ReadsWithoutHeader s bytes read = (language_of (file_lines bytes) ≡ One) × (session_of s bytes ≡ Ok read)
+abbrev pub ReadsWithoutHeader : ℕ → ℕ → List ℕ → List ReadCommand → Type 0
+ReadsWithoutHeader s first bytes read = (language_of (file_lines bytes) ≡ One) × (session_of s first bytes ≡ Ok read)
 
 -- behind a header it has the same
 abbrev pub HeaderKeepsCommands : Type 0
-HeaderKeepsCommands = (s : ℕ) (bytes : List ℕ) (read : List ReadCommand) → ReadsWithoutHeader s bytes read → session_of s (codes "%session 2" ++ 10 ∷ bytes) ≡ Ok read
+HeaderKeepsCommands = (s first : ℕ) (bytes : List ℕ) (read : List ReadCommand) → ReadsWithoutHeader s first bytes read → session_of s first (codes "%session 2" ++ 10 ∷ bytes) ≡ Ok read
 
 -- a command that the second language adds
 abbrev pub is_added : ReadCommand → Bool
@@ -30,4 +30,4 @@ is_added _ = false
 
 -- and none of them is one that the second language adds
 abbrev pub AddedCommandsNeedHeader : Type 0
-AddedCommandsNeedHeader = (s : ℕ) (bytes : List ℕ) (read : List ReadCommand) → ReadsWithoutHeader s bytes read → AllByRecursion (λ c. is_added c ≡ false) read
+AddedCommandsNeedHeader = (s first : ℕ) (bytes : List ℕ) (read : List ReadCommand) → ReadsWithoutHeader s first bytes read → AllByRecursion (λ c. is_added c ≡ false) read

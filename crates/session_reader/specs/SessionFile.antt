@@ -211,10 +211,12 @@ abbrev pub commands_of : ℕ → ℕ → List Item → Result (List ReadCommand)
 commands_of s first [] = Ok []
 commands_of s first (item ∷ items) = with_item s first item.number item.kind item.block (λ next. commands_of s next items)
 
--- The commands of session s as they are read, whose lines end with LF; or its first line that is no command.
-abbrev pub session_of : ℕ → List ℕ → Result (List ReadCommand) ℕ
-session_of s bytes = commands_of s 1 (items_of (file_lines bytes))
+-- The commands of session s as they are read, whose lines end with LF; or its first line that is no command. Its first
+-- blank node has the number first.
+abbrev pub session_of : ℕ → ℕ → List ℕ → Result (List ReadCommand) ℕ
+session_of s first bytes = commands_of s first (items_of (file_lines bytes))
 
--- The commands of session s in this file, where the patterns that were refused are old before they are made, and new after.
-abbrev pub IsSession : ℕ → List ℕ → List Command → List Refusal → List Refusal → Type 0
-IsSession s bytes cs old new = (read : List ReadCommand) × (session_of s bytes ≡ Ok read) × AreChecked read cs old new
+-- The commands of session s in this file, whose first blank node has the number first, where the patterns that were refused
+-- are old before they are made, and new after.
+abbrev pub IsSession : ℕ → ℕ → List ℕ → List Command → List Refusal → List Refusal → Type 0
+IsSession s first bytes cs old new = (read : List ReadCommand) × (session_of s first bytes ≡ Ok read) × AreChecked read cs old new

@@ -1,34 +1,29 @@
 ghost use Rattle.std.specs.Prelude.{◌≡◌, IfOk, MatchResult};
-ghost use Rattle.std.specs.List.{AllByRecursion};
-ghost use Rattle.collections.specs.Ordered.{IsAscending};
-ghost use Rattle.rdf_model.specs.Terms.{triple_cmp};
 ghost use Rattle.shape_reader.specs.Asked.{AsksSome};
 ghost use Rattle.session_reader.specs.Asked.{AsksFirst, AsksOf, AsksOfEach, AsksOfGraph, AsksPart};
-ghost use Rattle.session_reader.specs.Checking.{AreChecked, IsChecked, IsCheckedGraph, IsOrdered, OnlyGrows};
+ghost use Rattle.session_reader.specs.Checking.{AreChecked, IsChecked, IsCheckedGraph, OnlyGrows};
 
 use crate::read_command::ReadCommand;
 use collections::Sequence;
 use outside::Maker;
-use rdf_model::Triple;
-use session_model::Command;
+use session_model::{Block, Command, ShapesBlock};
 use shape_reader::{ShapeFault, read_shapes};
 use shapes_graph::ShapesGraph;
 use std::alloc::{AllocError, Global};
 
 // The command of a shapes graph that was read.
-fn check_graph<M: Maker>(
-    alloc: Global,
-    maker: &mut M,
-    triples: Sequence<Triple>,
-) -> Result<Command, AllocError>
-    requires { IsAscending triple_cmp triples }
-    ensures command { IfOk result (λ command. IsCheckedGraph triples command (M.refused maker.old) (M.refused maker.new)) }
+fn check_graph<M: Maker>(alloc: Global, maker: &mut M, block: Block) -> Result<Command, AllocError>
+    ensures command { IfOk result (λ command. IsCheckedGraph block command (M.refused maker.old) (M.refused maker.new)) }
     ensures refused { OnlyGrows (M.refused maker.old) (M.refused maker.new) }
-    ensures asked { MatchResult result (λ command. AsksOfGraph triples command (M.asked maker.old) (M.asked maker.new))
-        (λ _. (M.refused maker.new ≡ M.refused maker.old) × AsksSome triples (M.asked maker.old) (M.asked maker.new)) }
+    ensures asked { MatchResult result (λ command. AsksOfGraph block command (M.asked maker.old) (M.asked maker.new))
+        (λ _. (M.refused maker.new ≡ M.refused maker.old) × AsksSome block (M.asked maker.old) (M.asked maker.new)) }
 {
+    let triples = block.into_triples();
     match read_shapes(alloc, maker, triples.as_slice()) {
-        Ok(shapes) => Ok(Command::Shapes(ShapesGraph::new(alloc, triples, shapes)?)),
+        Ok(shapes) => {
+            let graph = ShapesGraph::new(alloc, triples, shapes)?;
+            Ok(Command::Shapes(ShapesBlock::new(graph)))
+        }
         Err(ShapeFault::Rule(row)) => Ok(Command::BrokenShapes {
             rule: row.rule,
             node: row.node.clone()?,
@@ -44,7 +39,6 @@ fn check_command<M: Maker>(
     maker: &mut M,
     read: ReadCommand,
 ) -> Result<Command, AllocError>
-    requires { IsOrdered read }
     ensures command { IfOk result (λ command. IsChecked read command (M.refused maker.old) (M.refused maker.new)) }
     ensures refused { OnlyGrows (M.refused maker.old) (M.refused maker.new) }
     ensures asked { MatchResult result (λ command. AsksOf read command (M.asked maker.old) (M.asked maker.new))
@@ -52,13 +46,13 @@ fn check_command<M: Maker>(
 {
     match read {
         ReadCommand::Begin => Ok(Command::Begin),
-        ReadCommand::Add(triples) => Ok(Command::Add(triples)),
+        ReadCommand::Add(block) => Ok(Command::Add(block)),
         ReadCommand::BadAdd { line, kind } => Ok(Command::BadAdd { line, kind }),
-        ReadCommand::Remove(triples) => Ok(Command::Remove(triples)),
+        ReadCommand::Remove(block) => Ok(Command::Remove(block)),
         ReadCommand::BadRemove { line, kind } => Ok(Command::BadRemove { line, kind }),
-        ReadCommand::Attach(triples) => Ok(Command::Attach(triples)),
+        ReadCommand::Attach(block) => Ok(Command::Attach(block)),
         ReadCommand::BadAttach { line, kind } => Ok(Command::BadAttach { line, kind }),
-        ReadCommand::Shapes(triples) => check_graph(alloc, maker, triples),
+        ReadCommand::Shapes(block) => check_graph(alloc, maker, block),
         ReadCommand::BadShapes { line, kind } => Ok(Command::BadShapes { line, kind }),
         ReadCommand::Commit => Ok(Command::Commit),
         ReadCommand::Find(pattern) => Ok(Command::Find(pattern)),
@@ -74,7 +68,6 @@ pub fn check_commands<M: Maker>(
     maker: &mut M,
     read: Sequence<ReadCommand>,
 ) -> Result<Sequence<Command>, AllocError>
-    requires { AllByRecursion IsOrdered read }
     ensures commands { IfOk result (λ commands. AreChecked read commands (M.refused maker.old) (M.refused maker.new)) }
     ensures refused { OnlyGrows (M.refused maker.old) (M.refused maker.new) }
     ensures asked { MatchResult result (λ commands. AsksOfEach read commands (M.asked maker.old) (M.asked maker.new))

@@ -19,7 +19,7 @@ use collections::Sequence;
 use ntriples_text::{ReadFault, RefusalKind};
 use outside::Maker;
 use rdf_model::Triple;
-use session_model::Command;
+use session_model::{Block, Command};
 use std::alloc::{AllocError, Global};
 
 // The parts between the bytes `at`.
@@ -42,14 +42,14 @@ fn text_of_block(alloc: Global, lines: &[&[u8]]) -> Result<Vec<u8>, AllocError>
 }
 
 // The command of a block of this kind with these triples.
-fn accepted_block(kind: BlockKind, triples: Sequence<Triple>) -> ReadCommand
-    ensures { (next : ℕ) → result ≡ block_command kind (Ok (triples, next)) }
+fn accepted_block(kind: BlockKind, block: Block) -> ReadCommand
+    ensures { (next : ℕ) → result ≡ block_command kind (Ok (block, next)) }
 {
     match kind {
-        BlockKind::Add(_) => ReadCommand::Add(triples),
-        BlockKind::Remove => ReadCommand::Remove(triples),
-        BlockKind::Attach => ReadCommand::Attach(triples),
-        BlockKind::Shapes(_) => ReadCommand::Shapes(triples),
+        BlockKind::Add(_) => ReadCommand::Add(block),
+        BlockKind::Remove => ReadCommand::Remove(block),
+        BlockKind::Attach => ReadCommand::Attach(block),
+        BlockKind::Shapes(_) => ReadCommand::Shapes(block),
     }
 }
 
@@ -67,7 +67,7 @@ fn refused_block(kind: BlockKind, line: u64, refusal: RefusalKind) -> ReadComman
 }
 
 // The triples of a text in this language, whose blank nodes are new.
-fn read_new(
+fn read_text(
     alloc: Global,
     session: u32,
     next: &mut u32,
@@ -88,25 +88,47 @@ fn read_new(
     }
 }
 
-// The triples of a block of this kind. The blank nodes of a removal and of an attachment are those of the store; those of
-// the others are new.
-fn read_triples(
+// The block of a text in this language, whose blank nodes are new.
+fn read_new(
     alloc: Global,
     session: u32,
     next: &mut u32,
-    block: BlockKind,
+    syntax: Syntax,
     text: &[u8],
-) -> Result<Sequence<Triple>, ReadFault>
+) -> Result<Block, ReadFault>
     requires session { (1 ≤ session) × (session ≤ 64) }
     requires next { 1 ≤ next.old }
     requires room { next.old + length text.now < 2 ^ 32 }
-    ensures reads { let reading = block_reading block text.now session next.old in
-        MatchResult result (λ triples. reading ≡ Ok (triples, next.new)) (λ fault. Refuses fault reading) }
+    ensures reads { let reading = new_reading syntax text.now session next.old in
+        MatchResult result (λ block. reading ≡ Ok (block, next.new)) (λ fault. Refuses fault reading) }
     ensures unchanged { OnErr result (next.new ≡ next.old) }
     ensures room { (next.old ≤ next.new) × (next.new ≤ next.old + length text.now) }
 {
-    match block {
-        BlockKind::Remove | BlockKind::Attach => ntriples_text::read_named(alloc, text),
+    match read_text(alloc, session, next, syntax, text) {
+        Ok(triples) => Ok(Block::new(triples)),
+        Err(fault) => Err(fault),
+    }
+}
+
+// The block of this kind. The blank nodes of a removal and of an attachment are those of the store; those of
+// the others are new.
+fn read_kind(
+    alloc: Global,
+    session: u32,
+    next: &mut u32,
+    kind: BlockKind,
+    text: &[u8],
+) -> Result<Block, ReadFault>
+    requires session { (1 ≤ session) × (session ≤ 64) }
+    requires next { 1 ≤ next.old }
+    requires room { next.old + length text.now < 2 ^ 32 }
+    ensures reads { let reading = block_reading kind text.now session next.old in
+        MatchResult result (λ block. reading ≡ Ok (block, next.new)) (λ fault. Refuses fault reading) }
+    ensures unchanged { OnErr result (next.new ≡ next.old) }
+    ensures room { (next.old ≤ next.new) × (next.new ≤ next.old + length text.now) }
+{
+    match kind {
+        BlockKind::Remove | BlockKind::Attach => Block::read_named(alloc, text),
         BlockKind::Add(syntax) | BlockKind::Shapes(syntax) => {
             read_new(alloc, session, next, syntax, text)
         }
@@ -118,20 +140,25 @@ fn read_block(
     alloc: Global,
     session: u32,
     next: &mut u32,
-    block: BlockKind,
+    kind: BlockKind,
     lines: &[&[u8]],
 ) -> Result<ReadCommand, AllocError>
     requires session { (1 ≤ session) × (session ≤ 64) }
     requires next { 1 ≤ next.old }
     requires room { next.old + length (block_text (map (λ l. l.now) lines.now)) < 2 ^ 32 }
-    ensures command { let reading = block_reading block (block_text (map (λ l. l.now) lines.now)) session next.old in
-        IfOk result (λ command. (command ≡ block_command block reading) × (next.new ≡ next_after next.old reading)) }
+    ensures command { let reading = block_reading kind (block_text (map (λ l. l.now) lines.now)) session next.old in
+        IfOk result (λ command. (command ≡ block_command kind reading) × (next.new ≡ next_after next.old reading)) }
     ensures within { (next.old ≤ next.new) × (next.new ≤ next.old + length (block_text (map (λ l. l.now) lines.now))) }
 {
     let text = text_of_block(alloc, lines)?;
-    match read_triples(alloc, session, next, block, &text) {
-        Ok(triples) => Ok(accepted_block(block, triples)),
-        Err(ReadFault::Refusal { line, kind }) => Ok(refused_block(block, line, kind)),
+    match read_kind(alloc, session, next, kind, &text) {
+        Ok(block) => Ok(accepted_block(kind, block)),
+        Err(
+            ReadFault::Refusal {
+                line,
+                kind: refusal,
+            },
+        ) => Ok(refused_block(kind, line, refusal)),
         Err(ReadFault::Memory) => Err(AllocError),
     }
 }
@@ -299,20 +326,22 @@ fn read_item(
     read_item_of(alloc, session, next, i as u64 + 1, kind, after, commands)
 }
 
-// The commands of the items of a file with these lines, in their order.
+// The commands of the items of a file with these lines, in their order. The session's first blank node has this number.
 fn read_items(
     alloc: Global,
     session: u32,
+    first: u32,
     lines: &[&[u8]],
 ) -> Result<Sequence<ReadCommand>, PrepareFault>
     requires session { (1 ≤ session) × (session ≤ 64) }
-    requires room { length (block_text (map (λ l. l.now) lines.now)) < 2 ^ 32 }
-    ensures { let reading = commands_of session 1 (items_of (map (λ l. l.now) lines.now)) in
+    requires first { 1 ≤ first }
+    requires room { first + length (block_text (map (λ l. l.now) lines.now)) ≤ 2 ^ 32 }
+    ensures { let reading = commands_of session first (items_of (map (λ l. l.now) lines.now)) in
         MatchResult result (λ commands. reading ≡ Ok commands) (λ fault. Fails fault reading) }
 {
     let language = language_of(lines);
     let mut commands = Sequence::new(alloc);
-    let mut next = 1;
+    let mut next = first;
     let mut i = language.header_lines();
     while i < lines.len() {
         let taken = read_item(alloc, session, &mut next, language, lines, i, &mut commands)?;
@@ -325,22 +354,24 @@ fn read_items(
 fn read_session(
     alloc: Global,
     session: u32,
+    first: u32,
     bytes: &[u8],
 ) -> Result<Sequence<ReadCommand>, PrepareFault>
     requires session { (1 ≤ session) × (session ≤ 64) }
-    requires room { 1 + length bytes.now < 2 ^ 32 }
-    ensures { MatchResult result (λ commands. session_of session bytes.now ≡ Ok commands) (λ fault. Fails fault (session_of session bytes.now)) }
+    requires first { 1 ≤ first }
+    requires room { first + length bytes.now < 2 ^ 32 }
+    ensures { MatchResult result (λ commands. session_of session first bytes.now ≡ Ok commands) (λ fault. Fails fault (session_of session first bytes.now)) }
 {
     let lines = parts(alloc, bytes, b'\n')?;
-    read_items(alloc, session, &lines)
+    read_items(alloc, session, first, &lines)
 }
 
 /// The commands of the file of a session, 1 to 64. A file whose first line is `%session 2` is of language 2, which has
 /// `attach ntriples` and `select`; any other is of language 1, which hasn't. A block that can't be read in its language,
 /// N-Triples 1.1 or Turtle 1.1, gives a command that tells its refusal, and so does a shapes graph that isn't well-formed (SHACL section
 /// 3.4.2), by the broken rule that is reported, or that has a pattern which the maker refuses (SHACL section 4.4.3); and so does
-/// a select with a line that is no pattern, by that line. The
-/// numbers of blank nodes go on from block to block.
+/// a select with a line that is no pattern, by that line. The numbers of blank nodes begin at `first`, and go on from block to
+/// block.
 ///
 /// The error is the number of the first line that is no command, or of the command of a block that
 /// doesn't end, or memory. No pattern is made before the whole file is read; then those of one block after another are asked
@@ -349,17 +380,19 @@ pub fn prepare<M: Maker>(
     alloc: Global,
     maker: &mut M,
     session: u32,
+    first: u32,
     bytes: &[u8],
 ) -> Result<Sequence<Command>, PrepareFault>
     requires session { (1 ≤ session) × (session ≤ 64) }
-    requires room { 1 + length bytes.now < 2 ^ 32 }
-    ensures answer { MatchResult result (λ commands. IsSession session bytes.now commands (M.refused maker.old) (M.refused maker.new))
-        (λ fault. Fails fault (session_of session bytes.now) × MakesNone fault (M.refused maker.old) (M.refused maker.new)) }
+    requires first { 1 ≤ first }
+    requires room { first + length bytes.now < 2 ^ 32 }
+    ensures answer { MatchResult result (λ commands. IsSession session first bytes.now commands (M.refused maker.old) (M.refused maker.new))
+        (λ fault. Fails fault (session_of session first bytes.now) × MakesNone fault (M.refused maker.old) (M.refused maker.new)) }
     ensures refused { OnlyGrows (M.refused maker.old) (M.refused maker.new) }
-    ensures asked { MatchResult result (λ commands. AsksOfSession session bytes.now commands (M.asked maker.old) (M.asked maker.new))
-        (λ fault. AsksInVain session bytes.now fault (M.refused maker.old) (M.refused maker.new) (M.asked maker.old) (M.asked maker.new)) }
+    ensures asked { MatchResult result (λ commands. AsksOfSession session first bytes.now commands (M.asked maker.old) (M.asked maker.new))
+        (λ fault. AsksInVain session first bytes.now fault (M.refused maker.old) (M.refused maker.new) (M.asked maker.old) (M.asked maker.new)) }
 {
-    let read = read_session(alloc, session, bytes)?;
+    let read = read_session(alloc, session, first, bytes)?;
     let commands = check_commands(alloc, maker, read)?;
     Ok(commands)
 }

@@ -12,7 +12,8 @@ use Rattle.store_model.specs.Store.{RecordedStore, Replays, State}
 use Rattle.session_model.specs.declared.command.Command.{Command}
 use Rattle.session_model.specs.Sessions.{SessionState, no_session}
 use Rattle.thread_model.specs.Following.{Follows, first_state, Follow}
-use Rattle.guard_store.specs.declared.session.Keeper.{Keeper}
+use Rattle.guard_store.specs.Sessions.{StoreKeeper}
+use Rattle.guard_store.specs.Slots.{Origin}
 use Rattle.guard_store.specs.Fronts.{SharedStore, session_of}
 use Rattle.guard_store.specs.Callers.{IsKeeper}
 use Rattle.session_threads.specs.Team.{HasAll, IsSound}
@@ -37,24 +38,24 @@ numbered before (e ∷ es) h =
     (some, numbered (before ++ e ∷ []) es (all_rest (is_reserved session_of false before e) e rest h))
 
 -- what it had from sessions that it met before
-pub still_has : (store : SharedStore) (i : ℕ) (p q : SessionState) (c other after : Caller Event RecordedStore) → after ≡ met_caller c other → OthersAdded session_of false c.known after.known.front → HasAll store i p q c → HasAll store i p q after
+pub still_has : (store : SharedStore) (i : ℕ) (p q : SessionState) (c other after : Caller Event Origin) → after ≡ met_caller c other → OthersAdded session_of false c.known after.known.front → HasAll store i p q c → HasAll store i p q after
 still_has store i p q c other after is o h = record {
   own = subst (λ k. has_number k.known.numbers i ≡ true) (sym is) (has_left c.known.numbers other.known.numbers i h.own);
   follows = played_still store.limits store.start i c.known after.known.front p q h.own o h.follows;
 }
 
 -- what it has from the session that it meets
-pub now_has : (store : SharedStore) (i : ℕ) (p q : SessionState) (c other after : Caller Event RecordedStore) → after ≡ met_caller c other → OthersAdded session_of false other.known after.known.front → HasAll store i p q other → HasAll store i p q after
+pub now_has : (store : SharedStore) (i : ℕ) (p q : SessionState) (c other after : Caller Event Origin) → after ≡ met_caller c other → OthersAdded session_of false other.known after.known.front → HasAll store i p q other → HasAll store i p q after
 now_has store i p q c other after is o h = record {
   own = subst (λ k. has_number k.known.numbers i ≡ true) (sym is) (has_right c.known.numbers other.known.numbers i h.own);
   follows = played_still store.limits store.start i other.known after.known.front p q h.own o h.follows;
 }
 
-pub sound_met : (store : SharedStore) (old new : Keeper) → IsSound store old → IsKeeper store new → OthersAdded session_of false old.pass.known new.pass.known.front → IsSound store new
+pub sound_met : (store : SharedStore) (old new : StoreKeeper) → IsSound store old → IsKeeper store new → OthersAdded session_of false old.pass.known new.pass.known.front → IsSound store new
 sound_met store old new is k o = record { keeper = k; numbered = subst (AllByRecursion (λ e. 0 < e.session)) (sym (o.first is.keeper.first)) is.numbered }
 
 -- all sessions were met, and the store stands for the keeper's front
-pub closes : (store : SharedStore) (files : List (List Command)) (k : Keeper) (core : RecordedStore) (last : List SessionState) → IsSound store k → k.opened ≡ length files → core.history ≡ k.pass.known.front → core.limits ≡ store.limits → core.start ≡ store.start
+pub closes : (store : SharedStore) (files : List (List Command)) (k : StoreKeeper) (core : RecordedStore) (last : List SessionState) → IsSound store k → k.opened ≡ length files → core.history ≡ k.pass.known.front → core.limits ≡ store.limits → core.start ≡ store.start
     → Replays core.limits core.start core.history core.state → length last ≡ length files → ((i : ℕ) → i < length files → HasAll store (i + 1) (first_state (get_or files i [])) (get_or last i no_session) k.pass)
     → AllByRecursion (λ s. s.commands ≡ []) last → (f : Follow files store.limits store.start core.history (map (λ s. s.replies) last)) × (f.state ≡ core.state)
 closes store files k core last sound n is limits begins replays count each left =

@@ -1,5 +1,5 @@
 -- One command more, by a call of the store.
-use Rattle.std.proofs.Common.{◌≡◌, suc, drop, drop-cons, get_or, add-one, Result, Ok, Err, IfOk, MatchResult, ℕ, ◌+◌, ◌<◌, Bool, true, false, List, [], ◌∷◌, ◌++◌, length, map, Option, Some, None, refl, sym, ap, ◌∙◌, subst, ◌≤◌, zero, arith}
+use Rattle.std.proofs.Common.{◌≡◌, OnOk, suc, drop, drop-cons, get_or, add-one, Result, Ok, Err, IfOk, MatchResult, ℕ, ◌+◌, ◌<◌, Bool, true, false, List, [], ◌∷◌, ◌++◌, length, map, Option, Some, None, refl, sym, ap, ◌∙◌, subst, ◌≤◌, zero, arith}
 use Rattle.std.specs.Prelude.{MatchBool}
 use Rattle.turn_lock.specs.Callers.{Caller}
 use Rattle.rdf_model.specs.declared.term.Term.{Term}
@@ -19,7 +19,7 @@ use Rattle.store_model.specs.declared.event.Reply.{Reply}
 use Rattle.store_model.specs.declared.event.Reply.TheVariants as replies
 use Rattle.store_model.specs.declared.commit.Transaction.{Transaction}
 use Rattle.store_model.specs.Snapshots.{snapshot_of}
-use Rattle.store_model.specs.Store.{RecordedStore, version, HasChange}
+use Rattle.store_model.specs.Store.{version, HasChange}
 use Rattle.session_model.specs.declared.command.Command.{Command}
 use Rattle.session_model.specs.declared.command.Command.TheVariants.{Attach, Begin, Commit, Find, Select, Abort}
 use Rattle.session_model.specs.declared.reply.SessionReply.{SessionReply}
@@ -30,6 +30,7 @@ use Rattle.session_model.proofs.Walking.{up_to_event-local, up_to_event-event}
 use Rattle.report_writer.specs.Report.{report_text}
 use Rattle.session_player.proofs.Playing.{local-none, local-change}
 use Rattle.thread_model.specs.Following.{is_opening, first_state, unaided}
+use Rattle.guard_store.specs.Slots.{Origin}
 use Rattle.guard_store.specs.declared.faults.BeginFault.{BeginFault}
 use Rattle.guard_store.specs.declared.faults.BeginFault.TheVariants as begins
 use Rattle.guard_store.specs.declared.faults.StageFault.{StageFault}
@@ -46,9 +47,9 @@ use Rattle.session_transaction.specs.declared.committing.Committed.{Committed}
 use Rattle.session_transaction.specs.declared.committing.Committed.TheVariants.{ReadOnly, Done, Conflict, FullTriples, Refused, LogFault, Stopped}
 use Rattle.session_transaction.specs.declared.transaction.OpenTransaction.{OpenTransaction}
 use Rattle.session_transaction.specs.declared.transaction.ChangeKind.TheVariants.{Attachment}
-use Rattle.guard_store.specs.declared.session.Session.{Session}
+use Rattle.guard_store.specs.Sessions.{StoreSession}
 use Rattle.guard_store.specs.Fronts.{SharedStore, Turn}
-use Rattle.guard_store.specs.Callers.{IsCaller, IsSession, FitsIn, HasWork, OnlyReads}
+use Rattle.guard_store.specs.Callers.{IsCaller, IsSession, HasWork, OnlyReads}
 use Rattle.session_transaction.specs.Transactions.{FitsState, plain, plain_in, begun_at, graph_so_far, with_changes, with_find, with_finds}
 use Rattle.session_transaction.specs.Checks.{committing}
 use Rattle.session_transaction.proofs.Checking.{check_same}
@@ -61,12 +62,24 @@ use Rattle.session_transaction.proofs.Blocks.{IsBlock, block_change}
 use Rattle.session_transaction.proofs.Fitting.{unknown_attaches}
 use Rattle.session_transaction.proofs.Refusing.{refused_by}
 use Rattle.session_transaction.proofs.Selecting.{too_many_selected}
-use Rattle.session_threads.specs.Replies.{IsAttachReply, IsBeginReply, IsBlockRefusal, IsStageReply, IsFindRefusal, IsSelectRefusal, IsAbortReply}
+use Rattle.session_threads.specs.Replies.{Tells, IsAttachReply, IsBeginReply, IsBlockRefusal, IsStageReply, IsFindRefusal, IsSelectRefusal, IsAbortReply}
 use Rattle.session_threads.specs.Playing.{HasPlayed, Plays, PlaysAll}
 use Rattle.session_threads.proofs.Keeping.{played_still, played_on}
 
+-- what follows from a reply, where it was added
+pub on_told : {E F U : Type 0} (reply : Result SessionReply E) (t : Result U F) (rs more : List SessionReply) (P : SessionReply → Type 0) (Q : Type 0) → OnOk t (Tells reply rs more) → IfOk reply P
+    → ((r : SessionReply) → P r → more ≡ rs ++ r ∷ [] → Q) → OnOk t Q
+on_told (Ok r) (Ok u) rs more P Q h p f = f r p h
+on_told (Ok r) (Err e) rs more P Q h p f = tt
+on_told (Err e) (Ok u) rs more P Q h p f = absurd h
+on_told (Err e) (Err d) rs more P Q h p f = tt
+
+pub on_said : {F U : Type 0} (t : Result U F) (r : SessionReply) (rs more : List SessionReply) (Q : Type 0) → OnOk t (more ≡ rs ++ r ∷ []) → (more ≡ rs ++ r ∷ [] → Q) → OnOk t Q
+on_said (Ok u) r rs more Q h f = f h
+on_said (Err e) r rs more Q h f = tt
+
 -- a command that is no event; v is the transaction after it
-plays_local : (store : SharedStore) (old new : Session) (w v : Option Sessions.OpenTransaction) (c : Command) (rs more : List SessionReply) (t : SessionReply) → IsSession store new → new.number ≡ old.number → new.pass ≡ old.pass
+plays_local : (store : SharedStore) (old new : StoreSession) (w v : Option Sessions.OpenTransaction) (c : Command) (rs more : List SessionReply) (t : SessionReply) → IsSession store new → new.number ≡ old.number → new.pass ≡ old.pass
     → plain_in old.current ≡ w → plain_in new.current ≡ v → local_answer w c ≡ answers t v → more ≡ rs ++ t ∷ [] → Plays store old new c rs more
 plays_local store old new w v c rs more t is n p ow nv e em = record {
   session = is;
@@ -77,11 +90,11 @@ plays_local store old new w v c rs more t is n p ow nv e em = record {
       let three : HasPlayed store old.number old.pass.known.front file (up_to_event (plain_in new.current) cs more) =
       subst (λ (x : Option Sessions.OpenTransaction). HasPlayed store old.number old.pass.known.front file (up_to_event x cs more)) (sym nv) (subst (λ (ts : List SessionReply). HasPlayed store old.number old.pass.known.front file (up_to_event v cs ts)) (sym em) two) in
       subst (λ (i : ℕ). HasPlayed store i new.pass.known.front file (up_to_event (plain_in new.current) cs more)) (sym n)
-      (subst (λ (x : Caller Event RecordedStore). HasPlayed store old.number x.known.front file (up_to_event (plain_in new.current) cs more)) (sym p) three);
+      (subst (λ (x : Caller Event Origin). HasPlayed store old.number x.known.front file (up_to_event (plain_in new.current) cs more)) (sym p) three);
 }
 
 -- a turn of the session's own, with the event of the next command
-played_turn : (store : SharedStore) (i : ℕ) (old new : Caller Event RecordedStore) (file : List Command) (w : Option Sessions.OpenTransaction) (c : Command) (cs : List Command) (rs : List SessionReply) (a : Action) (r : Reply) (q : SessionState)
+played_turn : (store : SharedStore) (i : ℕ) (old new : Caller Event Origin) (file : List Command) (w : Option Sessions.OpenTransaction) (c : Command) (cs : List Command) (rs : List SessionReply) (a : Action) (r : Reply) (q : SessionState)
     → is_opening a ≡ false → IsCaller store i old → (t : Turn store old new (event_of i a r)) → GoesOn t.before w c cs rs (unaided a) r q
     → HasPlayed store i old.known.front file (record { current = w; commands = c ∷ cs; replies = rs }) → HasPlayed store i new.known.front file q
 played_turn store i old new file w c cs rs a r q e is t on p =
@@ -90,7 +103,7 @@ played_turn store i old new file w c cs rs a r q e is t on p =
     (played_on store.limits store.start i t.seen (first_state file) w c cs rs a r q t.before e on t.replays (played_still store.limits store.start i old.known t.seen (first_state file) (record { current = w; commands = c ∷ cs; replies = rs }) is.own t.others p))
 
 -- a command that is an event; w is the transaction before it, v the one after it
-plays_event : (store : SharedStore) (old new : Session) (w v : Option Sessions.OpenTransaction) (c : Command) (a : Action) (r : Reply) (rs more : List SessionReply) (x : SessionReply) → IsSession store old → IsSession store new → new.number ≡ old.number
+plays_event : (store : SharedStore) (old new : StoreSession) (w v : Option Sessions.OpenTransaction) (c : Command) (a : Action) (r : Reply) (rs more : List SessionReply) (x : SessionReply) → IsSession store old → IsSession store new → new.number ≡ old.number
     → plain_in old.current ≡ w → plain_in new.current ≡ v → local_answer w c ≡ None → action_of w c ≡ Some (unaided a) → is_opening a ≡ false → (t : Turn store old.pass new.pass (event_of old.number a r))
     → ((cs : List Command) → after_reply t.before w c cs rs r ≡ Some (up_to_event v cs (rs ++ x ∷ []))) → more ≡ rs ++ x ∷ [] → Plays store old new c rs more
 plays_event store old new w v c a r rs more x was is n ow nv e action o t by em = record {
@@ -107,13 +120,13 @@ plays_event store old new w v c a r rs more x was is n ow nv e action o t by em 
       subst (λ (k : ℕ). HasPlayed store k new.pass.known.front file (up_to_event (plain_in new.current) cs more)) (sym n) four;
 }
 
-plain_none : (s : Session) → s.current ≡ None → plain_in s.current ≡ None
+plain_none : (s : StoreSession) → s.current ≡ None → plain_in s.current ≡ None
 plain_none s e = ap plain_in e
 
-plain_open : (s : Session) (w : OpenTransaction) → s.current ≡ Some w → plain_in s.current ≡ Some (plain w)
+plain_open : (s : StoreSession) (w : OpenTransaction) → s.current ≡ Some w → plain_in s.current ≡ Some (plain w)
 plain_open s w e = ap plain_in e
 
-pub plays_begin : (store : SharedStore) (old new : Session) (a : Result ℕ BeginFault) (r : SessionReply) (rs more : List SessionReply) → IsSession store old → IsSession store new
+pub plays_begin : (store : SharedStore) (old new : StoreSession) (a : Result ℕ BeginFault) (r : SessionReply) (rs more : List SessionReply) → IsSession store old → IsSession store new
     → MatchResult a (λ v. Begins store old new v) (λ f. BeginsNot f store old new) → IsBeginReply a r → more ≡ rs ++ r ∷ [] → Plays store old new Begin rs more
 plays_begin store old new (Ok v) r rs more was is b told em =
     let t = b.1.0 in
@@ -126,21 +139,21 @@ plays_begin store old new (Err begins.AlreadyOpen) r rs more was is b told em =
     (em ∙ ap (λ x. rs ++ x ∷ []) told)
 plays_begin store old new (Err begins.Memory) r rs more was is b told em = absurd told
 
-not_attached : (store : SharedStore) (old new : Session) (ts : List Triple) (f : AttachFault) → AttachesNot f store old new ts → NamesForNot f store old new kinds.Attach ts
+not_attached : (store : SharedStore) (old new : StoreSession) (ts : List Triple) (f : AttachFault) → AttachesNot f store old new ts → NamesForNot f store old new kinds.Attach ts
 not_attached store old new ts attaches.NoTransaction b = b
 not_attached store old new ts (attaches.Unknown node) b = (b.0, b.1.0, b.2)
 not_attached store old new ts (attaches.Full n) b = (b.0, b.1.0, b.2)
 not_attached store old new ts attaches.Memory b = b
 
 -- a block that was staged, and one that wasn't
-plays_staged : (store : SharedStore) (old new : Session) (c : Command) (kind : NameKind) (ts : List Triple) (staged : OpenTransaction → OpenTransaction) (done : SessionReply) → IsBlock c kind ts staged done
+plays_staged : (store : SharedStore) (old new : StoreSession) (c : Command) (kind : NameKind) (ts : List Triple) (staged : OpenTransaction → OpenTransaction) (done : SessionReply) → IsBlock c kind ts staged done
     → (rs more : List SessionReply) → IsSession store old → IsSession store new → Stages store old new kind ts staged → more ≡ rs ++ done ∷ [] → Plays store old new c rs more
 plays_staged store old new c kind ts staged done k rs more was is b em =
     let w = b.0 in
     plays_event store old new (Some (plain w)) (Some (plain (staged w))) c (actions.Name kind (parts_of ts)) replies.Named rs more done was is (ap (λ s. s.number) b.3) (plain_open old w b.1) (plain_open new (staged w) (ap (λ s. s.current) b.3)) (k.event (plain w)) (k.action (plain w)) refl
     b.2 (λ cs. k.named b.2.before w cs rs) em
 
-plays_not_staged : (store : SharedStore) (old new : Session) (c : Command) (kind : NameKind) (ts : List Triple) (staged : OpenTransaction → OpenTransaction) (done : SessionReply) → IsBlock c kind ts staged done
+plays_not_staged : (store : SharedStore) (old new : StoreSession) (c : Command) (kind : NameKind) (ts : List Triple) (staged : OpenTransaction → OpenTransaction) (done : SessionReply) → IsBlock c kind ts staged done
     → (f : AttachFault) (r : SessionReply) (rs more : List SessionReply) → IsSession store old → IsSession store new → NamesForNot f store old new kind ts → IsBlockRefusal f r → more ≡ rs ++ r ∷ [] → Plays store old new c rs more
 plays_not_staged store old new c kind ts staged done k attaches.NoTransaction r rs more was is b told em =
     plays_local store old new None None c rs more said.NoTransaction is (ap (λ s. s.number) b.1) (ap (λ s. s.pass) b.1) (plain_none old b.0) (plain_none new (ap (λ s. s.current) b.1 ∙ b.0)) k.free (em ∙ ap (λ x. rs ++ x ∷ []) told)
@@ -156,13 +169,13 @@ plays_not_staged store old new c kind ts staged done k (attaches.Full n) r rs mo
     b.1 (λ cs. k.full b.1.before w n cs rs) (em ∙ ap (λ x. rs ++ x ∷ []) told)
 plays_not_staged store old new c kind ts staged done k attaches.Memory r rs more was is b told em = absurd told
 
-pub plays_stage : {U : Type 0} (store : SharedStore) (old new : Session) (c : Command) (kind : NameKind) (ts : List Triple) (staged : OpenTransaction → OpenTransaction) (done : SessionReply) → IsBlock c kind ts staged done
+pub plays_stage : {U : Type 0} (store : SharedStore) (old new : StoreSession) (c : Command) (kind : NameKind) (ts : List Triple) (staged : OpenTransaction → OpenTransaction) (done : SessionReply) → IsBlock c kind ts staged done
     → (a : Result U StageFault) (r : SessionReply) (rs more : List SessionReply) → IsSession store old → IsSession store new
     → MatchResult a (λ _. Stages store old new kind ts staged) (λ f. StagesNot f store old new kind ts) → IsStageReply a done r → more ≡ rs ++ r ∷ [] → Plays store old new c rs more
 plays_stage {U} store old new c kind ts staged done k (Ok u) r rs more was is b told em = plays_staged store old new c kind ts staged done k rs more was is b (em ∙ ap (λ x. rs ++ x ∷ []) told)
 plays_stage {U} store old new c kind ts staged done k (Err f) r rs more was is b told em = plays_not_staged store old new c kind ts staged done k (attach_fault f) r rs more was is b told em
 
-pub plays_attach : {U : Type 0} (store : SharedStore) (old new : Session) (ts : List Triple) (a : Result U AttachFault) (r : SessionReply) (rs more : List SessionReply) → IsSession store old → IsSession store new
+pub plays_attach : {U : Type 0} (store : SharedStore) (old new : StoreSession) (ts : List Triple) (a : Result U AttachFault) (r : SessionReply) (rs more : List SessionReply) → IsSession store old → IsSession store new
     → MatchResult a (λ _. Attaches store old new ts) (λ f. AttachesNot f store old new ts) → IsAttachReply a (said.Attached (length ts)) r → more ≡ rs ++ r ∷ [] → Plays store old new (Attach ts) rs more
 plays_attach {U} store old new ts (Ok u) r rs more was is b told em =
     plays_staged store old new (Attach ts) kinds.Attach ts (λ w. with_changes w (additions ts)) (said.Attached (length ts)) (block_change Attachment ts) rs more was is (b.0, b.1, b.2.0, b.3) (em ∙ ap (λ x. rs ++ x ∷ []) told)
@@ -170,29 +183,29 @@ plays_attach {U} store old new ts (Err f) r rs more was is b told em =
     plays_not_staged store old new (Attach ts) kinds.Attach ts (λ w. with_changes w (additions ts)) (said.Attached (length ts)) (block_change Attachment ts) f r rs more was is (not_attached store old new ts f b) told em
 
 -- a command whose block is refused
-pub plays_refused : (store : SharedStore) (s : Session) (c : Command) (r : SessionReply) (rs more : List SessionReply) → IsSession store s → IsRefused c r → more ≡ rs ++ answer_in (plain_in s.current) r ∷ [] → Plays store s s c rs more
+pub plays_refused : (store : SharedStore) (s : StoreSession) (c : Command) (r : SessionReply) (rs more : List SessionReply) → IsSession store s → IsRefused c r → more ≡ rs ++ answer_in (plain_in s.current) r ∷ [] → Plays store s s c rs more
 plays_refused store s c r rs more is h em = plays_local store s s (plain_in s.current) (plain_in s.current) c rs more (answer_in (plain_in s.current) r) is refl refl refl refl (refused_by c r (plain_in s.current) h) em
 
 -- finds, selects and aborts
-pub plays_found : (store : SharedStore) (old new : Session) (p : Pattern) (w : OpenTransaction) (r : SessionReply) (rs more : List SessionReply) (ts : List Triple) → IsSession store new → IsOpen old w → ts ≡ found_by (plain w) p
+pub plays_found : (store : SharedStore) (old new : StoreSession) (p : Pattern) (w : OpenTransaction) (r : SessionReply) (rs more : List SessionReply) (ts : List Triple) → IsSession store new → IsOpen old w → ts ≡ found_by (plain w) p
     → new ≡ record old { current = Some (with_find w p) } → r ≡ Sessions.find_reply ts → more ≡ rs ++ r ∷ [] → Plays store old new (Find p) rs more
 plays_found store old new p w r rs more ts is o found e told em =
     plays_local store old new (Some (plain w)) (Some (plain (with_find w p))) (Find p) rs more (Sessions.find_reply (found_by (plain w) p)) is (ap (λ s. s.number) e) (ap (λ s. s.pass) e) (plain_open old w o) (plain_open new (with_find w p) (ap (λ s. s.current) e)) refl
     (em ∙ (ap (λ x. rs ++ x ∷ []) told ∙ ap (λ (us : List Triple). rs ++ Sessions.find_reply us ∷ []) found))
 
-pub plays_not_found : (store : SharedStore) (old new : Session) (p : Pattern) (f : FindFault) (r : SessionReply) (rs more : List SessionReply) → IsSession store old → FindsNot f old new → IsFindRefusal f r → more ≡ rs ++ r ∷ [] → Plays store old new (Find p) rs more
+pub plays_not_found : (store : SharedStore) (old new : StoreSession) (p : Pattern) (f : FindFault) (r : SessionReply) (rs more : List SessionReply) → IsSession store old → FindsNot f old new → IsFindRefusal f r → more ≡ rs ++ r ∷ [] → Plays store old new (Find p) rs more
 plays_not_found store old new p finds.NoTransaction r rs more is b told em =
     let new_is : IsSession store new = subst (IsSession store) (sym b.1) is in
     plays_local store old new None None (Find p) rs more said.NoTransaction new_is (ap (λ s. s.number) b.1) (ap (λ s. s.pass) b.1) (plain_none old b.0) (plain_none new (ap (λ s. s.current) b.1 ∙ b.0)) refl (em ∙ ap (λ x. rs ++ x ∷ []) told)
 plays_not_found store old new p finds.Memory r rs more is b told em = absurd told
 
-plays_selected : (store : SharedStore) (old new : Session) (ps : List (JoinPattern Term)) (w : OpenTransaction) (r : SessionReply) (rs more : List SessionReply) → IsSession store old → IsOpen old w → new ≡ record old { current = Some (with_finds w (map opened ps)) }
+plays_selected : (store : SharedStore) (old new : StoreSession) (ps : List (JoinPattern Term)) (w : OpenTransaction) (r : SessionReply) (rs more : List SessionReply) → IsSession store old → IsOpen old w → new ≡ record old { current = Some (with_finds w (map opened ps)) }
     → r ≡ Sessions.select_reply (Sessions.selected_by (plain w) ps) → more ≡ rs ++ r ∷ [] → Plays store old new (Select ps) rs more
 plays_selected store old new ps w r rs more is o e told em =
     plays_local store old new (Some (plain w)) (Some (plain (with_finds w (map opened ps)))) (Select ps) rs more (Sessions.select_reply (Sessions.selected_by (plain w) ps)) (selected_session store old new w (map opened ps) is o e) (ap (λ s. s.number) e) (ap (λ s. s.pass) e)
     (plain_open old w o) (plain_open new (with_finds w (map opened ps)) (ap (λ s. s.current) e)) refl (em ∙ ap (λ x. rs ++ x ∷ []) told)
 
-plays_not_selected : (store : SharedStore) (old new : Session) (ps : List (JoinPattern Term)) (f : SelectFault) (r : SessionReply) (rs more : List SessionReply) → IsSession store old → SelectsNot f ps old new → IsSelectRefusal f r → more ≡ rs ++ r ∷ [] → Plays store old new (Select ps) rs more
+plays_not_selected : (store : SharedStore) (old new : StoreSession) (ps : List (JoinPattern Term)) (f : SelectFault) (r : SessionReply) (rs more : List SessionReply) → IsSession store old → SelectsNot f ps old new → IsSelectRefusal f r → more ≡ rs ++ r ∷ [] → Plays store old new (Select ps) rs more
 plays_not_selected store old new ps selects.NoTransaction r rs more is b told em =
     let new_is : IsSession store new = subst (IsSession store) (sym b.1) is in
     plays_local store old new None None (Select ps) rs more said.NoTransaction new_is (ap (λ s. s.number) b.1) (ap (λ s. s.pass) b.1) (plain_none old b.0) (plain_none new (ap (λ s. s.current) b.1 ∙ b.0)) refl (em ∙ ap (λ x. rs ++ x ∷ []) told)
@@ -201,18 +214,18 @@ plays_not_selected store old new ps selects.TooMany r rs more is b told em =
 plays_not_selected store old new ps selects.Memory r rs more is b told em = absurd told
 
 -- what a select is answered: `rows_of` are the terms of an answer
-pub plays_select : {V : Type 0} (rows_of : V → List (List Term)) (store : SharedStore) (old new : Session) (ps : List (JoinPattern Term)) (a : Result V SelectFault) (r : SessionReply) (rs more : List SessionReply) → IsSession store old
+pub plays_select : {V : Type 0} (rows_of : V → List (List Term)) (store : SharedStore) (old new : StoreSession) (ps : List (JoinPattern Term)) (a : Result V SelectFault) (r : SessionReply) (rs more : List SessionReply) → IsSession store old
     → MatchResult a (λ v. (w : OpenTransaction) × IsOpen old w × AreSelected (graph_so_far w) ps (rows_of v) × (new ≡ record old { current = Some (with_finds w (map opened ps)) })) (λ f. SelectsNot f ps old new)
     → MatchResult a (λ v. r ≡ Sessions.select_reply (rows_of v)) (λ f. IsSelectRefusal f r) → more ≡ rs ++ r ∷ [] → Plays store old new (Select ps) rs more
 plays_select {V} rows_of store old new ps (Ok v) r rs more is h reply em = plays_selected store old new ps h.0 r rs more is h.1 h.3 (reply ∙ ap Sessions.select_reply h.2.all) em
 plays_select {V} rows_of store old new ps (Err f) r rs more is h reply em = plays_not_selected store old new ps f r rs more is h reply em
 
-pub few_rows : {V : Type 0} (rows_of : V → List (List Term)) (old new : Session) (ps : List (JoinPattern Term)) (a : Result V SelectFault)
+pub few_rows : {V : Type 0} (rows_of : V → List (List Term)) (old new : StoreSession) (ps : List (JoinPattern Term)) (a : Result V SelectFault)
     → MatchResult a (λ v. (w : OpenTransaction) × IsOpen old w × AreSelected (graph_so_far w) ps (rows_of v) × (new ≡ record old { current = Some (with_finds w (map opened ps)) })) (λ f. SelectsNot f ps old new) → IfOk a (λ v. length (rows_of v) ≤ most_bindings)
 few_rows {V} rows_of old new ps (Ok v) h = h.2.few
 few_rows {V} rows_of old new ps (Err f) h = tt
 
-pub plays_abort : (store : SharedStore) (old new : Session) (b : Bool) (r : SessionReply) (rs more : List SessionReply) → IsSession store old
+pub plays_abort : (store : SharedStore) (old new : StoreSession) (b : Bool) (r : SessionReply) (rs more : List SessionReply) → IsSession store old
     → MatchBool b (((w : OpenTransaction) × IsOpen old w) × (new ≡ record old { current = None; head = None })) ((old.current ≡ None) × (new ≡ old)) → IsAbortReply b r → more ≡ rs ++ r ∷ [] → Plays store old new Abort rs more
 plays_abort store old new true r rs more is b told em =
     let new_is : IsSession store new = session_ended store old new is (ap (λ s. s.pass) b.1) (ap (λ s. s.number) b.1) (ap (λ s. s.current) b.1) in
@@ -225,10 +238,10 @@ plays_abort store old new false r rs more is b told em =
 no_change : (w : OpenTransaction) → OnlyReads (Some w) → HasChange w.transaction.net w.transaction.staged → ⊥
 no_change w o h = subst (λ (x : Option (List Triple)). HasChange [] x → ⊥) (sym o.1) (λ y. y) (subst (λ (x : List Change). HasChange x w.transaction.staged) o.0 h)
 
-no_work : (s : Session) (w : OpenTransaction) → IsOpen s w → OnlyReads s.current → HasChange w.transaction.net w.transaction.staged → ⊥
+no_work : (s : StoreSession) (w : OpenTransaction) → IsOpen s w → OnlyReads s.current → HasChange w.transaction.net w.transaction.staged → ⊥
 no_work s w o reads h = no_change w (subst OnlyReads o reads) h
 
-pub plays_reading : (store : SharedStore) (old new : Session) (a : Result Committed CommitFault) (r : SessionReply) (rs more : List SessionReply) → IsSession store old → IsSession store new → OnlyReads old.current
+pub plays_reading : (store : SharedStore) (old new : StoreSession) (a : Result Committed CommitFault) (r : SessionReply) (rs more : List SessionReply) → IsSession store old → IsSession store new → OnlyReads old.current
     → MatchResult a (Commits store old new) (λ f. CommitsNot f store old new) → MatchResult a (λ c. IsCommitReply c r) (λ f. (f ≡ commits.NoTransaction) × (r ≡ said.NoTransaction)) → more ≡ rs ++ r ∷ []
     → Plays store old new Commit rs more
 plays_reading store old new (Ok (ReadOnly v)) r rs more was is reads b told em =
@@ -248,7 +261,7 @@ plays_reading store old new (Err commits.NoTransaction) r rs more was is reads b
 plays_reading store old new (Err commits.Memory) r rs more was is reads b told em = absurd (let z : commits.Memory ≡ commits.NoTransaction = told.0 in cc)
 
 -- the turn of a commit
-committed_turn : (store : SharedStore) (i : ℕ) (mid new : Session) (file : List Command) (w : OpenTransaction) (cs : List Command) (rs : List SessionReply) (r : Reply) (x : SessionReply) → IsCaller store i mid.pass
+committed_turn : (store : SharedStore) (i : ℕ) (mid new : StoreSession) (file : List Command) (w : OpenTransaction) (cs : List Command) (rs : List SessionReply) (r : Reply) (x : SessionReply) → IsCaller store i mid.pass
     → (t : Turn store mid.pass new.pass (event_of mid.number (actions.Commit (committing w)) r)) → w.transaction.verdict ≡ None → mid.number ≡ i
     → ((cs : List Command) → after_reply t.before (Some (record { transaction = w.transaction; graph = w.snap.graph; head_taken = true })) Commit cs rs r ≡ Some (up_to_event None cs (rs ++ x ∷ [])))
     → HasPlayed store i mid.pass.known.front file (record { current = Some (record { transaction = w.transaction; graph = w.snap.graph; head_taken = true }); commands = Commit ∷ cs; replies = rs })
@@ -267,13 +280,13 @@ committed_turn store i mid new file w cs rs r x caller t bare same by p =
 
 -- What a session is after its head and its check: its turn was the head's, and but for what the check keeps, its transaction is
 -- the one before.
-pub record Readies (store : SharedStore) (old mid : Session) (v : ℕ) : Type 0 where
+pub record Readies (store : SharedStore) (old mid : StoreSession) (v : ℕ) : Type 0 where
   pub number : mid.number ≡ old.number
   pub turn : Turn store old.pass mid.pass (event_of old.number actions.Head (replies.Version v))
   pub current : plain_in mid.current ≡ plain_in old.current
 
 -- a commit that is one, after its head
-plays_committed : (store : SharedStore) (old mid new : Session) (w : OpenTransaction) (v : ℕ) (r : Reply) (x : SessionReply) (rs more : List SessionReply) → IsSession store old → IsSession store mid → IsSession store new → IsOpen mid w
+plays_committed : (store : SharedStore) (old mid new : StoreSession) (w : OpenTransaction) (v : ℕ) (r : Reply) (x : SessionReply) (rs more : List SessionReply) → IsSession store old → IsSession store mid → IsSession store new → IsOpen mid w
     → HasChange w.transaction.net w.transaction.staged → Readies store old mid v → (t : Turn store mid.pass new.pass (event_of mid.number (actions.Commit (committing w)) r))
     → ((cs : List Command) → after_reply t.before (Some (record { transaction = w.transaction; graph = w.snap.graph; head_taken = true })) Commit cs rs r ≡ Some (up_to_event None cs (rs ++ x ∷ []))) → new.number ≡ mid.number → new.current ≡ None → more ≡ rs ++ x ∷ []
     → Plays store old new Commit rs more
@@ -303,13 +316,13 @@ told_refused : (rows : List _) (shapes : List Triple) (under : List Triple) → 
 told_refused rows shapes under e = ap (λ (s : List Triple). said.Refused (length rows) (report_text s rows)) (sym e)
 
 -- a check after the head
-readies : (store : SharedStore) (old head mid : Session) (v : ℕ) (b : Bool) → Heads store old head v → ChecksHead b head mid → Readies store old mid v
+readies : (store : SharedStore) (old head mid : StoreSession) (v : ℕ) (b : Bool) → Heads store old head v → ChecksHead b head mid → Readies store old mid v
 readies store old head mid v b h k =
     let w = k.0 in
     let same = check_same b k.2.0 w k.2.2.0 k.2.2.1 in
     let now : plain k.2.2.0 ≡ plain w = λ i. record { transaction = same.0 i; graph = (same.1 i).graph; head_taken = false } in record {
       number = ap (λ s. s.number) k.2.2.2 ∙ ap (λ s. s.number) h.1.1;
-      turn = subst (λ (c : Caller Event RecordedStore). Turn store old.pass c (event_of old.number actions.Head (replies.Version v))) (sym (ap (λ s. s.pass) k.2.2.2)) h.1.0;
+      turn = subst (λ (c : Caller Event Origin). Turn store old.pass c (event_of old.number actions.Head (replies.Version v))) (sym (ap (λ s. s.pass) k.2.2.2)) h.1.0;
       current = ap (λ s. plain_in s.current) k.2.2.2 ∙ (ap Some now ∙ (sym (plain_open head w k.1) ∙ ap (λ s. plain_in s.current) h.1.1));
     }
 
@@ -322,7 +335,7 @@ no_work_of : (o : Option OpenTransaction) → HasWork o → plain_in o ≡ None 
 no_work_of None h e = h
 no_work_of (Some x) h e = cc
 
-pub plays_work : (store : SharedStore) (old mid new : Session) (v : ℕ) (a : Result Committed CommitFault) (r : SessionReply) (rs more : List SessionReply) → IsSession store old → IsSession store mid → IsSession store new → HasWork old.current → Readies store old mid v
+pub plays_work : (store : SharedStore) (old mid new : StoreSession) (v : ℕ) (a : Result Committed CommitFault) (r : SessionReply) (rs more : List SessionReply) → IsSession store old → IsSession store mid → IsSession store new → HasWork old.current → Readies store old mid v
     → MatchResult a (Commits store mid new) (λ f. CommitsNot f store mid new) → MatchResult a (λ c. IsCommitReply c r) (λ f. (f ≡ commits.NoTransaction) × (r ≡ said.NoTransaction)) → more ≡ rs ++ r ∷ []
     → Plays store old new Commit rs more
 plays_work store old mid new v (Ok (ReadOnly n)) r rs more was mid_is is work h b told em = absurd (no_change b.0 b.2.0 (work_of old.current b.0 work (sym h.current ∙ plain_open mid b.0 b.1)))
@@ -344,7 +357,7 @@ plays_work store old mid new v (Err commits.NoTransaction) r rs more was mid_is 
 plays_work store old mid new v (Err commits.Memory) r rs more was mid_is is work h b told em = absurd (let z : commits.Memory ≡ commits.NoTransaction = told.0 in cc)
 
 -- the results of a refusal are a listing
-listed_by : (store : SharedStore) (old new : Session) (w : OpenTransaction) (a : Committed) → AnswersCommit store old new w a → IsListed a
+listed_by : (store : SharedStore) (old new : StoreSession) (w : OpenTransaction) (a : Committed) → AnswersCommit store old new w a → IsListed a
 listed_by store old new w (ReadOnly v) b = tt
 listed_by store old new w (Done n why) b = tt
 listed_by store old new w (Conflict n t) b = tt
@@ -353,12 +366,17 @@ listed_by store old new w LogFault b = tt
 listed_by store old new w (Stopped n) b = tt
 listed_by store old new w (Refused rows why shapes) b = (_, b.1.2)
 
-pub listed : (store : SharedStore) (old new : Session) (a : Result Committed CommitFault) → MatchResult a (Commits store old new) (λ f. CommitsNot f store old new) → IfOk a IsListed
+pub listed : (store : SharedStore) (old new : StoreSession) (a : Result Committed CommitFault) → MatchResult a (Commits store old new) (λ f. CommitsNot f store old new) → IfOk a IsListed
 listed store old new (Ok a) b = listed_by store old new b.0 a b.2
 listed store old new (Err f) b = tt
 
+-- what a command did, where memory didn't run out
+pub plays_ok : {U E : Type 0} (store : SharedStore) (old new : StoreSession) (c : Command) (rs more : List SessionReply) (r : Result U E) → {u : U} → r ≡ Ok u → OnOk r (Plays store old new c rs more) → Plays store old new c rs more
+plays_ok store old new c rs more (Ok u) e h = h
+plays_ok store old new c rs more (Err x) e h = cc
+
 -- the next command of the file
-pub play_step : (store : SharedStore) (start mid new : Session) (file : List Command) (c : Command) (k : ℕ) (rs more : List SessionReply) → k < length file → c ≡ get_or file k c
+pub play_step : (store : SharedStore) (start mid new : StoreSession) (file : List Command) (c : Command) (k : ℕ) (rs more : List SessionReply) → k < length file → c ≡ get_or file k c
     → (HasPlayed store start.number start.pass.known.front file (first_state file) → HasPlayed store mid.number mid.pass.known.front file (up_to_event (plain_in mid.current) (drop k file) rs)) → Plays store mid new c rs more
     → HasPlayed store start.number start.pass.known.front file (first_state file) → HasPlayed store new.number new.pass.known.front file (up_to_event (plain_in new.current) (drop (k + 1) file) more)
 play_step store start mid new file c k rs more lt is g o h =
@@ -366,14 +384,14 @@ play_step store start mid new file c k rs more lt is g o h =
     o.goes file (drop (k + 1) file) (subst (λ (ds : List Command). HasPlayed store mid.number mid.pass.known.front file (up_to_event (plain_in mid.current) ds rs)) e (g h))
 
 -- the answers of a head and of a check
-head_taken : (store : SharedStore) (old new : Session) (a : Result ℕ HeadFault) (v : ℕ) → a ≡ Ok v → MatchResult a (λ v. Heads store old new v) (λ f. HeadsNot f store old new) → Heads store old new v
+head_taken : (store : SharedStore) (old new : StoreSession) (a : Result ℕ HeadFault) (v : ℕ) → a ≡ Ok v → MatchResult a (λ v. Heads store old new v) (λ f. HeadsNot f store old new) → Heads store old new v
 head_taken store old new a v e h = subst (λ x. MatchResult x (λ v. Heads store old new v) (λ f. HeadsNot f store old new)) e h
 
-pub checked_ready : (store : SharedStore) (old head mid : Session) (a : Result ℕ HeadFault) (v : ℕ) (k : Result Bool CheckFault) (b : Bool) → a ≡ Ok v → MatchResult a (λ v. Heads store old head v) (λ f. HeadsNot f store old head) → k ≡ Ok b
+pub checked_ready : (store : SharedStore) (old head mid : StoreSession) (a : Result ℕ HeadFault) (v : ℕ) (k : Result Bool CheckFault) (b : Bool) → a ≡ Ok v → MatchResult a (λ v. Heads store old head v) (λ f. HeadsNot f store old head) → k ≡ Ok b
     → MatchResult k (λ kept. ChecksHead kept head mid) (λ f. ChecksNot f head mid) → Readies store old mid v
 checked_ready store old head mid a v k b ea h ek c = readies store old head mid v b (head_taken store old head a v ea h) (subst (λ x. MatchResult x (λ kept. ChecksHead kept head mid) (λ f. ChecksNot f head mid)) ek c)
 
-pub plays_find : {V : Type 0} (items : V → List Triple) (store : SharedStore) (old new : Session) (p : Pattern) (a : Result V FindFault) (r : SessionReply) (rs more : List SessionReply) → IsSession store old
+pub plays_find : {V : Type 0} (items : V → List Triple) (store : SharedStore) (old new : StoreSession) (p : Pattern) (a : Result V FindFault) (r : SessionReply) (rs more : List SessionReply) → IsSession store old
     → MatchResult a (λ v. (w : OpenTransaction) × IsOpen old w × (items v ≡ found_by (plain w) p) × (new ≡ record old { current = Some (with_find w p) })) (λ f. FindsNot f old new)
     → MatchResult a (λ v. r ≡ Sessions.find_reply (items v)) (λ f. IsFindRefusal f r) → more ≡ rs ++ r ∷ [] → Plays store old new (Find p) rs more
 plays_find {V} items store old new p (Ok v) r rs more is h reply em = plays_found store old new p h.0 r rs more (items v) (found_session store old new h.0 p is h.1 h.3) h.1 h.2 h.3 reply em
@@ -386,7 +404,7 @@ drop_none (x ∷ xs) zero h = absurd (omega (arith, h))
 drop_none (x ∷ xs) (suc k) h = drop_none xs k (omega (arith, h))
 
 -- all commands were done
-pub plays_all : (store : SharedStore) (old new : Session) (file : List Command) (k : ℕ) (rs : List SessionReply) → length file ≤ k → IsSession store new → new.number ≡ old.number
+pub plays_all : (store : SharedStore) (old new : StoreSession) (file : List Command) (k : ℕ) (rs : List SessionReply) → length file ≤ k → IsSession store new → new.number ≡ old.number
     → (HasPlayed store old.number old.pass.known.front file (first_state file) → HasPlayed store new.number new.pass.known.front file (up_to_event (plain_in new.current) (drop k file) rs)) → PlaysAll store old new file rs
 plays_all store old new file k rs lt is n g = record {
   current = plain_in new.current;
@@ -394,3 +412,21 @@ plays_all store old new file k rs lt is n g = record {
   number = n;
   goes = λ h. subst (λ (cs : List Command). HasPlayed store new.number new.pass.known.front file (up_to_event (plain_in new.current) cs rs)) (drop_none file k lt) (g h);
 }
+
+-- what a session does by itself leaves its caller as it was
+pub found_pass : {V : Type 0} (items : V → List Triple) (store : SharedStore) (old new : StoreSession) (p : Pattern) (a : Result V FindFault) → IsSession store old
+    → MatchResult a (λ v. (w : OpenTransaction) × IsOpen old w × (items v ≡ found_by (plain w) p) × (new ≡ record old { current = Some (with_find w p) })) (λ f. FindsNot f old new) → new.pass.lock ≡ store.id
+found_pass items store old new p (Ok v) is h = ap (λ (s : StoreSession). s.pass.lock) h.3 ∙ is.caller.lock
+found_pass items store old new p (Err finds.NoTransaction) is h = ap (λ (s : StoreSession). s.pass.lock) h.1 ∙ is.caller.lock
+found_pass items store old new p (Err finds.Memory) is h = ap (λ (s : StoreSession). s.pass.lock) h.1 ∙ is.caller.lock
+
+pub selected_pass : {V : Type 0} (rows_of : V → List (List Term)) (store : SharedStore) (old new : StoreSession) (ps : List (JoinPattern Term)) (a : Result V SelectFault) → IsSession store old
+    → MatchResult a (λ v. (w : OpenTransaction) × IsOpen old w × AreSelected (graph_so_far w) ps (rows_of v) × (new ≡ record old { current = Some (with_finds w (map opened ps)) })) (λ f. SelectsNot f ps old new) → new.pass.lock ≡ store.id
+selected_pass rows_of store old new ps (Ok v) is h = ap (λ (s : StoreSession). s.pass.lock) h.3 ∙ is.caller.lock
+selected_pass rows_of store old new ps (Err selects.NoTransaction) is h = ap (λ (s : StoreSession). s.pass.lock) h.1 ∙ is.caller.lock
+selected_pass rows_of store old new ps (Err selects.TooMany) is h = ap (λ (s : StoreSession). s.pass.lock) h.3 ∙ is.caller.lock
+selected_pass rows_of store old new ps (Err selects.Memory) is h = ap (λ (s : StoreSession). s.pass.lock) h.1 ∙ is.caller.lock
+
+pub aborted_pass : (store : SharedStore) (old new : StoreSession) (b : Bool) → IsSession store old → MatchBool b (((w : OpenTransaction) × IsOpen old w) × (new ≡ record old { current = None; head = None })) ((old.current ≡ None) × (new ≡ old)) → new.pass.lock ≡ store.id
+aborted_pass store old new true is h = ap (λ (s : StoreSession). s.pass.lock) h.1 ∙ is.caller.lock
+aborted_pass store old new false is h = ap (λ (s : StoreSession). s.pass.lock) h.1 ∙ is.caller.lock

@@ -1,8 +1,8 @@
 -- A player may go to another thread, and threads may share the store and the files.
 use Rattle.std.proofs.Crossing as crossing
 use Rattle.std.proofs.Crossing.{crosses}
-use denote.Param.Send.{IsSend, IsSync, sendable, shr_sync, shr_slice_sync}
-use denote.Param.SendFields.{as_row_sync, declared_send, declared_sync}
+use denote.Param.Send.{IsSend, IsSync, sendable, shr_sync, shr_slice_sync, view_send}
+use denote.Param.SendFields.{as_row_send, as_row_sync, declared_send, declared_sync}
 use denote.RattleType.{RattleType}
 use denote.Exit.{no}
 use denote.Param.{arg, param}
@@ -58,6 +58,8 @@ use Rattle.store_model.specs.contracts.commit.Transaction as transaction
 use Rattle.store_model.specs.contracts.event.Action as action
 use Rattle.store_model.specs.contracts.event.Event as event
 use Rattle.store_model.proofs.commit.Accepted.TheSendSync as accepted_sent
+use Rattle.disk.specs.declared.device.Disk as disks
+use Rattle.commit_log.proofs.log.Log.TheSendSync as log_sent
 use Rattle.turn_lock.proofs.turns.Pass.TheSendSync as pass_sent
 use Rattle.turn_lock.proofs.turns.Turns.TheSendSync as turns_sent
 use Rattle.session_model.proofs.reply.SessionReply.TheSendSync as reply_sent
@@ -70,9 +72,14 @@ use Rattle.commit_core.specs.contracts.history.History as history
 use Rattle.commit_core.specs.contracts.snapshot.Snap as snap
 use Rattle.commit_core.specs.contracts.store.Core as core
 use Rattle.record_text.specs.contracts.record.Record as record_row
+use Rattle.commit_log.specs.contracts.log.Log as log_row
 use Rattle.guard_store.specs.contracts.shared.Shared as shared
+use Rattle.guard_store.specs.contracts.shared.Shared.TheInside as inside
 use Rattle.session_transaction.specs.contracts.transaction.OpenTransaction as open_transaction
+use Rattle.std.proofs.option.Option.TheSendSync as option_sent
 use Rattle.guard_store.specs.contracts.session.Session as session
+use Rattle.guard_store.specs.contracts.session.Session.TheInside as session_inside
+use Rattle.session_threads.specs.contracts.team.Player.TheInside as player_inside
 use Rattle.guard_store.specs.contracts.store.Store as store
 use Rattle.session_threads.specs.contracts.team.Player as player
 
@@ -145,8 +152,17 @@ record_send = search (triple_sent.the_send, sequence_sent.the_send, crosses, sen
 core_send : IsSend core.the_row
 core_send = search (record_send, data_graph_send, shapes_send, given_send, accepted_sent.the_send, history_send, crosses, sendable) depth 60 fits 20000
 
-shared_send : IsSend shared.the_row
-shared_send = search (core_send, crosses, sendable) depth 60 fits 20000
+log_send : (D : RattleType) (d : disks.Ghosts D.Denot) → IsSend D → IsSend (log_row.the_row D d)
+log_send D d sent = search (log_sent.the_send, sent, crosses, sendable) depth 60 fits 20000
+
+inside_send : (D : RattleType) (d : disks.Ghosts D.Denot) → IsSend D → IsSend (inside.the_row D d)
+inside_send D d sent = declared_send (inside.the_type D d) (
+  search (core_send, crosses, sendable) depth 60 fits 20000,
+  (search (option_sent.the_send, log_send D d sent, crosses, sendable) depth 60 fits 20000, (search (crosses, sendable) depth 60 fits 20000, tt)),
+)
+
+shared_send : (D : RattleType) (d : disks.Ghosts D.Denot) → IsSend D → IsSend (shared.the_row D d)
+shared_send D d sent = search (inside_send D d sent, view_send) depth 60
 
 snap_send : IsSend snap.the_row
 snap_send = search (data_graph_send, shapes_send, crosses, sendable) depth 60 fits 20000
@@ -157,11 +173,26 @@ checked_send = search (verdict_send, row_sent.the_send, sequence_sent.the_send, 
 open_send : IsSend open_transaction.the_row
 open_send = search (transaction_send, checked_send, snap_send, crosses, sendable) depth 60 fits 20000
 
-session_send : IsSend session.the_row
-session_send = search (shared_send, pass_sent.the_send, open_send, snap_send, crosses, sendable) depth 60 fits 20000
+session_inside_send : (D : RattleType) (d : disks.Ghosts D.Denot) → IsSend D → IsSend (session_inside.the_row D d)
+session_inside_send D d sent = declared_send (session_inside.the_type D d) (
+  search (pass_sent.the_send, shared_send D d sent, as_row_send, crosses, sendable) depth 60 fits 20000,
+  (
+    search (crosses, sendable) depth 60 fits 20000,
+    (search (open_send, crosses, sendable) depth 60 fits 20000, (search (snap_send, crosses, sendable) depth 60 fits 20000, tt)),
+  ),
+)
 
-pub player_send : IsSend player.the_row
-player_send = search (session_send, reply_sent.the_send, sequence_sent.the_send, crosses, sendable) depth 60 fits 20000
+session_send : (D : RattleType) (d : disks.Ghosts D.Denot) → IsSend D → IsSend (session.the_row D d)
+session_send D d sent = search (session_inside_send D d sent, view_send) depth 60
+
+player_inside_send : (D : RattleType) (d : disks.Ghosts D.Denot) → IsSend D → IsSend (player_inside.the_row D d)
+player_inside_send D d sent = declared_send (player_inside.the_type D d) (
+  search (option_sent.the_send, session_send D d sent, crosses, sendable) depth 60 fits 20000,
+  (search (crosses, sendable) depth 60 fits 20000, (search (reply_sent.the_send, sequence_sent.the_send, crosses, sendable) depth 60 fits 20000, tt)),
+)
+
+pub player_send : (D : RattleType) (d : disks.Ghosts D.Denot) → IsSend D → IsSend (player.the_row D d)
+player_send D d sent = search (player_inside_send D d sent, view_send) depth 60
 
 part_sync : IsSync (part.the_row term.the_row)
 part_sync = search (term_sent.the_sync, crosses, sendable) depth 60 fits 20000
@@ -172,21 +203,21 @@ join_sync = search (part_sync, crosses, sendable) depth 60 fits 20000
 command_sync : IsSync command.the_row
 command_sync = search (join_sync, triple_sent.the_sync, shapes_sync, term_sent.the_sync, sequence_sent.the_sync, crosses, sendable) depth 60 fits 20000
 
-store_sync : IsSync store.the_row
-store_sync = search (turns_sent.the_sync, shared_send, crosses, sendable) depth 60 fits 20000
+store_sync : (D : RattleType) (d : disks.Ghosts D.Denot) → IsSend D → IsSync (store.the_row D d)
+store_sync D d sent = search (turns_sent.the_sync, shared_send D d sent, crosses, sendable) depth 60 fits 20000
 
 five_sync : (ν : Sym) (A B C D E : RattleType) → IsSync A → IsSync B → IsSync C → IsSync D → IsSync E → IsSync (TupleAt ν (A ∷ B ∷ C ∷ D ∷ E ∷ []))
 five_sync ν A B C D E a b c d e =
     declared_sync (type_at ν (A ∷ B ∷ C ∷ D ∷ E ∷ [])) (as_row_sync (row_field A) a, (as_row_sync (row_field B) b, (as_row_sync (row_field C) c, (as_row_sync (row_field D) d, (as_row_sync (row_field E) e, tt)))))
 
 -- what all threads see: the runtime, the allocator, the store, the files and the gate
-held_sync : (ν : Sym) (α β γ δ ε : NamedLft) (R G : RattleType) → IsSync R → IsSync G
-    → IsSync (TupleAt ν (ShrRef α.mir α.lft R ∷ ShrRef β.mir β.lft heap.the_row ∷ ShrRef γ.mir γ.lft store.the_row ∷ ShrSlice δ.mir δ.lft (sequence.the_row command.the_row) ∷ ShrRef ε.mir ε.lft G ∷ []))
-held_sync ν α β γ δ ε R G run gate =
-    five_sync ν (ShrRef α.mir α.lft R) (ShrRef β.mir β.lft heap.the_row) (ShrRef γ.mir γ.lft store.the_row) (ShrSlice δ.mir δ.lft (sequence.the_row command.the_row)) (ShrRef ε.mir ε.lft G)
-    (shr_sync α.mir α.lft R run) (shr_sync β.mir β.lft heap.the_row crossing.sync) (shr_sync γ.mir γ.lft store.the_row store_sync)
+held_sync : (ν : Sym) (α β γ δ ε : NamedLft) (R G D : RattleType) (d : disks.Ghosts D.Denot) → IsSync R → IsSync G → IsSend D
+    → IsSync (TupleAt ν (ShrRef α.mir α.lft R ∷ ShrRef β.mir β.lft heap.the_row ∷ ShrRef γ.mir γ.lft (store.the_row D d) ∷ ShrSlice δ.mir δ.lft (sequence.the_row command.the_row) ∷ ShrRef ε.mir ε.lft G ∷ []))
+held_sync ν α β γ δ ε R G D d run gate sent =
+    five_sync ν (ShrRef α.mir α.lft R) (ShrRef β.mir β.lft heap.the_row) (ShrRef γ.mir γ.lft (store.the_row D d)) (ShrSlice δ.mir δ.lft (sequence.the_row command.the_row)) (ShrRef ε.mir ε.lft G)
+    (shr_sync α.mir α.lft R run) (shr_sync β.mir β.lft heap.the_row crossing.sync) (shr_sync γ.mir γ.lft (store.the_row D d) (store_sync D d sent))
     (shr_slice_sync δ.mir δ.lft (sequence.the_row command.the_row) (sequence_sent.the_sync command.the_row command_sync)) (shr_sync ε.mir ε.lft G gate)
 
-pub closure_sync : (σ : Ty) (ν : Sym) (α β γ δ ε : NamedLft) (R G : RattleType) → IsSync R → IsSync G
-    → IsSync (param 2 (arg σ no (TupleAt ν (ShrRef α.mir α.lft R ∷ ShrRef β.mir β.lft heap.the_row ∷ ShrRef γ.mir γ.lft store.the_row ∷ ShrSlice δ.mir δ.lft (sequence.the_row command.the_row) ∷ ShrRef ε.mir ε.lft G ∷ []))))
-closure_sync σ ν α β γ δ ε R G run gate = record { shared = (held_sync ν α β γ δ ε R G run gate).shared }
+pub closure_sync : (σ : Ty) (ν : Sym) (α β γ δ ε : NamedLft) (R G D : RattleType) (d : disks.Ghosts D.Denot) → IsSync R → IsSync G → IsSend D
+    → IsSync (param 2 (arg σ no (TupleAt ν (ShrRef α.mir α.lft R ∷ ShrRef β.mir β.lft heap.the_row ∷ ShrRef γ.mir γ.lft (store.the_row D d) ∷ ShrSlice δ.mir δ.lft (sequence.the_row command.the_row) ∷ ShrRef ε.mir ε.lft G ∷ []))))
+closure_sync σ ν α β γ δ ε R G D d run gate sent = record { shared = (held_sync ν α β γ δ ε R G D d run gate sent).shared }

@@ -5,7 +5,7 @@ use Rattle.session_model.specs.declared.command.Command.{Command}
 use Rattle.session_model.specs.declared.reply.SessionReply.{SessionReply}
 use Rattle.session_model.specs.Sessions.{OpenTransaction, SessionState, up_to_event}
 use Rattle.thread_model.specs.Following.{Follows, first_state}
-use Rattle.guard_store.specs.declared.session.Session.{Session}
+use Rattle.guard_store.specs.Sessions.{StoreSession}
 use Rattle.guard_store.specs.Fronts.{SharedStore}
 use Rattle.guard_store.specs.Callers.{IsSession}
 use Rattle.session_transaction.specs.Transactions.{plain_in}
@@ -15,14 +15,14 @@ abbrev pub HasPlayed : SharedStore → ℕ → List Event → List Command → S
 HasPlayed store i front file q = Follows store.limits i store.start front (first_state file) q
 
 -- The session did the command, whatever commands follow it and whatever others do, and may go on.
-pub record Plays (store : SharedStore) (old new : Session) (c : Command) (replies more : List SessionReply) : Type 0 where
+pub record Plays (store : SharedStore) (old new : StoreSession) (c : Command) (replies more : List SessionReply) : Type 0 where
   pub session : IsSession store new
   pub number : new.number ≡ old.number
   pub goes : (file cs : List Command) → HasPlayed store old.number old.pass.known.front file (up_to_event (plain_in old.current) (c ∷ cs) replies)
       → HasPlayed store new.number new.pass.known.front file (up_to_event (plain_in new.current) cs more)
 
 -- The session did all commands of its file; a transaction that is left open is dropped.
-pub record PlaysAll (store : SharedStore) (old new : Session) (cs : List Command) (replies : List SessionReply) : Type 0 where
+pub record PlaysAll (store : SharedStore) (old new : StoreSession) (cs : List Command) (replies : List SessionReply) : Type 0 where
   pub current : Option OpenTransaction
   pub session : IsSession store new
   pub number : new.number ≡ old.number

@@ -1,5 +1,5 @@
 -- What a session is told of the store's answers. Want of memory is told to nobody.
-use Rattle.std.specs.Prelude.{◌≡◌, ℕ, Bool, true, false, Result, Ok, Err}
+use Rattle.std.specs.Prelude.{◌≡◌, ℕ, Bool, true, false, List, [], ◌∷◌, ◌++◌, Result, Ok, Err}
 use Rattle.session_model.specs.declared.reply.SessionReply.{SessionReply}
 use Rattle.session_model.specs.declared.reply.SessionReply.TheVariants as told
 use Rattle.guard_store.specs.declared.faults.BeginFault.{BeginFault}
@@ -12,6 +12,11 @@ use Rattle.guard_store.specs.declared.faults.FindFault.TheVariants as finds
 use Rattle.guard_store.specs.declared.faults.SelectFault.{SelectFault}
 use Rattle.guard_store.specs.declared.faults.SelectFault.TheVariants as selects
 use Rattle.guard_store.specs.Answers.{attach_fault}
+
+-- the reply of an answer was added; one that has none isn't answered
+abbrev pub Tells : {E : Type 0} → Result SessionReply E → List SessionReply → List SessionReply → Type 0
+Tells (Ok r) old new = new ≡ old ++ r ∷ []
+Tells (Err e) old new = ⊥
 
 abbrev pub IsBeginReply : Result ℕ BeginFault → SessionReply → Type 0
 IsBeginReply (Ok version) r = r ≡ told.Begun version

@@ -1,9 +1,13 @@
 //! What one command does.
-ghost use Rattle.std.specs.Prelude.{◌≡◌, ◌∷◌, ◌++◌, [], IfOk, OnOk};
+ghost use Rattle.std.specs.Prelude.{◌≡◌, OnOk};
+ghost use Rattle.std.specs.List.{AllByRecursion};
+ghost use Rattle.ntriples_text.specs.Laws.{IsReadable, IsStored};
+ghost use Rattle.record_text.specs.Records.{IsReadableGraph};
 ghost use Rattle.session_transaction.specs.Transactions.{plain_in};
 ghost use Rattle.guard_store.specs.Callers.{HasWork, IsSession, OnlyReads};
 ghost use Rattle.session_transaction.specs.Replies.{IsRefusedBlock, answer_in};
 ghost use Rattle.session_threads.specs.Playing.{Plays};
+ghost use Rattle.session_threads.specs.Replies.{Tells};
 
 use crate::replies::{
     abort_reply, attach_reply, begin_reply, commit_reply, find_reply, select_reply, stage_reply,
@@ -11,6 +15,7 @@ use crate::replies::{
 use crate::watch::{Watch, is_ready, next_event};
 use bgp_query::JoinPattern;
 use collections::Sequence;
+use disk::Disk;
 use guard_store::{AttachFault, BeginFault, CommitFault, Session, StageFault, Store};
 use outside::{EventKind, Gate};
 use rdf_model::{Pattern, Term, Triple};
@@ -22,103 +27,119 @@ use std::alloc::AllocError;
 use std::sync::Wait;
 use std::sync::ledger::Ledger;
 
-fn begin<R: Wait, G: Gate>(
-    rt: &R,
-    store: &Store,
-    watch: &mut Watch<G>,
-    session: Session,
+// Adds the reply that an answer gives. There may be no memory for it.
+fn tell(
     replies: &mut Sequence<SessionReply>,
-) -> Result<Session, AllocError>
+    reply: Result<SessionReply, AllocError>,
+) -> Result<(), AllocError>
+    ensures { OnOk result (Tells reply replies.old replies.new) }
+{
+    let reply = reply?;
+    replies.push(reply)?;
+    Ok(())
+}
+
+fn begin<D: Disk, R: Wait, G: Gate>(
+    rt: &R,
+    store: &Store<D>,
+    watch: &mut Watch<G>,
+    session: Session<D>,
+    replies: &mut Sequence<SessionReply>,
+) -> (Session<D>, Result<(), AllocError>)
     requires { IsSession store.now session }
-    ensures { IfOk result (λ next. Plays store.now session next Command.Begin replies.old replies.new) }
+    ensures lock { result.0.pass.lock ≡ store.now.id }
+    ensures plays { OnOk result.1 (Plays store.now session result.0 Command.Begin replies.old replies.new) }
 {
     let (session, answer) = store.begin(rt, session);
     watch.after(answer == Err(BeginFault::Memory), false);
-    let reply = begin_reply(answer)?;
-    replies.push(reply)?;
-    Ok(session)
+    let reply = begin_reply(answer);
+    (session, tell(replies, reply))
 }
 
-fn add<R: Wait, G: Gate>(
+fn add<D: Disk, R: Wait, G: Gate>(
     rt: &R,
-    store: &Store,
+    store: &Store<D>,
     watch: &mut Watch<G>,
-    session: Session,
-    triples: &Sequence<Triple>,
+    session: Session<D>,
+    triples: &[Triple],
     replies: &mut Sequence<SessionReply>,
-) -> Result<Session, AllocError>
-    requires { IsSession store.now session }
-    ensures { IfOk result (λ next. Plays store.now session next (Command.Add triples.now) replies.old replies.new) }
+) -> (Session<D>, Result<(), AllocError>)
+    requires session { IsSession store.now session }
+    requires readable { AllByRecursion (IsReadable IsStored) triples.now }
+    ensures lock { result.0.pass.lock ≡ store.now.id }
+    ensures plays { OnOk result.1 (Plays store.now session result.0 (Command.Add triples.now) replies.old replies.new) }
 {
-    let (session, answer) = store.stage_add(rt, session, triples.as_slice());
+    let (session, answer) = store.stage_add(rt, session, triples);
     watch.after(answer == Err(StageFault::Memory), false);
-    let reply = stage_reply(answer, SessionReply::Added(triples.len()))?;
-    replies.push(reply)?;
-    Ok(session)
+    let reply = stage_reply(answer, SessionReply::Added(triples.len()));
+    (session, tell(replies, reply))
 }
 
-fn remove<R: Wait, G: Gate>(
+fn remove<D: Disk, R: Wait, G: Gate>(
     rt: &R,
-    store: &Store,
+    store: &Store<D>,
     watch: &mut Watch<G>,
-    session: Session,
-    triples: &Sequence<Triple>,
+    session: Session<D>,
+    triples: &[Triple],
     replies: &mut Sequence<SessionReply>,
-) -> Result<Session, AllocError>
-    requires { IsSession store.now session }
-    ensures { IfOk result (λ next. Plays store.now session next (Command.Remove triples.now) replies.old replies.new) }
+) -> (Session<D>, Result<(), AllocError>)
+    requires session { IsSession store.now session }
+    requires readable { AllByRecursion (IsReadable IsStored) triples.now }
+    ensures lock { result.0.pass.lock ≡ store.now.id }
+    ensures plays { OnOk result.1 (Plays store.now session result.0 (Command.Remove triples.now) replies.old replies.new) }
 {
-    let (session, answer) = store.stage_remove(rt, session, triples.as_slice());
+    let (session, answer) = store.stage_remove(rt, session, triples);
     watch.after(answer == Err(StageFault::Memory), false);
-    let reply = stage_reply(answer, SessionReply::Removed(triples.len()))?;
-    replies.push(reply)?;
-    Ok(session)
+    let reply = stage_reply(answer, SessionReply::Removed(triples.len()));
+    (session, tell(replies, reply))
 }
 
-fn attach<R: Wait, G: Gate>(
+fn attach<D: Disk, R: Wait, G: Gate>(
     rt: &R,
-    store: &Store,
+    store: &Store<D>,
     watch: &mut Watch<G>,
-    session: Session,
-    triples: &Sequence<Triple>,
+    session: Session<D>,
+    triples: &[Triple],
     replies: &mut Sequence<SessionReply>,
-) -> Result<Session, AllocError>
-    requires { IsSession store.now session }
-    ensures { IfOk result (λ next. Plays store.now session next (Command.Attach triples.now) replies.old replies.new) }
+) -> (Session<D>, Result<(), AllocError>)
+    requires session { IsSession store.now session }
+    requires readable { AllByRecursion (IsReadable IsStored) triples.now }
+    ensures lock { result.0.pass.lock ≡ store.now.id }
+    ensures plays { OnOk result.1 (Plays store.now session result.0 (Command.Attach triples.now) replies.old replies.new) }
 {
-    let (session, answer) = store.stage_attach(rt, session, triples.as_slice());
+    let (session, answer) = store.stage_attach(rt, session, triples);
     let ran_out = matches!(&answer, Err(AttachFault::Memory));
     watch.after(ran_out, false);
-    let reply = attach_reply(answer, SessionReply::Attached(triples.len()))?;
-    replies.push(reply)?;
-    Ok(session)
+    let reply = attach_reply(answer, SessionReply::Attached(triples.len()));
+    (session, tell(replies, reply))
 }
 
-fn stage<R: Wait, G: Gate>(
+fn stage<D: Disk, R: Wait, G: Gate>(
     rt: &R,
-    store: &Store,
+    store: &Store<D>,
     watch: &mut Watch<G>,
-    session: Session,
+    session: Session<D>,
     shapes: &ShapesGraph,
     replies: &mut Sequence<SessionReply>,
-) -> Result<Session, AllocError>
-    requires { IsSession store.now session }
-    ensures { IfOk result (λ next. Plays store.now session next (Command.Shapes shapes.now) replies.old replies.new) }
+) -> (Session<D>, Result<(), AllocError>)
+    requires session { IsSession store.now session }
+    requires readable { IsReadableGraph shapes.now }
+    ensures lock { result.0.pass.lock ≡ store.now.id }
+    ensures plays { OnOk result.1 (Plays store.now session result.0 (Command.Shapes shapes.now) replies.old replies.new) }
 {
     let count = shapes.triples().len();
     let Ok(copy) = shapes.share() else {
         watch.after(true, false);
-        return Err(AllocError);
+        return (session, Err(AllocError));
     };
     let (session, answer) = store.stage_shapes(rt, session, copy);
     watch.after(answer == Err(StageFault::Memory), false);
-    let reply = stage_reply(answer, SessionReply::ShapesStaged(count))?;
-    replies.push(reply)?;
-    Ok(session)
+    let reply = stage_reply(answer, SessionReply::ShapesStaged(count));
+    (session, tell(replies, reply))
 }
 
 // The reply to a command that changes nothing.
-fn local_reply(session: &Session, reply: SessionReply) -> SessionReply
+fn local_reply<D: Disk>(session: &Session<D>, reply: SessionReply) -> SessionReply
     ensures { result ≡ answer_in (plain_in session.now.current) reply }
 {
     if session.is_open() {
@@ -128,127 +149,116 @@ fn local_reply(session: &Session, reply: SessionReply) -> SessionReply
     }
 }
 
-// Answers a command that changes nothing: by this reply within a transaction.
-fn push_answer(
-    session: &Session,
-    reply: SessionReply,
-    replies: &mut Sequence<SessionReply>,
-) -> Result<(), AllocError>
-    ensures { OnOk result (replies.new ≡ replies.old ++ answer_in (plain_in session.now.current) reply ∷ []) }
-{
-    replies.push(local_reply(session, reply))?;
-    Ok(())
-}
-
-fn find(
-    store: &Store,
-    session: Session,
+fn find<D: Disk>(
+    store: &Store<D>,
+    session: Session<D>,
     pattern: &Pattern,
     replies: &mut Sequence<SessionReply>,
-) -> Result<Session, AllocError>
+) -> (Session<D>, Result<(), AllocError>)
     requires { IsSession store.now session }
-    ensures { IfOk result (λ next. Plays store.now session next (Command.Find pattern.now) replies.old replies.new) }
+    ensures lock { result.0.pass.lock ≡ store.now.id }
+    ensures plays { OnOk result.1 (Plays store.now session result.0 (Command.Find pattern.now) replies.old replies.new) }
 {
     let alloc = store.allocator();
     let mut session = session;
     let answer = session.find(alloc, pattern);
-    let reply = find_reply(alloc, answer)?;
-    replies.push(reply)?;
-    Ok(session)
+    let reply = find_reply(alloc, answer);
+    (session, tell(replies, reply))
 }
 
-fn select(
-    store: &Store,
-    session: Session,
+fn select<D: Disk>(
+    store: &Store<D>,
+    session: Session<D>,
     patterns: &Sequence<JoinPattern<Term>>,
     replies: &mut Sequence<SessionReply>,
-) -> Result<Session, AllocError>
+) -> (Session<D>, Result<(), AllocError>)
     requires { IsSession store.now session }
-    ensures { IfOk result (λ next. Plays store.now session next (Command.Select patterns.now) replies.old replies.new) }
+    ensures lock { result.0.pass.lock ≡ store.now.id }
+    ensures plays { OnOk result.1 (Plays store.now session result.0 (Command.Select patterns.now) replies.old replies.new) }
 {
     let alloc = store.allocator();
     let mut session = session;
     let answer = session.select(alloc, patterns.as_slice());
-    let reply = select_reply(alloc, answer)?;
-    replies.push(reply)?;
-    Ok(session)
+    let reply = select_reply(alloc, answer);
+    (session, tell(replies, reply))
 }
 
-fn abort(
-    store: &Store,
-    session: Session,
+fn abort<D: Disk>(
+    store: &Store<D>,
+    session: Session<D>,
     replies: &mut Sequence<SessionReply>,
-) -> Result<Session, AllocError>
+) -> (Session<D>, Result<(), AllocError>)
     requires { IsSession store.now session }
-    ensures { IfOk result (λ next. Plays store.now session next Command.Abort replies.old replies.new) }
+    ensures lock { result.0.pass.lock ≡ store.now.id }
+    ensures plays { OnOk result.1 (Plays store.now session result.0 Command.Abort replies.old replies.new) }
 {
     let _ = store;
     let mut session = session;
     let reply = abort_reply(session.abort());
-    replies.push(reply)?;
-    Ok(session)
+    (session, tell(replies, Ok(reply)))
 }
 
 // Commits where that is no event.
-fn end_reading<L: Ledger, R: Wait>(
+fn end_reading<D: Disk, L: Ledger, R: Wait>(
     rt: &R,
-    store: &Store,
-    session: Session,
+    store: &Store<D>,
+    session: Session<D>,
     replies: &mut Sequence<SessionReply>,
     steps: &mut Steps<L>,
-) -> Result<Session, AllocError>
+) -> (Session<D>, Result<(), AllocError>)
     requires session { IsSession store.now session }
     requires reads { OnlyReads session.current }
-    ensures { IfOk result (λ next. Plays store.now session next Command.Commit replies.old replies.new) }
+    ensures lock { result.0.pass.lock ≡ store.now.id }
+    ensures plays { OnOk result.1 (Plays store.now session result.0 Command.Commit replies.old replies.new) }
 {
     let (session, answer) = store.commit(rt, session, steps);
-    let reply = commit_reply(store.allocator(), answer)?;
-    replies.push(reply)?;
-    Ok(session)
+    let reply = commit_reply(store.allocator(), answer);
+    (session, tell(replies, reply))
 }
 
 // Takes the newest version, checks the changes there beside the turns of others, then commits.
-fn commit_work<L: Ledger, R: Wait, G: Gate>(
+fn commit_work<D: Disk, L: Ledger, R: Wait, G: Gate>(
     rt: &R,
-    store: &Store,
+    store: &Store<D>,
     watch: &mut Watch<G>,
-    session: Session,
+    session: Session<D>,
     replies: &mut Sequence<SessionReply>,
     steps: &mut Steps<L>,
-) -> Result<Session, AllocError>
+) -> (Session<D>, Result<(), AllocError>)
     requires session { IsSession store.now session }
     requires work { HasWork session.current }
-    ensures { IfOk result (λ next. Plays store.now session next Command.Commit replies.old replies.new) }
+    ensures lock { result.0.pass.lock ≡ store.now.id }
+    ensures plays { OnOk result.1 (Plays store.now session result.0 Command.Commit replies.old replies.new) }
 {
     let (session, answer) = store.head(rt, session);
     watch.after(answer.is_err(), false);
     let Ok(_) = answer else {
-        return Err(AllocError);
+        return (session, Err(AllocError));
     };
     let mut session = session;
     let checked = session.check(steps);
     let Ok(_) = checked else {
-        return Err(AllocError);
+        return (session, Err(AllocError));
     };
     watch.before(Some(EventKind::Commit));
     let (session, answer) = store.commit(rt, session, steps);
     let ran_out = matches!(answer, Err(CommitFault::Memory));
     watch.after(ran_out, is_ready(&answer));
-    let reply = commit_reply(store.allocator(), answer)?;
-    replies.push(reply)?;
-    Ok(session)
+    let reply = commit_reply(store.allocator(), answer);
+    (session, tell(replies, reply))
 }
 
-fn commit<L: Ledger, R: Wait, G: Gate>(
+fn commit<D: Disk, L: Ledger, R: Wait, G: Gate>(
     rt: &R,
-    store: &Store,
+    store: &Store<D>,
     watch: &mut Watch<G>,
-    session: Session,
+    session: Session<D>,
     replies: &mut Sequence<SessionReply>,
     steps: &mut Steps<L>,
-) -> Result<Session, AllocError>
+) -> (Session<D>, Result<(), AllocError>)
     requires { IsSession store.now session }
-    ensures { IfOk result (λ next. Plays store.now session next Command.Commit replies.old replies.new) }
+    ensures lock { result.0.pass.lock ≡ store.now.id }
+    ensures plays { OnOk result.1 (Plays store.now session result.0 Command.Commit replies.old replies.new) }
 {
     if session.has_work() {
         commit_work(rt, store, watch, session, replies, steps)
@@ -258,42 +268,59 @@ fn commit<L: Ledger, R: Wait, G: Gate>(
 }
 
 // Does a command whose block is refused: it changes nothing.
-fn refuse(
-    store: &Store,
-    session: Session,
+fn refuse<D: Disk>(
+    store: &Store<D>,
+    session: Session<D>,
     command: &Command,
     replies: &mut Sequence<SessionReply>,
-) -> Result<Session, AllocError>
+) -> (Session<D>, Result<(), AllocError>)
     requires session { IsSession store.now session }
     requires refused { IsRefusedBlock command.now }
-    ensures { IfOk result (λ next. Plays store.now session next command.now replies.old replies.new) }
+    ensures lock { result.0.pass.lock ≡ store.now.id }
+    ensures plays { OnOk result.1 (Plays store.now session result.0 command.now replies.old replies.new) }
 {
     let _ = store;
-    let reply = block_refusal(command)?;
-    push_answer(&session, reply, replies)?;
-    Ok(session)
+    let Ok(refusal) = block_refusal(command) else {
+        return (session, Err(AllocError));
+    };
+    let reply = local_reply(&session, refusal);
+    (session, tell(replies, Ok(reply)))
 }
 
-/// Does one command of a session, and adds its reply. The gate is told of each of its events.
-pub fn perform<L: Ledger, R: Wait, G: Gate>(
+/// Does one command of a session, and adds its reply. The gate is told of each of its events. Where memory runs out the session
+/// may still be met.
+pub fn perform<D: Disk, L: Ledger, R: Wait, G: Gate>(
     rt: &R,
-    store: &Store,
+    store: &Store<D>,
     watch: &mut Watch<G>,
-    session: Session,
+    session: Session<D>,
     command: &Command,
     replies: &mut Sequence<SessionReply>,
     steps: &mut Steps<L>,
-) -> Result<Session, AllocError>
+) -> (Session<D>, Result<(), AllocError>)
     requires { IsSession store.now session }
-    ensures { IfOk result (λ next. Plays store.now session next command.now replies.old replies.new) }
+    ensures lock { result.0.pass.lock ≡ store.now.id }
+    ensures plays { OnOk result.1 (Plays store.now session result.0 command.now replies.old replies.new) }
 {
     watch.before(next_event(&session, command));
     match command {
         Command::Begin => begin(rt, store, watch, session, replies),
-        Command::Add(triples) => add(rt, store, watch, session, triples, replies),
-        Command::Remove(triples) => remove(rt, store, watch, session, triples, replies),
-        Command::Attach(triples) => attach(rt, store, watch, session, triples, replies),
-        Command::Shapes(shapes) => stage(rt, store, watch, session, shapes, replies),
+        Command::Add(block) => {
+            block.recall_readable();
+            add(rt, store, watch, session, block.triples(), replies)
+        }
+        Command::Remove(block) => {
+            block.recall_readable();
+            remove(rt, store, watch, session, block.triples(), replies)
+        }
+        Command::Attach(block) => {
+            block.recall_readable();
+            attach(rt, store, watch, session, block.triples(), replies)
+        }
+        Command::Shapes(block) => {
+            block.recall_readable();
+            stage(rt, store, watch, session, block.graph(), replies)
+        }
         Command::Commit => commit(rt, store, watch, session, replies, steps),
         Command::Find(pattern) => find(store, session, pattern, replies),
         Command::Select(patterns) => select(store, session, patterns, replies),

@@ -6,6 +6,7 @@ ghost use Rattle.session_threads.specs.Playing.{PlaysAll};
 use crate::perform::perform;
 use crate::watch::Watch;
 use collections::Sequence;
+use disk::Disk;
 use guard_store::{Session, Store};
 use outside::Gate;
 use session_model::{Command, SessionReply};
@@ -16,28 +17,29 @@ use std::sync::Wait;
 use std::sync::ledger::{Blank, Ledger};
 
 // Plays all commands of a file, in an own ledger of evaluations.
-fn play_in<L: Ledger, R: Wait, G: Gate>(
+fn play_in<D: Disk, L: Ledger, R: Wait, G: Gate>(
     rt: &R,
     alloc: Global,
-    store: &Store,
-    session: Session,
+    store: &Store<D>,
+    session: Session<D>,
     commands: &[Command],
     gate: &G,
     blank: Blank,
-) -> Result<(Session, Sequence<SessionReply>), AllocError>
+) -> (Session<D>, Result<Sequence<SessionReply>, AllocError>)
     requires session { IsSession store.now session }
     requires free { session.current ≡ None }
     requires name { blank.name ≡ L.name }
     requires parts { blank.parts ≡ L.parts }
     requires some { 0 < L.parts }
-    ensures { IfOk result (λ r. PlaysAll store.now session r.0 commands.now r.1) }
+    ensures lock { result.0.pass.lock ≡ store.now.id }
+    ensures plays { IfOk result.1 (PlaysAll store.now session result.0 commands.now) }
 {
     let mut steps = Steps::<L>::begin(blank);
     let mut replies = Sequence::new(alloc);
     let mut watch = Watch::new(gate, session.number());
     let mut session = session;
     for command in commands {
-        session = perform(
+        let (next, done) = perform(
             rt,
             store,
             &mut watch,
@@ -45,23 +47,29 @@ fn play_in<L: Ledger, R: Wait, G: Gate>(
             command,
             &mut replies,
             &mut steps,
-        )?;
+        );
+        session = next;
+        let Ok(()) = done else {
+            return (session, Err(AllocError));
+        };
     }
-    Ok((session, replies))
+    (session, Ok(replies))
 }
 
-/// Plays all commands of a file. The gate is told of the session's events but its opening.
-pub fn play_file<R: Wait, G: Gate>(
+/// Plays all commands of a file. The gate is told of the session's events but its opening. Where memory runs out the session may
+/// still be met.
+pub fn play_file<D: Disk, R: Wait, G: Gate>(
     rt: &R,
     alloc: Global,
-    store: &Store,
-    session: Session,
+    store: &Store<D>,
+    session: Session<D>,
     commands: &[Command],
     gate: &G,
-) -> Result<(Session, Sequence<SessionReply>), AllocError>
+) -> (Session<D>, Result<Sequence<SessionReply>, AllocError>)
     requires session { IsSession store.now session }
     requires free { session.current ≡ None }
-    ensures { IfOk result (λ r. PlaysAll store.now session r.0 commands.now r.1) }
+    ensures lock { result.0.pass.lock ≡ store.now.id }
+    ensures plays { IfOk result.1 (PlaysAll store.now session result.0 commands.now) }
 {
-    play_in::<Brand, R, G>(rt, alloc, store, session, commands, gate, Blank::new(1))
+    play_in::<D, Brand, R, G>(rt, alloc, store, session, commands, gate, Blank::new(1))
 }

@@ -1,16 +1,23 @@
 //! Sessions that run beside each other.
-ghost use Rattle.std.specs.Prelude.{◌≡◌, ◌+◌, ◌^◌, ◌<◌, ◌≤◌, IfOk, All, length, vec_len, reverse};
-ghost use Rattle.store_model.specs.Store.{empty_store};
-ghost use Rattle.session_threads.specs.Ends.{HasEnd};
-ghost use Rattle.session_threads.specs.Team.{AreNumbered, HasEnded, IsSound, IsStarting, Met};
+ghost use Rattle.std.specs.Prelude.{◌≡◌, ◌+◌, ◌^◌, ◌<◌, ◌≤◌, [], false, None, IfErr, IfOk, OnOk, All, length, vec_len, reverse};
+ghost use Rattle.std.specs.Vec.{vec_capacity};
+ghost use Rattle.session_transaction.specs.Logging.{StandsBeside};
+ghost use Rattle.store_model.specs.Store.{RecordedStore, empty_store};
+ghost use Rattle.guard_store.specs.Callers.{IsKeeper};
+ghost use Rattle.session_threads.specs.Ends.{EndsRun, HasEnd, LeavesStore};
+ghost use Rattle.session_threads.specs.Team.{AreNumbered, HasEnded, HasLock, IsSound, IsStarting, Met};
 
 use crate::play::play_file;
 use collections::Sequence;
+use commit_core::Core;
+use commit_log::Log;
+use disk::{Disk, MemDisk};
 use guard_store::{Keeper, Session, Store};
 use outside::Gate;
 use session_model::{Command, SessionReply};
 use session_player::Run;
 use std::alloc::{AllocError, Global};
+use std::marker::Model;
 use std::sync::Wait;
 use std::thread;
 use std::thread::Threads;
@@ -21,20 +28,28 @@ const THREADS: usize = 64;
 
 /// A session with the number of its file.
 #[derive(Drop)]
-pub struct Player {
-    session: Option<Session>,
+pub struct Player<D: Disk> {
+    session: Option<Session<D>>,
     number: u32,
     // What it was answered, once it has played its file.
     replies: Option<Sequence<SessionReply>>,
 }
 
-impl Player {
+impl<D: Disk> Model for Player<D> {
+    ghost use Rattle.session_threads.specs.Team.{TeamPlayer};
+
+    ghost Value = { TeamPlayer };
+
+    ghost view = { λ p. record { session = p.session; number = p.number; replies = p.replies } };
+}
+
+impl<D: Disk + Drop> Player<D> {
     // Plays its file. Without the memory for it the player has no replies.
     fn work<R: Wait, G: Gate>(
         &mut self,
         rt: &R,
         alloc: Global,
-        store: &Store,
+        store: &Store<D>,
         files: &[Sequence<Command>],
         gate: &G,
     )
@@ -44,22 +59,63 @@ impl Player {
     {
         let session = self.session.take().unwrap();
         let commands = files[self.number as usize - 1].as_slice();
-        let Ok((session, replies)) = play_file(rt, alloc, store, session, commands, gate) else {
-            return;
-        };
+        let (session, played) = play_file(rt, alloc, store, session, commands, gate);
         self.session = Some(session);
-        self.replies = Some(replies);
+        if let Ok(replies) = played {
+            self.replies = Some(replies);
+        }
+    }
+
+    // Its session and what it was answered.
+    fn into_parts(self) -> (Option<Session<D>>, Option<Sequence<SessionReply>>)
+        ensures { result ≡ (self.session, self.replies) }
+    {
+        let Player {
+            session,
+            number: _,
+            replies,
+        } = self;
+        (session, replies)
     }
 }
 
-// Opens a session for each file.
-fn open_all<R: Wait>(
+// Meets all sessions that are left, the last first, where memory ran out.
+fn meet_all<D: Disk>(store: &Store<D>, keeper: Keeper<D>, players: Vec<Player<D>>) -> Keeper<D>
+where
+    D: Drop,
+    requires keeper { IsKeeper store.now keeper }
+    requires players { All (HasLock store.now) players.items }
+    ensures keeper { IsKeeper store.now result }
+    ensures spare { result.pass.spare ≡ keeper.pass.spare + vec_len players }
+{
+    let mut keeper = keeper;
+    let mut players = players;
+    while let Some(player) = players.pop() {
+        let (session, _) = player.into_parts();
+        keeper = store.meet(keeper, session.unwrap());
+    }
+    keeper
+}
+
+// Makes room for one player.
+fn make_room<D: Disk>(players: &mut Vec<Player<D>>) -> Result<(), AllocError>
+    ensures items { players.new.items ≡ players.old.items }
+    ensures room { OnOk result (vec_len players.new < vec_capacity players.new) }
+{
+    players.reserve(1)?;
+    Ok(())
+}
+
+// Opens a session for each file. Where memory runs out all that were opened are met.
+fn open_all<D: Disk, R: Wait>(
     rt: &R,
     alloc: Global,
-    store: &Store,
-    keeper: Keeper,
+    store: &Store<D>,
+    keeper: Keeper<D>,
     count: usize,
-) -> Result<(Keeper, Vec<Player>), AllocError>
+) -> Result<(Keeper<D>, Vec<Player<D>>), Keeper<D>>
+where
+    D: Drop,
     requires keeper { IsSound store.now keeper }
     requires none { keeper.opened ≡ 0 }
     requires room { keeper.pass.spare ≡ 64 }
@@ -69,30 +125,36 @@ fn open_all<R: Wait>(
     ensures players { IfOk result (λ r. All (IsStarting store.now count) r.1.items) }
     ensures numbers { IfOk result (λ r. AreNumbered r.1.items) }
     ensures count { IfOk result (λ r. vec_len r.1 ≡ count) }
+    ensures met { IfErr result (λ kept. IsKeeper store.now kept × (kept.pass.spare ≡ 64)) }
 {
     let mut keeper = keeper;
     let mut players = Vec::new(alloc);
     for _i in 0..count {
-        let Ok((kept, session)) = store.open(rt, keeper) else {
-            return Err(AllocError);
+        let Ok(()) = make_room(&mut players) else {
+            return Err(meet_all(store, keeper, players));
         };
-        keeper = kept;
-        let number = session.number();
-        players.push(Player {
-            session: Some(session),
-            number,
-            replies: None,
-        })?;
+        match store.open(rt, keeper) {
+            Err((kept, _)) => return Err(meet_all(store, kept, players)),
+            Ok((kept, session)) => {
+                keeper = kept;
+                let number = session.number();
+                players.push_reserved(Player {
+                    session: Some(session),
+                    number,
+                    replies: None,
+                });
+            }
+        }
     }
     Ok((keeper, players))
 }
 
 // Lets all players play, each in a thread of its own.
-fn play_all<R: Threads + Wait + Sync, G: Gate>(
+fn play_all<D: Disk + Drop + Send, R: Threads + Wait + Sync, G: Gate>(
     rt: &R,
     alloc: Global,
-    store: &Store,
-    players: &mut [Player],
+    store: &Store<D>,
+    players: &mut [Player<D>],
     files: &[Sequence<Command>],
     gate: &G,
 )
@@ -106,7 +168,7 @@ fn play_all<R: Threads + Wait + Sync, G: Gate>(
         rt,
         players,
         THREADS,
-        &|_, player: &mut Player|
+        &|_, player: &mut Player<D>|
             requires { IsStarting store.now (length files.now) player.old }
             ensures ended { HasEnded store.entry.now files.entry.now player.new }
             ensures number { player.new.number ≡ player.old.number }
@@ -116,14 +178,16 @@ fn play_all<R: Threads + Wait + Sync, G: Gate>(
     );
 }
 
-// Meets all sessions, the last first. One that has no replies ran out of memory.
-fn gather(
+// Meets all sessions, the last first. One that has no replies ran out of memory; then no replies are given.
+fn gather<D: Disk>(
     alloc: Global,
-    store: &Store,
-    keeper: Keeper,
-    players: Vec<Player>,
+    store: &Store<D>,
+    keeper: Keeper<D>,
+    players: Vec<Player<D>>,
     files: &[Sequence<Command>],
-) -> Result<(Keeper, Vec<Sequence<SessionReply>>), AllocError>
+) -> Result<(Keeper<D>, Vec<Sequence<SessionReply>>), Keeper<D>>
+where
+    D: Drop,
     requires keeper { IsSound store.now keeper }
     requires opened { keeper.opened ≡ length files.now }
     requires players { All (HasEnded store.now files.now) players.items }
@@ -133,59 +197,122 @@ fn gather(
     ensures opened { IfOk result (λ r. r.0.opened ≡ length files.now) }
     ensures spare { IfOk result (λ r. r.0.pass.spare ≡ keeper.pass.spare + length files.now) }
     ensures met { IfOk result (λ r. Met files.now store.now 0 r.0.pass (reverse r.1.items)) }
+    ensures kept { IfErr result (λ kept. IsKeeper store.now kept × (kept.pass.spare ≡ keeper.pass.spare + length files.now)) }
 {
     let _ = files;
     let mut keeper = keeper;
     let mut players = players;
     let mut all = Vec::new(alloc);
     while let Some(player) = players.pop() {
-        let Player {
-            session,
-            number: _,
-            replies,
-        } = player;
-        let Some(replies) = replies else {
-            return Err(AllocError);
-        };
+        let (session, replies) = player.into_parts();
         keeper = store.meet(keeper, session.unwrap());
-        all.push(replies)?;
+        let Some(replies) = replies else {
+            return Err(meet_all(store, keeper, players));
+        };
+        let Ok(()) = all.push(replies) else {
+            return Err(meet_all(store, keeper, players));
+        };
     }
     Ok((keeper, all))
 }
 
 /// A run of session files that has ended.
 #[derive(Drop)]
-pub struct EndedRun {
+pub struct EndedRun<D: Disk> {
     pub run: Run,
     /// How many triples the data graph has at the end.
     pub triples: usize,
+    /// The store's log, where it has one.
+    pub log: Option<Log<D>>,
 }
 
-/// Runs session files beside each other over a new store, each in a thread of its own; the I-th file is session I. The
-/// gate is told of each event but the openings, in the session's thread, outside turns.
-pub fn run_all<R: Threads + Wait + Sync, G: Gate>(
+// Opens, plays and gathers: the keeper that met all sessions, and what they were answered.
+fn play_files<D: Disk + Drop + Send, R: Threads + Wait + Sync, G: Gate>(
+    rt: &R,
+    alloc: Global,
+    store: &Store<D>,
+    keeper: Keeper<D>,
+    files: &[Sequence<Command>],
+    gate: &G,
+) -> Result<(Keeper<D>, Vec<Sequence<SessionReply>>), Keeper<D>>
+    requires keeper { IsSound store.now keeper }
+    requires none { keeper.opened ≡ 0 }
+    requires room { keeper.pass.spare ≡ 64 }
+    ensures keeper { IfOk result (λ r. IsSound store.now r.0) }
+    ensures opened { IfOk result (λ r. r.0.opened ≡ length files.now) }
+    ensures spare { IfOk result (λ r. r.0.pass.spare ≡ 64) }
+    ensures met { IfOk result (λ r. Met files.now store.now 0 r.0.pass (reverse r.1.items)) }
+    ensures kept { IfErr result (λ kept. IsKeeper store.now kept × (kept.pass.spare ≡ 64)) }
+{
+    let (keeper, mut players) = match open_all(rt, alloc, store, keeper, files.len()) {
+        Ok(opened) => opened,
+        Err(keeper) => return Err(keeper),
+    };
+    play_all(rt, alloc, store, &mut players, files, gate);
+    gather(alloc, store, keeper, players, files)
+}
+
+/// Runs session files beside each other over a store of this core, which has no event yet, and of its log, if it has one; each
+/// file in a thread of its own, the I-th being session I. The gate is told of each event but the openings, in the session's
+/// thread, outside turns. The log is given back, also where memory runs out.
+pub fn run_all<D: Disk + Drop + Send, R: Threads + Wait + Sync, G: Gate>(
+    rt: &R,
+    alloc: Global,
+    core: Core,
+    log: Option<Log<D>>,
+    files: &[Sequence<Command>],
+    gate: &G,
+) -> Result<EndedRun<D>, (AllocError, Option<Log<D>>)>
+    requires fresh { core.history ≡ [] }
+    requires unopened { core.start.opened ≡ 0 }
+    requires running { core.state.stopped ≡ false }
+    requires beside { StandsBeside core log }
+    requires few { length files.now ≤ 64 }
+    ensures ends { IfOk result (λ ended. EndsRun D.tells D.bytes D.history D.chosen D.faults files.now core log ended.run.order.items ended.run.replies.items ended.triples ended.log) }
+    ensures back { IfErr result (λ e. (last : RecordedStore) × LeavesStore D.tells D.bytes D.history D.chosen D.faults core log last e.1) }
+{
+    core.recall_consistent();
+    let (store, keeper) = match Store::over(alloc, core, log) {
+        Ok(made) => made,
+        Err((_, log, error)) => return Err((error, log)),
+    };
+    let (keeper, all) = match play_files(rt, alloc, &store, keeper, files, gate) {
+        Ok(played) => played,
+        Err(keeper) => {
+            let (_, log) = store.close(keeper);
+            return Err((AllocError, log));
+        }
+    };
+    let mut replies = all;
+    replies.reverse();
+    let (core, log) = store.close(keeper);
+    let triples = core.triples();
+    match core.order() {
+        Ok(order) => Ok(EndedRun {
+            run: Run { replies, order },
+            triples,
+            log,
+        }),
+        Err(error) => Err((error, log)),
+    }
+}
+
+/// Runs session files beside each other over a new store without a log.
+pub fn run_new<R: Threads + Wait + Sync, G: Gate>(
     rt: &R,
     alloc: Global,
     limits: Limits,
     files: &[Sequence<Command>],
     gate: &G,
-) -> Result<EndedRun, AllocError>
+) -> Result<EndedRun<MemDisk>, AllocError>
     requires small { limits.terms + 2 < 2 ^ 32 }
     requires mode { limits.mode ≡ BlockMode.All }
     requires few { length files.now ≤ 64 }
-    ensures { IfOk result (λ ended. HasEnd files.now limits empty_store ended.run.order.items ended.run.replies.items ended.triples) }
+    ensures { IfOk result (λ ended. HasEnd files.now limits empty_store ended.run.order.items None ended.run.replies.items ended.triples) }
 {
-    let (store, keeper) = Store::new(alloc, limits)?;
-    let (keeper, mut players) = open_all(rt, alloc, &store, keeper, files.len())?;
-    play_all(rt, alloc, &store, &mut players, files, gate);
-    let (keeper, all) = gather(alloc, &store, keeper, players, files)?;
-    let mut replies = all;
-    replies.reverse();
-    let core = store.close(keeper);
-    let order = core.order()?;
-    let triples = core.triples();
-    Ok(EndedRun {
-        run: Run { replies, order },
-        triples,
-    })
+    let core = Core::open(alloc, limits)?;
+    match run_all(rt, alloc, core, None::<Log<MemDisk>>, files, gate) {
+        Ok(ended) => Ok(ended),
+        Err((error, _)) => Err(error),
+    }
 }

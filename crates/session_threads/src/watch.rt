@@ -3,6 +3,7 @@ ghost use Rattle.std.specs.Prelude.{◌≡◌};
 ghost use Rattle.session_transaction.specs.Transactions.{plain_in};
 ghost use Rattle.session_threads.specs.Places.{event_kind, is_ready};
 
+use disk::Disk;
 use guard_store::{CommitFault, Committed, Session};
 use outside::{EventKind, Gate, Place};
 use session_model::Command;
@@ -58,7 +59,7 @@ impl<'a, G: Gate> Watch<'a, G> {
 }
 
 /// The event of a command that is one; a commit takes the newest version first.
-pub fn next_event(session: &Session, command: &Command) -> Option<EventKind>
+pub fn next_event<D: Disk>(session: &Session<D>, command: &Command) -> Option<EventKind>
     ensures { result ≡ event_kind (plain_in session.now.current) command.now }
 {
     match command {

@@ -1,4 +1,5 @@
 pub mod Transactions
 pub mod Replies
 pub mod Commits
+pub mod Logging
 pub mod Checks

@@ -1,11 +1,17 @@
 //! The commit of a transaction over a core.
 ghost use Rattle.std.specs.Prelude.{◌≡◌, ◌≤◌, IfOk, MatchResult};
 ghost use Rattle.store_model.specs.Store.{IsCommittable, IsOpened};
+ghost use Rattle.commit_core.specs.Commits.{Answers};
+ghost use Rattle.commit_core.specs.Logged.{IsLoggable};
 ghost use Rattle.commit_core.specs.Verdicts.{AreOfVerdict};
+ghost use Rattle.commit_core.specs.Work.{CommitSteps};
 ghost use Rattle.session_transaction.specs.Commits.{IsCommitted, IsNoFault};
+ghost use Rattle.session_transaction.specs.Logging.{KeepsLog, StandsBeside};
 
 use collections::Sequence;
 use commit_core::{CheckedTransaction, Commit, Core};
+use commit_log::Log;
+use disk::Disk;
 use rdf_model::Triple;
 use shape_eval::Steps;
 use shape_model::ResultRow;
@@ -78,6 +84,66 @@ pub fn commit<L: Ledger>(
             shapes,
         }),
         Commit::LogFault => unreachable!(),
+        Commit::Stopped { version } => Ok(Committed::Stopped { version }),
+        Commit::Memory(checked) => Err(checked),
+    }
+}
+
+// The answer of the core, whose log, where it has one, is appended to.
+fn answer_beside<D: Disk, L: Ledger>(
+    core: &mut Core,
+    log: &mut Option<Log<D>>,
+    session: u32,
+    checked: CheckedTransaction,
+    steps: &mut Steps<L>,
+) -> Commit
+    requires opened { IsOpened core.old.state session }
+    requires committable { IsCommittable core.old.state checked.transaction }
+    requires verdict { AreOfVerdict core.old checked.transaction.net checked.transaction.verdict checked.rows }
+    requires beside { StandsBeside core.old log.old }
+    requires loggable { IsLoggable checked.transaction }
+    ensures answer { Answers result core.old core.new session checked }
+    ensures steps { CommitSteps result core.old.state checked.transaction steps.old steps.new }
+    ensures log { KeepsLog D.tells D.bytes D.history D.chosen D.faults core.old core.new log.old log.new }
+{
+    core.recall_consistent();
+    match log {
+        Some(log) => core.commit_logged(session, checked, log, steps),
+        None => core.commit(session, checked, steps),
+    }
+}
+
+/// Commits a transaction as `commit` does, and appends its record to the log of the core, where it has one. Where the log fails,
+/// for which its disk is to blame, the store is stopped.
+pub fn commit_beside<D: Disk, L: Ledger>(
+    core: &mut Core,
+    log: &mut Option<Log<D>>,
+    session: u32,
+    checked: CheckedTransaction,
+    steps: &mut Steps<L>,
+) -> Result<Committed, CheckedTransaction>
+    requires opened { IsOpened core.old.state session }
+    requires committable { IsCommittable core.old.state checked.transaction }
+    requires verdict { AreOfVerdict core.old checked.transaction.net checked.transaction.verdict checked.rows }
+    requires beside { StandsBeside core.old log.old }
+    requires loggable { IsLoggable checked.transaction }
+    ensures answer { MatchResult result (IsCommitted core.old core.new session checked.transaction steps.old steps.new) (λ back. (back ≡ checked) × (core.new ≡ core.old) × (steps.old ≤ steps.new)) }
+    ensures log { KeepsLog D.tells D.bytes D.history D.chosen D.faults core.old core.new log.old log.new }
+{
+    match answer_beside(core, log, session, checked, steps) {
+        Commit::Done { number, again } => Ok(Committed::Done { number, again }),
+        Commit::Conflict { commit, triple } => Ok(Committed::Conflict { commit, triple }),
+        Commit::FullTriples { count } => Ok(Committed::FullTriples { count }),
+        Commit::Refused {
+            rows,
+            again,
+            shapes,
+        } => Ok(Committed::Refused {
+            rows,
+            again,
+            shapes,
+        }),
+        Commit::LogFault => Ok(Committed::LogFault),
         Commit::Stopped { version } => Ok(Committed::Stopped { version }),
         Commit::Memory(checked) => Err(checked),
     }

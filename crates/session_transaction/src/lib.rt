@@ -2,8 +2,8 @@
 //!
 //! `OpenTransaction` has what its commit hands in and the snapshot of its begin. Its changes, its staged shapes and the
 //! patterns of its finds are kept in their order, and a find and a select see the snapshot with the changes so far. `check` evaluates what
-//! the changes touch at a later version, and keeps the verdict until a change is staged. `commit` hands all of it to a core, and
-//! `Committed` is the answer. What a session is told of a find, of a select, of a refused block and of a commit is told
+//! the changes touch at a later version, and keeps the verdict until a change is staged. `commit` hands all of it to a core, `commit_beside` to a
+//! core with its log, and `Committed` is the answer. What a session is told of a find, of a select, of a refused block and of a commit is told
 //! here too.
 #![tactic(auto)]
 
@@ -13,7 +13,7 @@ mod select;
 mod terms;
 mod transaction;
 
-pub use committing::{Committed, commit};
+pub use committing::{Committed, commit, commit_beside};
 pub use replies::{block_refusal, reply_of_commit, reply_of_find, reply_of_select};
 pub use terms::terms_in;
 pub use transaction::{ChangeKind, OpenTransaction};

@@ -5,9 +5,12 @@ use Rattle.std.specs.Prelude.{◌≢◌, ◌⊎◌, true, false, MatchResult, Re
 use Rattle.outside.specs.Faults.{Refusal}
 use Rattle.outside.specs.Files.{Contents}
 use Rattle.session_reader.specs.Checking.{OnlyGrows}
-use Rattle.guard_words.specs.declared.call.WordsFault.{WordsFault}
-use Rattle.guard_words.specs.declared.call.WordsFault.TheVariants as words
-use Rattle.input_files.specs.Loads.{Loads}
+use Rattle.input_files.specs.Loads.{Loads, NoneRefused}
+use Rattle.follow_command.specs.declared.fault.FollowFault.{FollowFault}
+use Rattle.follow_command.specs.declared.fault.FollowFault.TheVariants as following
+use Rattle.follow_command.specs.declared.files.FollowedFiles.{FollowedFiles}
+use Rattle.follow_command.specs.Faults.{StopsFollow}
+use Rattle.follow_command.specs.Followed.{AreFollowed}
 use Rattle.file_validation.specs.declared.fault.InputFault.{InputFault}
 use Rattle.file_validation.specs.declared.fault.InputFault.TheVariants as texts
 use Rattle.file_validation.specs.declared.validating.Explanation.{Explanation as Evidence}
@@ -27,56 +30,24 @@ use Rattle.validate_command.specs.Validated.{AreExplained, AreValidated}
 use Rattle.validate_command.specs.Faults.{StopsValidation}
 use Rattle.validate_command.specs.Verified.{AreVerified, StopsVerification}
 use Rattle.shacl_guard.specs.declared.request.Request.{Request}
-use Rattle.shacl_guard.specs.declared.request.Request.TheVariants.{Sessions, Validation, Explanation, Verification, Load}
+use Rattle.shacl_guard.specs.declared.request.Request.TheVariants.{Sessions, Validation, Explanation, Verification, Following, Load}
 use Rattle.shacl_guard.specs.declared.status.Status.{Status}
-use Rattle.shacl_guard.specs.declared.status.Status.TheVariants.{Done, Invalid, Usage, ReadFault, WriteFault, BadSession, Memory, TooLong, TooManyFiles, BadHistory, BadInput, BadEvidence}
-use Rattle.shacl_guard.specs.Requests.{Unasked, request_of}
-use Rattle.shacl_guard.specs.Statuses.{error_line, of_run, of_validation, of_words}
-use Rattle.shacl_guard.specs.Due.{Fails, Gives, IsDueOf, IsTold, LoadsNone, RunsOut, StopsCall, StopsRequest, TellsNone}
-use Rattle.shacl_guard.specs.Outcome.{Call, IsOutcome, PrintsAll}
+use Rattle.shacl_guard.specs.declared.status.Status.TheVariants.{Done, Invalid, Usage, ReadFault, WriteFault, BadSession, Memory, TooLong, TooManyFiles, BadHistory, BadInput, BadLog, LogSpent, LogTooLarge, LogStopped, BadOrder, BadEvidence}
+use Rattle.shacl_guard.specs.Requests.{request_of}
+use Rattle.shacl_guard.specs.Statuses.{error_line, of_following, of_run, of_validation}
+use Rattle.shacl_guard.specs.Due.{Fails, Gives, IsDue, IsDueOf, IsRequestDue, IsTold, LoadsNone, RunsOut, StopsRequest, TellsNone, TellsNothing}
+use Rattle.shacl_guard.specs.Outcome.{Call, IsOutcome, IsWritten, PrintsAll}
 
 -- nothing was loaded
-nothing : (q : Option Request) (before after : Loads) → after ≡ before → RunsOut q before after
+pub nothing : (q : Option Request) (before after : Loads) → after ≡ before → RunsOut q before after
 nothing q before after e = ((0, ap (λ (l : Loads). l.loaded) e ∙ sym (append-nil before.loaded)), ap (λ (l : Loads). l.failed) e)
-
--- what the call of a request gives, or why it gives nothing
-pub called : {X : Type 0} (status : X → Status) (text : X → List ℕ) (held : Option Contents) (asked : Option Request) (q : Request) (before after : Loads) (r : Result X Status) → asked ≡ Some q
-    → MatchResult r (λ a. Gives held q (status a) before after (text a)) (λ s. StopsRequest s held q before after)
-    → MatchResult r (λ a. IsDueOf held asked (status a) before after (text a)) (λ s. StopsCall s held asked before after)
-called status text held asked q before after (Ok a) e h = subst (λ (o : Option Request). IsDueOf held o (status a) before after (text a)) (sym e) (inl h)
-called status text held asked q before after (Err s) e h = subst (λ (o : Option Request). StopsCall s held o before after) (sym e) (inl h)
-
--- the words are no request
-not_taken : (held : Option Contents) (asked : Option Request) (before after : Loads) → after ≡ before → asked ≡ None → StopsCall Usage held asked before after
-not_taken held asked before after e none = subst (λ (o : Option Request). StopsCall Usage held o before after) (sym none) (inl refl, e)
-
-out_of_memory : (held : Option Contents) (asked : Option Request) (before after : Loads) → after ≡ before → StopsCall Memory held asked before after
-out_of_memory held None before after e = (inr refl, e)
-out_of_memory held (Some q) before after e = inr (refl, e)
-
-unasked : (fault : WordsFault) (held : Option Contents) (asked : Option Request) (before after : Loads) → after ≡ before → Unasked fault asked → StopsCall (of_words fault) held asked before after
-unasked words.Usage held asked before after e u = not_taken held asked before after e u
-unasked words.Memory held asked before after e u = out_of_memory held asked before after e
-
-pub unasked_as : (s : Status) (fault : WordsFault) (held : Option Contents) (asked : Option Request) (before after : Loads) → s ≡ of_words fault → after ≡ before → Unasked fault asked → StopsCall s held asked before after
-unasked_as s fault held asked before after is e u = subst (λ (x : Status). StopsCall x held asked before after) (sym is) (unasked fault held asked before after e u)
-
--- the line of an error is due
-line_due_in : (s : Status) (held : Option Contents) (q : Option Request) (before after : Loads) (text : List ℕ) → error_line s ≡ Some text → StopsCall s held q before after → IsDueOf held q s before after text
-line_due_in s held None before after text l (inl usage, e) = (usage, e, l)
-line_due_in s held None before after text l (inr memory, e) = let no : None ≡ Some text = subst (λ (x : Status). error_line x ≡ Some text) memory l in cc
-line_due_in s held (Some q) before after text l (inl h) = inr (h, l)
-line_due_in s held (Some q) before after text l (inr (memory, e)) = let no : None ≡ Some text = subst (λ (x : Status). error_line x ≡ Some text) memory l in cc
-
-pub line_due : (s : Status) (held : Option Contents) (q : Option Request) (before after : Loads) (text : List ℕ) (found : Option (List ℕ)) → found ≡ error_line s → found ≡ Some text → StopsCall s held q before after → IsDueOf held q s before after text
-line_due s held q before after text found l is h = line_due_in s held q before after text (sym l ∙ is) h
 
 -- A status without a line of its own is of a failed load, or of want of memory.
 
 some_line : (s t : Status) (text : List ℕ) → s ≡ t → error_line s ≡ None → error_line t ≡ Some text → ⊥
 some_line s t text e none some = let no : None ≡ Some text = sym (subst (λ (x : Status). error_line x ≡ None) e none) ∙ some in cc
 
-run_fails : (fault : RunFault) (held : Option Contents) (r : SessionRun) (before after : Loads) → StopsRun fault held r before after → error_line (of_run fault) ≡ None → Fails (of_run fault) held (Some (Sessions r)) before after
+run_fails : (fault : RunFault) (held : Option Contents) (r : SessionRun) (before after : Loads) → StopsRun fault held [] r before after → error_line (of_run fault) ≡ None → Fails (of_run fault) held (Some (Sessions r)) before after
 run_fails run.ReadFault held r before after h none = (run.ReadFault, refl, h)
 run_fails run.Memory held r before after h none = h
 run_fails run.TooManyFiles held r before after h none = cc
@@ -107,6 +78,13 @@ verdict_fails : (verdict : Verdict) (s : Status) (held : Option Contents) (v : V
 verdict_fails (Verified n) s held v before after h t none = subst (λ (x : Status). Fails x held (Some (Verification v)) before after) (sym t) ((3, h.5.0), h.5.1)
 verdict_fails (Wrong i) s held v before after h t none = let no : None ≡ Some _ = sym none ∙ ap error_line t in cc
 
+following_fails : (fault : FollowFault) (held : Option Contents) (f : FollowedFiles) (before after : Loads) → StopsFollow fault held f before after → NoneRefused before after → error_line (of_following fault) ≡ None → Fails (of_following fault) held (Some (Following f)) before after
+following_fails following.ReadFault held f before after h same none = (following.ReadFault, refl, h, same)
+following_fails following.Memory held f before after h same none = (h.0, h.1)
+following_fails (following.TooLong i) held f before after h same none = cc
+following_fails (following.BadLog n) held f before after h same none = cc
+following_fails (following.BadOrder k) held f before after h same none = cc
+
 -- a generated load loads nothing
 load_out : (n : ℕ) (before after : Loads) → LoadsNone before after → RunsOut (Some (Load n)) before after
 load_out n before after h = ((0, h.0 ∙ sym (append-nil before.loaded)), h.1)
@@ -121,26 +99,16 @@ request_fails s held (Explanation v) before after none h =
 request_fails s held (Verification v) before after none (inl h) =
     subst (λ (x : Status). Fails x held (Some (Verification v)) before after) (sym h.1) (verification_fails h.0 held v before after h.2 (subst (λ (x : Status). error_line x ≡ None) h.1 none))
 request_fails s held (Verification v) before after none (inr h) = verdict_fails h.0 s held v before after h.1 h.2 none
+request_fails s held (Following f) before after none h =
+    subst (λ (x : Status). Fails x held (Some (Following f)) before after) (sym h.1) (following_fails h.0 held f before after h.2 h.3 (subst (λ (x : Status). error_line x ≡ None) h.1 none))
 request_fails s held (Load n) before after none h = subst (λ (x : Status). Fails x held (Some (Load n)) before after) (sym h.0) (load_out n before after h.1)
-
-memory_fails : (s : Status) (held : Option Contents) (q : Option Request) (before after : Loads) → s ≡ Memory → after ≡ before → Fails s held q before after
-memory_fails s held q before after m e = subst (λ (x : Status). Fails x held q before after) (sym m) (nothing q before after e)
-
-fails_in : (s : Status) (held : Option Contents) (q : Option Request) (before after : Loads) → error_line s ≡ None → StopsCall s held q before after → Fails s held q before after
-fails_in s held None before after none (inl usage, e) = absurd (some_line s Usage _ usage none refl)
-fails_in s held None before after none (inr memory, e) = memory_fails s held None before after memory e
-fails_in s held (Some q) before after none (inl h) = request_fails s held q before after none h
-fails_in s held (Some q) before after none (inr (memory, e)) = memory_fails s held (Some q) before after memory e
-
-pub without_line : (s : Status) (held : Option Contents) (q : Option Request) (before after : Loads) (found : Option (List ℕ)) → found ≡ error_line s → found ≡ None → StopsCall s held q before after → Fails s held q before after
-without_line s held q before after found l is h = fails_in s held q before after (sym l ∙ is) h
 
 -- Where memory runs out before the line of an error is made.
 
-stopped_out : (fault : RunFault) (held : Option Contents) (r : SessionRun) (before after : Loads) → IsStopped fault held r before after → RunsOut (Some (Sessions r)) before after
+stopped_out : (fault : RunFault) (held : Option Contents) (r : SessionRun) (before after : Loads) → IsStopped fault held [] r before after → RunsOut (Some (Sessions r)) before after
 stopped_out fault held r before after h = ((count_loaded fault r, h.1), h.2)
 
-run_out : (fault : RunFault) (held : Option Contents) (r : SessionRun) (before after : Loads) → error_line (of_run fault) ≢ None → StopsRun fault held r before after → RunsOut (Some (Sessions r)) before after
+run_out : (fault : RunFault) (held : Option Contents) (r : SessionRun) (before after : Loads) → error_line (of_run fault) ≢ None → StopsRun fault held [] r before after → RunsOut (Some (Sessions r)) before after
 run_out run.ReadFault held r before after line h = absurd (line refl)
 run_out run.Memory held r before after line h = h
 run_out run.TooManyFiles held r before after line h = stopped_out run.TooManyFiles held r before after h
@@ -160,18 +128,30 @@ verification_out validation.Memory held v before after line h = (h.0, h.1)
 verification_out (validation.TooLong f) held v before after line h = ((f, h.1), h.2)
 verification_out (validation.BadInput bad) held v before after line h = ((3, h.1.0), h.1.1)
 
+following_out : (fault : FollowFault) (held : Option Contents) (f : FollowedFiles) (before after : Loads) → error_line (of_following fault) ≢ None → StopsFollow fault held f before after → RunsOut (Some (Following f)) before after
+following_out following.ReadFault held f before after line h = absurd (line refl)
+following_out following.Memory held f before after line h = (h.0, h.1)
+following_out (following.TooLong i) held f before after line h = ((i, h.1), h.2)
+following_out (following.BadLog n) held f before after line h = ((2, h.4.0), h.4.1)
+following_out (following.BadOrder k) held f before after line h = ((2, h.4.0), h.4.1)
+
 request_out : (s : Status) (held : Option Contents) (q : Request) (before after : Loads) → error_line s ≢ None → StopsRequest s held q before after → RunsOut (Some q) before after
 request_out s held (Sessions r) before after line h = run_out h.0 held r before after (subst (λ (x : Status). error_line x ≢ None) h.1 line) h.2
 request_out s held (Validation v) before after line h = validation_out h.0 held v before after (subst (λ (x : Status). error_line x ≢ None) h.1 line) h.2
 request_out s held (Explanation v) before after line h = validation_out h.0 held v before after (subst (λ (x : Status). error_line x ≢ None) h.1 line) h.2
 request_out s held (Verification v) before after line (inl h) = verification_out h.0 held v before after (subst (λ (x : Status). error_line x ≢ None) h.1 line) h.2
 request_out s held (Verification v) before after line (inr h) = ((3, h.1.5.0), h.1.5.1)
+request_out s held (Following f) before after line h = following_out h.0 held f before after (subst (λ (x : Status). error_line x ≢ None) h.1 line) h.2
 request_out s held (Load n) before after line h = load_out n before after h.1
 
-pub runs_out : (s : Status) (held : Option Contents) (q : Option Request) (before after : Loads) → error_line s ≢ None → StopsCall s held q before after → RunsOut q before after
-runs_out s held None before after line h = nothing None before after h.1
-runs_out s held (Some q) before after line (inl h) = request_out s held q before after line h
-runs_out s held (Some q) before after line (inr h) = nothing (Some q) before after h.1
+-- what is due where a request gives nothing
+pub told_request : {X : Type 0} (of_status : X → Status) (of_text : X → List ℕ) (held : Option Contents) (q : Request) (before after : Loads) (s : Status) (r : Result X Status) → StopsRequest s held q before after
+    → MatchResult r (λ a. (of_status a ≡ s) × (error_line s ≡ Some (of_text a))) (TellsNothing s)
+    → MatchResult r (λ a. IsRequestDue held q (of_status a) before after (of_text a)) (λ t. Fails t held (Some q) before after)
+told_request of_status of_text held q before after s (Ok a) stops told =
+    inr (subst (λ (x : Status). StopsRequest x held q before after) (sym told.0) stops, subst (λ (x : Status). error_line x ≡ Some (of_text a)) (sym told.0) told.1)
+told_request of_status of_text held q before after s (Err t) stops (inl h) = subst (λ (x : Status). Fails x held (Some q) before after) (sym h.0) (request_fails s held q before after h.1 stops)
+told_request of_status of_text held q before after s (Err t) stops (inr h) = subst (λ (x : Status). Fails x held (Some q) before after) (sym h.0) (request_out s held q before after h.1 stops)
 
 -- What is due has a status with a text.
 
@@ -183,6 +163,7 @@ tells_request held (Explanation v) s before after text (true, e, h) = inl e
 tells_request held (Explanation v) s before after text (false, e, h) = inr e
 tells_request held (Verification v) s before after text (Verified n, h, t) = inl t.0
 tells_request held (Verification v) s before after text (Wrong i, h, t) = absurd t
+tells_request held (Following f) s before after text h = inl h.0
 tells_request held (Load n) s before after text h = inl h.0
 
 tells : (held : Option Contents) (q : Option Request) (s : Status) (before after : Loads) (text : List ℕ) → IsDueOf held q s before after text → ((s ≡ Done) ⊎ (s ≡ Invalid)) ⊎ (error_line s ≡ Some text)
@@ -209,10 +190,25 @@ printed (TooLong f) c p = p
 printed TooManyFiles c p = p
 printed (BadHistory k) c p = p
 printed (BadInput bad) c p = p
+printed (BadOrder i) c p = p
 printed (BadEvidence i) c p = p
+printed (BadLog i) c p = p
+printed LogSpent c p = p
+printed LogTooLarge c p = p
+printed LogStopped c p = p
 printed ReadFault c p = absurd (never c.held (request_of c.words) ReadFault c.before.loads c.after.loads p.0 (λ e. cc) (λ e. cc) refl p.1)
 printed WriteFault c p = absurd (never c.held (request_of c.words) WriteFault c.before.loads c.after.loads p.0 (λ e. cc) (λ e. cc) refl p.1)
 printed Memory c p = absurd (never c.held (request_of c.words) Memory c.before.loads c.after.loads p.0 (λ e. cc) (λ e. cc) refl p.1)
+
+-- it was written, or a part of it
+pub written : (s status : Status) (c : Call) (text : List ℕ) (blamed : Type 0) → IsDue c.words c.held s c.before.loads c.after.loads text → IsWritten s text status c.before.taken c.after.taken blamed → IsOutcome status c
+written s status c text blamed due (inl h) = subst (λ (x : Status). IsOutcome x c) (sym h.0) (printed s c (text, due, h.1))
+written s status c text blamed due (inr h) = subst (λ (x : Status). IsOutcome x c) (sym h.0) (let k = h.1 in (s, text, k.0, k.1, due, k.2))
+
+-- the sink is to blame where writing failed
+pub blamed_by : (s status : Status) (c : Call) (text : List ℕ) (blamed : Type 0) → IsDue c.words c.held s c.before.loads c.after.loads text → IsWritten s text status c.before.taken c.after.taken blamed → status ≡ WriteFault → blamed
+blamed_by s status c text blamed due (inl h) e = absurd (no_write_fault s c.held (request_of c.words) c.before.loads c.after.loads text (sym h.0 ∙ e) due)
+blamed_by s status c text blamed due (inr h) e = h.2
 
 -- nothing was due, and the sink took nothing
 pub not_printed : (s : Status) (c : Call) → Fails s c.held (request_of c.words) c.before.loads c.after.loads → c.after.taken ≡ c.before.taken → IsOutcome s c
@@ -227,11 +223,16 @@ not_printed (TooLong i) c f same = absurd f
 not_printed TooManyFiles c f same = absurd f
 not_printed (BadHistory k) c f same = absurd f
 not_printed (BadInput bad) c f same = absurd f
+not_printed (BadOrder i) c f same = absurd f
 not_printed (BadEvidence i) c f same = absurd f
+not_printed (BadLog i) c f same = absurd f
+not_printed LogSpent c f same = absurd f
+not_printed LogTooLarge c f same = absurd f
+not_printed LogStopped c f same = absurd f
 
 -- What the maker refused grows by the pattern that is told alone.
 
-same_grows : (old new : List Refusal) → new ≡ old → OnlyGrows old new
+pub same_grows : (old new : List Refusal) → new ≡ old → OnlyGrows old new
 same_grows old new e = ([], e ∙ sym (append-nil old))
 
 cause_grows : (d s : List ℕ) (old new : List Refusal) (cause : InputFault) → IsCause d s old new cause → OnlyGrows old new
@@ -271,3 +272,15 @@ pub verdict_gives : {X : Type 0} (status : X → Status) (text : X → List ℕ)
     → MatchResult r (λ a. Gives held (Verification v) (status a) before after (text a)) (λ s. StopsRequest s held (Verification v) before after)
 verdict_gives status text held v before after verdict (Ok a) is told = (verdict, is, told)
 verdict_gives status text held v before after verdict (Err s) is told = inr (verdict, is, told)
+
+-- what a follower of a log gives, and that it gives nothing where memory runs out for its text
+pub follower_gives : (held : Option Contents) (f : FollowedFiles) (before after : Loads) (text given : List ℕ) → AreFollowed held f before after text → given ≡ text → NoneRefused before after → Gives held (Following f) Done before after given
+follower_gives held f before after text given h e same = (refl, subst (λ (t : List ℕ). AreFollowed held f before after t) (sym e) h, same)
+
+pub follower_stops : (held : Option Contents) (f : FollowedFiles) (before after : Loads) (text : List ℕ) → AreFollowed held f before after text → NoneRefused before after → StopsRequest Memory held (Following f) before after
+follower_stops held f before after text h same = (following.Memory, refl, ((2, h.4.0), h.4.1), same)
+
+-- it was asked for
+pub follower_asked : {X : Type 0} (status : X → Status) (text : X → List ℕ) (held : Option Contents) (q : Request) (f : FollowedFiles) (before after : Loads) (r : Result X Status) → q ≡ Following f
+    → MatchResult r (λ a. Gives held (Following f) (status a) before after (text a)) (λ s. StopsRequest s held (Following f) before after) → MatchResult r (λ a. Gives held q (status a) before after (text a)) (λ s. StopsRequest s held q before after)
+follower_asked status text held q f before after r e h = subst (λ (x : Request). MatchResult r (λ a. Gives held x (status a) before after (text a)) (λ s. StopsRequest s held x before after)) (sym e) h

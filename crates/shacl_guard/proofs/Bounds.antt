@@ -1,24 +1,26 @@
--- The numbers of a request are within their bounds.
-use Rattle.std.proofs.Common.{◌≡◌, ◌∙◌, ℕ, List, Some, ap, refl, subst, sym}
+-- What the words ask for, and that its numbers are within their bounds.
+use Rattle.std.proofs.Common.{◌≡◌, ℕ, List, Some, None, ap, refl, subst, sym}
 use Rattle.guard_words.specs.declared.call.Call.{Call}
-use Rattle.guard_words.specs.declared.call.Call.TheVariants.{Run, Replay, Validate, Explain, Verify, Generate}
+use Rattle.guard_words.specs.declared.call.Call.TheVariants.{Run, Replay, CreateLog, Follow, Validate, Explain, Verify, Generate}
 use Rattle.guard_words.specs.Words.{call_of}
 use Rattle.guard_words.proofs.Bounds.{run_bound, replay_bound, generate_bound}
-use Rattle.shacl_guard.specs.declared.request.Request.{Request}
-use Rattle.shacl_guard.specs.Requests.{IsWithin, request_in, request_of}
+use Rattle.shacl_guard.specs.declared.request.Asked.{Asked}
+use Rattle.shacl_guard.specs.Requests.{IsAsked, IsAskedWithin, asked_in, log_request_in, request_in}
 
-inside : (q p : Request) → Some q ≡ Some p → q ≡ p
-inside q p e = cc
+within : (words : List (List ℕ)) (c : Call) → call_of words ≡ Some c → IsAskedWithin (asked_in c)
+within words (Run l None fs) e = (run_bound words l None fs e, refl)
+within words (Run l (Some log) fs) e = (run_bound words l (Some log) fs e, refl, refl)
+within words (Replay l n fs) e = (replay_bound words l n fs e, refl)
+within words (CreateLog name) e = tt
+within words (Follow log order version) e = tt
+within words (Validate g s) e = tt
+within words (Explain g s) e = tt
+within words (Verify g s v) e = tt
+within words (Generate n) e = generate_bound words n e
 
 -- of a call that the words ask for
-pub within : (words : List (List ℕ)) (c : Call) (q : Request) → call_of words ≡ Some c → Some q ≡ request_in (Some c) → IsWithin q
-within words (Run l fs) q e is = subst IsWithin (sym (inside q _ is)) (run_bound words l fs e, refl)
-within words (Replay l n fs) q e is = subst IsWithin (sym (inside q _ is)) (replay_bound words l n fs e, refl)
-within words (Validate g s) q e is = subst IsWithin (sym (inside q _ is)) tt
-within words (Explain g s) q e is = subst IsWithin (sym (inside q _ is)) tt
-within words (Verify g s v) q e is = subst IsWithin (sym (inside q _ is)) tt
-within words (Generate n) q e is = subst IsWithin (sym (inside q _ is)) (generate_bound words n e)
+of_call : (words : List (List ℕ)) (c : Call) → call_of words ≡ Some c → IsAsked words (asked_in c)
+of_call words c e = record { plain = ap request_in e; with_log = ap log_request_in e; within = within words c e }
 
--- and it is that of the words
-pub asked : (words : List (List ℕ)) (c : Call) (q : Request) → call_of words ≡ Some c → Some q ≡ request_in (Some c) → request_of words ≡ Some q
-asked words c q e is = ap request_in e ∙ sym is
+pub asked : (words : List (List ℕ)) (c : Call) (a : Asked) → call_of words ≡ Some c → a ≡ asked_in c → IsAsked words a
+asked words c a e is = subst (IsAsked words) (sym is) (of_call words c e)

@@ -1,3 +1,7 @@
 mod Answering
 mod Bounds
 mod Complete
+mod LogRuns
+mod Outcomes
+mod Telling
+mod Unlogged

@@ -1,20 +1,28 @@
-ghost use Rattle.std.specs.Prelude.{◌≡◌, ◌≢◌, ◌≤◌, ◌++◌, None, codes, IfErr, IfOk, MatchResult, map};
+ghost use Rattle.std.specs.Prelude.{◌≡◌, ◌≢◌, ◌≤◌, ◌++◌, [], List, None, Some, codes, string_bytes, IfErr, IfOk, MatchResult};
 ghost use Rattle.std.specs.Fmt.{decimal};
 ghost use Rattle.session_model.specs.Print.{line};
 ghost use Rattle.session_reader.specs.Checking.{OnlyGrows};
+ghost use Rattle.outside.specs.Faults.{Refusal};
 ghost use Rattle.input_files.specs.Loads.{Loads};
 ghost use Rattle.load_command.specs.Load.{IsLoad};
 ghost use Rattle.validate_command.specs.Lines.{bad_input_text};
-ghost use Rattle.shacl_guard.specs.Due.{Fails, Gives, IsDue, IsTold, StopsCall, StopsRequest, TellsNone};
-ghost use Rattle.shacl_guard.specs.Requests.{IsWithin, request_of};
+ghost use Rattle.session_files.specs.Faults.{StopsRun};
+ghost use Rattle.session_files.specs.Runs.{AreRun, empty_start};
+ghost use Rattle.shacl_guard.specs.Due.{Fails, Gives, IsRequestDue, IsTold, StopsRequest, TellsNone, TellsNothing};
+ghost use Rattle.shacl_guard.specs.Requests.{IsWithin};
 ghost use Rattle.shacl_guard.specs.Statuses.{error_line};
 
 use crate::Status;
-use crate::request::{Request, read_request};
+use crate::request::Request;
+use collections::Sequence;
+use commit_core::Core;
+use commit_log::Log;
+use disk::MemDisk;
+use follow_command::{FollowedFiles, follow_files};
 use load_command::run_load;
 use outside::{Files, Gate, Maker};
 use rdf_text::Text;
-use session_files::{SessionRun, run_files};
+use session_files::{RunFault, SessionRun, Stored, replay_files, run_files};
 use std::alloc::{AllocError, Global};
 use std::sync::Wait;
 use std::thread::Threads;
@@ -28,6 +36,62 @@ use validate_command::{
 pub struct Answer {
     pub status: Status,
     pub text: Text,
+}
+
+// What session files print, run over an empty store.
+fn run_unlogged<R: Threads + Wait + Sync, F: Files, M: Maker, G: Gate>(
+    rt: &R,
+    alloc: Global,
+    run: &SessionRun,
+    files: &mut F,
+    maker: &mut M,
+    gate: &G,
+) -> Result<String, RunFault>
+    requires terms { run.now.limits.terms ≤ 2000000 }
+    requires mode { run.now.limits.mode ≡ BlockMode.All }
+    requires unordered { run.now.history ≡ None }
+    ensures answer { let before : Loads = record { loaded = F.loaded files.old; failed = F.failed files.old; refused = M.refused maker.old } in
+        let after : Loads = record { loaded = F.loaded files.new; failed = F.failed files.new; refused = M.refused maker.new } in
+        MatchResult result (λ text. AreRun (F.holds files.old) empty_start run.now None before after (string_bytes text)) (λ fault. StopsRun fault (F.holds files.old) [] run.now before after) }
+    ensures refused { OnlyGrows (M.refused maker.old) (M.refused maker.new) }
+{
+    let core = Core::open(alloc, run.limits)?;
+    let stored = Stored {
+        core,
+        log: None::<Log<MemDisk>>,
+        first_numbers: Sequence::new(alloc),
+    };
+    let (text, _) = run_files(rt, alloc, stored, run.files.as_slice(), files, maker, gate);
+    text
+}
+
+// What session files print, run in the order of a history where one is handed in.
+fn run_sessions<R: Threads + Wait + Sync, F: Files, M: Maker, G: Gate>(
+    rt: &R,
+    alloc: Global,
+    run: &SessionRun,
+    files: &mut F,
+    maker: &mut M,
+    gate: &G,
+) -> Result<String, RunFault>
+    requires terms { run.now.limits.terms ≤ 2000000 }
+    requires mode { run.now.limits.mode ≡ BlockMode.All }
+    ensures answer { let before : Loads = record { loaded = F.loaded files.old; failed = F.failed files.old; refused = M.refused maker.old } in
+        let after : Loads = record { loaded = F.loaded files.new; failed = F.failed files.new; refused = M.refused maker.new } in
+        MatchResult result (λ text. AreRun (F.holds files.old) empty_start run.now None before after (string_bytes text)) (λ fault. StopsRun fault (F.holds files.old) [] run.now before after) }
+    ensures refused { OnlyGrows (M.refused maker.old) (M.refused maker.new) }
+{
+    match &run.history {
+        Some(history) => replay_files(
+            alloc,
+            run.limits,
+            history.as_str(),
+            run.files.as_slice(),
+            files,
+            maker,
+        ),
+        None => run_unlogged(rt, alloc, run, files, maker, gate),
+    }
 }
 
 // What session files give.
@@ -47,7 +111,7 @@ fn answer_sessions<R: Threads + Wait + Sync, F: Files, M: Maker, G: Gate>(
         (λ s. StopsRequest s (F.holds files.old) (Request.Sessions run.now) before after) }
     ensures refused { OnlyGrows (M.refused maker.old) (M.refused maker.new) }
 {
-    let text = match run_files(rt, alloc, run, files, maker, gate) {
+    let text = match run_sessions(rt, alloc, run, files, maker, gate) {
         Ok(text) => text,
         Err(fault) => return Err(Status::from(fault)),
     };
@@ -147,6 +211,30 @@ fn answer_verification<F: Files, M: Maker>(
     }
 }
 
+// What a follower of a log gives.
+fn answer_following<F: Files>(
+    alloc: Global,
+    followed: &FollowedFiles,
+    files: &mut F,
+) -> Result<Answer, Status>
+    ensures { (refused : List Refusal) → let before : Loads = record { loaded = F.loaded files.old; failed = F.failed files.old; refused = refused } in
+        let after : Loads = record { loaded = F.loaded files.new; failed = F.failed files.new; refused = refused } in
+        MatchResult result (λ a. Gives (F.holds files.old) (Request.Following followed.now) a.status before after a.text)
+        (λ s. StopsRequest s (F.holds files.old) (Request.Following followed.now) before after) }
+{
+    let text = match follow_files(alloc, followed, files) {
+        Ok(text) => text,
+        Err(fault) => return Err(Status::from(fault)),
+    };
+    match Text::from_string(text) {
+        Ok(text) => Ok(Answer {
+            status: Status::Done,
+            text,
+        }),
+        Err(_) => Err(Status::Memory),
+    }
+}
+
 // What a generated load gives.
 fn answer_load<R: Threads + Wait + Sync, M: Maker, G: Gate>(
     rt: &R,
@@ -192,31 +280,9 @@ fn answer_request<R: Threads + Wait + Sync, F: Files, M: Maker, G: Gate>(
         Request::Validation(validated) => answer_validation(rt, alloc, validated, files, maker),
         Request::Explanation(explained) => answer_explanation(alloc, explained, files, maker),
         Request::Verification(verified) => answer_verification(alloc, verified, files, maker),
+        Request::Following(followed) => answer_following(alloc, followed, files),
         Request::Load(n) => answer_load(rt, alloc, *n, maker, gate),
     }
-}
-
-// What the words give, or why they give no text of their own.
-fn answer_call<R: Threads + Wait + Sync, F: Files, M: Maker, G: Gate>(
-    rt: &R,
-    alloc: Global,
-    words: &[&str],
-    files: &mut F,
-    maker: &mut M,
-    gate: &G,
-) -> Result<Answer, Status>
-    ensures answer { let given = map (λ w. w.now) words.now in
-        let before : Loads = record { loaded = F.loaded files.old; failed = F.failed files.old; refused = M.refused maker.old } in
-        let after : Loads = record { loaded = F.loaded files.new; failed = F.failed files.new; refused = M.refused maker.new } in
-        MatchResult result (λ a. IsDue given (F.holds files.old) a.status before after a.text)
-        (λ s. StopsCall s (F.holds files.old) (request_of given) before after) }
-    ensures refused { OnlyGrows (M.refused maker.old) (M.refused maker.new) }
-{
-    let request = match read_request(alloc, words) {
-        Ok(request) => request,
-        Err(fault) => return Err(Status::from(fault)),
-    };
-    answer_request(rt, alloc, &request, files, maker, gate)
 }
 
 fn bad_session_line(alloc: Global, session: u32, number: u64) -> Result<Text, AllocError>
@@ -243,6 +309,18 @@ fn bad_evidence_line(alloc: Global, block: u32) -> Result<Text, AllocError>
     Ok(Text::from_string(format!(in alloc; "error evidence {block}\n")?)?)
 }
 
+fn bad_log_line(alloc: Global, entry: u64) -> Result<Text, AllocError>
+    ensures { IfOk result (λ text. text ≡ line (codes "error log record " ++ decimal entry)) }
+{
+    Ok(Text::from_string(format!(in alloc; "error log record {entry}\n")?)?)
+}
+
+fn bad_order_line(alloc: Global, place: u64) -> Result<Text, AllocError>
+    ensures { IfOk result (λ text. text ≡ line (codes "error order " ++ decimal place)) }
+{
+    Ok(Text::from_string(format!(in alloc; "error order {place}\n")?)?)
+}
+
 fn bad_input_line(alloc: Global, bad: &BadInput) -> Result<Text, AllocError>
     ensures { IfOk result (λ text. text ≡ line (codes "error " ++ bad_input_text bad.now)) }
 {
@@ -261,35 +339,49 @@ fn error_text(alloc: Global, status: &Status) -> Result<Option<Text>, AllocError
         Status::TooManyFiles => Ok(Some(Text::new(alloc, "error too many files\n")?)),
         Status::BadHistory { place } => Ok(Some(bad_history_line(alloc, *place)?)),
         Status::BadInput(bad) => Ok(Some(bad_input_line(alloc, bad)?)),
+        Status::BadLog { entry } => Ok(Some(bad_log_line(alloc, *entry)?)),
+        Status::LogSpent => Ok(Some(Text::new(alloc, "error log spent\n")?)),
+        Status::LogTooLarge => Ok(Some(Text::new(alloc, "error log too large\n")?)),
+        Status::BadOrder { place } => Ok(Some(bad_order_line(alloc, *place)?)),
         Status::BadEvidence { block } => Ok(Some(bad_evidence_line(alloc, *block)?)),
-        Status::Done | Status::Invalid | Status::ReadFault | Status::WriteFault | Status::Memory =>
-            Ok(None),
+        Status::Done
+        | Status::Invalid
+        | Status::ReadFault
+        | Status::WriteFault
+        | Status::Memory
+        | Status::LogStopped => Ok(None),
     }
 }
 
-/// What is due for the words, or why nothing is.
-pub fn answer_to<R: Threads + Wait + Sync, F: Files, M: Maker, G: Gate>(
-    rt: &R,
-    alloc: Global,
-    words: &[&str],
-    files: &mut F,
-    maker: &mut M,
-    gate: &G,
-) -> Result<Answer, Status>
-    ensures answer { let given = map (λ w. w.now) words.now in
-        let before : Loads = record { loaded = F.loaded files.old; failed = F.failed files.old; refused = M.refused maker.old } in
-        let after : Loads = record { loaded = F.loaded files.new; failed = F.failed files.new; refused = M.refused maker.new } in
-        MatchResult result (λ a. IsDue given (F.holds files.old) a.status before after a.text)
-        (λ s. Fails s (F.holds files.old) (request_of given) before after) }
-    ensures refused { OnlyGrows (M.refused maker.old) (M.refused maker.new) }
+/// The text of a status that stops a request: the line of its error, if it has one.
+pub(crate) fn told(alloc: Global, status: Status) -> Result<Answer, Status>
+    ensures { MatchResult result (λ a. (a.status ≡ status) × (error_line status ≡ Some a.text)) (TellsNothing status) }
 {
-    let status = match answer_call(rt, alloc, words, files, maker, gate) {
-        Ok(answer) => return Ok(answer),
-        Err(status) => status,
-    };
     match error_text(alloc, &status) {
         Ok(Some(text)) => Ok(Answer { status, text }),
         Ok(None) => Err(status),
         Err(_) => Err(Status::Memory),
+    }
+}
+
+/// What is due for a request, or why nothing is.
+pub fn answer_to<R: Threads + Wait + Sync, F: Files, M: Maker, G: Gate>(
+    rt: &R,
+    alloc: Global,
+    request: &Request,
+    files: &mut F,
+    maker: &mut M,
+    gate: &G,
+) -> Result<Answer, Status>
+    requires { IsWithin request.now }
+    ensures answer { let before : Loads = record { loaded = F.loaded files.old; failed = F.failed files.old; refused = M.refused maker.old } in
+        let after : Loads = record { loaded = F.loaded files.new; failed = F.failed files.new; refused = M.refused maker.new } in
+        MatchResult result (λ a. IsRequestDue (F.holds files.old) request.now a.status before after a.text)
+        (λ s. Fails s (F.holds files.old) (Some request.now) before after) }
+    ensures refused { OnlyGrows (M.refused maker.old) (M.refused maker.new) }
+{
+    match answer_request(rt, alloc, request, files, maker, gate) {
+        Ok(answer) => Ok(answer),
+        Err(status) => told(alloc, status),
     }
 }

@@ -3,6 +3,7 @@
 ghost use Rattle.std.specs.Prelude.{◌<◌};
 
 use crate::{Status, run};
+use disk::MemDisk;
 use outside::{FakeMaker, MemFile, MemFiles, MemSink, OpenGate, RegexMaker};
 use std::alloc::{AllocError, Global};
 use std::sync::Wait;
@@ -57,8 +58,9 @@ fn replayed<R: Threads + Wait + Sync>(
     let mut out = MemSink::new(alloc, most, 1000, numbered(alloc, write)?)?;
     let mut maker = RegexMaker::new(alloc);
     let words = ["shacl_guard", "replay", "h", "f", "g"];
-    let status = run(
-        rt, alloc, &words, &mut files, &mut out, &mut maker, &OpenGate,
+    let disk = MemDisk::new(alloc, Vec::new(alloc), Vec::new(alloc), 0)?;
+    let (status, _) = run(
+        rt, alloc, &words, &mut files, &mut out, &mut maker, &OpenGate, disk,
     );
     Ok((status, out))
 }
@@ -150,8 +152,9 @@ fn a_pattern_may_be_refused(rt: HostRuntime) -> Result<(), Fail> {
         let mut out = MemSink::new(alloc, 1000, 1000, Vec::new(alloc))?;
         let mut maker = FakeMaker::new(alloc, RegexMaker::new(alloc), numbered(alloc, build)?);
         let words = ["shacl_guard", "run", "f"];
-        let status = run(
-            &rt, alloc, &words, &mut files, &mut out, &mut maker, &OpenGate,
+        let disk = MemDisk::new(alloc, Vec::new(alloc), Vec::new(alloc), 0)?;
+        let (status, _) = run(
+            &rt, alloc, &words, &mut files, &mut out, &mut maker, &OpenGate, disk,
         );
         assert_eq!(rt; status, Status::Done, "build {build}");
         assert_eq!(rt; out.taken(), due, "build {build}");

@@ -1,5 +1,6 @@
 // Two sessions of which one reads what the other changes, held by a gate at chosen events, through `run` with the forms in memory.
 use crate::{Status, run};
+use disk::MemDisk;
 use outside::{Gate, MemFile, MemFiles, MemSink, Place, RegexMaker};
 use std::alloc::{AllocError, Global};
 use std::sync::atomic::{AtomicBool, Ordering};
@@ -120,7 +121,10 @@ fn a_reader_is_held(rt: HostRuntime) -> Result<(), Fail> {
             second: Hold::new(writer, until),
         };
         let words = ["shacl_guard", "run", "f", "g"];
-        let status = run(&rt, alloc, &words, &mut files, &mut out, &mut maker, &gate);
+        let disk = MemDisk::new(alloc, Vec::new(alloc), Vec::new(alloc), 0)?;
+        let (status, _) = run(
+            &rt, alloc, &words, &mut files, &mut out, &mut maker, &gate, disk,
+        );
         assert_eq!(rt; status, Status::Done);
         assert!(rt; !gate.first.spent.load(Ordering::SeqCst));
         assert_eq!(rt; out.taken(), due);

@@ -1,8 +1,8 @@
 //! A store of RDF triples that guards its commits by shapes: the program.
 //!
 //! `run` is the whole of it: from the words and the files to the bytes that the sink takes and the
-//! status. Its contract is the promise of the program. `main` makes the real files, standard output
-//! and the rest, and hands them to `run`.
+//! status, and what the disk of a log has then. Its contract is the promise of the program. `main` makes the real files,
+//! standard output, the disk and the rest, and hands them to `run`.
 #![tactic(auto)]
 
 mod answer;
@@ -10,12 +10,14 @@ mod answer;
 mod device_tests;
 #[cfg(test)]
 mod held_tests;
+mod logged;
 mod request;
 mod run;
 mod status;
 #[cfg(test)]
 mod tests;
 
+use disk::HostDisk;
 use outside::{HostFiles, HostSink, OpenGate, RegexMaker};
 pub use run::run_command as run;
 pub use status::Status;
@@ -54,8 +56,9 @@ fn main(rt: HostRuntime) -> ExitCode {
     let mut files = HostFiles::new(alloc, &rt);
     let mut out = HostSink::new(&rt);
     let mut maker = RegexMaker::new(alloc);
-    let status = run(
-        &rt, alloc, &texts, &mut files, &mut out, &mut maker, &OpenGate,
+    let disk = HostDisk::new(&rt);
+    let (status, _) = run(
+        &rt, alloc, &texts, &mut files, &mut out, &mut maker, &OpenGate, disk,
     );
     status.exit_code()
 }

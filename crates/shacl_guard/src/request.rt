@@ -1,8 +1,11 @@
-ghost use Rattle.std.specs.Prelude.{◌≡◌, IfOk, MatchResult, Some, map};
+ghost use Rattle.std.specs.Prelude.{◌≡◌, MatchResult, map};
 ghost use Rattle.shacl_guard.specs.Requests;
-ghost use Rattle.shacl_guard.specs.Requests.{IsWithin, Unasked, request_of};
+ghost use Rattle.shacl_guard.specs.Requests.{IsAsked, Unasked, UnaskedOfLog, log_request_of, request_of};
 
+use collections::Sequence;
+use follow_command::FollowedFiles;
 use guard_words::{Call, Limits as Bounds, WordsFault, read_call};
+use rdf_text::Text;
 use session_files::SessionRun;
 use std::alloc::Global;
 use store_model::{BlockMode, Limits};
@@ -19,8 +22,34 @@ pub enum Request {
     Explanation(ValidatedFiles),
     /// Evidence of the results of such a validation is verified.
     Verification(VerifiedFiles),
+    /// A follower is fed records of a log.
+    Following(FollowedFiles),
     /// The generated load of so many numbers is run.
     Load(u32),
+}
+
+/// What the words ask for, with a log.
+#[derive(Debug, Drop)]
+pub enum LogRequest {
+    /// A log of this name is made.
+    Create { name: Text },
+    /// Session files are run over the store of a log.
+    Logged(LoggedRun),
+}
+
+/// Session files that are run over the store of a log.
+#[derive(Debug, Drop)]
+pub struct LoggedRun {
+    /// The name of the log.
+    pub log: Text,
+    pub run: SessionRun,
+}
+
+/// What the words ask for, without a log or with one.
+#[derive(Debug, Drop)]
+pub enum Asked {
+    Plain(Request),
+    WithLog(LogRequest),
 }
 
 // The limits of the words as those of a store, in which every result blocks.
@@ -34,62 +63,87 @@ fn limits_of(bounds: Bounds) -> Limits
     }
 }
 
-// The request of a call.
-fn request_in(call: Call) -> Request
-    ensures { Some result ≡ Requests.request_in (Some call) }
+// The run of session files, in the order of a history where one is handed in.
+fn run_of(bounds: Bounds, history: Option<Text>, files: Sequence<Text>) -> SessionRun
+    ensures { result ≡ Requests.run_of bounds history files }
+{
+    SessionRun {
+        limits: limits_of(bounds),
+        history,
+        files,
+    }
+}
+
+// What a run of session files asks for, over the store of a log if one is named.
+fn asked_run(bounds: Bounds, log: Option<Text>, files: Sequence<Text>) -> Asked
+    ensures { result ≡ Requests.asked_in (Call.Run bounds log files) }
+{
+    match log {
+        Some(log) => Asked::WithLog(LogRequest::Logged(LoggedRun {
+            log,
+            run: run_of(bounds, None, files),
+        })),
+        None => Asked::Plain(Request::Sessions(run_of(bounds, None, files))),
+    }
+}
+
+// What a call asks for.
+fn asked_in(call: Call) -> Asked
+    ensures { result ≡ Requests.asked_in call }
 {
     match call {
-        Call::Run { limits, files } => Request::Sessions(SessionRun {
-            limits: limits_of(limits),
-            history: None,
-            files,
-        }),
+        Call::Run { limits, log, files } => asked_run(limits, log, files),
         Call::Replay {
             limits,
             history,
             files,
-        } => Request::Sessions(SessionRun {
-            limits: limits_of(limits),
-            history: Some(history),
-            files,
-        }),
+        } => Asked::Plain(Request::Sessions(run_of(limits, Some(history), files))),
+        Call::CreateLog { name } => Asked::WithLog(LogRequest::Create { name }),
+        Call::Follow {
+            log: log_file,
+            order,
+            version,
+        } => Asked::Plain(Request::Following(FollowedFiles {
+            log_file,
+            order_file: order,
+            version: u64::from(version),
+        })),
         Call::Validate {
             data: data_file,
             shapes,
-        } => Request::Validation(ValidatedFiles {
+        } => Asked::Plain(Request::Validation(ValidatedFiles {
             data_file,
             shapes_file: shapes,
-        }),
+        })),
         Call::Explain {
             data: data_file,
             shapes,
-        } => Request::Explanation(ValidatedFiles {
+        } => Asked::Plain(Request::Explanation(ValidatedFiles {
             data_file,
             shapes_file: shapes,
-        }),
+        })),
         Call::Verify {
             data: data_file,
             shapes,
             evidence,
-        } => Request::Verification(VerifiedFiles {
+        } => Asked::Plain(Request::Verification(VerifiedFiles {
             graphs: ValidatedFiles {
                 data_file,
                 shapes_file: shapes,
             },
             evidence_file: evidence,
-        }),
-        Call::Generate { numbers } => Request::Load(numbers),
+        })),
+        Call::Generate { numbers } => Asked::Plain(Request::Load(numbers)),
     }
 }
 
 /// Reads the words, the first of which is the program's name.
-pub fn read_request(alloc: Global, words: &[&str]) -> Result<Request, WordsFault>
-    ensures answer { let asked = request_of (map (λ w. w.now) words.now) in
-        MatchResult result (λ request. asked ≡ Some request) (λ fault. Unasked fault asked) }
-    ensures bound { IfOk result IsWithin }
+pub fn read_asked(alloc: Global, words: &[&str]) -> Result<Asked, WordsFault>
+    ensures { let given = map (λ w. w.now) words.now in
+        MatchResult result (IsAsked given) (λ fault. Unasked fault (request_of given) × UnaskedOfLog fault (log_request_of given)) }
 {
     match read_call(alloc, words) {
-        Ok(call) => Ok(request_in(call)),
+        Ok(call) => Ok(asked_in(call)),
         Err(fault) => Err(fault),
     }
 }

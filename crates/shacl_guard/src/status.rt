@@ -1,7 +1,9 @@
 ghost use Rattle.std.specs.Prelude.{◌≡◌};
 ghost use Rattle.std.specs.Process.{exit_status};
 
+use follow_command::FollowFault;
 use guard_words::WordsFault;
+use log_command::{CreateLogFault, LogFault};
 use session_files::RunFault;
 use std::process::ExitCode;
 use validate_command::{BadInput, ValidateFault};
@@ -31,6 +33,18 @@ pub enum Status {
     BadHistory { place: u64 },
     /// The files of a validation aren't what they should be.
     BadInput(BadInput),
+    /// The record of a log that is to blame, from 1: it isn't whole or isn't spelled as records are, it staged shapes that break a
+    /// rule, it doesn't fit, or it is the last and leads to a graph with a result. 0 where no log begins, or where one is to be made
+    /// and something is there.
+    BadLog { entry: u64 },
+    /// A blank node of a log has a number over 4,278,190,078.
+    LogSpent,
+    /// The records of a log pass the limits.
+    LogTooLarge,
+    /// The log failed at a commit, and the store stopped there; all was written.
+    LogStopped,
+    /// The first place of an order of records that is no number of one, from 1; 0 where its text doesn't begin as one.
+    BadOrder { place: u64 },
     /// The first block of evidence, from 1, that isn't spelled as blocks are, or doesn't show its result.
     BadEvidence { block: u32 },
 }
@@ -80,6 +94,53 @@ impl From<ValidateFault> for Status {
     }
 }
 
+impl From<CreateLogFault> for Status {
+    ghost use Rattle.shacl_guard.specs.Statuses.{of_creation};
+
+    ghost from_gives = { λ fault status. status ≡ of_creation fault };
+
+    fn from(fault: CreateLogFault) -> Status {
+        match fault {
+            CreateLogFault::ReadFault => Status::ReadFault,
+            CreateLogFault::NotEmpty => Status::BadLog { entry: 0 },
+            CreateLogFault::Memory => Status::Memory,
+        }
+    }
+}
+
+impl From<LogFault> for Status {
+    ghost use Rattle.shacl_guard.specs.Statuses.{of_log};
+
+    ghost from_gives = { λ fault status. status ≡ of_log fault };
+
+    fn from(fault: LogFault) -> Status {
+        match fault {
+            LogFault::ReadFault => Status::ReadFault,
+            LogFault::BadLog { record: entry } => Status::BadLog { entry },
+            LogFault::Spent => Status::LogSpent,
+            LogFault::Pattern { node } => Status::BadInput(BadInput::Pattern { node }),
+            LogFault::TooLarge => Status::LogTooLarge,
+            LogFault::Memory => Status::Memory,
+        }
+    }
+}
+
+impl From<FollowFault> for Status {
+    ghost use Rattle.shacl_guard.specs.Statuses.{of_following};
+
+    ghost from_gives = { λ fault status. status ≡ of_following fault };
+
+    fn from(fault: FollowFault) -> Status {
+        match fault {
+            FollowFault::ReadFault => Status::ReadFault,
+            FollowFault::TooLong { file } => Status::TooLong { file },
+            FollowFault::BadLog { record: entry } => Status::BadLog { entry },
+            FollowFault::BadOrder { place } => Status::BadOrder { place },
+            FollowFault::Memory => Status::Memory,
+        }
+    }
+}
+
 impl Status {
     ghost use Rattle.shacl_guard.specs.Statuses.{code_of, of_conforms};
 
@@ -110,6 +171,11 @@ impl Status {
             Status::TooManyFiles => 8,
             Status::BadHistory { .. } => 9,
             Status::BadInput(_) => 10,
+            Status::BadLog { .. } => 11,
+            Status::LogSpent => 12,
+            Status::LogTooLarge => 13,
+            Status::LogStopped => 14,
+            Status::BadOrder { .. } => 15,
             Status::BadEvidence { .. } => 16,
         }
     }

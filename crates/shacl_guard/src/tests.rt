@@ -3,6 +3,7 @@
 ghost use Rattle.std.specs.Prelude.{◌<◌};
 
 use crate::{Status, run};
+use disk::MemDisk;
 use outside::{EventKind, Gate, MemFile, MemFiles, MemSink, OpenGate, Place, RegexMaker};
 use std::alloc::{AllocError, Global};
 use std::sync::Wait;
@@ -44,8 +45,9 @@ fn run_two<R: Threads + Wait + Sync>(
     let mut out = MemSink::new(alloc, most, 1000, writes)?;
     let mut maker = RegexMaker::new(alloc);
     let words = ["shacl_guard", command, "f", "g"];
-    let status = run(
-        rt, alloc, &words, &mut files, &mut out, &mut maker, &OpenGate,
+    let disk = MemDisk::new(alloc, Vec::new(alloc), Vec::new(alloc), 0)?;
+    let (status, _) = run(
+        rt, alloc, &words, &mut files, &mut out, &mut maker, &OpenGate, disk,
     );
     Ok((status, out))
 }
@@ -145,8 +147,9 @@ fn generated_loads_are_counted(rt: HostRuntime) -> Result<(), Fail> {
         let mut out = MemSink::new(alloc, 1000, 1000, Vec::new(alloc))?;
         let mut maker = RegexMaker::new(alloc);
         let words = ["shacl_guard", "generate", size];
-        let ended = run(
-            &rt, alloc, &words, &mut files, &mut out, &mut maker, &OpenGate,
+        let disk = MemDisk::new(alloc, Vec::new(alloc), Vec::new(alloc), 0)?;
+        let (ended, _) = run(
+            &rt, alloc, &words, &mut files, &mut out, &mut maker, &OpenGate, disk,
         );
         assert_eq!(rt; ended.code(), status, "{size}");
         assert_eq!(rt; out.taken(), due, "{size}");
@@ -242,7 +245,10 @@ fn sessions_are_held(rt: HostRuntime) -> Result<(), Fail> {
         spent: AtomicU64::new(0),
     };
     let words = ["shacl_guard", "run", "f", "g"];
-    let status = run(&rt, alloc, &words, &mut files, &mut out, &mut maker, &gate);
+    let disk = MemDisk::new(alloc, Vec::new(alloc), Vec::new(alloc), 0)?;
+    let (status, _) = run(
+        &rt, alloc, &words, &mut files, &mut out, &mut maker, &gate, disk,
+    );
     assert_eq!(rt; status, Status::Done);
     assert_eq!(rt; gate.spent.load(Ordering::SeqCst), 0);
     assert_eq!(rt; gate.calls.load(Ordering::SeqCst), 16);

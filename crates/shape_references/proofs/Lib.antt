@@ -1,4 +1,7 @@
 pub mod Asked
+pub mod BoundNames
+pub mod BoundSteps
+pub mod BoundChains
 pub mod LeastChain
 pub mod LeastLoop
 pub mod MarkedChains

@@ -1,6 +1,6 @@
 -- What the triples with a value of a property show.
-use Rattle.std.proofs.Common.{◌≡◌, List, refl, sym, subst}
-use Rattle.std.specs.Prelude.{◌↔◌}
+use Rattle.std.proofs.Common.{◌≡◌, ◌∙◌, ℕ, zero, suc, List, [], ◌∷◌, length, Option, Some, None, refl, sym, ap, subst, arith}
+use Rattle.std.specs.Prelude.{◌↔◌, MatchOption}
 use Rattle.std.specs.List.{Contains}
 use Rattle.collections.specs.Listings.{IsListing}
 use Rattle.rdf_model.specs.declared.term.Term.{Term}
@@ -57,3 +57,24 @@ turned_by s t = (
   λ g. let u = g.0 in subst (λ (x : Triple). IsTurned s x) (sym g.2.1) (g.2.0, g.1),
   λ h. (record { subject = t.object; predicate = t.predicate; object = t.subject }, h.1, (h.0, refl)),
 )
+
+-- the only one of the turned triples leads to the only parent
+pub only_one : (s turned own : List Triple) (shape : Term) (t : Triple) → IsListing triple_cmp (IsTurned s) turned → AreValues turned shape ShProperty own → length own ≡ 1 → Contains own t
+    → HasProperty s t.object ShProperty shape × ((q : Term) → HasProperty s q ShProperty shape → q ≡ t.object)
+only_one s turned own shape t list all one here = (
+  (turned_value s turned list shape t.object).0 (value_in turned own shape ShProperty all t here),
+  λ q h. ap (λ (x : Triple). x.object) (alone own _ t one (in_values turned own shape ShProperty all q ((turned_value s turned list shape q).1 h)) here),
+)
+  where
+    alone : (xs : List Triple) (x y : Triple) → length xs ≡ 1 → Contains xs x → Contains xs y → x ≡ y
+    alone [] x y e c d = absurd (omega arith)
+    alone (z ∷ []) x y e c d = sym (first z x c) ∙ first z y d
+      where
+        first : (z x : Triple) → Contains (z ∷ []) x → z ≡ x
+        first z x (zero, l, f) = f
+        first z x (suc i, l, f) = absurd (omega arith)
+    alone (z ∷ w ∷ zs) x y e c d = absurd (omega arith)
+
+pub both_some : {X : Type 0} → (P : Type 0) (Q : X → Type 0) (o : Option X) → P → MatchOption o (Unit {0}) Q → MatchOption o (Unit {0}) (λ x. P × Q x)
+both_some P Q None p h = tt
+both_some P Q (Some x) p h = (p, h)

@@ -37,3 +37,23 @@ IsUnder s shape parent t = (other : Term) × HasProperty s parent ShProperty oth
 -- of a sh:property of a shape that has it as a sh:property
 abbrev pub IsBeside : List Triple → Term → Term → Type 0
 IsBeside s shape t = (parent : Term) × HasProperty s parent ShProperty shape × IsUnder s shape parent t
+
+-- a sh:property of the parent that may have siblings
+abbrev pub IsDisjointUnder : List Triple → Term → Term → Type 0
+IsDisjointUnder s parent a = HasProperty s parent ShProperty a × MayHaveSiblings s a
+
+-- a qualified value shape of a sh:property of the parent
+abbrev pub IsQualifiedUnder : List Triple → Term → Term → Type 0
+IsQualifiedUnder s parent b = (other : Term) × HasProperty s parent ShProperty other × HasProperty s other ShQualifiedValueShape b
+
+-- a may have siblings under the parent, and b is one of them or a qualified value shape of a
+abbrev pub AreUnder : List Triple → Term → Term → Term → Type 0
+AreUnder s parent a b = IsDisjointUnder s parent a × IsQualifiedUnder s parent b
+
+-- only this shape has it as a sh:property
+abbrev pub HasOneParent : List Triple → Term → Term → Type 0
+HasOneParent s a parent = HasProperty s parent ShProperty a × ((q : Term) → HasProperty s q ShProperty a → q ≡ parent)
+
+-- and it may have siblings
+abbrev pub IsOnlyParent : List Triple → Term → Term → Type 0
+IsOnlyParent s a parent = MayHaveSiblings s a × HasOneParent s a parent

@@ -1,17 +1,19 @@
 //! The siblings of a property shape (SHACL section 4.7.3).
-ghost use Rattle.std.specs.Prelude.{◌≡◌, ◌⊎◌, ◌↔◌, IsTrue, IfOk, OnOk};
+ghost use Rattle.std.specs.Prelude.{◌≡◌, ◌⊎◌, ◌↔◌, IsTrue, IfOk, OnOk, MatchOption, length};
 ghost use Rattle.std.specs.List.{Contains};
 ghost use Rattle.collections.specs.Listings.{IsListing};
 ghost use Rattle.collections.specs.Ordered.{IsAscending};
 ghost use Rattle.rdf_model.specs.declared.term.Term.{Term as TermData};
 ghost use Rattle.rdf_model.specs.declared.triple.Triple.{Triple as TripleData};
-ghost use Rattle.rdf_model.specs.Terms.{triple_cmp};
+ghost use Rattle.rdf_model.specs.Terms.{term_cmp, triple_cmp};
 ghost use Rattle.shape_model.specs.Vocabulary.{ShPath, ShProperty, ShQualifiedValueShape, ShQualifiedValueShapesDisjoint, property_iri, true_literal};
 ghost use Rattle.shape_model.specs.ShapeSyntax.{HasProperty};
 ghost use Rattle.shape_model.specs.Readings.{Sibling};
 ghost use Rattle.shape_syntax.specs.Gathering.{Gives};
-ghost use Rattle.shape_references.specs.Siblings.{AreValues, IsBeside, IsForeign, IsOfOther, IsTurned, IsTurnOf, IsUnder, MayHaveSiblings};
+ghost use Rattle.shape_references.specs.Bundles.{IsBound};
+ghost use Rattle.shape_references.specs.Siblings.{AreUnder, AreValues, HasOneParent, IsBeside, IsDisjointUnder, IsForeign, IsOfOther, IsOnlyParent, IsQualifiedUnder, IsTurned, IsTurnOf, IsUnder, MayHaveSiblings};
 
+use crate::Bundle;
 use collections::{Sequence, sorted_once};
 use rdf_model::{Term, Triple};
 use shape_syntax::lookup::values;
@@ -209,6 +211,150 @@ pub fn push_siblings(
         return Ok(());
     }
     Ok(())
+}
+
+// Adds the qualified value shapes of the property shape.
+fn push_qualified(
+    graph: &[Triple],
+    shape: &Term,
+    nodes: &mut Sequence<Term>,
+) -> Result<(), AllocError>
+    requires { IsAscending triple_cmp graph.now }
+    ensures { OnOk result ((t : TermData) → Contains nodes.new t ↔ (Contains nodes.old t ⊎ HasProperty graph.now shape.now ShQualifiedValueShape t)) }
+{
+    for triple in qualified_shapes(graph, shape) {
+        nodes.push(triple.object.clone()?)?;
+    }
+    Ok(())
+}
+
+// Adds those of all the sh:property values of the parent.
+fn push_all_qualified(
+    graph: &[Triple],
+    parent: &Term,
+    nodes: &mut Sequence<Term>,
+) -> Result<(), AllocError>
+    requires { IsAscending triple_cmp graph.now }
+    ensures { OnOk result ((t : TermData) → Contains nodes.new t ↔ (Contains nodes.old t ⊎ IsQualifiedUnder graph.now parent.now t)) }
+{
+    for triple in properties(graph, parent) {
+        push_qualified(graph, &triple.object, nodes)?;
+    }
+    Ok(())
+}
+
+// Adds the shape, if it may have siblings.
+fn push_if_disjoint(
+    graph: &[Triple],
+    shape: &Term,
+    nodes: &mut Sequence<Term>,
+) -> Result<(), AllocError>
+    requires { IsAscending triple_cmp graph.now }
+    ensures { OnOk result ((t : TermData) → Contains nodes.new t ↔ (Contains nodes.old t ⊎ ((shape.now ≡ t) × MayHaveSiblings graph.now t))) }
+{
+    if may_have_siblings(graph, shape) {
+        nodes.push(shape.clone()?)?;
+        return Ok(());
+    }
+    Ok(())
+}
+
+// Adds the sh:property values of the parent that may have siblings.
+fn push_all_disjoint(
+    graph: &[Triple],
+    parent: &Term,
+    nodes: &mut Sequence<Term>,
+) -> Result<(), AllocError>
+    requires { IsAscending triple_cmp graph.now }
+    ensures { OnOk result ((t : TermData) → Contains nodes.new t ↔ (Contains nodes.old t ⊎ IsDisjointUnder graph.now parent.now t)) }
+{
+    for triple in properties(graph, parent) {
+        push_if_disjoint(graph, &triple.object, nodes)?;
+    }
+    Ok(())
+}
+
+/// Adds the references of those that may have siblings under the parent, to all qualified value shapes there: to their
+/// siblings, and to their own.
+pub fn push_sibling_bundle(
+    alloc: Global,
+    graph: &[Triple],
+    parent: &Term,
+    bundles: &mut Sequence<Bundle>,
+) -> Result<(), AllocError>
+    requires { IsAscending triple_cmp graph.now }
+    ensures { OnOk result ((a b : TermData) → IsBound bundles.new a b ↔ (IsBound bundles.old a b ⊎ AreUnder graph.now parent.now a b)) }
+{
+    let mut from = Sequence::new(alloc);
+    push_all_disjoint(graph, parent, &mut from)?;
+    if from.is_empty() {
+        return Ok(());
+    }
+    let mut to = Sequence::new(alloc);
+    push_all_qualified(graph, parent, &mut to)?;
+    bundles.push(Bundle { from, to })?;
+    Ok(())
+}
+
+/// The qualified value shapes of the sh:property values of the parent, each once and in order.
+pub fn qualified_under(
+    alloc: Global,
+    graph: &[Triple],
+    parent: &Term,
+) -> Result<Vec<Term>, AllocError>
+    requires { IsAscending triple_cmp graph.now }
+    ensures { IfOk result (λ found. IsListing term_cmp (IsQualifiedUnder graph.now parent.now) found.items) }
+{
+    let mut nodes = Sequence::new(alloc);
+    push_all_qualified(graph, parent, &mut nodes)?;
+    let sorted = sorted_once(nodes.into_vec())?;
+    Ok(sorted)
+}
+
+/// Whether the parent has a sh:property that may have siblings. That isn't ensured: it saves time and no more.
+pub fn may_share(graph: &[Triple], parent: &Term) -> bool
+    requires { IsAscending triple_cmp graph.now }
+{
+    for triple in properties(graph, parent) {
+        if may_have_siblings(graph, &triple.object) {
+            return true;
+        }
+    }
+    false
+}
+
+// The triple, if there is just one.
+fn only_of(found: &[Triple]) -> Option<&Triple>
+    ensures { MatchOption result (Unit {0}) (λ t. (length found.now ≡ 1) × Contains found.now t.now) }
+{
+    if found.len() == 1 {
+        return Some(&found[0]);
+    }
+    None
+}
+
+// The only shape that has the shape as a sh:property, if there is just one.
+fn parent_of<'a>(graph: &[Triple], turned: &'a [Triple], shape: &Term) -> Option<&'a Term>
+    requires graph { IsAscending triple_cmp graph.now }
+    requires turned { IsListing triple_cmp (IsTurned graph.now) turned.now }
+    ensures { MatchOption result (Unit {0}) (λ parent. HasOneParent graph.now shape.now parent.now) }
+{
+    match only_of(properties(turned, shape)) {
+        Some(triple) => Some(&triple.object),
+        None => None,
+    }
+}
+
+/// The only shape that has the shape as a sh:property, where the shape may have siblings. The graph's `turned_properties` are given.
+pub fn only_parent<'a>(graph: &[Triple], turned: &'a [Triple], shape: &Term) -> Option<&'a Term>
+    requires graph { IsAscending triple_cmp graph.now }
+    requires turned { IsListing triple_cmp (IsTurned graph.now) turned.now }
+    ensures { MatchOption result (Unit {0}) (λ parent. IsOnlyParent graph.now shape.now parent.now) }
+{
+    if may_have_siblings(graph, shape) {
+        return parent_of(graph, turned, shape);
+    }
+    None
 }
 
 #[tactic(auto, unfolding(shape_model::specs::Vocabulary::sh))]

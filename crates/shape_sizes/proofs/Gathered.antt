@@ -16,7 +16,7 @@ use Rattle.reference_totals.specs.declared.place.Place.{Place}
 use Rattle.shape_syntax.specs.Gathering.{Gives}
 use Rattle.shape_syntax.proofs.Scans.{cases_more}
 use Rattle.shape_properties.specs.declared.property.ShapeProperty.{ShapeProperty}
-use Rattle.shape_sizes.specs.Counted.{ArePlaces, HasAdded, IsPlaceOf}
+use Rattle.shape_sizes.specs.Counted.{AreShapePlaces, HasAdded, IsPlaceOf}
 use Rattle.shape_properties.specs.Properties.{property_iri}
 use Rattle.shape_sizes.specs.Sizes.{AreMembersAt, AreMembersOf, values}
 use Rattle.shape_properties.specs.Syntax.{HasProperty, IsShape}
@@ -65,22 +65,22 @@ members_next s heads i head old now next l e before step = (
 )
 
 -- the places of so many nodes
-pub record HavePlaces (s : List Triple) (W : Term → ℕ → Type 0) (nodes : List Term) (places : List Place) : Type 0 where
-  pub each : (p : Place) → Contains places p → IsPlaceOf s W p
+pub record HavePlaces (s : List Triple) (W : Term → ℕ → Type 0) (parents nodes : List Term) (places : List Place) : Type 0 where
+  pub each : (p : Place) → Contains places p → IsPlaceOf s W parents p
   pub all : (n : Term) → Contains nodes n → (p : Place) × Contains places p × (p.node ≡ n)
 
-pub places_none : (s : List Triple) (W : Term → ℕ → Type 0) (nodes : List Term) → HavePlaces s W (take 0 nodes) []
-places_none s W nodes = record {
+pub places_none : (s : List Triple) (W : Term → ℕ → Type 0) (parents nodes : List Term) → HavePlaces s W parents (take 0 nodes) []
+places_none s W parents nodes = record {
   each = λ p c. absurd (let k = c.1 in omega arith);
   all = λ n c. absurd (let k = c.1 in omega arith);
 }
 
-pub places_next : (s : List Triple) (W : Term → ℕ → Type 0) (nodes : List Term) (i : ℕ) (n : Term) (places next : List Place) (p : Place) → i < length nodes → n ≡ get_or nodes i n
-    → HavePlaces s W (take i nodes) places → IsPlaceOf s W p → p.node ≡ n → next ≡ places ++ p ∷ [] → HavePlaces s W (take (i + 1) nodes) next
-places_next s W nodes i n places next p l e before of same f = subst (λ (ps : List Place). HavePlaces s W (take (i + 1) nodes) ps) (sym f) (record {
+pub places_next : (s : List Triple) (W : Term → ℕ → Type 0) (parents nodes : List Term) (i : ℕ) (n : Term) (places next : List Place) (p : Place) → i < length nodes → n ≡ get_or nodes i n
+    → HavePlaces s W parents (take i nodes) places → IsPlaceOf s W parents p → p.node ≡ n → next ≡ places ++ p ∷ [] → HavePlaces s W parents (take (i + 1) nodes) next
+places_next s W parents nodes i n places next p l e before of same f = subst (λ (ps : List Place). HavePlaces s W parents (take (i + 1) nodes) ps) (sym f) (record {
   each = λ q c. elim (Contains-push_cases places p q c) [
     | inl old ↦ before.each q old
-    | inr g ↦ subst (λ (x : Place). IsPlaceOf s W x) g of
+    | inr g ↦ subst (λ (x : Place). IsPlaceOf s W parents x) g of
   ];
   all = λ m c. elim (cases_more nodes i n l e m c) [
     | inl old ↦ let k = before.all m old in (k.0, Contains-append_left places (p ∷ []) k.0 k.1, k.2)
@@ -88,5 +88,5 @@ places_next s W nodes i n places next p l e before of same f = subst (λ (ps : L
   ];
 })
 
-pub places_all : (s : List Triple) (W : Term → ℕ → Type 0) (nodes : List Term) (places : List Place) → ((n : Term) → Contains nodes n ↔ IsShape s n) → HavePlaces s W nodes places → ArePlaces s W places
-places_all s W nodes places all have = record { each = have.each; all = λ n may. have.all n ((all n).1 may) }
+pub places_all : (s : List Triple) (W : Term → ℕ → Type 0) (parents nodes : List Term) (places : List Place) → ((n : Term) → Contains nodes n ↔ IsShape s n) → HavePlaces s W parents nodes places → AreShapePlaces s W parents places
+places_all s W parents nodes places all have = record { each = have.each; all = λ n may. have.all n ((all n).1 may) }

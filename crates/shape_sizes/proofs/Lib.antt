@@ -1,5 +1,7 @@
 pub mod ReferenceChains
 pub mod Referred
+pub mod SiblingSums
+pub mod StandIns
 pub mod Weights
 pub mod Gathered
 pub mod OwnTriples

@@ -99,8 +99,8 @@ at_zero most a b h = let e : min (0 + a) (most + 1) ≡ min (0 + b) (most + 1) =
 -- own looks that are counted so far give looks that are counted so far
 pub looks_weights : (s : List Triple) (table : BTreeMap Term ℕ) → AreWeights s (IsCappedLook s) looks_limit table → AreWeights s (IsLookWeight s) looks_limit table
 looks_weights s table weights = record {
-  sound = λ n v e.
-      let j = weights.sound n v e in
+  sound = λ n v may e.
+      let j = weights.sound n v may e in
       let k = alike_weights s looks_limit (IsCappedLook s) (IsLookWeight s) (λ m a h. (h.0, h.1, alike_capped looks_limit a h.0 h.2)) j.1.0 n j.0 j.1.1 in
       (k.0, (j.1.0, k.1), j.2 ∙ at_zero looks_limit j.0 k.0 k.2);
   all = λ n k may h.
@@ -151,7 +151,7 @@ counted_over most total k more e = let f : total ≡ min k (most + 1) = e in ome
 pub looks_over : (s : List Triple) (n : Term) (table : BTreeMap Term ℕ) (total looks : ℕ) → AreWeights s (IsLookWeight s) looks_limit table → IsShape s n → entry table n ≡ Some total
     → (k : ℕ) × HasTargetLooks s n k × (looks ≡ capped looks_limit (total + k)) → (looks_limit < looks) ↔ HasTooManyLooks s n
 looks_over s n table total looks weights may e more =
-    let k = weights.sound n total e in
+    let k = weights.sound n total may e in
     let all : looks ≡ capped looks_limit (k.0 + more.0) = more.2 ∙ counted_over looks_limit total k.0 more.0 k.2 in (
       λ h. (k.0 + more.0, (k.0, more.0, k.1, more.1, refl), (over looks_limit looks (k.0 + more.0) all).0 h),
       λ h.

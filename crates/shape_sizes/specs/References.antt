@@ -2,13 +2,14 @@
 -- (rule 41).
 use Rattle.std.specs.Prelude.{◌≢◌, ◌⊎◌, ◌↔◌, List}
 use Rattle.std.specs.declared.cmp.Ordering.TheVariants.{Greater}
-use Rattle.collections.specs.Ordered.{IsAscending}
 use Rattle.rdf_model.specs.declared.term.Term.{Term}
 use Rattle.rdf_model.specs.declared.triple.Triple.{Triple}
-use Rattle.rdf_model.specs.Terms.{term_cmp, triple_cmp}
+use Rattle.rdf_model.specs.Terms.{term_cmp}
 use Rattle.shape_model.specs.Limits.{levels_limit}
 use Rattle.shape_model.specs.Readings.{Sibling}
-use Rattle.shape_references.specs.Chains.{HasChain, IsJoined, IsOnLoop}
+use Rattle.shape_references.specs.declared.bundle.Bundle.{Bundle}
+use Rattle.shape_references.specs.Bundles.{IsBound}
+use Rattle.shape_references.specs.Chains.{HasChain, IsOnLoop}
 use Rattle.shape_properties.specs.Table.{role}
 use Rattle.shape_properties.specs.Syntax.{SomeValue, Takes}
 
@@ -33,7 +34,6 @@ HasLongChain s n = HasChain (NamesShape s) levels_limit n
 abbrev pub IsLeastWithLongChain : List Triple → Term → Type 0
 IsLeastWithLongChain s n = HasLongChain s n × ((m : Term) → HasLongChain s m → term_cmp n m ≢ Greater)
 
--- a graph of which each triple is a reference, from its subject to its object
-pub record AreReferences (s references : List Triple) : Type 0 where
-  pub ascending : IsAscending triple_cmp references
-  pub exact : (a b : Term) → IsJoined references a b ↔ NamesShape s a b
+-- the bundles have just the references of the graph
+abbrev pub AreReferences : List Triple → List Bundle → Type 0
+AreReferences s references = (a b : Term) → IsBound references a b ↔ NamesShape s a b

@@ -1,5 +1,5 @@
 //! The shapes to which a shape refers, each as often as it counts (SHACL sections 3.4.3, 4.6 and 4.7).
-ghost use Rattle.std.specs.Prelude.{◌≡◌, ◌↔◌, ◌++◌, IsTrue, IfOk, OnOk};
+ghost use Rattle.std.specs.Prelude.{◌≡◌, ◌⊎◌, ◌↔◌, ◌++◌, ◌∷◌, [], List, IsTrue, IfOk, OnOk, MatchOption};
 ghost use Rattle.std.specs.List.{Contains};
 ghost use Rattle.collections.specs.Listings.{IsListing};
 ghost use Rattle.collections.specs.Ordered.{IsAscending};
@@ -8,12 +8,13 @@ ghost use Rattle.rdf_model.specs.declared.triple.Triple.{Triple as TripleData};
 ghost use Rattle.rdf_model.specs.Terms.{term_cmp, triple_cmp};
 ghost use Rattle.shape_model.specs.Readings.{Sibling};
 ghost use Rattle.shape_syntax.specs.Gathering.{HasGathered};
-ghost use Rattle.shape_references.specs.Siblings.{IsTurned};
+ghost use Rattle.shape_references.specs.Bundles.{IsName};
+ghost use Rattle.shape_references.specs.Siblings.{IsOnlyParent, IsTurned};
 ghost use Rattle.shape_properties.specs.declared.property.ShapeProperty.TheVariants as property_data;
-ghost use Rattle.shape_sizes.specs.Counted.{HasAdded};
+ghost use Rattle.shape_sizes.specs.Counted.{AreCountedBy, HasAdded, HaveNames, IsReferredTo, IsStandIn, IsUnqualified};
 ghost use Rattle.shape_properties.specs.Syntax.{HasProperty};
 ghost use Rattle.shape_model.specs.Vocabulary.{true_literal};
-ghost use Rattle.shape_sizes.specs.Sizes.{AreMembersAt, AreMembersOf, AreQualified, AreReferred, HasQualifiedCount, IsDeactivated};
+ghost use Rattle.shape_sizes.specs.Sizes.{AreMembersAt, AreMembersOf, AreQualified, HasQualifiedCount, IsDeactivated};
 ghost use Rattle.shape_sizes.specs.Sizes as sizes;
 
 use collections::{Sequence, sorted_once};
@@ -21,7 +22,7 @@ use rdf_model::{Term, Triple};
 use shape_properties::ShapeProperty;
 use shape_properties::terms::is_true;
 use shape_properties::values::property_values;
-use shape_references::push_siblings;
+use shape_references::{name_in, only_parent, push_siblings};
 use shape_syntax::list::list_members;
 use shape_syntax::lookup::triples_of;
 use std::alloc::{AllocError, Global};
@@ -203,6 +204,24 @@ fn shapes_at(alloc: Global, graph: &[Triple], node: &Term) -> Result<Sequence<Te
     Ok(nodes)
 }
 
+// The shapes to which the node refers, but for its qualified value shape and its siblings. Its triples are given.
+fn unqualified_shapes(
+    alloc: Global,
+    graph: &[Triple],
+    own: &[Triple],
+    node: &Term,
+) -> Result<Sequence<Term>, AllocError>
+    requires graph { IsAscending triple_cmp graph.now }
+    requires own { IsAscending triple_cmp own.now }
+    requires members { (t : TripleData) → Contains own.now t ↔ (Contains graph.now t × (t.subject ≡ node.now)) }
+    ensures { IfOk result (λ nodes. IsUnqualified graph.now node.now nodes) }
+{
+    let mut nodes = shapes_at(alloc, own, node)?;
+    let heads = lists_at(alloc, own, node)?;
+    push_members_of(alloc, graph, heads.as_slice(), &mut nodes)?;
+    Ok(nodes)
+}
+
 // The shapes to which the node refers, whether it is deactivated or not. Its triples are given.
 fn counted_shapes(
     alloc: Global,
@@ -217,11 +236,98 @@ fn counted_shapes(
     requires members { (t : TripleData) → Contains own.now t ↔ (Contains graph.now t × (t.subject ≡ node.now)) }
     ensures { IfOk result (λ nodes. sizes.AreCounted graph.now node.now nodes) }
 {
-    let mut nodes = shapes_at(alloc, own, node)?;
-    let heads = lists_at(alloc, own, node)?;
-    push_members_of(alloc, graph, heads.as_slice(), &mut nodes)?;
+    let mut nodes = unqualified_shapes(alloc, graph, own, node)?;
     push_qualified(alloc, graph, turned, own, node, &mut nodes)?;
     Ok(nodes)
+}
+
+// The same by the name that stands for the qualified value shape and the siblings.
+fn counted_by(
+    alloc: Global,
+    graph: &[Triple],
+    own: &[Triple],
+    node: &Term,
+    name: Term,
+) -> Result<Sequence<Term>, AllocError>
+    requires graph { IsAscending triple_cmp graph.now }
+    requires own { IsAscending triple_cmp own.now }
+    requires members { (t : TripleData) → Contains own.now t ↔ (Contains graph.now t × (t.subject ≡ node.now)) }
+    ensures { IfOk result (λ nodes. (ms : List TermData) × IsUnqualified graph.now node.now ms × (nodes ≡ ms ++ name ∷ [])) }
+{
+    let mut nodes = unqualified_shapes(alloc, graph, own, node)?;
+    nodes.push(name)?;
+    Ok(nodes)
+}
+
+// The name of the only parent of the node, where it may have siblings and is one of the parents.
+fn parent_name(
+    graph: &[Triple],
+    turned: &[Triple],
+    parents: &[Term],
+    node: &Term,
+) -> Result<Option<Term>, AllocError>
+    requires graph { IsAscending triple_cmp graph.now }
+    requires turned { IsListing triple_cmp (IsTurned graph.now) turned.now }
+    requires parents { HaveNames graph.now parents.now }
+    ensures { IfOk result (λ found. MatchOption found (Unit {0}) (λ x. (p : TermData) × IsName parents.now p x × IsOnlyParent graph.now node.now p)) }
+{
+    match only_parent(graph, turned, node) {
+        Some(parent) => {
+            let name = name_in(parents, parent)?;
+            Ok(name)
+        }
+        None => Ok(None),
+    }
+}
+
+// The name that stands for the qualified value shape and the siblings of the node, whose triples are given.
+fn stand_in_of(
+    graph: &[Triple],
+    turned: &[Triple],
+    parents: &[Term],
+    own: &[Triple],
+    node: &Term,
+) -> Result<Option<Term>, AllocError>
+    requires graph { IsAscending triple_cmp graph.now }
+    requires turned { IsListing triple_cmp (IsTurned graph.now) turned.now }
+    requires parents { HaveNames graph.now parents.now }
+    requires own { IsAscending triple_cmp own.now }
+    requires members { (t : TripleData) → Contains own.now t ↔ (Contains graph.now t × (t.subject ≡ node.now)) }
+    ensures { IfOk result (λ found. MatchOption found (Unit {0}) (λ x. IsStandIn graph.now parents.now node.now x)) }
+{
+    if has_qualified_count(own, node) {
+        let name = parent_name(graph, turned, parents, node)?;
+        return Ok(name);
+    }
+    Ok(None)
+}
+
+// The shapes to which the node refers, or a name that stands for some of them. Its triples are given.
+fn shapes_or_name(
+    alloc: Global,
+    graph: &[Triple],
+    turned: &[Triple],
+    parents: &[Term],
+    own: &[Triple],
+    node: &Term,
+) -> Result<Sequence<Term>, AllocError>
+    requires graph { IsAscending triple_cmp graph.now }
+    requires turned { IsListing triple_cmp (IsTurned graph.now) turned.now }
+    requires parents { HaveNames graph.now parents.now }
+    requires own { IsAscending triple_cmp own.now }
+    requires members { (t : TripleData) → Contains own.now t ↔ (Contains graph.now t × (t.subject ≡ node.now)) }
+    ensures { IfOk result (λ nodes. sizes.AreCounted graph.now node.now nodes ⊎ AreCountedBy graph.now parents.now node.now nodes) }
+{
+    match stand_in_of(graph, turned, parents, own, node)? {
+        Some(name) => {
+            let nodes = counted_by(alloc, graph, own, node, name)?;
+            Ok(nodes)
+        }
+        None => {
+            let shapes = counted_shapes(alloc, graph, turned, own, node)?;
+            Ok(shapes)
+        }
+    }
 }
 
 /// Whether `true` is a value of the property at the node.
@@ -245,21 +351,24 @@ pub(crate) fn is_deactivated(graph: &[Triple], node: &Term) -> bool
     is_true_at(graph, node, ShapeProperty::Deactivated)
 }
 
-/// The shapes to which the node refers, each as often as it counts; none where it is deactivated.
+/// The shapes to which the node refers, each as often as it counts, or a name that stands for some of them; none where it
+/// is deactivated.
 pub(crate) fn referred_shapes(
     alloc: Global,
     graph: &[Triple],
     turned: &[Triple],
+    parents: &[Term],
     node: &Term,
 ) -> Result<Sequence<Term>, AllocError>
     requires graph { IsAscending triple_cmp graph.now }
     requires turned { IsListing triple_cmp (IsTurned graph.now) turned.now }
-    ensures { IfOk result (λ nodes. AreReferred graph.now node.now nodes) }
+    requires parents { HaveNames graph.now parents.now }
+    ensures { IfOk result (λ nodes. IsReferredTo graph.now parents.now node.now nodes) }
 {
     let own = triples_of(graph, node);
     if is_deactivated(own, node) {
         return Ok(Sequence::new(alloc));
     }
-    let nodes = counted_shapes(alloc, graph, turned, own, node)?;
+    let nodes = shapes_or_name(alloc, graph, turned, parents, own, node)?;
     Ok(nodes)
 }

@@ -12,6 +12,7 @@ pub mod path_looks;
 pub mod path_steps;
 mod referring;
 pub mod sizes;
+mod stand_ins;
 mod survey;
 
 pub use referring::{least_recursive, least_with_long_chain, references};

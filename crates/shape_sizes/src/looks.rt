@@ -11,7 +11,7 @@ ghost use Rattle.shape_model.specs.Vocabulary.{rdfs_class, true_literal};
 ghost use Rattle.shape_references.specs.Siblings.{IsTurned};
 ghost use Rattle.reference_totals.specs.Totals.{SumBy, capped};
 ghost use Rattle.shape_properties.specs.declared.property.ShapeProperty.TheVariants as property_data;
-ghost use Rattle.shape_sizes.specs.Counted.{ArePlaces, AreWeights, IsPlaceOf};
+ghost use Rattle.shape_sizes.specs.Counted.{ArePlaces, AreShapePlaces, AreWeights, HaveNames, IsPlaceOf};
 ghost use Rattle.shape_sizes.specs.PathLooks.{ArePathLooks, IsCappedLook};
 ghost use Rattle.shape_model.specs.Limits.{looks_limit};
 ghost use Rattle.shape_sizes.specs.Sizes.{CountsIf, HasOwnLooks, HasPathLooks, HasTargetLooks, HasTooManyLooks, IsLookWeight};
@@ -22,6 +22,7 @@ ghost use Rattle.shape_properties.specs.Syntax.{HasProperty, IsShape};
 use crate::Survey;
 use crate::counted::{is_deactivated, is_true_at, referred_shapes, values_at};
 use crate::path_looks::{most_looks, path_looks, path_looks_at};
+use crate::stand_ins::{named_parents, push_stand_ins};
 use collections::Sequence;
 use rdf_model::{Term, Triple};
 use reference_totals::{Place, capped_sum, total_of, totals};
@@ -167,15 +168,18 @@ fn look_place(
     alloc: Global,
     graph: &[Triple],
     turned: &[Triple],
+    parents: &[Term],
     paths: &BTreeMap<Term, u64>,
     node: &Term,
 ) -> Result<Place, AllocError>
     requires graph { IsAscending triple_cmp graph.now }
     requires turned { IsListing triple_cmp (IsTurned graph.now) turned.now }
+    requires parents { HaveNames graph.now parents.now }
     requires paths { ArePathLooks graph.now looks_limit paths.now }
-    ensures { IfOk result (λ place. IsPlaceOf graph.now (IsCappedLook graph.now) place × (place.node ≡ node.now)) }
+    requires node { IsShape graph.now node.now }
+    ensures { IfOk result (λ place. IsPlaceOf graph.now (IsCappedLook graph.now) parents.now place × (place.node ≡ node.now)) }
 {
-    let to = referred_shapes(alloc, graph, turned, node)?;
+    let to = referred_shapes(alloc, graph, turned, parents, node)?;
     let own = look_weight(alloc, graph, paths, node)?;
     Ok(Place {
         node: node.clone()?,
@@ -189,30 +193,35 @@ fn look_places(
     alloc: Global,
     graph: &[Triple],
     turned: &[Triple],
+    parents: &[Term],
     paths: &BTreeMap<Term, u64>,
     nodes: &[Term],
 ) -> Result<Sequence<Place>, AllocError>
     requires graph { IsAscending triple_cmp graph.now }
     requires turned { IsListing triple_cmp (IsTurned graph.now) turned.now }
+    requires parents { HaveNames graph.now parents.now }
     requires paths { ArePathLooks graph.now looks_limit paths.now }
     requires nodes { IsListing term_cmp (IsShape graph.now) nodes.now }
-    ensures { IfOk result (λ places. ArePlaces graph.now (IsCappedLook graph.now) places) }
+    ensures { IfOk result (λ places. AreShapePlaces graph.now (IsCappedLook graph.now) parents.now places) }
 {
     let mut places = Sequence::new(alloc);
     for node in nodes {
-        places.push(look_place(alloc, graph, turned, paths, node)?)?;
+        places.push(look_place(alloc, graph, turned, parents, paths, node)?)?;
     }
     Ok(places)
 }
 
+// The places of the shapes alone.
 fn all_look_places(
     alloc: Global,
     graph: &[Triple],
+    parents: &[Term],
     survey: &Survey,
 ) -> Result<Sequence<Place>, AllocError>
     requires graph { IsAscending triple_cmp graph.now }
+    requires parents { HaveNames graph.now parents.now }
     requires survey { IsSurvey graph.now survey.now }
-    ensures { IfOk result (λ places. ArePlaces graph.now (IsCappedLook graph.now) places) }
+    ensures { IfOk result (λ places. AreShapePlaces graph.now (IsCappedLook graph.now) parents.now places) }
 {
     let turned = turned_properties(alloc, graph)?;
     let paths = path_looks(alloc, graph, survey.places.as_slice(), most_looks())?;
@@ -220,9 +229,27 @@ fn all_look_places(
         alloc,
         graph,
         turned.as_slice(),
+        parents,
         &paths,
         survey.shapes.as_slice(),
     )?;
+    Ok(places)
+}
+
+// The same with those that stand in for what is under the parents.
+fn with_stand_ins(
+    alloc: Global,
+    graph: &[Triple],
+    parents: &[Term],
+    survey: &Survey,
+) -> Result<Sequence<Place>, AllocError>
+    requires graph { IsAscending triple_cmp graph.now }
+    requires parents { HaveNames graph.now parents.now }
+    requires survey { IsSurvey graph.now survey.now }
+    ensures { IfOk result (λ places. ArePlaces graph.now (IsCappedLook graph.now) parents.now places) }
+{
+    let mut places = all_look_places(alloc, graph, parents, survey)?;
+    push_stand_ins(alloc, graph, parents, &mut places)?;
     Ok(places)
 }
 
@@ -236,7 +263,8 @@ pub fn looks_of_results(
     requires survey { IsSurvey graph.now survey.now }
     ensures { IfOk result (λ table. AreWeights graph.now (IsLookWeight graph.now) looks_limit table) }
 {
-    let places = all_look_places(alloc, graph, survey)?;
+    let parents = named_parents(alloc, graph, survey.shapes.as_slice())?;
+    let places = with_stand_ins(alloc, graph, parents.as_slice(), survey)?;
     let table = totals(alloc, places.as_slice(), most_looks())?;
     Ok(table)
 }

@@ -1,150 +1,96 @@
 //! References between shapes, the shapes from which they lead to themselves (SHACL section 3.4.3), and those from which
 //! too many lead in a row.
-ghost use Rattle.std.specs.Prelude.{◌≡◌, ◌⊎◌, ◌↔◌, ◌<◌, IsTrue, IfOk, OnOk, MatchOption};
-ghost use Rattle.std.specs.List.{Contains};
-ghost use Rattle.collections.specs.Listings.{IsListing};
+ghost use Rattle.std.specs.Prelude.{◌≡◌, ◌⊎◌, ◌↔◌, ◌<◌, ◌+◌, ◌^◌, IfOk, OnOk, MatchOption};
 ghost use Rattle.collections.specs.Ordered.{IsAscending};
 ghost use Rattle.rdf_model.specs.declared.term.Term.{Term as TermData};
-ghost use Rattle.rdf_model.specs.declared.triple.Triple.{Triple as TripleData};
 ghost use Rattle.rdf_model.specs.Terms.{triple_cmp};
-ghost use Rattle.shape_model.specs.Readings.{Sibling};
-ghost use Rattle.shape_syntax.specs.Gathering.{Gives, HasGathered};
-ghost use Rattle.shape_references.specs.Siblings.{IsTurned};
-ghost use Rattle.shape_properties.specs.declared.property.ShapeProperty.TheVariants as property_data;
-ghost use Rattle.shape_properties.specs.Properties.{property_iri};
+ghost use Rattle.shape_references.specs.Bundles.{HasBound, IsBound};
+ghost use Rattle.shape_references.specs.Siblings.{AreUnder};
 ghost use Rattle.shape_model.specs.Limits.{levels_limit};
 ghost use Rattle.shape_sizes.specs.References.{AreReferences, HasLongChain, IsLeastRecursive, IsLeastWithLongChain, IsRecursive};
-ghost use Rattle.shape_sizes.specs.Referring.{IsReferenceBy, IsReferenceTo, IsReferredBy};
+ghost use Rattle.shape_sizes.specs.Referring.{IsReferredBy};
 
-use collections::{Sequence, sorted_once};
+use collections::Sequence;
 use rdf_model::{Term, Triple};
-use shape_properties::ShapeProperty;
 use shape_properties::shapes::push_taken;
-use shape_references::{least_on_loop, least_with_chain, push_siblings, turned_properties};
-use shape_syntax::terms::is_named;
+use shape_references::{Bundle, least_bound_on_loop, least_bound_with_chain, push_sibling_bundle};
+use shape_syntax::subjects::subjects;
 use std::alloc::{AllocError, Global};
 
-fn is_disjointness(predicate: &Term) -> bool
-    ensures { IsTrue result ↔ (predicate.now ≡ property_iri property_data.QualifiedValueShapesDisjoint) }
-{
-    is_named(predicate, ShapeProperty::QualifiedValueShapesDisjoint.iri())
-}
-
-// Adds the siblings of the subject of a triple with sh:qualifiedValueShapesDisjoint.
-fn push_siblings_by(
+// Adds the references of the triple's subject by it.
+fn push_direct(
+    alloc: Global,
     graph: &[Triple],
-    turned: &[Triple],
     triple: &Triple,
-    nodes: &mut Sequence<Term>,
+    bundles: &mut Sequence<Bundle>,
 ) -> Result<(), AllocError>
-    requires graph { IsAscending triple_cmp graph.now }
-    requires turned { IsListing triple_cmp (IsTurned graph.now) turned.now }
-    ensures { OnOk result ((n : TermData) → Contains nodes.new n ↔ (Contains nodes.old n
-        ⊎ ((triple.now.predicate ≡ property_iri property_data.QualifiedValueShapesDisjoint) × Sibling graph.now triple.now.subject n))) }
+    requires { IsAscending triple_cmp graph.now }
+    ensures { OnOk result ((a b : TermData) → IsBound bundles.new a b ↔ (IsBound bundles.old a b ⊎ IsReferredBy graph.now triple.now a b)) }
 {
-    if is_disjointness(&triple.predicate) {
-        push_siblings(graph, turned, &triple.subject, nodes)?;
+    let mut to = Sequence::new(alloc);
+    push_taken(alloc, graph, triple, &mut to)?;
+    if to.is_empty() {
         return Ok(());
     }
+    let mut from = Sequence::new(alloc);
+    from.push(triple.subject.clone()?)?;
+    bundles.push(Bundle { from, to })?;
     Ok(())
 }
 
-// The nodes to which the triple's subject refers by it.
-fn referred_nodes(
+// Adds the references by the triples.
+fn push_all_direct(
     alloc: Global,
     graph: &[Triple],
-    turned: &[Triple],
-    triple: &Triple,
-) -> Result<Sequence<Term>, AllocError>
-    requires graph { IsAscending triple_cmp graph.now }
-    requires turned { IsListing triple_cmp (IsTurned graph.now) turned.now }
-    ensures { IfOk result (λ nodes. (n : TermData) → Contains nodes n ↔ IsReferredBy graph.now triple.now n) }
-{
-    let mut nodes = Sequence::new(alloc);
-    push_taken(alloc, graph, triple, &mut nodes)?;
-    push_siblings_by(graph, turned, triple, &mut nodes)?;
-    Ok(nodes)
-}
-
-fn reference_to(triple: &Triple, node: &Term) -> Result<Triple, AllocError>
-    ensures { IfOk result (λ made. IsReferenceTo triple.now node.now made) }
-{
-    Ok(Triple {
-        subject: triple.subject.clone()?,
-        predicate: triple.predicate.clone()?,
-        object: node.clone()?,
-    })
-}
-
-// Adds a reference to each of the nodes.
-fn push_each_reference(
-    triple: &Triple,
-    nodes: &[Term],
-    references: &mut Sequence<Triple>,
+    bundles: &mut Sequence<Bundle>,
 ) -> Result<(), AllocError>
-    ensures { OnOk result (HasGathered (IsReferenceTo triple.now) nodes.now references.old references.new) }
+    requires { IsAscending triple_cmp graph.now }
+    ensures { OnOk result (HasBound (IsReferredBy graph.now) graph.now bundles.old bundles.new) }
 {
-    for node in nodes {
-        references.push(reference_to(triple, node)?)?;
-    }
-    Ok(())
-}
-
-// Adds the references of the triple's subject by it.
-fn push_references(
-    alloc: Global,
-    graph: &[Triple],
-    turned: &[Triple],
-    triple: &Triple,
-    references: &mut Sequence<Triple>,
-) -> Result<(), AllocError>
-    requires graph { IsAscending triple_cmp graph.now }
-    requires turned { IsListing triple_cmp (IsTurned graph.now) turned.now }
-    ensures { OnOk result ((r : TripleData) → Contains references.new r ↔ (Contains references.old r ⊎ IsReferenceBy graph.now triple.now r)) }
-{
-    let nodes = referred_nodes(alloc, graph, turned, triple)?;
-    push_each_reference(triple, nodes.as_slice(), references)?;
-    Ok(())
-}
-
-fn all_references(
-    alloc: Global,
-    graph: &[Triple],
-    turned: &[Triple],
-) -> Result<Sequence<Triple>, AllocError>
-    requires graph { IsAscending triple_cmp graph.now }
-    requires turned { IsListing triple_cmp (IsTurned graph.now) turned.now }
-    ensures { IfOk result (λ references. (r : TripleData) → Contains references r ↔ Gives (IsReferenceBy graph.now) graph.now r) }
-{
-    let mut references = Sequence::new(alloc);
     for triple in graph {
-        push_references(alloc, graph, turned, triple, &mut references)?;
+        push_direct(alloc, graph, triple, bundles)?;
     }
-    Ok(references)
+    Ok(())
 }
 
-/// The references between the shapes of the graph, as an ascending graph: the subject of each triple refers to its
-/// object, by the property that is its predicate.
-pub fn references(alloc: Global, graph: &[Triple]) -> Result<Vec<Triple>, AllocError>
+// Adds the references to siblings under the parents: one bundle for each, however many there are.
+fn push_all_siblings(
+    alloc: Global,
+    graph: &[Triple],
+    parents: &[Term],
+    bundles: &mut Sequence<Bundle>,
+) -> Result<(), AllocError>
+    requires { IsAscending triple_cmp graph.now }
+    ensures { OnOk result (HasBound (AreUnder graph.now) parents.now bundles.old bundles.new) }
+{
+    for parent in parents {
+        push_sibling_bundle(alloc, graph, parent, bundles)?;
+    }
+    Ok(())
+}
+
+/// The references between the shapes of the graph, in bundles.
+pub fn references(alloc: Global, graph: &[Triple]) -> Result<Vec<Bundle>, AllocError>
     requires { IsAscending triple_cmp graph.now }
     ensures { IfOk result (λ references. AreReferences graph.now references.items) }
 {
-    let turned = turned_properties(alloc, graph)?;
-    let found = all_references(alloc, graph, turned.as_slice())?;
-    let sorted = sorted_once(found.into_vec())?;
-    Ok(sorted)
+    let parents = subjects(alloc, graph)?;
+    let mut bundles = Sequence::new(alloc);
+    push_all_direct(alloc, graph, &mut bundles)?;
+    push_all_siblings(alloc, graph, parents.as_slice(), &mut bundles)?;
+    Ok(bundles.into_vec())
 }
 
 /// The least shape from which a chain of references leads to itself, if there is one. The graph's `references` are given.
 pub fn least_recursive(
     alloc: Global,
     graph: &[Triple],
-    references: &[Triple],
+    references: &[Bundle],
 ) -> Result<Option<Term>, AllocError>
     requires { AreReferences graph.now references.now }
     ensures { IfOk result (λ found. MatchOption found ((n : TermData) → IsRecursive graph.now n → ⊥) (λ n. IsLeastRecursive graph.now n)) }
 {
-    let found = least_on_loop(alloc, references)?;
+    let found = least_bound_on_loop(alloc, references)?;
     Ok(found)
 }
 
@@ -153,6 +99,7 @@ pub fn least_recursive(
 fn too_many() -> usize
     ensures limit { result ≡ levels_limit }
     ensures some { 0 < result }
+    ensures few { result + result < 2 ^ 64 }
 {
     257
 }
@@ -161,11 +108,11 @@ fn too_many() -> usize
 pub fn least_with_long_chain(
     alloc: Global,
     graph: &[Triple],
-    references: &[Triple],
+    references: &[Bundle],
 ) -> Result<Option<Term>, AllocError>
     requires { AreReferences graph.now references.now }
     ensures { IfOk result (λ found. MatchOption found ((n : TermData) → HasLongChain graph.now n → ⊥) (λ n. IsLeastWithLongChain graph.now n)) }
 {
-    let found = least_with_chain(alloc, references, too_many())?;
+    let found = least_bound_with_chain(alloc, references, too_many())?;
     Ok(found)
 }

@@ -4,11 +4,12 @@ ghost use Rattle.collections.specs.Listings.{IsListing};
 ghost use Rattle.collections.specs.Ordered.{IsAscending};
 ghost use Rattle.rdf_model.specs.Terms.{term_cmp, triple_cmp};
 ghost use Rattle.shape_references.specs.Siblings.{IsTurned};
-ghost use Rattle.shape_sizes.specs.Counted.{ArePlaces, AreWeights, IsPlaceOf};
+ghost use Rattle.shape_sizes.specs.Counted.{ArePlaces, AreShapePlaces, AreWeights, HaveNames, IsPlaceOf};
 ghost use Rattle.shape_sizes.specs.Sizes.{IsTooLarge, size_limit};
 ghost use Rattle.shape_properties.specs.Syntax.{IsShape};
 
 use crate::counted::referred_shapes;
+use crate::stand_ins::{named_parents, push_stand_ins};
 use collections::Sequence;
 use rdf_model::{Term, Triple};
 use reference_totals::{Place, total_of, totals};
@@ -20,13 +21,16 @@ fn place_of(
     alloc: Global,
     graph: &[Triple],
     turned: &[Triple],
+    parents: &[Term],
     node: &Term,
 ) -> Result<Place, AllocError>
     requires graph { IsAscending triple_cmp graph.now }
     requires turned { IsListing triple_cmp (IsTurned graph.now) turned.now }
-    ensures { IfOk result (λ place. IsPlaceOf graph.now (λ m w. w ≡ 1) place × (place.node ≡ node.now)) }
+    requires parents { HaveNames graph.now parents.now }
+    requires node { IsShape graph.now node.now }
+    ensures { IfOk result (λ place. IsPlaceOf graph.now (λ m w. w ≡ 1) parents.now place × (place.node ≡ node.now)) }
 {
-    let to = referred_shapes(alloc, graph, turned, node)?;
+    let to = referred_shapes(alloc, graph, turned, parents, node)?;
     Ok(Place {
         node: node.clone()?,
         own: 1,
@@ -39,17 +43,37 @@ fn places_of(
     alloc: Global,
     graph: &[Triple],
     turned: &[Triple],
+    parents: &[Term],
     nodes: &[Term],
 ) -> Result<Sequence<Place>, AllocError>
     requires graph { IsAscending triple_cmp graph.now }
     requires turned { IsListing triple_cmp (IsTurned graph.now) turned.now }
+    requires parents { HaveNames graph.now parents.now }
     requires nodes { IsListing term_cmp (IsShape graph.now) nodes.now }
-    ensures { IfOk result (λ places. ArePlaces graph.now (λ m w. w ≡ 1) places) }
+    ensures { IfOk result (λ places. AreShapePlaces graph.now (λ m w. w ≡ 1) parents.now places) }
 {
     let mut places = Sequence::new(alloc);
     for node in nodes {
-        places.push(place_of(alloc, graph, turned, node)?)?;
+        places.push(place_of(alloc, graph, turned, parents, node)?)?;
     }
+    Ok(places)
+}
+
+// The places of the nodes, with those that stand in for what is under the parents.
+fn all_places(
+    alloc: Global,
+    graph: &[Triple],
+    parents: &[Term],
+    nodes: &[Term],
+) -> Result<Sequence<Place>, AllocError>
+    requires graph { IsAscending triple_cmp graph.now }
+    requires parents { HaveNames graph.now parents.now }
+    requires nodes { IsListing term_cmp (IsShape graph.now) nodes.now }
+    ensures { IfOk result (λ places. ArePlaces graph.now (λ m w. w ≡ 1) parents.now places) }
+{
+    let turned = turned_properties(alloc, graph)?;
+    let mut places = places_of(alloc, graph, turned.as_slice(), parents, nodes)?;
+    push_stand_ins(alloc, graph, parents, &mut places)?;
     Ok(places)
 }
 
@@ -71,8 +95,8 @@ pub fn sizes_of(
     requires nodes { IsListing term_cmp (IsShape graph.now) nodes.now }
     ensures { IfOk result (λ table. AreWeights graph.now (λ m w. w ≡ 1) size_limit table) }
 {
-    let turned = turned_properties(alloc, graph)?;
-    let places = places_of(alloc, graph, turned.as_slice(), nodes)?;
+    let parents = named_parents(alloc, graph, nodes)?;
+    let places = all_places(alloc, graph, parents.as_slice(), nodes)?;
     let table = totals(alloc, places.as_slice(), most())?;
     Ok(table)
 }

@@ -10,6 +10,7 @@ use collections::Sequence;
 use rdf_model::{Term, Triple};
 use reference_totals::Place;
 use shape_properties::shapes::shape_nodes;
+use shape_references::Bundle;
 use shape_syntax::paths::path_nodes;
 use std::alloc::{AllocError, Global};
 use std::collections::BTreeSet;
@@ -23,8 +24,8 @@ pub struct Survey {
     pub places: Sequence<Place>,
     /// The nodes that are shapes, in order.
     pub shapes: Vec<Term>,
-    /// The references between shapes, in order.
-    pub references: Vec<Triple>,
+    /// The references between shapes.
+    pub references: Vec<Bundle>,
 }
 
 /// The survey of the graph.

@@ -1,8 +1,8 @@
 // What finds give and record, in runs of commands.
 use collections::Sequence;
 use commit_core::{BlockMode, Limits};
-use rdf_model::{Pattern, Term, Text, Triple};
-use session_model::Command;
+use rdf_model::{Pattern, Term, Text};
+use session_model::{Block, Command};
 use session_player::{run_all, text_of};
 use std::alloc::{AllocError, Global};
 use std::test::Fail;
@@ -22,22 +22,24 @@ fn iri(alloc: Global, text: &str) -> Result<Term, AllocError> {
     Ok(Term::Iri(Text::new(alloc, text)?))
 }
 
-fn additions(alloc: Global, iris: [&str; 3]) -> Result<Sequence<Triple>, AllocError> {
+// The block of one triple.
+fn block(alloc: Global, iris: [&str; 3]) -> Result<Block, Fail> {
     let [subject, predicate, object] = iris;
-    let mut triples = Sequence::new(alloc);
-    triples.push(Triple {
-        subject: iri(alloc, subject)?,
-        predicate: iri(alloc, predicate)?,
-        object: iri(alloc, object)?,
-    })?;
-    Ok(triples)
+    let text = format!(in alloc; "<{subject}> <{predicate}> <{object}> .\n")?;
+    if text.len() > 1000 {
+        return Err(Fail::new("the triple is short"));
+    }
+    match Block::read_named(alloc, text.as_bytes()) {
+        Ok(block) => Ok(block),
+        Err(_) => Err(Fail::new("the triple is read")),
+    }
 }
 
-fn command_of(alloc: Global, row: Row) -> Result<Command, AllocError> {
+fn command_of(alloc: Global, row: Row) -> Result<Command, Fail> {
     match row {
         Row::Begin => Ok(Command::Begin),
         Row::Add(subject, predicate, object) => {
-            Ok(Command::Add(additions(alloc, [subject, predicate, object])?))
+            Ok(Command::Add(block(alloc, [subject, predicate, object])?))
         }
         Row::Find(predicate) => Ok(Command::Find(Pattern {
             subject: None,
@@ -49,7 +51,7 @@ fn command_of(alloc: Global, row: Row) -> Result<Command, AllocError> {
     }
 }
 
-pub fn commands_of(alloc: Global, rows: &[Row]) -> Result<Sequence<Command>, AllocError> {
+pub fn commands_of(alloc: Global, rows: &[Row]) -> Result<Sequence<Command>, Fail> {
     let mut commands = Sequence::new(alloc);
     for row in rows {
         commands.push(command_of(alloc, *row)?)?;
@@ -58,7 +60,7 @@ pub fn commands_of(alloc: Global, rows: &[Row]) -> Result<Sequence<Command>, All
 }
 
 // What the session of these commands prints.
-fn printed(alloc: Global, rows: &[Row]) -> Result<String, AllocError> {
+fn printed(alloc: Global, rows: &[Row]) -> Result<String, Fail> {
     let limits = Limits {
         terms: 100,
         triples: 100,
@@ -66,7 +68,7 @@ fn printed(alloc: Global, rows: &[Row]) -> Result<String, AllocError> {
     };
     let files = [commands_of(alloc, rows)?];
     let run = run_all(alloc, limits, &files)?;
-    text_of(alloc, &run)
+    Ok(text_of(alloc, &run)?)
 }
 
 #[test]

@@ -175,7 +175,7 @@ fn other_text(alloc: Global, order: Order) -> Result<String, AllocError> {
 }
 
 // The commands of the two sessions.
-fn sessions(alloc: Global) -> Result<[Sequence<Command>; 2], AllocError> {
+fn sessions(alloc: Global) -> Result<[Sequence<Command>; 2], Fail> {
     let own = [
         Row::Begin,
         Row::Find("e:p"),

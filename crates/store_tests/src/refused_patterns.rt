@@ -27,7 +27,7 @@ fn printed(alloc: Global, file: &str, refuse: Vec<u64>) -> Result<String, Fail> 
         return Err(Fail::new("the file is short"));
     }
     let mut maker = FakeMaker::new(alloc, RegexMaker::new(alloc), refuse);
-    let Ok(commands) = prepare(alloc, &mut maker, 1, file.as_bytes()) else {
+    let Ok(commands) = prepare(alloc, &mut maker, 1, 1, file.as_bytes()) else {
         return Err(Fail::new("the file is read"));
     };
     let run = run_all(alloc, LIMITS, &[commands])?;

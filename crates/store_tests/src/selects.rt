@@ -29,7 +29,7 @@ fn printed(alloc: Global, count: u32) -> Result<String, Fail> {
         return Err(Fail::new("the file is short"));
     }
     let mut maker = RegexMaker::new(alloc);
-    let Ok(commands) = prepare(alloc, &mut maker, 1, file.as_bytes()) else {
+    let Ok(commands) = prepare(alloc, &mut maker, 1, 1, file.as_bytes()) else {
         return Err(Fail::new("the file is read"));
     };
     let run = run_all(alloc, LIMITS, &[commands])?;

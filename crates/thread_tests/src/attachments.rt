@@ -2,11 +2,13 @@
 ghost use Rattle.std.specs.Prelude.{◌≡◌, ◌<◌, IfOk};
 ghost use Rattle.guard_store.specs.Callers.{IsSession};
 
+use crate::held::block_of;
 use commit_core::{BlockMode, Core, Limits};
+use disk::MemDisk;
 use guard_store::{AttachFault, Committed, Session, Store};
-use rdf_model::{Pattern, Term, Text, Triple};
+use rdf_model::{Pattern, Term};
 use shape_eval::Steps;
-use std::alloc::{AllocError, Global};
+use std::alloc::Global;
 use std::marker::Brand;
 use std::process::Abort;
 use std::sync::Wait;
@@ -19,27 +21,13 @@ const LIMITS: Limits = Limits {
     mode: BlockMode::All,
 };
 
-fn iri(alloc: Global, text: &str) -> Result<Term, AllocError> {
-    Ok(Term::Iri(Text::new(alloc, text)?))
-}
-
 fn blank(session: u32, number: u32) -> Term {
     Term::Blank { session, number }
 }
 
-// A triple about the blank node with this session and number.
-fn about(alloc: Global, node: (u32, u32), object: &str) -> Result<Triple, AllocError> {
-    Ok(Triple {
-        subject: blank(node.0, node.1),
-        predicate: iri(alloc, "e:p")?,
-        object: iri(alloc, object)?,
-    })
-}
-
-// A block of two triples to be attached, by their nodes and objects, and what is told.
+// The triples of a block to be attached, and what is told.
 struct Row {
-    first: ((u32, u32), &'static str),
-    second: ((u32, u32), &'static str),
+    block: &'static [u8],
     told: Told,
 }
 
@@ -64,34 +52,28 @@ fn is_told(answer: &Result<(), AttachFault>, told: &Told) -> bool {
 const ROWS: [Row; 6] = [
     // Unknown comes before Full, and tells the least.
     Row {
-        first: ((2, 1), "e:b"),
-        second: ((1, 3), "e:c"),
+        block: b"_:s2x1 <e:p> <e:b> .\n_:s1x3 <e:p> <e:c> .\n",
         told: Told::Unknown(1, 3),
     },
     Row {
-        first: ((1, 1), "e:b"),
-        second: ((1, 2), "e:c"),
+        block: b"_:s1x1 <e:p> <e:b> .\n_:s1x2 <e:p> <e:c> .\n",
         told: Told::Full(6),
     },
     Row {
-        first: ((1, 1), "e:a"),
-        second: ((2, 1), "e:a"),
+        block: b"_:s1x1 <e:p> <e:a> .\n_:s2x1 <e:p> <e:a> .\n",
         told: Told::Unknown(2, 1),
     },
     Row {
-        first: ((1, 2), "e:a"),
-        second: ((1, 1), "e:a"),
+        block: b"_:s1x2 <e:p> <e:a> .\n_:s1x1 <e:p> <e:a> .\n",
         told: Told::Attached,
     },
     // An attachment gives no node out, and one that was refused named none.
     Row {
-        first: ((2, 1), "e:a"),
-        second: ((1, 1), "e:a"),
+        block: b"_:s2x1 <e:p> <e:a> .\n_:s1x1 <e:p> <e:a> .\n",
         told: Told::Unknown(2, 1),
     },
     Row {
-        first: ((1, 1), "e:a"),
-        second: ((1, 1), "e:a"),
+        block: b"_:s1x1 <e:p> <e:a> .\n_:s1x1 <e:p> <e:a> .\n",
         told: Told::Attached,
     },
 ];
@@ -99,18 +81,16 @@ const ROWS: [Row; 6] = [
 fn attach<R: Wait + Abort>(
     rt: &R,
     alloc: Global,
-    store: &Store,
-    session: Session,
+    store: &Store<MemDisk>,
+    session: Session<MemDisk>,
     row: &Row,
-) -> Result<Session, Fail>
+) -> Result<Session<MemDisk>, Fail>
     requires { IsSession store.now session }
     ensures { IfOk result (IsSession store.now) }
 {
-    let block = [
-        about(alloc, row.first.0, row.first.1)?,
-        about(alloc, row.second.0, row.second.1)?,
-    ];
-    let (session, answer) = store.stage_attach(rt, session, &block);
+    let block = block_of(alloc, row.block)?;
+    block.recall_readable();
+    let (session, answer) = store.stage_attach(rt, session, block.triples());
     assert!(rt; is_told(&answer, &row.told));
     Ok(session)
 }
@@ -119,16 +99,17 @@ fn attach<R: Wait + Abort>(
 fn give<R: Wait + Abort>(
     rt: &R,
     alloc: Global,
-    store: &Store,
-    session: Session,
-) -> Result<Session, Fail>
+    store: &Store<MemDisk>,
+    session: Session<MemDisk>,
+) -> Result<Session<MemDisk>, Fail>
     requires { IsSession store.now session }
     ensures { IfOk result (IsSession store.now) }
 {
     let (session, begun) = store.begin(rt, session);
     assert_eq!(rt; begun, Ok(0));
-    let block = [about(alloc, (1, 1), "e:a")?, about(alloc, (1, 2), "e:a")?];
-    let (session, added) = store.stage_add(rt, session, &block);
+    let block = block_of(alloc, b"_:s1x1 <e:p> <e:a> .\n_:s1x2 <e:p> <e:a> .\n")?;
+    block.recall_readable();
+    let (session, added) = store.stage_add(rt, session, block.triples());
     assert_eq!(rt; added, Ok(()));
     Ok(session)
 }
@@ -137,13 +118,15 @@ fn give<R: Wait + Abort>(
 fn attach_all<R: Wait + Abort>(
     rt: &R,
     alloc: Global,
-    store: &Store,
-    session: Session,
-) -> Result<Session, Fail>
+    store: &Store<MemDisk>,
+    session: Session<MemDisk>,
+) -> Result<Session<MemDisk>, Fail>
     requires { IsSession store.now session }
     ensures { IfOk result (IsSession store.now) }
 {
-    let (session, answer) = store.stage_attach(rt, session, &[about(alloc, (1, 1), "e:a")?]);
+    let block = block_of(alloc, b"_:s1x1 <e:p> <e:a> .\n")?;
+    block.recall_readable();
+    let (session, answer) = store.stage_attach(rt, session, block.triples());
     assert!(rt; matches!(answer, Err(AttachFault::NoTransaction)));
     let (session, begun) = store.begin(rt, session);
     assert_eq!(rt; begun, Ok(0));
@@ -166,7 +149,7 @@ fn run<L: Ledger, R: Wait + Abort>(rt: &R, alloc: Global, blank: Blank) -> Resul
     requires some { 0 < L.parts }
 {
     let mut steps = Steps::<L>::begin(blank);
-    let (store, keeper) = Store::new(alloc, LIMITS)?;
+    let (store, keeper) = Store::<MemDisk>::new(alloc, LIMITS)?;
     let Ok((keeper, first)) = store.open(rt, keeper) else {
         return Err(Fail::new("a session is opened"));
     };
@@ -188,7 +171,7 @@ fn run<L: Ledger, R: Wait + Abort>(rt: &R, alloc: Global, blank: Blank) -> Resul
     );
     let keeper = store.meet(keeper, second);
     let keeper = store.meet(keeper, first);
-    let core = store.close(keeper);
+    let (core, _) = store.close(keeper);
     assert_eq!(rt; core.triples(), 2);
     let Ok(events) = core.into_events() else {
         return Err(Fail::new("there is memory for the events"));

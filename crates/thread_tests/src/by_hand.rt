@@ -1,15 +1,17 @@
 // A store that is asked by hand, and its history replayed.
 ghost use Rattle.std.specs.Prelude.{◌≡◌, ◌<◌, IfOk};
+ghost use Rattle.record_text.specs.Records.{IsReadableGraph};
 ghost use Rattle.guard_store.specs.Callers.{IsKeeper, IsSession};
 
-use crate::held::{self, STAGES, commands_of};
+use crate::held::{self, STAGES, block_of, commands_of};
 use commit_core::{Again, BlockMode, Core, Limits};
+use disk::MemDisk;
 use guard_store::{
     BeginFault, CheckFault, CommitFault, Committed, HeadFault, Keeper, OpenFault, Session,
     StageFault, Store,
 };
 use rdf_model::{Pattern, Term, Text, Triple};
-use session_model::Command;
+use session_model::{Block, Command};
 use shape_eval::Steps;
 use shapes_graph::ShapesGraph;
 use std::alloc::{AllocError, Global};
@@ -47,16 +49,17 @@ const ALL: Pattern = Pattern {
 fn ask_locally<R: Wait + Abort>(
     rt: &R,
     alloc: Global,
-    store: &Store,
-    session: Session,
-) -> Result<Session, Fail>
+    store: &Store<MemDisk>,
+    session: Session<MemDisk>,
+) -> Result<Session<MemDisk>, Fail>
     requires { IsSession store.now session }
     ensures { IfOk result (IsSession store.now) }
 {
-    let block = [triple(alloc, "e:a", "e:b")?];
-    let (session, added) = store.stage_add(rt, session, &block);
+    let block = block_of(alloc, b"<e:a> <e:p> <e:b> .\n")?;
+    block.recall_readable();
+    let (session, added) = store.stage_add(rt, session, block.triples());
     assert_eq!(rt; added, Err(StageFault::NoTransaction));
-    let (session, removed) = store.stage_remove(rt, session, &block);
+    let (session, removed) = store.stage_remove(rt, session, block.triples());
     assert_eq!(rt; removed, Err(StageFault::NoTransaction));
     let (session, head) = store.head(rt, session);
     assert_eq!(rt; head, Err(HeadFault::NoTransaction));
@@ -71,15 +74,19 @@ fn ask_locally<R: Wait + Abort>(
 fn add_one<R: Wait + Abort>(
     rt: &R,
     alloc: Global,
-    store: &Store,
-    session: Session,
-) -> Result<Session, Fail>
+    store: &Store<MemDisk>,
+    session: Session<MemDisk>,
+) -> Result<Session<MemDisk>, Fail>
     requires { IsSession store.now session }
     ensures { IfOk result (IsSession store.now) }
 {
-    let (session, added) = store.stage_add(rt, session, &[triple(alloc, "e:a", "e:b")?]);
+    let block = block_of(alloc, b"<e:a> <e:p> <e:b> .\n")?;
+    block.recall_readable();
+    let (session, added) = store.stage_add(rt, session, block.triples());
     assert_eq!(rt; added, Ok(()));
-    let (session, full) = store.stage_add(rt, session, &[triple(alloc, "e:c", "e:d")?]);
+    let other = block_of(alloc, b"<e:c> <e:p> <e:d> .\n")?;
+    other.recall_readable();
+    let (session, full) = store.stage_add(rt, session, other.triples());
     assert_eq!(rt; full, Err(StageFault::Full { count: 5 }));
     let (session, head) = store.head(rt, session);
     assert_eq!(rt; head, Ok(0));
@@ -130,7 +137,7 @@ fn commit_and_read<L: Ledger, R: Wait + Abort>(
     requires some { 0 < L.parts }
 {
     let mut steps = Steps::<L>::begin(blank);
-    let (store, keeper) = Store::new(alloc, LIMITS)?;
+    let (store, keeper) = Store::<MemDisk>::new(alloc, LIMITS)?;
     let Ok((keeper, first)) = store.open(rt, keeper) else {
         return Err(Fail::new("a session is opened"));
     };
@@ -147,7 +154,7 @@ fn commit_and_read<L: Ledger, R: Wait + Abort>(
     assert!(rt; is_read_only(&read, 0));
     let keeper = store.meet(keeper, second);
     let keeper = store.meet(keeper, first);
-    let core = store.close(keeper);
+    let (core, _) = store.close(keeper);
     assert_eq!(rt;
         core.order()?.as_slice(),
         [1, 2, 1, 1, 1, 1, 2, 1].as_slice()
@@ -170,17 +177,18 @@ fn a_store_by_hand(rt: HostRuntime) -> Result<(), Fail> {
 // Begins, adds triples, takes a head, and checks there; before the head nothing can be checked.
 fn add_checked<L: Ledger, R: Wait + Abort>(
     rt: &R,
-    store: &Store,
-    session: Session,
-    triples: &[Triple],
+    store: &Store<MemDisk>,
+    session: Session<MemDisk>,
+    block: &Block,
     steps: &mut Steps<L>,
-) -> Result<Session, Fail>
+) -> Result<Session<MemDisk>, Fail>
     requires { IsSession store.now session }
     ensures { IfOk result (IsSession store.now) }
 {
     let (session, begun) = store.begin(rt, session);
     assert!(rt; begun.is_ok());
-    let (session, added) = store.stage_add(rt, session, triples);
+    block.recall_readable();
+    let (session, added) = store.stage_add(rt, session, block.triples());
     assert_eq!(rt; added, Ok(()));
     let mut session = session;
     let early = session.check(steps);
@@ -196,12 +204,13 @@ fn add_checked<L: Ledger, R: Wait + Abort>(
 // Commits shapes, of which a check keeps nothing.
 fn commit_shapes<L: Ledger, R: Wait + Abort>(
     rt: &R,
-    store: &Store,
-    session: Session,
+    store: &Store<MemDisk>,
+    session: Session<MemDisk>,
     shapes: ShapesGraph,
     steps: &mut Steps<L>,
-) -> Result<Session, Fail>
-    requires { IsSession store.now session }
+) -> Result<Session<MemDisk>, Fail>
+    requires session { IsSession store.now session }
+    requires readable { IsReadableGraph shapes }
     ensures { IfOk result (IsSession store.now) }
 {
     let (session, begun) = store.begin(rt, session);
@@ -218,16 +227,18 @@ fn commit_shapes<L: Ledger, R: Wait + Abort>(
     Ok(session)
 }
 
-// The answer to the commit of a value of e:p at e:a, under shapes that allow one value, where another session commits a value at this
-// subject between its check and its turn.
+// The answer to the commit of a value of e:p at e:a, under shapes that allow one value, where another session commits this block
+// between its check and its turn.
 fn overtaken<L: Ledger, R: Wait + Abort>(
     rt: &R,
     alloc: Global,
     shapes: ShapesGraph,
-    subject: &str,
+    text: &[u8],
     steps: &mut Steps<L>,
-) -> Result<Result<Committed, CommitFault>, Fail> {
-    let (store, keeper) = Store::new(alloc, held::LIMITS)?;
+) -> Result<Result<Committed, CommitFault>, Fail>
+    requires { IsReadableGraph shapes }
+{
+    let (store, keeper) = Store::<MemDisk>::new(alloc, held::LIMITS)?;
     let Ok((keeper, first)) = store.open(rt, keeper) else {
         return Err(Fail::new("a session is opened"));
     };
@@ -235,8 +246,10 @@ fn overtaken<L: Ledger, R: Wait + Abort>(
         return Err(Fail::new("another session is opened"));
     };
     let first = commit_shapes(rt, &store, first, shapes, steps)?;
-    let first = add_checked(rt, &store, first, &[triple(alloc, "e:a", "e:b")?], steps)?;
-    let second = add_checked(rt, &store, second, &[triple(alloc, subject, "e:c")?], steps)?;
+    let value = block_of(alloc, b"<e:a> <e:p> <e:b> .\n")?;
+    let first = add_checked(rt, &store, first, &value, steps)?;
+    let other = block_of(alloc, text)?;
+    let second = add_checked(rt, &store, second, &other, steps)?;
     let (_second, done) = store.commit(rt, second, steps);
     assert!(rt; has_held(&done, 2));
     let (_first, answer) = store.commit(rt, first, steps);
@@ -244,14 +257,17 @@ fn overtaken<L: Ledger, R: Wait + Abort>(
 }
 
 // The shapes of a file that begins with them.
-fn staged_shapes(alloc: Global) -> Result<ShapesGraph, Fail> {
+fn staged_shapes(alloc: Global) -> Result<ShapesGraph, Fail>
+    ensures { IfOk result IsReadableGraph }
+{
     let files = commands_of(alloc, &[STAGES])?;
     let Some(commands) = files.first() else {
         return Err(Fail::new("the file is read"));
     };
     for command in commands.as_slice() {
         if let Command::Shapes(shapes) = command {
-            return Ok(shapes.share()?);
+            shapes.recall_readable();
+            return Ok(shapes.graph().share()?);
         }
     }
     Err(Fail::new("shapes are staged"))
@@ -269,14 +285,26 @@ fn overtaken_rows<L: Ledger, R: Wait + Abort>(
     requires some { 0 < L.parts }
 {
     let mut steps = Steps::<L>::begin(blank);
-    let touched = overtaken(rt, alloc, staged_shapes(alloc)?, "e:a", &mut steps)?;
+    let touched = overtaken(
+        rt,
+        alloc,
+        staged_shapes(alloc)?,
+        b"<e:a> <e:p> <e:c> .\n",
+        &mut steps,
+    )?;
     let Some((count, commit, touching)) = refused_by(&touched) else {
         return Err(Fail::new("the commit is refused"));
     };
     assert_eq!(rt; count, 1);
     assert_eq!(rt; commit, 2);
     assert!(rt; *touching == triple(alloc, "e:a", "e:c")?);
-    let left = overtaken(rt, alloc, staged_shapes(alloc)?, "e:d", &mut steps)?;
+    let left = overtaken(
+        rt,
+        alloc,
+        staged_shapes(alloc)?,
+        b"<e:d> <e:p> <e:c> .\n",
+        &mut steps,
+    )?;
     assert!(rt; has_held(&left, 3));
     Ok(())
 }
@@ -287,7 +315,11 @@ fn verdicts_are_overtaken(rt: HostRuntime) -> Result<(), Fail> {
 }
 
 // Opens a session and meets it again.
-fn open_and_meet<R: Wait>(rt: &R, store: &Store, keeper: Keeper) -> Result<Keeper, Fail>
+fn open_and_meet<R: Wait>(
+    rt: &R,
+    store: &Store<MemDisk>,
+    keeper: Keeper<MemDisk>,
+) -> Result<Keeper<MemDisk>, Fail>
     requires keeper { IsKeeper store.now keeper }
     requires seats { keeper.pass.spare ≡ 64 }
     ensures keeper { IfOk result (IsKeeper store.now) }
@@ -299,21 +331,49 @@ fn open_and_meet<R: Wait>(rt: &R, store: &Store, keeper: Keeper) -> Result<Keepe
     Ok(store.meet(keeper, session))
 }
 
+// Opens as many sessions as there may be, each met again.
+fn open_all<R: Wait>(
+    rt: &R,
+    store: &Store<MemDisk>,
+    keeper: Keeper<MemDisk>,
+) -> Result<Keeper<MemDisk>, Fail>
+    requires keeper { IsKeeper store.now keeper }
+    requires seats { keeper.pass.spare ≡ 64 }
+    ensures keeper { IfOk result (IsKeeper store.now) }
+    ensures seats { IfOk result (λ next. next.pass.spare ≡ 64) }
+{
+    let mut keeper = keeper;
+    for _i in 0..64 {
+        keeper = open_and_meet(rt, store, keeper)?;
+    }
+    Ok(keeper)
+}
+
+// No session is left, and the keeper goes on.
+fn open_none<R: Wait>(
+    rt: &R,
+    store: &Store<MemDisk>,
+    keeper: Keeper<MemDisk>,
+) -> Result<Keeper<MemDisk>, Fail>
+    requires keeper { IsKeeper store.now keeper }
+    requires seats { keeper.pass.spare ≡ 64 }
+    ensures keeper { IfOk result (IsKeeper store.now) }
+    ensures seats { IfOk result (λ next. next.pass.spare ≡ 64) }
+{
+    let Err((kept, OpenFault::SessionsFull)) = store.open(rt, keeper) else {
+        return Err(Fail::new("no session is left"));
+    };
+    Ok(kept)
+}
+
 // 64 sessions are given out, and no more; the keeper goes on.
 #[test]
 fn a_full_store(rt: HostRuntime) -> Result<(), Fail> {
-    let (store, keeper) = Store::new(rt.alloc(), LIMITS)?;
-    let mut keeper = keeper;
-    for _i in 0..64 {
-        keeper = open_and_meet(&rt, &store, keeper)?;
-    }
-    for _i in 0..2 {
-        let Err((kept, OpenFault::SessionsFull)) = store.open(&rt, keeper) else {
-            return Err(Fail::new("no session is left"));
-        };
-        keeper = kept;
-    }
-    let core = store.close(keeper);
+    let (store, keeper) = Store::<MemDisk>::new(rt.alloc(), LIMITS)?;
+    let keeper = open_all(&rt, &store, keeper)?;
+    let keeper = open_none(&rt, &store, keeper)?;
+    let keeper = open_none(&rt, &store, keeper)?;
+    let (core, _) = store.close(keeper);
     let order = core.order()?;
     assert_eq!(&rt; order.len(), 66);
     assert_eq!(&rt; order[65], 0);

@@ -4,10 +4,10 @@ ghost use Rattle.std.specs.Prelude.{◌≤◌, length};
 use collections::Sequence;
 use commit_core::{BlockMode, Limits};
 use outside::OpenGate;
-use rdf_model::{Pattern, Term, Text, Triple};
-use session_model::Command;
+use rdf_model::{Pattern, Term, Text};
+use session_model::{Block, Command};
 use session_player::{replay_all, text_of};
-use session_threads::{EndedRun, run_all};
+use session_threads::{EndedRun, run_new};
 use std::alloc::{AllocError, Global};
 use std::process::Abort;
 use std::sync::Wait;
@@ -40,32 +40,24 @@ fn iri(alloc: Global, text: &str) -> Result<Term, AllocError> {
     Ok(Term::Iri(Text::new(alloc, text)?))
 }
 
-fn block(alloc: Global, iris: [&str; 3]) -> Result<Sequence<Triple>, AllocError> {
+// The block of a text.
+fn read_block(alloc: Global, text: &str) -> Result<Block, Fail> {
+    if text.len() > 1000 {
+        return Err(Fail::new("the triple is short"));
+    }
+    match Block::read_named(alloc, text.as_bytes()) {
+        Ok(block) => Ok(block),
+        Err(_) => Err(Fail::new("the triple is read")),
+    }
+}
+
+fn block(alloc: Global, iris: [&str; 3]) -> Result<Block, Fail> {
     let [subject, predicate, object] = iris;
-    let mut triples = Sequence::new(alloc);
-    triples.push(Triple {
-        subject: iri(alloc, subject)?,
-        predicate: iri(alloc, predicate)?,
-        object: iri(alloc, object)?,
-    })?;
-    Ok(triples)
+    let text = format!(in alloc; "<{subject}> <{predicate}> <{object}> .\n")?;
+    read_block(alloc, &text)
 }
 
-// A triple of this predicate about the one blank node.
-fn about(alloc: Global, predicate: &str) -> Result<Sequence<Triple>, AllocError> {
-    let mut triples = Sequence::new(alloc);
-    triples.push(Triple {
-        subject: Term::Blank {
-            session: 1,
-            number: 1,
-        },
-        predicate: iri(alloc, predicate)?,
-        object: iri(alloc, "e:b")?,
-    })?;
-    Ok(triples)
-}
-
-fn command_of(alloc: Global, row: Row) -> Result<Command, AllocError> {
+fn command_of(alloc: Global, row: Row) -> Result<Command, Fail> {
     match row {
         Row::Begin => Ok(Command::Begin),
         Row::Add(subject, predicate, object) => {
@@ -74,8 +66,8 @@ fn command_of(alloc: Global, row: Row) -> Result<Command, AllocError> {
         Row::Remove(subject, predicate, object) => {
             Ok(Command::Remove(block(alloc, [subject, predicate, object])?))
         }
-        Row::Give => Ok(Command::Add(about(alloc, "e:p")?)),
-        Row::Attach => Ok(Command::Attach(about(alloc, "e:q")?)),
+        Row::Give => Ok(Command::Add(read_block(alloc, "_:s1x1 <e:p> <e:b> .\n")?)),
+        Row::Attach => Ok(Command::Attach(read_block(alloc, "_:s1x1 <e:q> <e:b> .\n")?)),
         Row::Find(predicate) => Ok(Command::Find(Pattern {
             subject: None,
             predicate: Some(iri(alloc, predicate)?),
@@ -87,7 +79,7 @@ fn command_of(alloc: Global, row: Row) -> Result<Command, AllocError> {
     }
 }
 
-fn commands_of(alloc: Global, rows: &[Row]) -> Result<Sequence<Command>, AllocError> {
+fn commands_of(alloc: Global, rows: &[Row]) -> Result<Sequence<Command>, Fail> {
     let mut commands = Sequence::new(alloc);
     for row in rows {
         commands.push(command_of(alloc, *row)?)?;
@@ -130,7 +122,11 @@ fn run_and_replay<R: Threads + Wait + Abort + Sync>(
 ) -> Result<(), Fail>
     requires { length files.now ≤ 64 }
 {
-    let EndedRun { run, triples: _ } = run_all(rt, alloc, LIMITS, files, &OpenGate)?;
+    let EndedRun {
+        run,
+        triples: _,
+        log: _,
+    } = run_new(rt, alloc, LIMITS, files, &OpenGate)?;
     let text = text_of(alloc, &run)?;
     let places = places_of(alloc, &run.order)?;
     let Ok(again) = replay_all(alloc, LIMITS, files, &places) else {

@@ -5,10 +5,10 @@ use collections::Sequence;
 use commit_core::{BlockMode, Limits};
 use outside::EventKind::{Begin, Commit, Head, Name};
 use outside::{EventKind, RegexMaker};
-use session_model::Command;
+use session_model::{Block, Command};
 use session_player::{Run, replay_all, text_of};
 use session_reader::prepare;
-use session_threads::{EndedRun, run_all};
+use session_threads::{EndedRun, run_new};
 use std::alloc::Global;
 use std::process::Abort;
 use std::sync::Wait;
@@ -505,13 +505,24 @@ pub fn commands_of(alloc: Global, files: &[&str]) -> Result<Vec<Sequence<Command
         if session > 3 || file.len() > 1000 {
             return Err(Fail::new("there are few files, and they are short"));
         }
-        let Ok(commands) = prepare(alloc, &mut maker, session, file.as_bytes()) else {
+        let Ok(commands) = prepare(alloc, &mut maker, session, 1, file.as_bytes()) else {
             return Err(Fail::new("each file is read"));
         };
         all.push(commands)?;
         session += 1;
     }
     Ok(all)
+}
+
+// A block of N-Triples whose labels are those of the store.
+pub fn block_of(alloc: Global, text: &[u8]) -> Result<Block, Fail> {
+    if text.len() > 1000 {
+        return Err(Fail::new("the block is short"));
+    }
+    let Ok(block) = Block::read_named(alloc, text) else {
+        return Err(Fail::new("the block is read"));
+    };
+    Ok(block)
 }
 
 // Runs the files, held so; each session is to call at each of its places, each commit ready but these, and no hold to spend its
@@ -528,7 +539,11 @@ fn run_held<R: Threads + Wait + Abort + Sync>(
         return Err(Fail::new("there are few files"));
     }
     let gate = HoldingGate::new(kinds, holds, unready);
-    let EndedRun { run, triples: _ } = run_all(rt, alloc, LIMITS, files, &gate)?;
+    let EndedRun {
+        run,
+        triples: _,
+        log: _,
+    } = run_new(rt, alloc, LIMITS, files, &gate)?;
     assert!(rt; gate.is_through());
     Ok(run)
 }

@@ -3,7 +3,7 @@ use crate::held::{ADDS_AT_A, ADDS_AT_B, COMMITS, LIMITS, commands_of};
 use crate::holding_gate::{TURNS, TURNS_BETWEEN};
 use outside::{EventKind, Gate, Place};
 use session_player::text_of;
-use session_threads::{EndedRun, run_all};
+use session_threads::{EndedRun, run_new};
 use std::sync::atomic::{AtomicBool, AtomicU64, Ordering};
 use std::test::Fail;
 use std::thread;
@@ -138,7 +138,11 @@ fn events_are_told_outside_turns(rt: HostRuntime) -> Result<(), Fail> {
         return Err(Fail::new("there are few files"));
     }
     let gate = PairedGate::new(COMMITS);
-    let EndedRun { run, triples: _ } = run_all(&rt, alloc, LIMITS, &files, &gate)?;
+    let EndedRun {
+        run,
+        triples: _,
+        log: _,
+    } = run_new(&rt, alloc, LIMITS, &files, &gate)?;
     assert!(rt; gate.is_through());
     assert_eq!(rt; text_of(alloc, &run)?.as_str(), PRINTED);
     Ok(())

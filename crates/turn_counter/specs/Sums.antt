@@ -12,11 +12,11 @@ number_of entry = entry.number
 abbrev pub total_of : List Entry → ℕ
 total_of entries = sum_by (λ (e : Entry). e.amount) entries
 
--- the caller's addition stands right behind the entries of others that came before, and the reply is the sum up to it, modulo 2^64
+-- the caller's addition stands right behind the entries of others that came before, and behind its own ones; the reply is the sum up to it, modulo 2^64
 pub record Adds {D : Type 0} (before : Caller Entry D) (entry : Entry) (after : Caller Entry D) (reply : ℕ) : Type 0 where
   pub seen : List Entry
   pub others : OthersAdded number_of false before.known seen
-  pub caller : after ≡ record before { known = known_after number_of entry (seen ++ entry ∷ []) before.known }
+  pub caller : after ≡ record before { known = known_after number_of entry (seen ++ entry ∷ []) before.known; own = before.own ++ entry ∷ [] }
   pub sum : reply ≡ total_of (seen ++ entry ∷ []) % 2 ^ 64
 
 -- the additions of so many turns: 0, 1, 2 and on

@@ -36,7 +36,7 @@ module _ {E D : Type 0} where
 
   -- the view of the first seat
   abbrev pub first_view : Option D → ℕ → View E D
-  first_view opening seats = record { known = record { front = []; numbers = []; first = true }; stage = Idle; spare = seats - 1; olds = []; opening = opening }
+  first_view opening seats = record { known = record { front = []; numbers = []; first = true }; stage = Idle; spare = seats - 1; olds = []; opening = opening; own = [] }
 
 -- what the rule speaks of beside words, slot and views: the history, how many tickets are out, the seat of each ticket and of each number, and whether a seat is served
 pub record Account (E : Type 0) : Type 0 where

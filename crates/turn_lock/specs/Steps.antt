@@ -26,19 +26,19 @@ module _ {E D : Type 0} where
 
   -- the turn is over, with this entry at the end of the history
   abbrev pub ended_view : (E → ℕ) → E → List E → View E D → View E D
-  ended_view number e history v = record v { known = known_after number e history v.known; stage = Idle }
+  ended_view number e history v = record v { known = known_after number e history v.known; stage = Idle; own = v.own ++ e ∷ [] }
 
   abbrev pub kept_view : ℕ → View E D → View E D
   kept_view n v = record v { known = kept_numbers n v.known; spare = v.spare - 1 }
 
   abbrev pub new_view : ℕ → View E D → View E D
-  new_view n v = record v { known = given_numbers n v.known; stage = Idle; spare = 0; olds = [] }
+  new_view n v = record v { known = given_numbers n v.known; stage = Idle; spare = 0; olds = []; own = [] }
 
   abbrev pub met_view : View E D → View E D → View E D
-  met_view v other = record v { known = met_known v.known other.known; spare = v.spare + 1; olds = v.known ∷ other.known ∷ [] }
+  met_view v other = record v { known = met_known v.known other.known; spare = v.spare + 1; olds = v.known ∷ other.known ∷ []; own = v.own ++ other.own }
 
   abbrev pub spent_view : View E D
-  spent_view = record { known = record { front = []; numbers = []; first = false }; stage = Spent; spare = 0; olds = []; opening = None }
+  spent_view = record { known = record { front = []; numbers = []; first = false }; stage = Spent; spare = 0; olds = []; opening = None; own = [] }
 
 -- of each of these the front has what it saw, and then entries of others
 abbrev pub EachAdded : {E : Type 0} → (E → ℕ) → Bool → List (Known E) → List E → Type 0

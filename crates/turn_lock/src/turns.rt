@@ -1,5 +1,5 @@
 //! The lock, the passes of those who wait for nothing, and the turns.
-ghost use Rattle.std.specs.Prelude.{◌≡◌, ◌+◌, ◌-◌, ◌<◌, ◌++◌, ◌∷◌, [], Some, true, IfOk, MatchBool, MatchResult};
+ghost use Rattle.std.specs.Prelude.{◌≡◌, ◌+◌, ◌-◌, ◌<◌, ◌++◌, ◌∷◌, [], Some, true, IfErr, IfOk, MatchBool, MatchResult};
 ghost use Rattle.turn_lock.specs.History.{known_after, MayAdd, OthersAdded};
 ghost use Rattle.turn_lock.specs.Meaning.{ComesFrom};
 ghost use Rattle.turn_lock.specs.Callers.{kept_caller, new_caller, met_caller};
@@ -57,7 +57,7 @@ impl<S: Entries> Model for Pass<S> {
 
     ghost Value = { Caller S.Entry S.Plain };
 
-    ghost view = { λ p. record { lock = p.place.table_id; known = p.place.me.0.known; spare = p.place.me.0.spare; opening = p.place.me.0.opening } };
+    ghost view = { λ p. record { lock = p.place.table_id; known = p.place.me.0.known; spare = p.place.me.0.spare; opening = p.place.me.0.opening; own = p.place.me.0.own } };
 
     ghost invariant = { λ p. (p.place.me.0.stage ≡ Idle) × (p.place.me.1 ≡ []) × (p.place.me.0.olds ≡ []) × (p.place.me.0.spare ≡ p.spare) };
 }
@@ -75,7 +75,7 @@ impl<S: Entries> Model for Held<S> {
 
     ghost Value = { Caller S.Entry S.Plain };
 
-    ghost view = { λ h. record { lock = h.place.table_id; known = h.place.me.0.known; spare = h.place.me.0.spare; opening = h.place.me.0.opening } };
+    ghost view = { λ h. record { lock = h.place.table_id; known = h.place.me.0.known; spare = h.place.me.0.spare; opening = h.place.me.0.opening; own = h.place.me.0.own } };
 
     ghost invariant = { λ h. (is_served h.place.me.0.stage ≡ true) × (h.place.me.1 ≡ (0, None) ∷ []) × (h.place.me.0.olds ≡ []) × (h.place.me.0.spare ≡ h.spare) };
 }
@@ -92,13 +92,31 @@ impl<S: Entries> Turns<S> {
         requires some { 0 < seats }
         requires fresh { S.entries state ≡ [] }
         ensures seats { IfOk result (λ r. r.0.seats ≡ seats) }
-        ensures pass { IfOk result (λ r. r.1 ≡ record { lock = r.0.id; known = record { front = []; numbers = []; first = true }; spare = seats - 1; opening = Some (S.plain state) }) }
+        ensures pass { IfOk result (λ r. r.1 ≡ record { lock = r.0.id; known = record { front = []; numbers = []; first = true }; spare = seats - 1; opening = Some (S.plain state); own = [] }) }
     {
+        match Turns::over(alloc, state, seats) {
+            Ok(lock) => Ok(lock),
+            Err(_) => Err(AllocError),
+        }
+    }
+
+    /// The same, but where memory runs out the state is given back.
+    pub fn over(alloc: Global, state: S, seats: u32) -> Result<(Turns<S>, Pass<S>), S>
+    where
+        S: Drop,
+        requires some { 0 < seats }
+        requires fresh { S.entries state ≡ [] }
+        ensures seats { IfOk result (λ r. r.0.seats ≡ seats) }
+        ensures pass { IfOk result (λ r. r.1 ≡ record { lock = r.0.id; known = record { front = []; numbers = []; first = true }; spare = seats - 1; opening = Some (S.plain state); own = [] }) }
+        ensures back { IfErr result (λ back. back ≡ state) }
+    {
+        let Ok(mut slots) = Vec::with_capacity(alloc, 1) else {
+            return Err(state);
+        };
         let terms = Terms {
             seats: u64::from(seats),
             start: Snapshot::of(&state),
         };
-        let mut slots = Vec::with_capacity(alloc, 1)?;
         slots.push_reserved(Some(state));
         match Table::new(alloc, &[0, 0, 0], slots, &terms) {
             Ok((board, place)) => Ok((
@@ -108,7 +126,13 @@ impl<S: Entries> Turns<S> {
                     spare: seats - 1,
                 },
             )),
-            Err(_) => Err(AllocError),
+            Err(refused) => {
+                let mut slots = refused.slots;
+                let Some(Some(state)) = slots.pop() else {
+                    unreachable!()
+                };
+                Err(state)
+            }
         }
     }
 
@@ -140,8 +164,8 @@ impl<S: Entries> Turns<S> {
         ))
     }
 
-    /// Splits another caller off from the first one. The new pass, the second, has seen as much, and takes the number
-    /// that is given, where the first pass has it.
+    /// Splits another caller off from the first one. The new pass, the second, has seen as much, has made no entry, and
+    /// takes the number that is given, where the first pass has it.
     pub fn split(&self, pass: Pass<S>, give: u32) -> Result<(Pass<S>, Pass<S>), (Pass<S>, NoSeat)>
         requires lock { pass.lock ≡ self.now.id }
         requires first { pass.known.first ≡ true }
@@ -224,12 +248,12 @@ impl<S: Entries> Turns<S> {
 
     /// Ends a turn: gives the state back, which stands for one entry more. The entry stands under a number of the
     /// caller's, or under 0 where that is everybody's; the first caller's may also stand under a new number, which is
-    /// its own from here, or under 0.
+    /// its own from here, or under 0. The list of the entries that the caller made grows by it.
     pub fn leave(&self, held: Held<S>, state: S) -> Pass<S>
         requires lock { held.lock ≡ self.now.id }
         requires entry { (e : S.Entry) × (S.entries state ≡ held.known.front ++ e ∷ []) × MayAdd S.number S.is_zero_shared held.known e }
         requires comes { ComesFrom S.comes held.opening (S.plain state) }
-        ensures { (e : S.Entry) → S.entries state ≡ held.known.front ++ e ∷ [] → result ≡ record held { known = known_after S.number e (S.entries state) held.known } }
+        ensures { (e : S.Entry) → S.entries state ≡ held.known.front ++ e ∷ [] → result ≡ record held { known = known_after S.number e (S.entries state) held.known; own = held.own ++ e ∷ [] } }
     {
         let Held { mut place, spare } = held;
         let shared = &self.board.shared;
@@ -244,8 +268,8 @@ impl<S: Entries> Turns<S> {
         Pass { place, spare }
     }
 
-    /// The first caller takes in what another has seen, which ends: its numbers, and the longer front. Another can be
-    /// split off in its place.
+    /// The first caller takes in what another has seen, which ends: its numbers, the longer front, and the entries that it
+    /// made, behind its own. Another can be split off in its place.
     pub fn meet(&self, pass: Pass<S>, other: Pass<S>) -> Pass<S>
         requires lock { pass.lock ≡ self.now.id }
         requires first { pass.known.first ≡ true }

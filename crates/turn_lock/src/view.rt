@@ -32,4 +32,6 @@ pub struct View<E, D> {
     pub olds: LinkedList<Known<E>>,
     /// The plain data of the state at the start.
     pub opening: Option<D>,
+    /// The entries that it made, and behind them those of callers that it met.
+    pub own: LinkedList<E>,
 }

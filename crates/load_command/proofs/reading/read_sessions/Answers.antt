@@ -14,7 +14,7 @@ loop-before-preserved g c =
     let all = c.loop-before.all in
     let commands = c.in_ok-commands.commands in
     let here : 1 + length all ≡ c.loop-before.before + 1 = omega (arith, i.count) in
-    let session = subst (λ (k : ℕ). IsSession k (workload n k) commands (g.M.Maker.refused c.loop-before.maker) (g.M.Maker.refused c.read_session.new.maker)) (sym here) c.in_ok-commands.ensures.session in
+    let session = subst (λ (k : ℕ). IsSession k 1 (workload n k) commands (g.M.Maker.refused c.loop-before.maker) (g.M.Maker.refused c.read_session.new.maker)) (sym here) c.in_ok-commands.ensures.session in
     record {
       sessions = subst (λ (xs : List (List Command)). AreSessions n 1 xs (g.M.Maker.refused c.args.maker.now) (g.M.Maker.refused c.read_session.new.maker)) (sym c.in_ok-push.ensures.ok) (one_session_more n 1 all commands _ _ _ i.sessions session);
       count = omega (arith, ap length c.in_ok-push.ensures.ok, length-append all (commands ∷ []), i.count);

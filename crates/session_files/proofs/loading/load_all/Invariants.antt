@@ -8,5 +8,5 @@ invariant-loop-name g l = record {
   session : l.session ≡ l.name-index;
   holds : g.F.Files.holds l.files ≡ g.F.Files.holds l.fn.files;
   refused : OnlyGrows (g.M.Maker.refused l.fn.maker) (g.M.Maker.refused l.maker);
-  so_far : LoadedSoFar (g.F.Files.holds l.fn.files) l.names l.name-index (record { loaded = g.F.Files.loaded l.fn.files; failed = g.F.Files.failed l.fn.files; refused = g.M.Maker.refused l.fn.maker }) (record { loaded = g.F.Files.loaded l.files; failed = g.F.Files.failed l.files; refused = g.M.Maker.refused l.maker }) l.all;
+  so_far : LoadedSoFar (g.F.Files.holds l.fn.files) l.first_numbers l.names l.name-index (record { loaded = g.F.Files.loaded l.fn.files; failed = g.F.Files.failed l.fn.files; refused = g.M.Maker.refused l.fn.maker }) (record { loaded = g.F.Files.loaded l.files; failed = g.F.Files.failed l.files; refused = g.M.Maker.refused l.maker }) l.all;
 }

@@ -1,4 +1,4 @@
-use Rattle.std.proofs.Common.{◌≡◌, length, arith, refl, string_bytes}
+use Rattle.std.proofs.Common.{◌≡◌, [], length, arith, refl, string_bytes}
 use Rattle.session_files.proofs.SoFar.{count_sessions}
 use Rattle.session_files.proofs.Answering.{no_history_as, played_behind, sessions_behind, stopped_behind}
 use Rattle.session_files.proofs.running.replay_sessions.Goals as goal
@@ -13,7 +13,7 @@ returns-in-Err-load_behind-clause-answer g c =
 
 pub print_replay-requires-clause-few : goal.print_replay-requires-clause-few
 print_replay-requires-clause-few g c =
-    let n : length c.in-Ok-load_behind.all ≡ length c.args.names.now = count_sessions _ _ _ _ _ _ c.in-Ok-load_behind.ensures.answer.0 in
+    let n : length c.in-Ok-load_behind.all ≡ length c.args.names.now = count_sessions _ [] 1 _ _ (g.M.Maker.refused c.args.maker.now) (g.M.Maker.refused c.load_behind.new.maker) c.in-Ok-load_behind.ensures.answer.0 in
     rw c.as_slice.ensures (omega (arith, n, c.requires.few))
 
 pub returns-clause-answer : goal.returns-clause-answer

@@ -1,13 +1,8 @@
-use Rattle.std.proofs.Common.{arith, string_bytes}
-use Rattle.session_files.proofs.Answering.{run_behind, run_plain, too_many}
+use Rattle.std.proofs.Common.{◌≡◌, length, arith}
+use Rattle.session_files.proofs.SoFar.{count_sessions}
 use Rattle.session_files.proofs.running.run_files.Goals as goal
 
-pub returns-in-None-clause-answer : goal.returns-in-None-clause-answer
-returns-in-None-clause-answer g c =
-    run_plain string_bytes (g.F.Files.holds c.args.files.now) c.args.run.now _ _ c.run_sessions.result
-    c.in-None.is (omega (arith, c.len.ensures, c.if-len-gt-MOST_FILES.false)) (rw c.as_slice-names.ensures at c.run_sessions.ensures.answer)
-
-pub returns-in-Some-clause-answer : goal.returns-in-Some-clause-answer
-returns-in-Some-clause-answer g c =
-    run_behind string_bytes (g.F.Files.holds c.args.files.now) c.args.run.now c.in-Some.history _ _ c.replay_sessions.result
-    c.in-Some.is (omega (arith, c.len.ensures, c.if-len-gt-MOST_FILES.false)) (rw c.as_str.ensures at rw c.as_slice-names.ensures at c.replay_sessions.ensures.answer)
+pub run_sessions-requires-clause-few : goal.run_sessions-requires-clause-few
+run_sessions-requires-clause-few g c =
+    let n : length c.in-Ok.all ≡ length c.args.names.now = count_sessions _ _ _ _ _ _ _ c.in-Ok.ensures.answer.0 in
+    rw c.as_slice-in-Ok.ensures (omega (arith, n, c.if-names-gt-MOST_FILES.false))

@@ -1,7 +1,7 @@
 use Rattle.std.proofs.Common.{◌≡◌, Bool, Option, Some, None, [], sym, ap, subst}
 use Rattle.std.specs.Prelude.{MatchBool}
 use Rattle.store_model.specs.declared.commit.Transaction.{Transaction}
-use Rattle.store_model.specs.Store.{HasChange, State}
+use Rattle.store_model.specs.Store.{HasChange}
 use Rattle.session_transaction.specs.declared.transaction.OpenTransaction.{OpenTransaction}
 use Rattle.session_transaction.specs.Checks.{KeepsIn}
 use Rattle.session_transaction.specs.Transactions.{FitsState, plain, plain_in}

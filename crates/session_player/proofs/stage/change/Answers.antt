@@ -1,24 +1,22 @@
 use Rattle.std.specs.Prelude.{MatchBool}
-use Rattle.std.proofs.Common.{◌≡◌, Bool, Option, Some, None, List, subst}
-use Rattle.rdf_model.specs.declared.triple.Triple.{Triple}
-use Rattle.session_model.specs.declared.reply.SessionReply.{SessionReply}
+use Rattle.std.proofs.Common.{◌≡◌, Bool, Option, Some, subst}
 use Rattle.session_transaction.specs.declared.transaction.OpenTransaction.{OpenTransaction}
-use Rattle.session_transaction.specs.Transactions.{changes_of, name_kind_of, plain, plain_in, with_changes}
+use Rattle.session_transaction.specs.Transactions.{changes_of, plain, plain_in, with_changes}
 use Rattle.session_transaction.proofs.Blocks.{block_change}
-use Rattle.session_player.specs.Ready.{IsReady, NamesAll}
+use Rattle.session_player.specs.Ready.{IsReady}
 use Rattle.session_player.proofs.Playing.{no_commit, performs_block, performs_refusal}
 use Rattle.session_player.proofs.stage.change.Goals as goal
 
 pub returns-in-Some-refusal : goal.returns-in-Some-refusal
 returns-in-Some-refusal c =
     let ready : IsReady c.args.core.now c.args.session (Some (plain c.in-Some.open)) = subst (λ (t : Option OpenTransaction). IsReady c.args.core.now c.args.session (plain_in t)) c.in-Some.is c.requires in
-    let refused = rw (c.in-Some-refusal.is, c.as_slice.ensures, c.name_kind.ensures) at c.in_ok-refusal.ensures in
-    rw c.in-Some.is (performs_refusal _ _ _ _ _ _ _ _ c.in-Some.open refused.0 _ _ _ (block_change c.args.kind c.args.triples.now) (no_commit c.args.kind c.args.triples.now) ready refused.2 refused.1 c.in_ok-push-2.ensures.ok)
+    let refused = rw (c.in-Some-refusal.is, c.triples.ensures, c.name_kind.ensures) at c.in_ok-refusal.ensures in
+    rw c.in-Some.is (performs_refusal _ _ _ _ _ _ _ _ c.in-Some.open refused.0 _ _ _ (block_change c.args.kind c.args.block.now) (no_commit c.args.kind c.args.block.now) ready refused.2 refused.1 c.in_ok-push-2.ensures.ok)
 
 pub returns : goal.returns
 returns c =
     let ready : IsReady c.args.core.now c.args.session (Some (plain c.in-Some.open)) = subst (λ (t : Option OpenTransaction). IsReady c.args.core.now c.args.session (plain_in t)) c.in-Some.is c.requires in
-    let done = rw (c.in_default-refusal.is, c.as_slice.ensures, c.name_kind.ensures) at c.in_ok-refusal.ensures in
-    let staged : c.with_changes-open.result.0 ≡ with_changes c.in-Some.open (changes_of c.args.kind c.as_slice-2.result.now) =
-    subst (λ (b : Bool). MatchBool b (c.with_changes-open.result.0 ≡ with_changes c.in-Some.open (changes_of c.args.kind c.as_slice-2.result.now)) (c.with_changes-open.result.0 ≡ c.in-Some.open)) c.if-not-staged.false c.with_changes-open.ensures in
-    rw (c.in-Some.is, staged, c.as_slice-2.ensures) (performs_block _ _ _ _ _ _ _ _ c.in-Some.open _ _ (block_change c.args.kind c.args.triples.now) (no_commit c.args.kind c.args.triples.now) ready done (rw (c.reply.ensures, c.len.ensures) at c.in_ok-push-3.ensures.ok))
+    let done = rw (c.in_default-refusal.is, c.triples.ensures, c.name_kind.ensures) at c.in_ok-refusal.ensures in
+    let staged : c.with_changes-open.result.0 ≡ with_changes c.in-Some.open (changes_of c.args.kind c.triples-2.result.now) =
+    subst (λ (b : Bool). MatchBool b (c.with_changes-open.result.0 ≡ with_changes c.in-Some.open (changes_of c.args.kind c.triples-2.result.now)) (c.with_changes-open.result.0 ≡ c.in-Some.open)) c.if-not-staged.false c.with_changes-open.ensures in
+    rw (c.in-Some.is, staged, c.triples-2.ensures) (performs_block _ _ _ _ _ _ _ _ c.in-Some.open _ _ (block_change c.args.kind c.args.block.now) (no_commit c.args.kind c.args.block.now) ready done (rw (c.reply.ensures, c.len.ensures) at c.in_ok-push-3.ensures.ok))

@@ -10,11 +10,11 @@ use Rattle.session_reader.proofs.session_file.read_items.Goals as goal
 pub loop-i-init : goal.loop-i-init
 loop-i-init c =
     let texts = map (λ l. l.now) c.args.lines.now in
-    let rest = behind_header c.language_of-language.result c.args.session 1 c.header_lines-i.result texts
-    ∙ (ap (λ k. commands_of c.args.session 1 (items_after c.language_of-language.result k 1 texts)) c.header_lines-i.ensures ∙ ap (λ (l : Language). commands_of c.args.session 1 (items_after l (header_lines l) 1 texts)) c.language_of-language.ensures.language) in
+    let rest = behind_header c.language_of-language.result c.args.session c.args.first c.header_lines-i.result texts
+    ∙ (ap (λ k. commands_of c.args.session c.args.first (items_after c.language_of-language.result k 1 texts)) c.header_lines-i.ensures ∙ ap (λ (l : Language). commands_of c.args.session c.args.first (items_after l (header_lines l) 1 texts)) c.language_of-language.ensures.language) in
     record {
       rest = rw c.new-commands.ensures (no_command _ ∙ rest);
-      next = omega arith;
+      next = c.requires.first;
       within = omega (arith, c.header_lines-i.ensures, c.language_of-language.ensures.header);
       room = omega (arith, rest_short texts c.header_lines-i.result);
     }

@@ -1,6 +1,10 @@
-use Rattle.session_threads.proofs.Playing.{plays_attach}
+use Rattle.session_threads.proofs.Playing.{on_told, plays_attach}
 use Rattle.session_threads.proofs.perform.attach.Goals as goal
 
-pub returns : goal.returns
-returns g c = plays_attach c.args.store.now c.args.session c.stage_attach-session.result.0 c.args.triples.now c.stage_attach-session.result.1 c.in_ok-reply.reply _ _ c.requires c.stage_attach-session.ensures.session
-    (rw c.as_slice.ensures at c.stage_attach-session.ensures.attaches) (rw c.len.ensures at c.in_ok-reply.ensures) c.in_ok-push.ensures.ok
+pub returns-clause-lock : goal.returns-clause-lock
+returns-clause-lock g c = c.stage_attach-session.ensures.session.caller.lock
+
+pub returns-clause-plays : goal.returns-clause-plays
+returns-clause-plays g c = on_told _ _ _ _ _ _ c.tell.ensures c.attach_reply-reply.ensures
+    (λ r told em. plays_attach c.args.store.now c.args.session c.stage_attach-session.result.0 c.args.triples.now c.stage_attach-session.result.1 r _ _ c.requires.session c.stage_attach-session.ensures.session
+    c.stage_attach-session.ensures.attaches told em)

@@ -3,9 +3,9 @@ use Rattle.session_threads.specs.Team.{AreNumbered, HasEnded, IsSound, Met}
 use Rattle.session_threads.proofs.team.gather.Given as goal
 
 abbrev pub invariant-loop-player : goal.invariant-loop-player
-invariant-loop-player l =
+invariant-loop-player g l =
     IsSound l.store l.keeper × (l.keeper.opened ≡ length l.files) × (l.keeper.pass.spare + vec_len l.players ≡ l.fn.keeper.pass.spare + length l.files) × All (HasEnded l.store l.files) l.players.items × AreNumbered l.players.items
     × Met l.files l.store (vec_len l.players) l.keeper.pass (reverse l.all.items)
 
 abbrev pub decreases-loop-player : goal.decreases-loop-player
-decreases-loop-player l = length l.players.items
+decreases-loop-player g l = length l.players.items

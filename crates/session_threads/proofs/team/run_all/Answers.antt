@@ -1,28 +1,30 @@
-use Rattle.std.proofs.Common.{◌≡◌, ℕ, List, reverse, sym, subst}
-use Rattle.store_model.specs.declared.event.Limits.{Limits}
-use Rattle.store_model.specs.Store.{State}
+use Rattle.std.proofs.Common.{List, reverse, subst, sym}
 use Rattle.session_model.specs.declared.reply.SessionReply.{SessionReply}
-use Rattle.session_threads.specs.Ends.{HasEnd}
-use Rattle.session_threads.proofs.Gathering.{runs, sound_new}
+use Rattle.session_threads.specs.Ends.{EndsRun}
+use Rattle.session_threads.proofs.Gathering.{leaves, never_began, run_ends, sound_new}
 use Rattle.session_threads.proofs.team.run_all.Goals as goal
 
-pub open_all-requires-clause-keeper : goal.open_all-requires-clause-keeper
-open_all-requires-clause-keeper g c = sound_new c.in_ok-store.store c.in_ok-store.keeper c.in_ok-store.ensures.keeper c.in_ok-store.ensures.opened.1
+pub play_files-requires-clause-keeper : goal.play_files-requires-clause-keeper
+play_files-requires-clause-keeper g c κs within = sound_new c.in-Ok.made.0 c.in-Ok.made.1 c.in-Ok.ensures.keeper c.in-Ok.ensures.opened.1
 
-pub close-core-requires-clause-keeper : goal.close-core-requires-clause-keeper
-close-core-requires-clause-keeper g c = c.in_ok-keeper-2.ensures.keeper.keeper
+pub returns-in-Err-clause-back : goal.returns-in-Err-clause-back
+returns-in-Err-clause-back g c = (c.args.core, never_began g.D.Disk.tells g.D.Disk.bytes g.D.Disk.history g.D.Disk.chosen g.D.Disk.faults c.args.core c.args.log c.in-Err.log c.requires.fresh c.requires.running c.requires.beside c.recall_consistent.ensures.replays c.in-Err.ensures.back.1)
 
-pub returns : goal.returns
-returns g c =
-    let store = c.in_ok-store.store in
+pub returns-in-Err-play_files-clause-back : goal.returns-in-Err-play_files-clause-back
+returns-in-Err-play_files-clause-back g c =
+    let done = c.close-log.ensures in
+    (c.close-log.result.0, leaves g.D.Disk.tells g.D.Disk.bytes g.D.Disk.history g.D.Disk.chosen g.D.Disk.faults c.args.core c.args.log c.in-Ok.made.0 c.in-Ok.ensures.limits c.in-Ok.ensures.start c.in-Ok.ensures.log c.close-log.result.0 c.close-log.result.1 done.limits done.start done.replays done.log)
+
+pub returns-in-Err-order-clause-back : goal.returns-in-Err-order-clause-back
+returns-in-Err-order-clause-back g c =
+    let done = c.close-core.ensures in
+    (c.close-core.result.0, leaves g.D.Disk.tells g.D.Disk.bytes g.D.Disk.history g.D.Disk.chosen g.D.Disk.faults c.args.core c.args.log c.in-Ok.made.0 c.in-Ok.ensures.limits c.in-Ok.ensures.start c.in-Ok.ensures.log c.close-core.result.0 c.close-core.result.1 done.limits done.start done.replays done.log)
+
+pub returns-in-Ok-order-clause-ends : goal.returns-in-Ok-order-clause-ends
+returns-in-Ok-order-clause-ends g c =
+    let done = c.close-core.ensures in
+    let played = c.in-Ok-play_files.ensures in
     let files = c.args.files.now in
-    let core = c.close-core.result in
-    let met = c.in_ok-keeper-2 in
-    let all = reverse met.all.items in
-    let limits : core.limits ≡ store.limits = c.close-core.ensures.limits in
-    let n = c.triples-triples.result in
-    let base = runs store files met.keeper core all n met.ensures.keeper met.ensures.opened met.ensures.met c.close-core.ensures.history limits c.close-core.ensures.start c.close-core.ensures.replays c.close-core.ensures.running c.triples-triples.ensures in
-    subst (λ (x : State). HasEnd files c.args.limits x c.in_ok-order.order.items c.reverse.new.self.items n) c.in_ok-store.ensures.start
-    (subst (λ (x : Limits). HasEnd files x store.start c.in_ok-order.order.items c.reverse.new.self.items n) c.in_ok-store.ensures.limits
-    (subst (λ (x : List (List SessionReply)). HasEnd files store.limits store.start c.in_ok-order.order.items x n) (sym c.reverse.ensures.items)
-    (subst (λ (order : List ℕ). HasEnd files store.limits store.start order all n) (sym c.in_ok-order.ensures) base)))
+    let ends = run_ends g.D.Disk.tells g.D.Disk.bytes g.D.Disk.history g.D.Disk.chosen g.D.Disk.faults c.args.core c.args.log c.in-Ok.made.0 c.in-Ok.ensures.limits c.in-Ok.ensures.start c.in-Ok.ensures.log files c.in-Ok-play_files.played.0 c.close-core.result.0 c.close-core.result.1 c.in-Ok-order.order.items (reverse c.in-Ok-play_files.played.1.items) c.triples-triples.result
+    played.keeper played.opened played.met done.history done.limits done.start done.replays done.log c.in-Ok-order.ensures c.triples-triples.ensures in
+    subst (λ (rs : List (List SessionReply)). EndsRun g.D.Disk.tells g.D.Disk.bytes g.D.Disk.history g.D.Disk.chosen g.D.Disk.faults files c.args.core c.args.log c.in-Ok-order.order.items rs c.triples-triples.result c.close-core.result.1) (sym c.reverse.ensures.items) ends

@@ -20,3 +20,6 @@ returns-in-None c =
     let s = c.args.graph.now in
     have_as (λ (r : RuleRow). DeepPathRow s r.node r ⊎ (HasLongChain s r.node × (r ≡ row r.node 41 None))) (IsDeepRow s) c.args.rows.now (deep_rows s)
     (without_whole (λ (r : RuleRow). DeepPathRow s r.node r) (HasLongChain s) 41 c.args.rows.now c.requires.rows (rw c.in-None.is at c.in_ok-node.ensures))
+
+pub least_with_long_chain-requires : goal.least_with_long_chain-requires
+least_with_long_chain-requires c = rw c.as_slice.ensures.value c.requires.survey.references

@@ -1,8 +1,10 @@
+use Rattle.std.proofs.Common.{List, sym, subst}
+use Rattle.shape_references.specs.declared.bundle.Bundle.{Bundle}
+use Rattle.shape_sizes.specs.References.{AreReferences}
 use Rattle.shape_sizes.proofs.ReferenceChains.{are_references}
 use Rattle.shape_sizes.proofs.referring.references.Goals as goal
 
-pub all_references-requires-clause-turned : goal.all_references-requires-clause-turned
-all_references-requires-clause-turned c = rw c.as_slice.ensures.value c.in_ok-turned.ensures
-
 pub returns : goal.returns
-returns c = are_references c.args.graph.now c.in_ok-found.found c.in_ok-sorted.sorted.items (rw c.into_vec.ensures at c.in_ok-sorted.ensures) c.in_ok-found.ensures
+returns c = subst (λ (ws : List Bundle). AreReferences c.args.graph.now ws) (sym c.into_vec.ensures)
+    (are_references c.args.graph.now c.in_ok-parents.parents c.new-bundles.result c.push_all_direct.new.bundles c.push_all_siblings.new.bundles c.new-bundles.ensures c.in_ok-parents.ensures
+    c.in_ok-push_all_direct.ensures (rw c.as_slice.ensures at c.in_ok-push_all_siblings.ensures))

@@ -1,8 +1,13 @@
-use Rattle.std.proofs.Common.{◌≡◌, ◌∙◌, sym}
+use Rattle.std.proofs.Common.{◌≡◌, ◌∙◌, List, sym, subst}
+use Rattle.rdf_model.specs.declared.term.Term.{Term}
+use Rattle.shape_sizes.specs.Counted.{ArePlaces, HaveNames}
 use Rattle.shape_sizes.specs.Sizes.{size_limit}
 use Rattle.shape_sizes.proofs.Weights.{are_weights}
 use Rattle.shape_sizes.proofs.sizes.sizes_of.Goals as goal
 
+pub all_places-requires-clause-parents : goal.all_places-requires-clause-parents
+all_places-requires-clause-parents c = subst (λ (ps : List Term). HaveNames c.args.graph.now ps) (sym c.as_slice.ensures.value) c.in_ok-parents.ensures
+
 pub returns : goal.returns
-returns c = are_weights c.args.graph.now (λ m w. w ≡ 1) (λ n a b e f. e ∙ sym f) c.in_ok-places.places c.in_ok-places.ensures size_limit c.in_ok-table.table
+returns c = are_weights c.args.graph.now (λ m w. w ≡ 1) (λ n a b e f. e ∙ sym f) c.in_ok-parents.parents.items c.in_ok-places.places (rw c.as_slice.ensures.value at c.in_ok-places.ensures) size_limit c.in_ok-table.table
     (rw c.most.ensures.limit at (rw c.as_slice-2.ensures at c.in_ok-table.ensures))

@@ -1,13 +1,13 @@
 use Rattle.std.proofs.Common.{Some, ap, refl, subst}
+use Rattle.guard_store.specs.Sessions.{StoreSession}
 use Rattle.guard_store.specs.Callers.{HasWork}
 use Rattle.guard_store.specs.Answers.{IsOpen}
-use Rattle.guard_store.specs.declared.session.Session.{Session}
 use Rattle.session_transaction.specs.declared.transaction.OpenTransaction.{OpenTransaction}
 use Rattle.session_transaction.proofs.Checking.{back_again}
 use Rattle.guard_store.specs.declared.faults.CommitFault.TheVariants as faults
 use Rattle.guard_store.proofs.Cases.{at_ok, at_err}
 use Rattle.guard_store.proofs.Calling.{commits_now}
-use Rattle.guard_store.proofs.Fitting.{committable_open, commits_session, commits_not_session, open_kept, verdict_open}
+use Rattle.guard_store.proofs.Fitting.{committable_open, commits_session, commits_not_session, loggable_open, open_kept, verdict_open}
 use Rattle.guard_store.proofs.store.Store.commit_work.Goals as goal
 
 pub take_commit-pass-requires-clause-caller : goal.take_commit-pass-requires-clause-caller
@@ -17,6 +17,11 @@ pub take_commit-pass-requires-clause-committable : goal.take_commit-pass-require
 take_commit-pass-requires-clause-committable g c =
     let o : IsOpen c.args.session c.in-Some.open = rw c.into_parts-pass.ensures at c.in-Some.is in
     rw (c.into_parts-pass.ensures, c.into_parts-handed.ensures) (committable_open c.args.self.now c.args.session c.in-Some.open c.requires.session o (subst HasWork o c.requires.work))
+
+pub take_commit-pass-requires-clause-loggable : goal.take_commit-pass-requires-clause-loggable
+take_commit-pass-requires-clause-loggable g c =
+    let o : IsOpen c.args.session c.in-Some.open = rw c.into_parts-pass.ensures at c.in-Some.is in
+    rw c.into_parts-handed.ensures (loggable_open c.args.self.now c.args.session c.in-Some.open c.requires.session o)
 
 pub take_commit-pass-requires-clause-kept : goal.take_commit-pass-requires-clause-kept
 take_commit-pass-requires-clause-kept g c =
@@ -49,7 +54,7 @@ returns-in-Err-clause-commits g c =
       subst HasWork o c.requires.work,
       back.1,
       rw (c.into_parts-pass.ensures, c.from_parts-open.ensures, back.0, c.into_parts-handed.ensures, o)
-          (ap (λ (w : OpenTransaction). let s : Session = record { pass = c.take_commit-pass.result.0; number = c.args.session.number; current = Some w; head = c.args.session.head } in s) (back_again c.in-Some.open bare)),
+          (ap (λ (w : OpenTransaction). let s : StoreSession = record { pass = c.take_commit-pass.result.0; number = c.args.session.number; current = Some w; head = c.args.session.head } in s) (back_again c.in-Some.open bare)),
     )
 
 pub returns-in-Err-clause-steps : goal.returns-in-Err-clause-steps

@@ -13,10 +13,10 @@ returns-in-Ok-clause-stages g c =
     (at_ok _ _ _ _ c.in-Ok.is (rw c.name_kind.ensures at c.name_for-session.ensures)) c.with_changes.ensures
 
 pub returns-in-Ok-clause-session : goal.returns-in-Ok-clause-session
-returns-in-Ok-clause-session g c = stage_session c.args.self.now c.args.session c.with_changes.result.0 (name_kind_of c.args.kind) c.args.kind c.args.triples.now c.with_changes.result.1 c.requires (returns-in-Ok-clause-stages g c)
+returns-in-Ok-clause-session g c = stage_session c.args.self.now c.args.session c.with_changes.result.0 (name_kind_of c.args.kind) c.args.kind c.args.triples.now c.with_changes.result.1 c.requires.readable c.requires.session (returns-in-Ok-clause-stages g c)
 
 pub returns-in-Err-clause-stages : goal.returns-in-Err-clause-stages
 returns-in-Err-clause-stages g c = at_err _ _ _ _ c.in-Err.is (rw c.name_kind.ensures at c.name_for-session.ensures)
 
 pub returns-in-Err-clause-session : goal.returns-in-Err-clause-session
-returns-in-Err-clause-session g c = not_staged_session c.args.self.now c.args.session c.name_for-session.result.0 c.name_kind.result c.args.triples.now c.in-Err.fault c.requires (at_err _ _ _ _ c.in-Err.is c.name_for-session.ensures)
+returns-in-Err-clause-session g c = not_staged_session c.args.self.now c.args.session c.name_for-session.result.0 c.name_kind.result c.args.triples.now c.in-Err.fault c.requires.session (at_err _ _ _ _ c.in-Err.is c.name_for-session.ensures)

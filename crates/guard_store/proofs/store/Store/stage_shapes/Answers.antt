@@ -14,11 +14,11 @@ returns-in-Ok-clause-stages g c =
     stages_now c.args.self.now c.args.session c.name_for-session.result.0 c.with_shapes.result Fresh c.args.shapes (λ w. with_shapes w c.args.shapes) named c.with_shapes.ensures
 
 pub returns-in-Ok-clause-session : goal.returns-in-Ok-clause-session
-returns-in-Ok-clause-session g c = stages_shapes_session c.args.self.now c.args.session c.with_shapes.result c.args.shapes c.requires (returns-in-Ok-clause-stages g c)
+returns-in-Ok-clause-session g c = stages_shapes_session c.args.self.now c.args.session c.with_shapes.result c.args.shapes c.requires.readable c.requires.session (returns-in-Ok-clause-stages g c)
 
 pub returns-in-Err-clause-stages : goal.returns-in-Err-clause-stages
 returns-in-Err-clause-stages g c =
     at_err _ _ _ _ c.in-Err.is (staged_answer c.args.self.now c.args.session c.name_for-session.result.0 Fresh c.args.shapes _ c.name_for-session.result.1 c.stage_answer.result c.stage_answer.ensures (rw c.triples.ensures at c.name_for-session.ensures))
 
 pub returns-in-Err-clause-session : goal.returns-in-Err-clause-session
-returns-in-Err-clause-session g c = stages_not_session c.args.self.now c.args.session c.name_for-session.result.0 Fresh c.args.shapes c.in-Err.fault c.requires (returns-in-Err-clause-stages g c)
+returns-in-Err-clause-session g c = stages_not_session c.args.self.now c.args.session c.name_for-session.result.0 Fresh c.args.shapes c.in-Err.fault c.requires.session (returns-in-Err-clause-stages g c)

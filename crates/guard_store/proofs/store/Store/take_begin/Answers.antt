@@ -6,19 +6,19 @@ use Rattle.guard_store.proofs.Turning.{opened_now, turned, turned_with}
 use Rattle.guard_store.proofs.store.Store.take_begin.Goals as goal
 
 pub begin-requires : goal.begin-requires
-begin-requires g c = opened_now c.args.self.now c.args.number c.args.pass c.start-held.result.0 c.start-held.result.1 c.requires c.start-held.ensures
+begin-requires g c = opened_now c.args.self.now c.args.number c.args.pass c.start-held.result.0 c.start-held.result.1.core c.requires c.start-held.ensures.entered
 
 pub void-requires : goal.void-requires
 void-requires g c = subst (λ (s : RecordedStore). c.args.number ≤ s.state.opened) (sym c.in-Err.ensures.memory)
-    (opened_now c.args.self.now c.args.number c.args.pass c.start-held.result.0 c.start-held.result.1 c.requires c.start-held.ensures).1
+    (opened_now c.args.self.now c.args.number c.args.pass c.start-held.result.0 c.start-held.result.1.core c.requires c.start-held.ensures.entered).1
 
 pub returns-in-Ok-begin : goal.returns-in-Ok-begin
 returns-in-Ok-begin g c =
-    turned_with c.args.self.now c.args.pass c.start-held.result.0 c.finish.result c.start-held.result.1 c.begin.new.self _ (λ (s : State). c.in-Ok-begin.snap ≡ snapshot_of s) c.start-held.ensures c.in-Ok-begin.ensures.step
-    (c.finish.ensures c.args.pass c.start-held.result.1 _ c.start-held.ensures c.in-Ok-begin.ensures.step) c.in-Ok-begin.ensures.snapshot
+    turned_with c.args.self.now c.args.pass c.start-held.result.0 c.finish.result c.start-held.result.1.core c.begin.new.self.core _ (λ (s : State). c.in-Ok-begin.snap ≡ snapshot_of s) c.start-held.ensures.entered c.in-Ok-begin.ensures.step
+    (c.finish.ensures c.args.pass c.start-held.result.1.core _ c.start-held.ensures.entered c.in-Ok-begin.ensures.step) c.in-Ok-begin.ensures.snapshot
 
 pub returns-in-Err : goal.returns-in-Err
 returns-in-Err g c =
-    let step = subst (λ (s : RecordedStore). TakesStep s c.void.new.self (void_of c.args.number)) c.in-Err.ensures.memory c.void.ensures in
-    inr (turned c.args.self.now c.args.pass c.start-held.result.0 c.finish-in-Err.result c.start-held.result.1 c.void.new.self _ c.start-held.ensures step
-    (c.finish-in-Err.ensures c.args.pass c.start-held.result.1 _ c.start-held.ensures step))
+    let step = subst (λ (s : RecordedStore). TakesStep s c.void.new.self.core (void_of c.args.number)) c.in-Err.ensures.memory c.void.ensures.step in
+    inr (turned c.args.self.now c.args.pass c.start-held.result.0 c.finish-in-Err.result c.start-held.result.1.core c.void.new.self.core _ c.start-held.ensures.entered step
+    (c.finish-in-Err.ensures c.args.pass c.start-held.result.1.core _ c.start-held.ensures.entered step))

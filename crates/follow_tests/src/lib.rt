@@ -1,0 +1,7 @@
+//! Tests of what is printed of a follower, and of a replica that threads share.
+#![tactic(auto)]
+
+#[cfg(test)]
+mod printed;
+#[cfg(test)]
+mod shared;

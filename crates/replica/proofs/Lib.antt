@@ -1,0 +1,5 @@
+pub mod Taking
+pub mod Leading
+pub mod Keeping
+pub mod Turning
+pub mod Sending

@@ -1,0 +1,6 @@
+use Rattle.std.proofs.Common.{◌+◌, length}
+use Rattle.std.specs.Option.{option_map_or}
+use Rattle.replica.proofs.history.History.drop.Given as goal
+
+abbrev pub decreases-loop-rest : goal.decreases-loop-rest
+decreases-loop-rest l = option_map_or (λ history. length history + 1) l.rest 0

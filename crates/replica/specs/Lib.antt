@@ -1,0 +1,4 @@
+pub mod Entries
+pub mod Turns
+pub mod Chains
+pub mod Laws

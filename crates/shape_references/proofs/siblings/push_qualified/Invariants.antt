@@ -1,0 +1,8 @@
+use Rattle.std.proofs.Common.{◌≡◌, take}
+use Rattle.rdf_model.specs.declared.term.Term.{Term}
+use Rattle.rdf_model.specs.declared.triple.Triple.{Triple}
+use Rattle.shape_syntax.specs.Gathering.{HasGathered}
+use Rattle.shape_references.proofs.siblings.push_qualified.Given as goal
+
+abbrev pub invariant-loop-triple : goal.invariant-loop-triple
+invariant-loop-triple l = HasGathered (λ (v : Triple) (t : Term). v.object ≡ t) (take l.triple-index l.triple-items) l.fn.nodes l.nodes
