@@ -13,8 +13,8 @@ root=$(cd "$(dirname "$0")/.." && pwd)
 records=${2-10000}
 commits=${3-2000}
 program=${GUARD_PROGRAM:-$root/guard}
-work=$(mktemp -d "${1-${TMPDIR:-/tmp}}/log-bench.XXXXXX")
-memory=$(mktemp -d /dev/shm/log-bench.XXXXXX)
+work=$(mktemp -d -p "${1-${TMPDIR:-/tmp}}")
+memory=$(mktemp -d -p /dev/shm)
 trap 'rm -rf "$work" "$memory"' EXIT
 
 # singles COUNT: so many transactions of one triple each.
