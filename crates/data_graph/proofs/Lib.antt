@@ -9,6 +9,9 @@ pub mod AtOnce
 mod ChangedTriples
 mod Checking
 mod Checks
+mod Existing
+mod Keeping
+mod Moved
 mod NoChecks
 mod RowsOfPairs
 mod Selecting

@@ -1,5 +1,5 @@
 -- What a check of changes is, by terms and by number.
-use Rattle.std.specs.Prelude.{◌↔◌, ℕ, List, map}
+use Rattle.std.specs.Prelude.{ℕ, List, map}
 use Rattle.std.specs.List.{Contains}
 use Rattle.collections.specs.Listings.{IsListing}
 use Rattle.collections.specs.Ordered.{IsAscending}
@@ -16,12 +16,13 @@ use Rattle.shape_model.specs.declared.result_row.ResultRow.{ResultRow}
 use Rattle.shape_model.specs.Rows.{result_row_cmp}
 use Rattle.change_laws.specs.Checks.{AreChecked, CheckedPair, SameMembers}
 use Rattle.change_laws.specs.Pairs.{IsCheckFootprint}
-use Rattle.parallel_validate.specs.declared.pairs.CheckedRows.{CheckedRows}
+use Rattle.kept_rows.specs.declared.pair_rows.PairRows.{PairRows}
+use Rattle.kept_rows.specs.Laws.{ChecksPairs}
 use Rattle.parallel_validate.specs.Verdicts.{AreBoundLooks}
 
 -- it is a result of one of the pairs
-abbrev pub IsRowOf : List CheckedRows → ResultRow → Type 0
-IsRowOf pairs r = (c : CheckedRows) × Contains pairs c × Contains c.rows r
+abbrev pub IsRowOf : List PairRows → ResultRow → Type 0
+IsRowOf pairs r = (c : PairRows) × Contains pairs c × Contains c.rows r
 
 abbrev pub IsResultOf : List CheckedPair → ResultRow → Type 0
 IsResultOf checked r = (c : CheckedPair) × Contains checked c × Contains c.rows r
@@ -34,13 +35,11 @@ pub record IsCheckOf (g s : List Triple) (net : List Change) (looked : List (Loo
   pub pairs : AreChecked g s net checked
   pub listing : IsListing result_row_cmp (IsResultOf checked) rows
 
--- The same by number, with the results by pairs; each number of the looks has a term.
-pub record IsCheckByNumber (terms : List Term) (g s : List Triple) (net : List Change) (kept : List CheckedRows) (looked : List (Look ℕ)) : Type 0 where
+-- The same by number, with the results by pairs; each number has a term.
+pub record IsCheckByNumber (terms : List Term) (g s : List Triple) (net : List Change) (pairs : List PairRows) (looked : List (Look ℕ)) : Type 0 where
   pub looks : IsCheckFootprint g s net (map (look_of terms) looked)
   pub bound : AreBoundLooks terms looked
-  pub checked : List CheckedPair
-  pub pairs : AreChecked g s net checked
-  pub results : (r : ResultRow) → IsRowOf kept r ↔ IsResultOf checked r
+  pub checks : ChecksPairs terms g s net pairs
 
 -- for each data graph with these triples before the changes, and with those after them
 abbrev pub WhereIndexed : List Term → List Ids → List Ids → List Change → (List Triple → Type 0) → Type 0

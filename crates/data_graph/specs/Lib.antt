@@ -2,3 +2,4 @@ pub mod Changes
 pub mod DataGraphs
 pub mod Finding
 pub mod Nets
+pub mod Pairs

@@ -12,10 +12,12 @@ ghost use Rattle.data_graph.specs.DataGraphs.{AreNamedChanges};
 
 use crate::looks::read_looks;
 use crate::numbering::number_changed;
+use crate::pairs::numbered_pairs;
 use bound_shapes::BoundShapes;
 use collections::{Sequence, sorted_once};
-use parallel_validate::{Checked, CheckedRows, check};
-use rdf_model::{Change, Look, Term};
+use kept_rows::PairRows;
+use parallel_validate::{Checked, check};
+use rdf_model::{Change, Footprint, Look, Term};
 use shape_eval::Steps;
 use shape_model::ResultRow;
 use std::alloc::{AllocError, Global};
@@ -58,11 +60,53 @@ impl CheckedChanges {
     }
 }
 
+/// The same by number: the touched pairs, each with its results after the changes, and all looks.
+#[derive(Drop)]
+pub(crate) struct NumberedCheck {
+    pub(crate) pairs: Sequence<PairRows>,
+    pub(crate) looks: Footprint,
+}
+
+/// What checking changes found by the pairs that they touch: each of these with the results that it has after them, and all looks
+/// that were made.
+#[derive(Debug)]
+pub struct PairedChanges {
+    pub pairs: Sequence<PairRows>,
+    pub looks: Sequence<Look<Term>>,
+}
+
+// Written by hand, so that what owns one calls it in place of having it written out.
+impl Drop for PairedChanges {
+    fn drop(self) {
+        let PairedChanges { pairs: _, looks: _ } = self;
+    }
+}
+
+impl PairedChanges {
+    // No pair and no look.
+    pub(crate) fn empty(alloc: Global) -> PairedChanges
+        ensures { result ≡ record { pairs = []; looks = [] } }
+    {
+        PairedChanges {
+            pairs: Sequence::new(alloc),
+            looks: Sequence::new(alloc),
+        }
+    }
+
+    /// The pairs, and the looks.
+    pub fn into_parts(self) -> (Sequence<PairRows>, Sequence<Look<Term>>)
+        ensures { result ≡ (self.pairs, self.looks) }
+    {
+        let PairedChanges { pairs, looks } = self;
+        (pairs, looks)
+    }
+}
+
 // Adds the rows of a pair.
-fn add_rows(rows: &mut Vec<ResultRow>, pair: CheckedRows) -> Result<(), AllocError>
+fn add_rows(rows: &mut Vec<ResultRow>, pair: PairRows) -> Result<(), AllocError>
     ensures { OnOk result (rows.new.items ≡ rows.old.items ++ pair.rows) }
 {
-    let mut more = pair.rows.into_vec();
+    let mut more = pair.into_rows().into_vec();
     rows.append(&mut more)?;
     Ok(())
 }
@@ -70,7 +114,7 @@ fn add_rows(rows: &mut Vec<ResultRow>, pair: CheckedRows) -> Result<(), AllocErr
 /// The rows of all pairs, each once, in order.
 pub(crate) fn rows_of(
     alloc: Global,
-    pairs: Sequence<CheckedRows>,
+    pairs: Sequence<PairRows>,
 ) -> Result<Vec<ResultRow>, AllocError>
     ensures { IfOk result (λ rows. IsListing result_row_cmp (IsRowOf pairs) rows.items) }
 {
@@ -91,7 +135,7 @@ pub(crate) fn check_by_number<L: Ledger>(
     shapes: &BoundShapes,
     net: &[Change],
     steps: &mut Steps<L>,
-) -> Result<Checked, AllocError>
+) -> Result<NumberedCheck, AllocError>
     requires before { AreNumbered names.now.terms before.now }
     requires later { AreNumbered names.now.terms later.now }
     requires shapes { IsBoundTo names.now.terms shapes.now }
@@ -104,20 +148,25 @@ pub(crate) fn check_by_number<L: Ledger>(
     let changed = number_changed(alloc, names, net)?;
     let planned = shapes.planned();
     let checked = check(alloc, before, later, names, planned, &changed, steps)?;
-    Ok(checked)
+    let Checked { pairs, looks } = checked;
+    let numbered = numbered_pairs(alloc, planned, pairs)?;
+    Ok(NumberedCheck {
+        pairs: Sequence::from_vec(numbered),
+        looks,
+    })
 }
 
 /// What was found, with its results in their order and its looks by terms.
 pub(crate) fn checked_changes(
     alloc: Global,
     names: &Dict,
-    checked: Checked,
+    checked: NumberedCheck,
 ) -> Result<CheckedChanges, AllocError>
     requires { AreBoundLooks names.now.terms checked.looks }
     ensures rows { IfOk result (λ changes. IsListing result_row_cmp (IsRowOf checked.pairs) changes.rows) }
     ensures looks { IfOk result (λ changes. changes.looks ≡ map (look_of names.now.terms) checked.looks) }
 {
-    let Checked {
+    let NumberedCheck {
         pairs,
         looks: footprint,
     } = checked;
@@ -126,4 +175,25 @@ pub(crate) fn checked_changes(
     let named = read_looks(alloc, names, footprint.looks())?;
     let looks = Sequence::from_vec(named);
     Ok(CheckedChanges { rows, looks })
+}
+
+/// What was found by pairs, with its looks by terms.
+pub(crate) fn paired_changes(
+    alloc: Global,
+    names: &Dict,
+    checked: NumberedCheck,
+) -> Result<PairedChanges, AllocError>
+    requires { AreBoundLooks names.now.terms checked.looks }
+    ensures pairs { IfOk result (λ changes. changes.pairs ≡ checked.pairs) }
+    ensures looks { IfOk result (λ changes. changes.looks ≡ map (look_of names.now.terms) checked.looks) }
+{
+    let NumberedCheck {
+        pairs,
+        looks: footprint,
+    } = checked;
+    let named = read_looks(alloc, names, footprint.looks())?;
+    Ok(PairedChanges {
+        pairs,
+        looks: Sequence::from_vec(named),
+    })
 }

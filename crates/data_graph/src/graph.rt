@@ -10,20 +10,25 @@ ghost use Rattle.term_dict.specs.Faults.{IsCause};
 ghost use Rattle.term_dict.specs.Names.{AreNumbersOf, first_terms, with_terms};
 ghost use Rattle.graph_validation.specs.Counting.{GrowsByCount, IsTargetPair};
 ghost use Rattle.term_validation.specs.Named.{AreNamedTriples};
+ghost use Rattle.change_laws.specs.Pairs.{IsCheckFootprint};
+ghost use Rattle.kept_rows.specs.Laws.{ChecksPairs, KeepsResults};
 ghost use Rattle.data_graph.specs.Changes.{IsCheckByNumber, IsCheckOf};
 ghost use Rattle.data_graph.specs.DataGraphs.{AreNamedChanges, IsIndexOf, IsIndexed, names_of, with_changes, with_names, with_shapes};
 
 use crate::by_number::found_by_number;
-use crate::changes::{CheckedChanges, check_by_number, checked_changes, rows_of};
+use crate::changes::{
+    CheckedChanges, NumberedCheck, PairedChanges, check_by_number, checked_changes, paired_changes,
+    rows_of,
+};
 use crate::graphs::{graph_after, graph_after_asked, list_after_asked};
-use crate::numbering::{CLASS_WORDS, index_after, index_of, listing_by};
+use crate::numbering::{CLASS_WORDS, index_after, index_of, kept_by, listing_by};
 use crate::run::graph_matching;
 use crate::select::select_after;
 use bgp_query::{JoinPattern, SelectFault};
 use bound_shapes::BoundShapes;
 use collections::{Sequence, both};
+use kept_rows::{KeptRows, PairRows};
 use page_index::Pages;
-use parallel_validate::Checked;
 use rdf_model::{Change, Pattern, Term, Triple};
 use shape_eval::Steps;
 use shape_model::ResultRow;
@@ -291,13 +296,30 @@ impl DataGraph {
         Ok(rows)
     }
 
+    /// The same results, each with the pair of a shape and a focus node that gives it, and counted alike.
+    pub fn kept_results<L: Ledger>(&mut self, steps: &mut Steps<L>) -> Result<KeptRows, AllocError>
+        requires { AreNamedTriples self.old.terms self.old.triples }
+        ensures same { self.new ≡ self.old }
+        ensures rows { IfOk result (KeepsResults self.old.terms self.old.triples self.old.shapes) }
+        ensures steps { OnOk result (GrowsByCount (IsTargetPair self.old.triples self.old.shapes) steps.old steps.new) }
+        ensures counted { steps.old ≤ steps.new }
+    {
+        if is_without_shapes(self.shapes.graph()) {
+            return Ok(KeptRows::new(self.alloc));
+        }
+        let numbers = self.index()?;
+        let rows = kept_by(self.alloc, &self.names, &numbers, &self.shapes, steps)?;
+        self.numbers = Some(numbers);
+        Ok(rows)
+    }
+
     // What checking the changes finds, by number. The numbers of the triples after them are kept in `next`.
     fn checked_after<L: Ledger>(
         &self,
         net: &[Change],
         next: &mut DataGraph,
         steps: &mut Steps<L>,
-    ) -> Result<Checked, AllocError>
+    ) -> Result<NumberedCheck, AllocError>
         requires graph { AreNamedTriples self.now.terms self.now.triples }
         requires net { AreNamedChanges self.now.terms net.now }
         requires after { AreNamedTriples self.now.terms (after self.now.triples net.now) }
@@ -375,5 +397,55 @@ impl DataGraph {
         }
         let checked = self.checked_after(net, next, steps)?;
         Ok(checked_changes(self.alloc, &self.names, checked)?)
+    }
+
+    /// The pairs of a shape and a node that the changes touch, each with its results after them, whatever results the graph has
+    /// besides. All terms of the graph and the changes are named. The evaluations are counted as by `listing_after`.
+    pub fn pairs_after<L: Ledger>(
+        &self,
+        net: &[Change],
+        next: &mut DataGraph,
+        steps: &mut Steps<L>,
+    ) -> Result<Sequence<PairRows>, AllocError>
+        requires graph { AreNamedTriples self.now.terms self.now.triples }
+        requires net { AreNamedChanges self.now.terms net.now }
+        requires after { AreNamedTriples self.now.terms (after self.now.triples net.now) }
+        requires next { next.old ≡ with_changes self.now net.now }
+        ensures same { next.new ≡ next.old }
+        ensures checks { IfOk result (ChecksPairs self.now.terms self.now.triples self.now.shapes net.now) }
+        ensures steps { OnOk result (GrowsByCount (IsEvaluated self.now.triples self.now.shapes net.now) steps.old steps.new) }
+        ensures counted { steps.old ≤ steps.new }
+    {
+        if is_without_shapes(self.shapes.graph()) {
+            return Ok(Sequence::new(self.alloc));
+        }
+        let checked = self.checked_after(net, next, steps)?;
+        Ok(checked.pairs)
+    }
+
+    /// The same pairs, and all looks that were made, those by which it was found what the changes touch with them. All terms of
+    /// the looks are named.
+    pub fn paired_after<L: Ledger>(
+        &self,
+        net: &[Change],
+        next: &mut DataGraph,
+        steps: &mut Steps<L>,
+    ) -> Result<PairedChanges, AllocError>
+        requires graph { AreNamedTriples self.now.terms self.now.triples }
+        requires net { AreNamedChanges self.now.terms net.now }
+        requires after { AreNamedTriples self.now.terms (after self.now.triples net.now) }
+        requires next { next.old ≡ with_changes self.now net.now }
+        ensures same { next.new ≡ next.old }
+        ensures checks { IfOk result (λ found. ChecksPairs self.now.terms self.now.triples self.now.shapes net.now found.pairs) }
+        ensures looks { IfOk result (λ found. IsCheckFootprint self.now.triples self.now.shapes net.now found.looks) }
+        ensures named { IfOk result (λ found. AllByRecursion (λ look. AreNamed self.now.terms (looked_at look)) found.looks) }
+        ensures steps { OnOk result (GrowsByCount (IsEvaluated self.now.triples self.now.shapes net.now) steps.old steps.new) }
+        ensures counted { steps.old ≤ steps.new }
+    {
+        if is_without_shapes(self.shapes.graph()) {
+            return Ok(PairedChanges::empty(self.alloc));
+        }
+        let checked = self.checked_after(net, next, steps)?;
+        Ok(paired_changes(self.alloc, &self.names, checked)?)
     }
 }

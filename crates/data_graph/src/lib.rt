@@ -15,9 +15,12 @@ mod graph;
 mod graphs;
 mod looks;
 mod numbering;
+mod pairs;
 mod run;
 mod select;
+mod validated;
 
-pub use changes::CheckedChanges;
+pub use changes::{CheckedChanges, PairedChanges};
 pub use graph::DataGraph;
 pub use graphs::graph_differing;
+pub use validated::ValidatedGraph;

@@ -5,12 +5,15 @@ ghost use Rattle.shape_model.specs.Validation.{Listing};
 ghost use Rattle.store_model.specs.Store.{changed_triple};
 ghost use Rattle.graph_validation.specs.Counting.{GrowsByCount, IsTargetPair};
 ghost use Rattle.bound_shapes.specs.Bound.{IsBoundTo};
+ghost use Rattle.kept_rows.specs.Laws.{KeepsResults};
 ghost use Rattle.term_validation.specs.Named.{AreNamedTriples, IsNamedTriple};
 ghost use Rattle.data_graph.specs.DataGraphs.{AreNamedChanges, IsIndexOf, IsNumberedChange, KeepsIndex, change_at};
 
 use crate::graphs::triple_of;
 use bound_shapes::BoundShapes;
 use graph_validation::whole;
+use kept_rows::KeptRows;
+use kept_validation::whole_kept;
 use page_index::Pages;
 use path_eval::ClassWords;
 use rdf_model::{Change, Ids, Triple};
@@ -124,4 +127,23 @@ pub fn listing_by<L: Ledger>(
     names.recall_numbering();
     let planned = shapes.planned();
     Ok(whole(alloc, index, names, planned.words, &planned.bound, steps)?)
+}
+
+/// The results of the graph that an index stands for, each with the pair that gives it.
+pub fn kept_by<L: Ledger>(
+    alloc: Global,
+    names: &Dict,
+    index: &Index,
+    shapes: &BoundShapes,
+    steps: &mut Steps<L>,
+) -> Result<KeptRows, AllocError>
+    requires index { AreNumbered names.now.terms index.now }
+    requires shapes { IsBoundTo names.now.terms shapes.now }
+    ensures rows { IfOk result (KeepsResults names.now.terms (graph_of names.now.terms index.now) shapes.now.graph) }
+    ensures steps { OnOk result (GrowsByCount (IsTargetPair (graph_of names.now.terms index.now) shapes.now.graph) steps.old steps.new) }
+    ensures counted { steps.old ≤ steps.new }
+{
+    names.recall_numbering();
+    let planned = shapes.planned();
+    Ok(whole_kept(alloc, index, names, planned.words, &planned.bound, steps)?)
 }

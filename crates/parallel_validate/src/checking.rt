@@ -1,7 +1,8 @@
 //! The check of changes.
-ghost use Rattle.std.specs.Prelude.{◌≤◌, IfOk, OnOk};
+ghost use Rattle.std.specs.Prelude.{◌≤◌, IfOk, OnOk, map};
 ghost use Rattle.rdf_model.specs.Numbers.{AreNumbered, IsNumbering};
 ghost use Rattle.shape_plans.specs.Planned.{ArePlanned};
+ghost use Rattle.parallel_validate.specs.PairsResults.{ArePlacedPairs, pair_of};
 ghost use Rattle.parallel_validate.specs.Verdicts.{AreBoundLooks, CountsEvaluated, KeepsChecked, KeepsLooks, StandsBeside, WhereChecked};
 
 use crate::pairs::{CheckedRows, rows_of_pairs};
@@ -39,6 +40,7 @@ pub fn check<R: Triples, S: Triples, N: Names, L: Ledger>(
     requires changed { AreNumbered (N.terms names.now) changed.now }
     requires planned { ArePlanned (N.terms names.now) planned.now }
     ensures checked { IfOk result (λ checked. WhereChecked (N.terms names.now) (R.triples before.now) (S.triples later.now) planned.now.bound.shapes changed.now (KeepsChecked (N.terms names.now) planned.now.bound.shapes checked.pairs)) }
+    ensures placed { IfOk result (λ checked. ArePlacedPairs (N.terms names.now) planned.now.bound.shapes (map pair_of checked.pairs)) }
     ensures looks { IfOk result (λ checked. WhereChecked (N.terms names.now) (R.triples before.now) (S.triples later.now) planned.now.bound.shapes changed.now (KeepsLooks (N.terms names.now) checked.looks)) }
     ensures bound { IfOk result (λ checked. WhereChecked (N.terms names.now) (R.triples before.now) (S.triples later.now) planned.now.bound.shapes changed.now (λ g s net. AreBoundLooks (N.terms names.now) checked.looks)) }
     ensures beside { IfOk result (λ checked. WhereChecked (N.terms names.now) (R.triples before.now) (S.triples later.now) planned.now.bound.shapes changed.now (StandsBeside (N.terms names.now) planned.now.bound.shapes checked.pairs checked.looks)) }

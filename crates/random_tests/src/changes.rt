@@ -13,6 +13,7 @@ use crate::listings::{
 };
 use collections::{Sequence, both, sorted_once};
 use graph_plans::plan_graph;
+use graph_validation::whole;
 use outside::RegexMaker;
 use parallel_validate::{CheckedRows, check};
 use path_eval::ClassWords;
@@ -206,11 +207,27 @@ fn checked_listing<L: Ledger>(
     })
 }
 
-// The listing after the changes in both ways.
+// The results of the whole graph by shapes that are bound already.
+fn whole_of<L: Ledger>(
+    alloc: Global,
+    graph: &ListGraph,
+    names: &ListNames,
+    planned: &PlannedShapes,
+    steps: &mut Steps<L>,
+) -> Result<Vec<ResultRow>, AllocError>
+    requires numbering { IsNumbering names.now }
+    requires graph { AreNumbered names.now graph.now }
+    requires planned { ArePlanned names.now planned.now }
+{
+    whole(alloc, graph, names, planned.words, &planned.bound, steps)
+}
+
+// The listing after the changes: by checking them alone, and from scratch by the shapes graph and by shapes that are bound already.
 #[derive(Drop)]
 struct Outcome {
     checked: Incremental,
     whole: Vec<ResultRow>,
+    bound: Vec<ResultRow>,
 }
 
 fn listings_in<L: Ledger>(
@@ -240,11 +257,16 @@ fn listings_in<L: Ledger>(
     let before = ListGraph::from_triples(before);
     let later = ListGraph::from_triples(later);
     let planned = plan_graph(alloc, names, words, shapes)?;
+    let bound = whole_of(alloc, &later, names, &planned, &mut steps)?;
     let changed = changed.as_slice();
     let checked = checked_listing(alloc, &before, &later, names, &planned, changed, &mut steps);
     let whole = listing_over(alloc, &later, names, words, shapes, &mut steps);
     let (checked, whole) = both(checked, whole)?;
-    Ok(Outcome { checked, whole })
+    Ok(Outcome {
+        checked,
+        whole,
+        bound,
+    })
 }
 
 fn listings(
@@ -311,6 +333,7 @@ fn assert_listings(
     assert!(rt; shapes_graph.triples().len() < 8000);
     let found = listings(alloc, draws, all, shapes_graph)?;
     count(counts, &found)?;
+    assert_same(rt, &found.whole, &found.bound, shapes)?;
     assert_same(rt, &found.whole, &found.checked.rows, shapes)
 }
 

@@ -1,7 +1,7 @@
 -- What a run of session files gives, from what their loading gives.
 use Rattle.std.proofs.Common.{◌≡◌, ℕ, ◌+◌, ◌≤◌, ◌<◌, List, [], ◌∷◌, ◌++◌, length, take, map, get_or, Option, Some, None, refl, sym, ap, ◌∙◌, subst, inl, inr, add-one, append_assoc}
 use Rattle.std.proofs.lemmas.List.{append-nil}
-use Rattle.std.specs.Prelude.{MatchResult, Result, Ok, Err}
+use Rattle.std.specs.Prelude.{◌≢◌, IfErr, MatchResult, Result, Ok, Err}
 use Rattle.store_model.specs.declared.event.Limits.{Limits}
 use Rattle.disk.specs.Crashes.{History}
 use Rattle.commit_log.specs.Log.{LogState}
@@ -48,6 +48,11 @@ module _ {D : Type 0} (tells : Type 0) (bytes : D → List ℕ) (history : D →
       → MatchResult r (λ t. AreLogged tells bytes history chosen faults held firsts core log names before after (of t) later) (λ s. StopsRun s held firsts (run_over core names) before after)
   run_over_core of held firsts core log later names all before after (Ok t) few sessions loads h = record { few = few; all = all; sessions = sessions; prints = h; loads = loads }
   run_over_core of held firsts core log later names all before after (Err s) few sessions loads h = subst (λ (x : RunFault). StopsRun x held firsts (run_over core names) before after) (sym h) ((length names, loads.0), loads.1)
+
+-- where nothing but memory stops a run, its log may differ
+pub only_memory : {X L : Type 0} (P : X → Type 0) (r : Result X RunFault) (log later : L) → MatchResult r P (λ s. s ≡ Memory) → IfErr r (λ s. s ≢ Memory → later ≡ log)
+only_memory P (Ok x) log later h = tt
+only_memory P (Err s) log later h = λ other. absurd (other h)
 
 -- the history's replay of at most 64 files
 pub replayed : {X : Type 0} (bytes : X → List ℕ) (held : Option Contents) (q : SessionRun) (before after : Loads) (r : Result X RunFault) → length q.files ≤ 64

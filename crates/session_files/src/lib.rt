@@ -2,7 +2,8 @@
 //!
 //! `run_files` loads the files, in their order, and runs their sessions over a core and its log; `replay_files` runs them over
 //! an empty store in the order of a history. Both ensure that the text is exactly what the plain store prints for them, in an
-//! order that is valid for them, or exactly why the files gave no run; and `run_files` what the log has then.
+//! order that is valid for them, or exactly why the files gave no run; and `run_files` what the log has then: just what it had
+//! where the files are refused or can't be read.
 #![tactic(auto)]
 
 mod fault;

@@ -1,4 +1,4 @@
-ghost use Rattle.std.specs.Prelude.{◌≡◌, ◌⊎◌, ℕ, List, None, Some, [], ◌∷◌, ◌++◌, ◌≤◌, false, IfErr, MatchResult, length, map, string_bytes};
+ghost use Rattle.std.specs.Prelude.{◌≡◌, ◌≢◌, ◌⊎◌, ℕ, List, None, Some, [], ◌∷◌, ◌++◌, ◌≤◌, false, IfErr, MatchResult, length, map, string_bytes};
 ghost use Rattle.std.specs.List.{AllByRecursion};
 ghost use Rattle.store_model.specs.Store.{RecordedStore, empty_store};
 ghost use Rattle.session_model.specs.Print.{IsPrint, history_text, sessions_text};
@@ -191,8 +191,9 @@ pub fn replay_files<F: Files, M: Maker>(
 }
 
 /// What at most 64 session files print, run beside each other in threads over a core and its log, if it has one: what a plain
-/// store gives, asked one step at a time in an order that is valid for them; and the log, whatever comes. The gate is told of
-/// each step of a session but its opening, before it and after it.
+/// store gives, asked one step at a time in an order that is valid for them; and the log, whatever comes. Where the files are
+/// refused or can't be read, it is the log as it was handed in. The gate is told of each step of a session but its opening,
+/// before it and after it.
 pub fn run_files<D: Disk + Drop + Send, R: Threads + Wait + Sync, F: Files, M: Maker, G: Gate>(
     rt: &R,
     alloc: Global,
@@ -212,6 +213,7 @@ pub fn run_files<D: Disk + Drop + Send, R: Threads + Wait + Sync, F: Files, M: M
         MatchResult result.0 (λ text. AreLogged D.tells D.bytes D.history D.chosen D.faults (F.holds files.old) stored.first_numbers stored.core stored.log names.now before after (string_bytes text) result.1)
         (λ fault. StopsRun fault (F.holds files.old) stored.first_numbers (run_over stored.core names.now) before after) }
     ensures back { IfErr result.0 (λ _. (result.1 ≡ stored.log) ⊎ ((last : RecordedStore) × LeavesStore D.tells D.bytes D.history D.chosen D.faults stored.core stored.log last result.1)) }
+    ensures log_kept { IfErr result.0 (λ fault. fault ≢ RunFault.Memory → result.1 ≡ stored.log) }
     ensures refused { OnlyGrows (M.refused maker.old) (M.refused maker.new) }
 {
     let Stored {

@@ -18,7 +18,7 @@ use Rattle.session_model.specs.Print.{history_text, sessions_text}
 use Rattle.session_model.specs.Sessions.{HasReplies}
 use Rattle.thread_model.specs.Following.{Follow, fault_place}
 use Rattle.std.specs.List.{AllByRecursion}
-use Rattle.std.specs.Prelude.{IsErrOf, MatchResult, Result, Ok, Err}
+use Rattle.std.specs.Prelude.{◌≢◌, IfErr, IsErrOf, MatchResult, Result, Ok, Err}
 use Rattle.outside.specs.Faults.{Refusal}
 use Rattle.session_files.specs.declared.fault.RunFault.{RunFault}
 use Rattle.session_files.specs.declared.fault.RunFault.TheVariants as runs
@@ -26,13 +26,13 @@ use Rattle.session_files.specs.Faults.{StopsRun}
 use Rattle.session_files.specs.Loading as files
 use Rattle.session_files.specs.Logged.{AreLogged, run_over}
 use Rattle.log_command.specs.Nodes as nodes
-use Rattle.log_command.specs.Devices.{seen}
+use Rattle.log_command.specs.Devices.{IsKept, seen}
 use Rattle.log_command.specs.Opened.{IsStored}
 use Rattle.shacl_guard.specs.declared.request.LoggedRun.{LoggedRun}
 use Rattle.shacl_guard.specs.declared.request.LogRequest.TheVariants.{Logged}
 use Rattle.shacl_guard.specs.declared.status.Status.{Status}
 use Rattle.shacl_guard.specs.declared.status.Status.TheVariants.{Memory}
-use Rattle.shacl_guard.specs.LogRuns.{GivesOfLog, IsLoggedRun, StopsOfLog}
+use Rattle.shacl_guard.specs.LogRuns.{GivesOfLog, IsAsFound, IsLoggedRun, StopsOfLog}
 use Rattle.shacl_guard.specs.Statuses.{of_fault, of_run}
 
 -- a count that rose after it didn't fall
@@ -93,6 +93,21 @@ logged_run tells bytes history chosen faults held q disk core log later firsts s
       loads = a.loads;
     }
 
+-- Where its files aren't run.
+
+-- the log that was given back is the one that was opened
+pub given_back : {X L : Type 0} (r : Result X RunFault) (back : Option L) (log later : L) → back ≡ Some later → IfErr r (λ s. s ≢ runs.Memory → back ≡ Some log) → IfErr r (λ s. s ≢ runs.Memory → later ≡ log)
+given_back (Ok x) back log later is h = tt
+given_back (Err s) back log later is h = λ other. let same : Some later ≡ Some log = sym is ∙ h other in cc
+
+-- so its disk is as it was found
+as_found : {D : Type 0} (tells : Type 0) (bytes : D → List ℕ) (history : D → History) (chosen : D → Option (List ℕ)) (faults : D → ℕ) (l : Limits) (disk final : D) (sessions : ℕ) (core : RecordedStore) (log later : LogState D) (firsts : List ℕ) (stored : IsStored tells bytes history l disk sessions core log firsts)
+    → IsKept tells (seen bytes history chosen faults disk) (seen bytes history chosen faults log.disk) → final ≡ later.disk → later ≡ log → IsAsFound tells stored.records (seen bytes history chosen faults disk) (seen bytes history chosen faults final)
+as_found {D = D} tells bytes history chosen faults l disk final sessions core log later firsts stored kept disk_is same =
+    let is : final ≡ log.disk = disk_is ∙ ap (λ (o : LogState D). o.disk) same in
+    let found = had tells bytes history l stored.records core log (chosen log.disk) (faults log.disk) stored.are_restored.store stored.step in
+    subst (λ (d : D). IsAsFound tells stored.records (seen bytes history chosen faults disk) (seen bytes history chosen faults d)) (sym is) (record { kept = kept; lasts = found.lasts })
+
 -- What the run of an opened log is given.
 
 unopened : (s : State) (rs : List Record) → (restored_from s rs).opened ≡ s.opened
@@ -109,18 +124,19 @@ first_numbers_fit (n ∷ ns) a = (record { some = a.0.0; most = omega (arith, a.
 -- The files were run, or weren't; the loads began with what was refused before the log was opened.
 pub logged_answers : {D X S : Type 0} (of_status : X → Status) (of_text : X → List ℕ) (of_string : S → List ℕ) (tells : Type 0) (bytes : D → List ℕ) (history : D → History) (chosen : D → Option (List ℕ)) (faults : D → ℕ) (held : Option Contents) (q : LoggedRun) (disk final : D) (core : RecordedStore) (log later : LogState D) (firsts : List ℕ)
     (loaded failed : List (List ℕ)) (old mid : List Refusal) (after : Loads) (s : Status) (text : Result S RunFault) (r : Result X Status)
-    → IsStored tells bytes history q.run.limits disk (length q.run.files) core log firsts → chosen log.disk ≡ Some q.log → faults disk ≤ faults log.disk → mid ≡ old → final ≡ later.disk → chosen later.disk ≡ chosen log.disk → s ≡ of_fault later.closed
+    → IsStored tells bytes history q.run.limits disk (length q.run.files) core log firsts → chosen log.disk ≡ Some q.log → IsKept tells (seen bytes history chosen faults disk) (seen bytes history chosen faults log.disk) → mid ≡ old → final ≡ later.disk → chosen later.disk ≡ chosen log.disk → s ≡ of_fault later.closed
+    → IfErr text (λ fault. fault ≢ runs.Memory → later ≡ log)
     → MatchResult text (λ t. AreLogged tells bytes history chosen faults held firsts core (Some log) q.run.files (record { loaded = loaded; failed = failed; refused = mid }) after (of_string t) (Some later))
     (λ fault. StopsRun fault held firsts (run_over core q.run.files) (record { loaded = loaded; failed = failed; refused = mid }) after)
     → MatchResult text (λ t. MatchResult r (λ a. (of_status a ≡ s) × (of_text a ≡ of_string t)) (λ e. e ≡ Memory)) (λ fault. IsErrOf r (of_run fault))
     → MatchResult r (λ a. GivesOfLog tells held (Logged q) (of_status a) (record { loaded = loaded; failed = failed; refused = old }) after (seen bytes history chosen faults disk) (seen bytes history chosen faults final) (of_text a))
     (λ e. StopsOfLog tells held (Logged q) e (record { loaded = loaded; failed = failed; refused = old }) after (seen bytes history chosen faults disk) (seen bytes history chosen faults final))
-logged_answers {D = D} of_status of_text of_string tells bytes history chosen faults held q disk final core log later firsts loaded failed old mid after s (Ok t) (Ok a) stored name le same disk_is kept status run answer =
+logged_answers {D = D} of_status of_text of_string tells bytes history chosen faults held q disk final core log later firsts loaded failed old mid after s (Ok t) (Ok a) stored name kept same disk_is chose status back run answer =
     let now = subst (λ (xs : List Refusal). AreLogged tells bytes history chosen faults held firsts core (Some log) q.run.files (record { loaded = loaded; failed = failed; refused = xs }) after (of_string t) (Some later)) same run in
-    let it = logged_run tells bytes history chosen faults held q disk core log later firsts (of_status a) (record { loaded = loaded; failed = failed; refused = old }) after (of_string t) stored name le now (answer.0 ∙ status) in
+    let it = logged_run tells bytes history chosen faults held q disk core log later firsts (of_status a) (record { loaded = loaded; failed = failed; refused = old }) after (of_string t) stored name kept.count now (answer.0 ∙ status) in
     let there = subst (λ (d : D). IsLoggedRun tells held q (of_status a) (record { loaded = loaded; failed = failed; refused = old }) after (seen bytes history chosen faults disk) (seen bytes history chosen faults d) (of_string t)) (sym disk_is) it in
     subst (λ (x : List ℕ). IsLoggedRun tells held q (of_status a) (record { loaded = loaded; failed = failed; refused = old }) after (seen bytes history chosen faults disk) (seen bytes history chosen faults final) x) (sym answer.1) there
-logged_answers {D = D} of_status of_text of_string tells bytes history chosen faults held q disk final core log later firsts loaded failed old mid after s (Ok t) (Err e) stored name le same disk_is kept status run answer = inr (inr (record {
+logged_answers {D = D} of_status of_text of_string tells bytes history chosen faults held q disk final core log later firsts loaded failed old mid after s (Ok t) (Err e) stored name kept same disk_is chose status back run answer = inr (inr (record {
   records = stored.records;
   core = core;
   firsts = firsts;
@@ -128,9 +144,10 @@ logged_answers {D = D} of_status of_text of_string tells bytes history chosen fa
   fault = runs.Memory;
   status_is = answer;
   stops = ((length q.run.files, run.loads.0), run.loads.1);
-  chosen_is = ap chosen disk_is ∙ kept ∙ name;
+  kept = λ other. absurd (other refl);
+  chosen_is = ap chosen disk_is ∙ chose ∙ name;
 }))
-logged_answers {D = D} of_status of_text of_string tells bytes history chosen faults held q disk final core log later firsts loaded failed old mid after s (Err fault) (Err e) stored name le same disk_is kept status run answer = inr (inr (record {
+logged_answers {D = D} of_status of_text of_string tells bytes history chosen faults held q disk final core log later firsts loaded failed old mid after s (Err fault) (Err e) stored name kept same disk_is chose status back run answer = inr (inr (record {
   records = stored.records;
   core = core;
   firsts = firsts;
@@ -138,6 +155,7 @@ logged_answers {D = D} of_status of_text of_string tells bytes history chosen fa
   fault = fault;
   status_is = let is : Err e ≡ Err (of_run fault) = answer in cc;
   stops = subst (λ (xs : List Refusal). StopsRun fault held firsts (run_over core q.run.files) (record { loaded = loaded; failed = failed; refused = xs }) after) same run;
-  chosen_is = ap chosen disk_is ∙ kept ∙ name;
+  kept = λ other. as_found tells bytes history chosen faults q.run.limits disk final (length q.run.files) core log later firsts stored kept disk_is (back other);
+  chosen_is = ap chosen disk_is ∙ chose ∙ name;
 }))
-logged_answers {D = D} of_status of_text of_string tells bytes history chosen faults held q disk final core log later firsts loaded failed old mid after s (Err fault) (Ok a) stored name le same disk_is kept status run answer = let no : Ok a ≡ Err (of_run fault) = answer in cc
+logged_answers {D = D} of_status of_text of_string tells bytes history chosen faults held q disk final core log later firsts loaded failed old mid after s (Err fault) (Ok a) stored name kept same disk_is chose status back run answer = let no : Ok a ≡ Err (of_run fault) = answer in cc

@@ -1,8 +1,10 @@
 -- What a request with a log gives: a log is made, or session files are run over the store of one. The device of the log is `was`
 -- before it and `is` after it; what it told counts where it tells its bytes.
-use Rattle.std.specs.Prelude.{◌≡◌, ◌⊎◌, ℕ, ◌<◌, ◌≤◌, true, List, [], ◌++◌, length, map, Option, Some}
+use Rattle.std.specs.Prelude.{◌≡◌, ◌≢◌, ◌⊎◌, ℕ, ◌<◌, ◌≤◌, true, List, [], ◌++◌, length, map, Option, Some}
+use Rattle.disk.specs.Crashes.{EachCrash}
 use Rattle.disk.specs.Faults.{Rose}
 use Rattle.record_text.specs.declared.record.Record.{Record}
+use Rattle.commit_log.specs.Format.{Opens}
 use Rattle.outside.specs.Files.{Contents}
 use Rattle.input_files.specs.Loads.{Loads, LoadsFirst, NoneFailed}
 use Rattle.store_model.specs.declared.event.Event.{Event}
@@ -16,6 +18,7 @@ use Rattle.session_model.specs.Print.{history_text, sessions_text}
 use Rattle.session_model.specs.Sessions.{HasReplies}
 use Rattle.thread_model.specs.Following.{Follow, fault_place}
 use Rattle.session_files.specs.declared.fault.RunFault.{RunFault}
+use Rattle.session_files.specs.declared.fault.RunFault.TheVariants as runs
 use Rattle.session_files.specs.declared.session_run.SessionRun.{SessionRun}
 use Rattle.session_files.specs.Faults.{StopsRun}
 use Rattle.session_files.specs.Loading.{HoldSessions}
@@ -23,7 +26,7 @@ use Rattle.session_files.specs.Logged.{run_over}
 use Rattle.session_files.specs.Runs.{LoadsAll}
 use Rattle.log_command.specs.declared.fault.CreateLogFault.{CreateLogFault}
 use Rattle.log_command.specs.declared.fault.LogFault.{LogFault}
-use Rattle.log_command.specs.Devices.{Device}
+use Rattle.log_command.specs.Devices.{Device, IsKept}
 use Rattle.log_command.specs.Opened.{AreFound, BlamesDisk, IsMade, StopsCreation, StopsLog}
 use Rattle.log_command.specs.Restoring.{AreRestored}
 use Rattle.shacl_guard.specs.declared.request.LogRequest.{LogRequest}
@@ -71,17 +74,23 @@ abbrev pub GivesOfLog : Type 0 → Option Contents → LogRequest → Status →
 GivesOfLog tells held (Create name) s before after was is text = (s ≡ Done) × (text ≡ []) × (after ≡ before) × IsMade tells name was is
 GivesOfLog tells held (Logged q) s before after was is text = IsLoggedRun tells held q s before after was is text
 
--- Why a log wasn't opened, before any file was loaded.
+-- Why a log wasn't opened, before any file was loaded. A read gives what it gave.
 pub record StopsAtLog (tells : Type 0) (q : LoggedRun) (s : Status) (before after : Loads) (was is : Device) : Type 0 where
   pub few : length q.run.files ≤ 64
   pub fault : LogFault
   pub status_is : s ≡ of_log fault
   pub stops : StopsLog tells was.bytes q.run.limits before.refused after.refused fault
   pub blames : BlamesDisk q.log was is fault
+  pub kept : IsKept tells was is
   pub none_loaded : after.loaded ≡ before.loaded
   pub none_failed : NoneFailed before after
 
--- Why its session files weren't run, once it was opened.
+-- a log that was opened is as it was found: a read gives what it gave, and each crash leaves these records
+pub record IsAsFound (tells : Type 0) (records : List Record) (was is : Device) : Type 0 where
+  pub kept : IsKept tells was is
+  pub lasts : tells → EachCrash (λ image. Opens image records) is.history.now
+
+-- Why its session files weren't run, once it was opened. It is as it was found, but where memory ran out.
 pub record StopsBehindLog (tells : Type 0) (held : Option Contents) (q : LoggedRun) (s : Status) (before after : Loads) (was is : Device) : Type 0 where
   pub records : List Record
   pub core : RecordedStore
@@ -90,6 +99,7 @@ pub record StopsBehindLog (tells : Type 0) (held : Option Contents) (q : LoggedR
   pub fault : RunFault
   pub status_is : s ≡ of_run fault
   pub stops : StopsRun fault held firsts (run_over core q.run.files) before after
+  pub kept : fault ≢ runs.Memory → IsAsFound tells records was is
   pub chosen_is : is.chosen ≡ Some q.log
 
 -- more than 64 files are named: the disk wasn't called

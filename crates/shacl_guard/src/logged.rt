@@ -1,5 +1,5 @@
 //! Requests with a log: one is made, or session files are run over the store of one.
-ghost use Rattle.std.specs.Prelude.{◌≡◌, ◌≤◌, [], false, IsErrOf, MatchResult, Option, Some, string_bytes};
+ghost use Rattle.std.specs.Prelude.{◌≡◌, ◌≢◌, ◌≤◌, [], false, IfErr, IsErrOf, MatchResult, Option, Some, string_bytes};
 ghost use Rattle.std.specs.List.{AllByRecursion};
 ghost use Rattle.commit_core.specs.Logged.{IsBeside};
 ghost use Rattle.session_reader.specs.Checking.{OnlyGrows};
@@ -77,7 +77,8 @@ fn run_answer(text: Result<String, RunFault>, status: Status) -> Result<Answer, 
     }
 }
 
-// What session files print over a store that was opened; and its log.
+// What session files print over a store that was opened; and its log, as it was opened where the files are refused or can't be
+// read.
 fn run_stored<D: Disk + Drop + Send, R: Threads + Wait + Sync, F: Files, M: Maker, G: Gate>(
     rt: &R,
     alloc: Global,
@@ -97,6 +98,7 @@ fn run_stored<D: Disk + Drop + Send, R: Threads + Wait + Sync, F: Files, M: Make
         MatchResult result.0 (λ text. AreLogged D.tells D.bytes D.history D.chosen D.faults (F.holds files.old) stored.first_numbers stored.core (Some stored.log) names.now before after (string_bytes text) (Some result.1))
         (λ fault. StopsRun fault (F.holds files.old) stored.first_numbers (run_over stored.core names.now) before after) }
     ensures chosen { D.chosen result.1.disk ≡ D.chosen stored.log.disk }
+    ensures log_kept { IfErr result.0 (λ fault. fault ≢ RunFault.Memory → result.1 ≡ stored.log) }
     ensures refused { OnlyGrows (M.refused maker.old) (M.refused maker.new) }
 {
     let StoredLog {

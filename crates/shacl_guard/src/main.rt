@@ -9,7 +9,11 @@ mod answer;
 #[cfg(test)]
 mod device_tests;
 #[cfg(test)]
+mod follow_rows;
+#[cfg(test)]
 mod held_tests;
+#[cfg(test)]
+mod log_rows;
 mod logged;
 mod request;
 mod run;

@@ -119,7 +119,9 @@ fn refuse_words<K: Sink>(alloc: Global, out: &mut K) -> Status
 /// `create-log NAME` makes a log on the disk: the sink takes nothing, and each crash afterwards leaves a log without a record.
 /// `run --log NAME FILES..` runs session files over the store of that log, which takes each commit before it is told: each crash
 /// leaves an image that opens to the records that were found, then to one for each commit that was printed. Where the disk fails
-/// at a commit, that is told, the store stops, and a crash may leave that commit too, or not.
+/// at a commit, that is told, the store stops, and a crash may leave that commit too, or not. Where no session is run because the log
+/// or a file is refused or can't be read, a read of the log gives what it gave, and once it was opened each crash leaves just the
+/// records that were found.
 /// `follow LOG ORDER V` feeds a follower records of the first file's log, in the order of the second file: the sink takes each answer,
 /// the version that the follower has come to, and the data graph of version V.
 /// `generate N` runs the four session files of a generated load as `run` does, and loads no file: the sink takes N, how many

@@ -18,7 +18,7 @@ const SECOND_RUN: &[u8] = b"begin\nadd ntriples\n<e:b> <e:p> <e:b> .\n%%\ncommit
 
 const PRINTED: &[u8] = b"session 1\nbegin 0\nadd 1\ncommit 1\nsession 2\nhistory 1 2 1 1 1 1\n";
 
-fn file_of(alloc: Global, name: &str, bytes: &[u8]) -> Result<MemFile, AllocError> {
+pub(crate) fn file_of(alloc: Global, name: &str, bytes: &[u8]) -> Result<MemFile, AllocError> {
     Ok(MemFile {
         name: String::from_str(alloc, name)?,
         bytes: bytes.to_vec(alloc)?,

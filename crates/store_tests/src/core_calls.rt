@@ -5,6 +5,7 @@ ghost use Rattle.store_model.specs.Store.{IsCommittable, IsOpened};
 use collections::Sequence;
 use commit_core::{
     Again, BlockMode, CheckedTransaction, Commit, Core, Limits, NameKind, NamingFault, Transaction,
+    slip,
 };
 use rdf_model::{Pattern, Term, Text};
 use shape_eval::Steps;
@@ -63,6 +64,30 @@ fn an_empty_store_is_handed_out(rt: HostRuntime) -> Result<(), Fail> {
     assert!(rt; snap.find(alloc, &[], &ALL)?.is_empty());
     assert_eq!(rt; core.triples(), 0);
     assert_eq!(rt; core.order()?.as_slice(), [1, 1].as_slice());
+    Ok(())
+}
+
+// The newest version, as a commit that is checked beforehand takes it.
+#[test]
+fn the_newest_version_is_handed_out(rt: HostRuntime) -> Result<(), Fail> {
+    let alloc = rt.alloc();
+    let (mut core, session) = opened(alloc)?;
+    let snap = core.head(session)?;
+    assert_eq!(rt; snap.number(), 0);
+    assert!(rt; snap.find(alloc, &[], &ALL)?.is_empty());
+    assert_eq!(rt; core.order()?.as_slice(), [1, 1].as_slice());
+    Ok(())
+}
+
+// A step that ran out of memory, under the number that is nobody's: room for it was made before.
+#[test]
+fn a_step_without_memory_is_recorded(rt: HostRuntime) -> Result<(), Fail> {
+    let alloc = rt.alloc();
+    let (mut core, session) = opened(alloc)?;
+    assert_eq!(rt; session, 1);
+    let room = slip(alloc)?;
+    core.void(0, room);
+    assert_eq!(rt; core.order()?.as_slice(), [1, 0].as_slice());
     Ok(())
 }
 

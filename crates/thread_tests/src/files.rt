@@ -1,24 +1,18 @@
 // Files that run in threads, and then again in the order that the threads made.
 ghost use Rattle.std.specs.Prelude.{◌≤◌, length};
 
+use crate::held::{LIMITS, block_of, replayed};
 use collections::Sequence;
-use commit_core::{BlockMode, Limits};
 use outside::OpenGate;
 use rdf_model::{Pattern, Term, Text};
 use session_model::{Block, Command};
-use session_player::{replay_all, text_of};
+use session_player::text_of;
 use session_threads::{EndedRun, run_new};
 use std::alloc::{AllocError, Global};
 use std::process::Abort;
 use std::sync::Wait;
 use std::test::*;
 use std::thread::Threads;
-
-const LIMITS: Limits = Limits {
-    terms: 20,
-    triples: 100,
-    mode: BlockMode::All,
-};
 
 // A command; a find asks for all triples of a predicate.
 #[derive(Clone, Copy)]
@@ -40,21 +34,10 @@ fn iri(alloc: Global, text: &str) -> Result<Term, AllocError> {
     Ok(Term::Iri(Text::new(alloc, text)?))
 }
 
-// The block of a text.
-fn read_block(alloc: Global, text: &str) -> Result<Block, Fail> {
-    if text.len() > 1000 {
-        return Err(Fail::new("the triple is short"));
-    }
-    match Block::read_named(alloc, text.as_bytes()) {
-        Ok(block) => Ok(block),
-        Err(_) => Err(Fail::new("the triple is read")),
-    }
-}
-
 fn block(alloc: Global, iris: [&str; 3]) -> Result<Block, Fail> {
     let [subject, predicate, object] = iris;
     let text = format!(in alloc; "<{subject}> <{predicate}> <{object}> .\n")?;
-    read_block(alloc, &text)
+    block_of(alloc, text.as_bytes())
 }
 
 fn command_of(alloc: Global, row: Row) -> Result<Command, Fail> {
@@ -66,8 +49,8 @@ fn command_of(alloc: Global, row: Row) -> Result<Command, Fail> {
         Row::Remove(subject, predicate, object) => {
             Ok(Command::Remove(block(alloc, [subject, predicate, object])?))
         }
-        Row::Give => Ok(Command::Add(read_block(alloc, "_:s1x1 <e:p> <e:b> .\n")?)),
-        Row::Attach => Ok(Command::Attach(read_block(alloc, "_:s1x1 <e:q> <e:b> .\n")?)),
+        Row::Give => Ok(Command::Add(block_of(alloc, b"_:s1x1 <e:p> <e:b> .\n")?)),
+        Row::Attach => Ok(Command::Attach(block_of(alloc, b"_:s1x1 <e:q> <e:b> .\n")?)),
         Row::Find(predicate) => Ok(Command::Find(Pattern {
             subject: None,
             predicate: Some(iri(alloc, predicate)?),
@@ -106,14 +89,6 @@ const ROWS: [Row; 14] = [
     Row::Commit,
 ];
 
-pub fn places_of(alloc: Global, order: &[u32]) -> Result<Vec<Option<u32>>, AllocError> {
-    let mut places = Vec::new(alloc);
-    for session in order {
-        places.push(Some(*session))?;
-    }
-    Ok(places)
-}
-
 // The files run in threads; the order that they made, handed in, gives the same text.
 fn run_and_replay<R: Threads + Wait + Abort + Sync>(
     rt: &R,
@@ -128,12 +103,8 @@ fn run_and_replay<R: Threads + Wait + Abort + Sync>(
         log: _,
     } = run_new(rt, alloc, LIMITS, files, &OpenGate)?;
     let text = text_of(alloc, &run)?;
-    let places = places_of(alloc, &run.order)?;
-    let Ok(again) = replay_all(alloc, LIMITS, files, &places) else {
-        return Err(Fail::new("each place is valid"));
-    };
-    let told = text_of(alloc, &again)?;
-    assert_eq!(rt; text.as_str(), told.as_str());
+    let again = replayed(alloc, files, &run.order)?;
+    assert_eq!(rt; text.as_str(), again.as_str());
     Ok(())
 }
 

@@ -1,5 +1,4 @@
 // Session files that run beside each other, held at their events so that their turns come in a known order.
-use crate::files::places_of;
 use crate::holding_gate::{Event, Hold, HoldingGate, holds_of};
 use collections::Sequence;
 use commit_core::{BlockMode, Limits};
@@ -9,7 +8,7 @@ use session_model::{Block, Command};
 use session_player::{Run, replay_all, text_of};
 use session_reader::prepare;
 use session_threads::{EndedRun, run_new};
-use std::alloc::Global;
+use std::alloc::{AllocError, Global};
 use std::process::Abort;
 use std::sync::Wait;
 use std::test::*;
@@ -164,20 +163,11 @@ commit
 ";
 
 // The commits of the first and of the second transaction of session 1, and that of session 2.
-const FIRST_OF_1: Event = Event {
-    session: 1,
-    number: 5,
-};
+const FIRST_OF_1: Event = Event(1, 5);
 
-const SECOND_OF_1: Event = Event {
-    session: 1,
-    number: 9,
-};
+const SECOND_OF_1: Event = Event(1, 9);
 
-const FIRST_OF_2: Event = Event {
-    session: 2,
-    number: 5,
-};
+const FIRST_OF_2: Event = Event(2, 5);
 
 // Files, the kinds of their events, an order of the sessions' events, the commits that aren't ready then, and what is printed
 // where it is forced.
@@ -385,25 +375,13 @@ const HELD: [Held; 3] = [
         holds: &[
             // Session 2 before its Begin until session 1's Name was answered.
             Hold {
-                before: Event {
-                    session: 2,
-                    number: 2,
-                },
-                until: Event {
-                    session: 1,
-                    number: 3,
-                },
+                before: Event(2, 2),
+                until: Event(1, 3),
             },
             // Session 1 before its Commit until session 2's Commit was answered.
             Hold {
-                before: Event {
-                    session: 1,
-                    number: 5,
-                },
-                until: Event {
-                    session: 2,
-                    number: 5,
-                },
+                before: Event(1, 5),
+                until: Event(2, 5),
             },
         ],
         unready: &[],
@@ -424,25 +402,13 @@ history 1 2 ",
         holds: &[
             // Session 2 before its first Begin until session 1's Name was answered.
             Hold {
-                before: Event {
-                    session: 2,
-                    number: 2,
-                },
-                until: Event {
-                    session: 1,
-                    number: 3,
-                },
+                before: Event(2, 2),
+                until: Event(1, 3),
             },
             // Session 1 before its Head until session 2's second Commit was answered.
             Hold {
-                before: Event {
-                    session: 1,
-                    number: 4,
-                },
-                until: Event {
-                    session: 2,
-                    number: 9,
-                },
+                before: Event(1, 4),
+                until: Event(2, 9),
             },
         ],
         unready: &[FIRST_OF_1],
@@ -467,14 +433,8 @@ history 1 2 1 1 2 2 2 2 2 2 2 2 1 1
         kinds: &[COMMITS, COMMITS_TWICE],
         // Session 1 before its Begin until session 2's second Commit was answered.
         holds: &[Hold {
-            before: Event {
-                session: 1,
-                number: 2,
-            },
-            until: Event {
-                session: 2,
-                number: 9,
-            },
+            before: Event(1, 2),
+            until: Event(2, 9),
         }],
         unready: &[],
         printed: "\
@@ -548,8 +508,16 @@ fn run_held<R: Threads + Wait + Abort + Sync>(
     Ok(run)
 }
 
+fn places_of(alloc: Global, order: &[u32]) -> Result<Vec<Option<u32>>, AllocError> {
+    let mut places = Vec::new(alloc);
+    for session in order {
+        places.push(Some(*session))?;
+    }
+    Ok(places)
+}
+
 // What the files print in this order.
-fn replayed(alloc: Global, files: &[Sequence<Command>], order: &[u32]) -> Result<String, Fail> {
+pub fn replayed(alloc: Global, files: &[Sequence<Command>], order: &[u32]) -> Result<String, Fail> {
     if files.len() > 64 {
         return Err(Fail::new("there are few files"));
     }

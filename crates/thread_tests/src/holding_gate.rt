@@ -10,11 +10,8 @@ pub const TURNS: u64 = 200_000_000;
 pub const TURNS_BETWEEN: u64 = 100_000;
 
 // An event: its session, and its place in the session, where the opening's is 1.
-#[derive(Clone, Copy, Debug)]
-pub struct Event {
-    pub session: u32,
-    pub number: u64,
-}
+#[derive(Clone, Copy, Debug, PartialEq, Eq)]
+pub struct Event(pub u32, pub u64);
 
 // The first event waits until the other was answered.
 #[derive(Clone, Copy, Debug)]
@@ -30,7 +27,7 @@ pub fn holds_of(alloc: Global, order: &[u32]) -> Result<Vec<Hold>, AllocError> {
     for place in 0..order.len() {
         let session = order[place];
         let number = order[..place + 1].iter().filter(|s| **s == session).count() as u64;
-        let before = Event { session, number };
+        let before = Event(session, number);
         if let Some(until) = last {
             holds.push(Hold { before, until })?;
         }
@@ -84,11 +81,7 @@ impl<'a> HoldingGate<'a> {
 
     // Whether the event is to be told as a commit that is ready.
     fn is_ready(&self, session: u32, number: u64, kind: EventKind) -> bool {
-        let mut ready = kind == EventKind::Commit;
-        for event in self.unready {
-            ready = ready && !(event.session == session && event.number == number);
-        }
-        ready
+        kind == EventKind::Commit && !self.unready.contains(&Event(session, number))
     }
 
     // The place of a session's next call.
@@ -109,11 +102,12 @@ impl<'a> HoldingGate<'a> {
     }
 
     fn hold_until(&self, event: Event) {
-        let Some(calls) = self.calls.get(event.session as usize) else {
+        let Event(session, number) = event;
+        let Some(calls) = self.calls.get(session as usize) else {
             return;
         };
         for turn in 0..TURNS {
-            if calls.load(Ordering::SeqCst) / 2 + 1 >= event.number {
+            if calls.load(Ordering::SeqCst) / 2 + 1 >= number {
                 return;
             }
             if turn % TURNS_BETWEEN == 0 {
@@ -140,7 +134,7 @@ impl<'a> Gate for HoldingGate<'a> {
         }
         if let Place::Before { kind: _, number } = place {
             for hold in self.holds {
-                if hold.before.session == session && hold.before.number == number {
+                if hold.before == Event(session, number) {
                     self.hold_until(hold.until);
                 }
             }

@@ -1,4 +1,4 @@
-//! Tests of validation: the definitions, lists, classes and paths of shapes graphs, the table of rules, and whole listings in
+//! Tests of validation: the definitions, lists, classes, paths and shapes of shapes graphs, the table of rules, and whole listings in
 //! two ways, each as a table of rows that were worked out by hand.
 #![tactic(auto)]
 
@@ -12,5 +12,7 @@ mod listings;
 mod lists;
 #[cfg(test)]
 mod rules;
+#[cfg(test)]
+mod shapes;
 #[cfg(test)]
 mod short_forms;

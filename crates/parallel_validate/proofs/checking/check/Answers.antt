@@ -1,8 +1,8 @@
-use Rattle.std.proofs.Common.{ℕ, List, [], sym, subst}
+use Rattle.std.proofs.Common.{◌∙◌, ℕ, List, [], ap, map, sym, subst}
 use Rattle.rdf_model.specs.declared.look.Look.{Look}
 use Rattle.focus_affected.specs.Touched.{AddsTouchLooks}
 use Rattle.parallel_validate.specs.declared.pairs.CheckedRows.{CheckedRows}
-use Rattle.parallel_validate.specs.PairsResults.{AddsLooksOfPairs, ArePlacedPairs, HaveRows, StepsOfPairs}
+use Rattle.parallel_validate.specs.PairsResults.{AddsLooksOfPairs, ArePlacedPairs, HaveRows, StepsOfPairs, pair_of}
 use Rattle.parallel_validate.specs.Verdicts.{KeepsChecked, StandsBeside, WhereChecked}
 use Rattle.parallel_validate.proofs.Verdict.{are_bound, are_checked, are_counted, beside, is_footprint, placed}
 use Rattle.parallel_validate.proofs.checking.check.Goals as goal
@@ -39,6 +39,7 @@ returns g c =
     record {
       checked = subst (λ (cs : List CheckedRows). WhereChecked terms before later shapes changed (KeepsChecked terms shapes cs)) (sym c.from_vec.ensures) (are_checked terms before later changed shapes plans pairs checked mid new c.requires.numbering c.requires.before c.requires.changed bound are
           c.in_ok-pairs.ensures.pairs found at have looked);
+      placed = subst (λ (ps : List (ℕ × ℕ)). ArePlacedPairs terms shapes ps) (sym (ap (map pair_of) c.from_vec.ensures ∙ have.same)) at;
       looks = is_footprint terms before later changed shapes plans pairs checked mid new c.requires.numbering c.requires.before c.requires.changed bound are
           c.in_ok-pairs.ensures.pairs found at have looked;
       bound = are_bound terms before later changed shapes plans pairs checked mid new c.requires.numbering c.requires.before c.requires.changed bound are

@@ -14,3 +14,6 @@ checked_listing-checked-requires-clause-changed g c = subst (λ (ids : List Ids)
 
 pub listing_over-whole-requires-clause-graph : goal.listing_over-whole-requires-clause-graph
 listing_over-whole-requires-clause-graph g c = subst (λ (ids : List Ids). AreNumbered c.args.names.now ids) (sym c.from_triples-later.ensures) c.requires.later
+
+pub whole_of-requires-clause-graph : goal.whole_of-requires-clause-graph
+whole_of-requires-clause-graph g c = subst (λ (ids : List Ids). AreNumbered c.args.names.now ids) (sym c.from_triples-later.ensures) c.requires.later

@@ -1,0 +1,11 @@
+use Rattle.std.proofs.Common.{◌≤◌}
+use Rattle.graph_validation.specs.Counting.{StepsOfFirst}
+use Rattle.kept_validation.specs.Keeping.{KeepsOfFirst}
+use Rattle.kept_validation.proofs.whole.all_rows.Given as goal
+
+abbrev pub invariant-loop-shape : goal.invariant-loop-shape
+invariant-loop-shape g l = record {
+  rows : KeepsOfFirst l.evaluation.terms l.evaluation.ids l.evaluation.shapes l.shape l.rows.items;
+  steps : StepsOfFirst l.evaluation.terms l.evaluation.ids l.evaluation.shapes l.shape l.fn.steps l.steps;
+  counted : l.fn.steps ≤ l.steps;
+}

@@ -1,0 +1,4 @@
+pub mod Accepted
+pub mod Graphs
+pub mod Restores
+pub mod Followers
