@@ -144,7 +144,8 @@ fn opens_to(rt: &impl Abort, alloc: Global, image: Vec<u8>, least: usize) -> Res
     Ok(())
 }
 
-// A crash at this moment leaves the records of the first texts, at least so many, in each way in which it tears the bytes.
+// A crash at this moment leaves the records of the first texts, at least so many, in each way in which it tears the bytes: a range
+// of one byte, as a gate is, in all the ways that there are.
 fn crashes_at(
     rt: &impl Abort,
     alloc: Global,
@@ -154,6 +155,10 @@ fn crashes_at(
 ) -> Result<(), Fail> {
     for tear in TEARS {
         let image = crash_image(rt, alloc, moment, read, tear)?;
+        opens_to(rt, alloc, image, least)?;
+    }
+    for byte in 0..=u8::MAX {
+        let image = crash_image(rt, alloc, moment, read, (0, byte))?;
         opens_to(rt, alloc, image, least)?;
     }
     Ok(())
