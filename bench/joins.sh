@@ -8,7 +8,7 @@ root=$(cd "$(dirname "$0")/.." && pwd)
 copy=$(mktemp -d)
 trap 'rm -rf "$copy"' EXIT
 mkdir -p "$copy/crates/join_bench/src"
-for crate in rdf_text collections rdf_model page_tree page_index triple_index overlay_view bgp_query; do
+for crate in vocabulary rdf_text collections rdf_model page_tree page_index triple_index overlay_view bgp_query; do
   mkdir "$copy/crates/$crate"
   for part in src specs proofs; do
     if [ -d "$root/crates/$crate/$part" ]; then cp -r "$root/crates/$crate/$part" "$copy/crates/$crate"; fi

@@ -7,7 +7,7 @@ root=$(cd "$(dirname "$0")/.." && pwd)
 copy=$(mktemp -d)
 trap 'rm -rf "$copy"' EXIT
 mkdir -p "$copy/crates/path_bench/src"
-for name in rdf_text collections rdf_model literal_order shape_model compiled_paths shape_syntax; do
+for name in vocabulary rdf_text collections rdf_model literal_order shape_model path_ast shape_syntax; do
   cp -r "$root/crates/$name" "$copy/crates"
   grep "^$name:" "$root/crates.txt" >> "$copy/crates.txt"
 done

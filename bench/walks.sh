@@ -8,19 +8,19 @@ root=$(cd "$(dirname "$0")/.." && pwd)
 copy=$(mktemp -d)
 trap 'rm -rf "$copy"' EXIT
 mkdir -p "$copy/crates/walk_bench/src"
-for crate in rdf_text collections rdf_model literal_order shape_model compiled_paths path_eval page_tree page_index growing_list triple_index; do
+for crate in vocabulary rdf_text collections rdf_model literal_order shape_model path_ast path_eval page_tree page_index growing_list triple_index; do
   mkdir "$copy/crates/$crate"
   for part in src specs proofs; do
     if [ -d "$root/crates/$crate/$part" ]; then cp -r "$root/crates/$crate/$part" "$copy/crates/$crate"; fi
   done
   grep "^$crate:" "$root/crates.txt" >>"$copy/crates.txt"
 done
-echo "walk_bench: path_eval compiled_paths triple_index rdf_model" >>"$copy/crates.txt"
+echo "walk_bench: path_eval path_ast triple_index rdf_model" >>"$copy/crates.txt"
 cat >"$copy/crates/walk_bench/src/main.rt" <<'PROGRAM'
 //! Times walks along paths.
 #![tactic(auto)]
 
-use compiled_paths::Path;
+use path_ast::Path;
 use path_eval::values;
 use rdf_model::{Footprint, Ids};
 use std::alloc::{AllocError, Global};

@@ -18,13 +18,13 @@ _guard_words() {
   mapfile -t COMPREPLY < <(compgen -W "$*" -- "$current")
 }
 
-# How many words that are no option, nor the number of one, stand before the current one and behind the command.
+# How many words that are no option, nor the value of one, stand before the current one and behind the command.
 _guard_count() {
   local word count=0 is_number=
   for word in "${COMP_WORDS[@]:2:COMP_CWORD-2}"; do
     case $word in
-      --max-terms | --max-triples | --log) is_number=yes ;;
-      --max-terms=* | --max-triples=* | --log=* | =) ;;
+      --max-terms | --max-triples | --block | --log) is_number=yes ;;
+      --max-terms=* | --max-triples=* | --block=* | --log=* | =) ;;
       *)
         [ "$is_number" ] || count=$((count + 1))
         is_number=
@@ -47,15 +47,19 @@ _guard() {
     run | replay)
       case $before in
         --max-terms | --max-triples | =) return ;;
+        --block)
+          _guard_words all violation
+          return
+          ;;
         --log)
           _guard_files log
           return
           ;;
       esac
       if [[ $current == -* && ${COMP_WORDS[1]} == run ]]; then
-        _guard_words --max-terms --max-triples --log
+        _guard_words --max-terms --max-triples --block --log
       elif [[ $current == -* ]]; then
-        _guard_words --max-terms --max-triples
+        _guard_words --max-terms --max-triples --block
       elif [ "${COMP_WORDS[1]}" = replay ] && [ "$(_guard_count)" -eq 0 ]; then
         _guard_files history
       else

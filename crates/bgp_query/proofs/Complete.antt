@@ -11,9 +11,9 @@ use Rattle.collections.specs.Listings.{IsListing}
 use Rattle.rdf_model.specs.declared.ids.Ids.{Ids}
 use Rattle.triple_index.specs.Patterns.{ListsOnce}
 use Rattle.bgp_query.specs.declared.pattern.JoinPattern.{JoinPattern}
-use Rattle.bgp_query.specs.declared.trail.Bound.{Bound}
-use Rattle.bgp_query.specs.declared.fault.SelectFault.{SelectFault}
-use Rattle.bgp_query.specs.declared.fault.SelectFault.TheVariants.{TooMany}
+use Rattle.bgp_query.specs.declared.trail.BoundVariable.{BoundVariable}
+use Rattle.bgp_query.specs.declared.fault.JoinFault.{JoinFault}
+use Rattle.bgp_query.specs.declared.fault.JoinFault.TheVariants.{TooMany}
 use Rattle.bgp_query.specs.AllBindings.{AreBindings}
 use Rattle.bgp_query.specs.Bindings.{HasMore, IsBinding, IsIn, Occurs, most_bindings}
 use Rattle.bgp_query.specs.Trails.{Added, Covers, IsReach, IsRow, IsTrail, Overflows, PatternsBelow}
@@ -53,7 +53,7 @@ module _ (ids : List Ids) (patterns plan : List (JoinPattern ℕ)) (n : ℕ) (re
     pub plan_below : PatternsBelow n plan
     plan_below v o = reach.below v (from_plan v o)
 
-    pub plan_covers : (trail : List Bound) → Covers n trail plan
+    pub plan_covers : (trail : List BoundVariable) → Covers n trail plan
     plan_covers trail v l = inr (to_plan v (all v l))
 
     row_binding : (xs : List ℕ) → IsRow ids n [] plan xs → IsBinding (IsIn ids) patterns xs
@@ -107,16 +107,16 @@ none_answered ids patterns n reach v l o rows e =
     })
 
 -- all that was added to nothing under no trail
-module _ (ids : List Ids) (n : ℕ) (trail : List Bound) (ps : List (JoinPattern ℕ)) (old new : List (List ℕ)) (e : trail ≡ []) (f : old ≡ []) where
+module _ (ids : List Ids) (n : ℕ) (trail : List BoundVariable) (ps : List (JoinPattern ℕ)) (old new : List (List ℕ)) (e : trail ≡ []) (f : old ≡ []) where
   pub all_added : Added most_bindings (IsRow ids n trail ps) old new → ListsOnce (IsRow ids n [] ps) new
-  all_added a = added_once most_bindings (IsRow ids n [] ps) new (subst (λ (rs : List (List ℕ)). Added most_bindings (IsRow ids n [] ps) rs new) f (subst (λ (bs : List Bound). Added most_bindings (IsRow ids n bs ps) old new) e a))
+  all_added a = added_once most_bindings (IsRow ids n [] ps) new (subst (λ (rs : List (List ℕ)). Added most_bindings (IsRow ids n [] ps) rs new) f (subst (λ (bs : List BoundVariable). Added most_bindings (IsRow ids n bs ps) old new) e a))
 
   pub all_over : Overflows most_bindings (IsRow ids n trail ps) old new → HasMore most_bindings (IsRow ids n [] ps)
-  all_over o = overflows_more most_bindings (IsRow ids n [] ps) new (subst (λ (rs : List (List ℕ)). Overflows most_bindings (IsRow ids n [] ps) rs new) f (subst (λ (bs : List Bound). Overflows most_bindings (IsRow ids n bs ps) old new) e o))
+  all_over o = overflows_more most_bindings (IsRow ids n [] ps) new (subst (λ (rs : List (List ℕ)). Overflows most_bindings (IsRow ids n [] ps) rs new) f (subst (λ (bs : List BoundVariable). Overflows most_bindings (IsRow ids n bs ps) old new) e o))
 
-pub empty_trail : (n : ℕ) (trail : List Bound) → trail ≡ [] → IsTrail n trail
-empty_trail n trail e = subst (λ (bs : List Bound). IsTrail n bs) (sym e) (record { below = λ k d l. absurd (omega arith); single = λ v x y c d. absurd (omega arith) })
+pub empty_trail : (n : ℕ) (trail : List BoundVariable) → trail ≡ [] → IsTrail n trail
+empty_trail n trail e = subst (λ (bs : List BoundVariable). IsTrail n bs) (sym e) (record { below = λ k d l. absurd (omega arith); single = λ v x y c d. absurd (omega arith) })
 
 -- an error that is handed on
-pub more_stopped : {T : Type 0} (Q : Type 0) (r : Result T SelectFault) (e f : SelectFault) → r ≡ Err e → e ≡ f → (f ≡ TooMany → Q) → IfErr r (λ x. x ≡ TooMany → Q)
-more_stopped {T} Q r e f is same over = subst (λ (q : Result T SelectFault). IfErr q (λ x. x ≡ TooMany → Q)) (sym is) (λ many. over (sym same ∙ many))
+pub more_stopped : {T : Type 0} (Q : Type 0) (r : Result T JoinFault) (e f : JoinFault) → r ≡ Err e → e ≡ f → (f ≡ TooMany → Q) → IfErr r (λ x. x ≡ TooMany → Q)
+more_stopped {T} Q r e f is same over = subst (λ (q : Result T JoinFault). IfErr q (λ x. x ≡ TooMany → Q)) (sym is) (λ many. over (sym same ∙ many))

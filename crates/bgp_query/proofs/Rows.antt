@@ -15,7 +15,7 @@ use Rattle.triple_index.specs.Patterns.{AreApart, IsMatch, ListsOnce, fits_numbe
 use Rattle.bgp_query.specs.declared.pattern.JoinPattern.{JoinPattern}
 use Rattle.bgp_query.specs.declared.pattern.Part.{Part}
 use Rattle.bgp_query.specs.declared.pattern.Part.TheVariants.{Variable, Constant}
-use Rattle.bgp_query.specs.declared.trail.Bound.{Bound}
+use Rattle.bgp_query.specs.declared.trail.BoundVariable.{BoundVariable}
 use Rattle.bgp_query.specs.Bindings.{HasVariable, IsIn, Occurs, StandsFor, StandsIn}
 use Rattle.bgp_query.specs.Trails.{Added, Covers, GaveTriple, GivesTriple, HasNumber, IsFree, IsFull, IsKnown, IsMet, IsRow, IsTrail, IsUnder, MayStand, Overflows, PatternsBelow, Under, bound}
 use Rattle.bgp_query.proofs.Once.{apart_append, apart_before, once_as, upto_cases, upto_new, upto_old}
@@ -29,24 +29,24 @@ no_pattern : (v : ℕ) → Occurs {T = ℕ} [] v → ⊥
 no_pattern v o = let c = o.1 in absurd (omega arith)
 
 -- each variable has its number, where no pattern is left
-pub numbered : (n : ℕ) (trail : List Bound) → Covers n trail [] → (v : ℕ) → v < n → HasNumber trail v
+pub numbered : (n : ℕ) (trail : List BoundVariable) → Covers n trail [] → (v : ℕ) → v < n → HasNumber trail v
 numbered n trail c v l = elim (c v l) [ inl h ↦ h | inr o ↦ absurd (no_pattern v o) ]
 
-pub not_free : (n : ℕ) (trail : List Bound) (v : ℕ) → Covers n trail [] → v < n → IsFree trail v → ⊥
-not_free n trail v c l f = let h = numbered n trail c v l in All-contains (λ (b : Bound). b.variable ≡ v → ⊥) trail (bound v h.0) f h.1 refl
+pub not_free : (n : ℕ) (trail : List BoundVariable) (v : ℕ) → Covers n trail [] → v < n → IsFree trail v → ⊥
+not_free n trail v c l f = let h = numbered n trail c v l in All-contains (λ (b : BoundVariable). b.variable ≡ v → ⊥) trail (bound v h.0) f h.1 refl
 
 -- one number more
-pub row_more : (trail : List Bound) (numbers new : List ℕ) (v number : ℕ) → new ≡ numbers ++ number ∷ [] → length numbers ≡ v → ((w : ℕ) → w < v → Contains trail (bound w (get_or numbers w 0))) → Contains trail (bound v number) → (w : ℕ) → w < v + 1 → Contains trail (bound w (get_or new w 0))
+pub row_more : (trail : List BoundVariable) (numbers new : List ℕ) (v number : ℕ) → new ≡ numbers ++ number ∷ [] → length numbers ≡ v → ((w : ℕ) → w < v → Contains trail (bound w (get_or numbers w 0))) → Contains trail (bound v number) → (w : ℕ) → w < v + 1 → Contains trail (bound w (get_or new w 0))
 row_more trail numbers new v number e many right last = subst (λ (xs : List ℕ). (w : ℕ) → w < v + 1 → Contains trail (bound w (get_or xs w 0))) (sym e) (below_more (λ w. Contains trail (bound w (get_or (numbers ++ number ∷ []) w 0))) v
     (λ w l. subst (λ (x : ℕ). Contains trail (bound w x)) (sym (get_or-append numbers (number ∷ []) 0 w (omega (arith, l, many)))) (right w l))
     (subst (λ (u : ℕ). Contains trail (bound v (get_or (numbers ++ number ∷ []) u 0))) many (subst (λ (x : ℕ). Contains trail (bound v x)) (sym (get_or-append_seam numbers number [] 0)) last)))
 
 -- the row of all numbers
-pub row_full : (n : ℕ) (trail : List Bound) (numbers : List ℕ) → IsTrail n trail → length numbers ≡ n → ((v : ℕ) → v < n → Contains trail (bound v (get_or numbers v 0))) → IsFull n trail numbers
+pub row_full : (n : ℕ) (trail : List BoundVariable) (numbers : List ℕ) → IsTrail n trail → length numbers ≡ n → ((v : ℕ) → v < n → Contains trail (bound v (get_or numbers v 0))) → IsFull n trail numbers
 row_full n trail numbers t e h = record {
   size = e;
   fits = λ k d l.
-      let b : Bound = get_or trail k d in
+      let b : BoundVariable = get_or trail k d in
       let in' : Contains trail b = Contains-get_or trail k d l in
       let less : b.variable < n = t.below k d l in
       let same : get_or numbers b.variable 0 ≡ b.number = t.single b.variable (get_or numbers b.variable 0) b.number (h b.variable less) in' in
@@ -56,12 +56,12 @@ row_full n trail numbers t e h = record {
 one_value : (xs ys : List ℕ) (v m : ℕ) (d : ℕ) → slice_get xs v ≡ Some m → slice_get ys v ≡ Some m → get_or xs v d ≡ get_or ys v d
 one_value xs ys v m d e f = get_or_from_slice_get xs v m d e ∙ sym (get_or_from_slice_get ys v m d f)
 
-full_same : (n : ℕ) (trail : List Bound) → Covers n trail [] → (xs ys : List ℕ) → IsFull n trail xs → IsFull n trail ys → xs ≡ ys
+full_same : (n : ℕ) (trail : List BoundVariable) → Covers n trail [] → (xs ys : List ℕ) → IsFull n trail xs → IsFull n trail ys → xs ≡ ys
 full_same n trail c xs ys f g = same_lists xs ys (f.size ∙ sym g.size) (λ k d l.
     let h = numbered n trail c k (subst (λ (m : ℕ). k < m) f.size l) in
     one_value xs ys k h.0 d (fitted trail xs k h.0 f.fits h.1) (fitted trail ys k h.0 g.fits h.1))
 
-pub row_listed : (n : ℕ) (trail : List Bound) (row : List ℕ) → Covers n trail [] → IsFull n trail row → ListsOnce (IsFull n trail) (row ∷ [])
+pub row_listed : (n : ℕ) (trail : List BoundVariable) (row : List ℕ) → Covers n trail [] → IsFull n trail row → ListsOnce (IsFull n trail) (row ∷ [])
 row_listed n trail row c f = record {
   apart = (λ k. absurd (omega arith), tt);
   members = λ x. (
@@ -123,7 +123,7 @@ one_triple xs p t u e f =
     let o : t.object ≡ u.object = one_part xs p.object t.object u.object e.2 f.2 in
     λ i. record { subject = s i; predicate = q i; object = o i }
 
-module _ (ids : List Ids) (n : ℕ) (trail : List Bound) (p : JoinPattern ℕ) (rest : List (JoinPattern ℕ)) where
+module _ (ids : List Ids) (n : ℕ) (trail : List BoundVariable) (p : JoinPattern ℕ) (rest : List (JoinPattern ℕ)) where
   -- the triples up to a place, and the next
   module _ (found : List Ids) (i : ℕ) (d : Ids) (apart : AreApart found) (l : i < length found) where
     met_either : (xs : List ℕ) → IsMet ids n trail p rest (take (i + 1) found) xs ↔ (IsMet ids n trail p rest (take i found) xs ⊎ IsUnder ids n trail p rest (get_or found i d) xs)
@@ -169,17 +169,17 @@ module _ (ids : List Ids) (n : ℕ) (trail : List Bound) (p : JoinPattern ℕ) (
   )
 
   -- what is met under a trail that the triple was given to
-  pub given_under : (new : List Bound) (t : Ids) → GivesTriple trail new p t true → (xs : List ℕ) → IsRow ids n new rest xs ↔ IsUnder ids n trail p rest t xs
+  pub given_under : (new : List BoundVariable) (t : Ids) → GivesTriple trail new p t true → (xs : List ℕ) → IsRow ids n new rest xs ↔ IsUnder ids n trail p rest t xs
   given_under new t g xs = (
     λ r. let f = (g xs).0 r.full.fits in record { row = record { full = record { size = r.full.size; fits = f.0 }; stand = r.stand }; under = f.1 },
     λ u. record { full = record { size = u.row.full.size; fits = (g xs).1 (u.row.full.fits, u.under) }; stand = u.row.stand },
   )
 
-  pub none_under : (new : List Bound) (t : Ids) → GivesTriple trail new p t false → (xs : List ℕ) → IsUnder ids n trail p rest t xs → ⊥
+  pub none_under : (new : List BoundVariable) (t : Ids) → GivesTriple trail new p t false → (xs : List ℕ) → IsUnder ids n trail p rest t xs → ⊥
   none_under new t g xs u = g xs u.row.full.fits u.under
 
 -- rows of no patterns
-pub full_row : (ids : List Ids) (n : ℕ) (trail : List Bound) (xs : List ℕ) → IsFull n trail xs ↔ IsRow ids n trail [] xs
+pub full_row : (ids : List Ids) (n : ℕ) (trail : List BoundVariable) (xs : List ℕ) → IsFull n trail xs ↔ IsRow ids n trail [] xs
 full_row ids n trail xs = (λ f. record { full = f; stand = λ p c. absurd (omega arith) }, λ r. r.full)
 
 -- what the rest of the patterns needs
@@ -192,7 +192,7 @@ first_below n p rest b v h = b v (p, has_head p rest, h)
 pub rest_below : (n : ℕ) (p : JoinPattern ℕ) (rest : List (JoinPattern ℕ)) → PatternsBelow n (p ∷ rest) → PatternsBelow n rest
 rest_below n p rest b v o = b v (later p rest v o)
 
-pub rest_covered : (n : ℕ) (old new : List Bound) (p : JoinPattern ℕ) (rest : List (JoinPattern ℕ)) (t : Ids) → GaveTriple old new p t true → Covers n old (p ∷ rest) → Covers n new rest
+pub rest_covered : (n : ℕ) (old new : List BoundVariable) (p : JoinPattern ℕ) (rest : List (JoinPattern ℕ)) (t : Ids) → GaveTriple old new p t true → Covers n old (p ∷ rest) → Covers n new rest
 rest_covered n old new p rest t g c v l = elim (c v l) [
   | inl h ↦ inl (keeps_number old new v g.grown h)
   | inr o ↦ elim (has_cases p rest o.0 o.1) [
@@ -208,7 +208,7 @@ three true true false e f g = absurd (cc (g))
 three true false c e f g = absurd (cc (f))
 three false b c e f g = absurd (cc (e))
 
-pub may_stand : (ids : List Ids) (trail : List Bound) (p : JoinPattern ℕ) (s q o : Option ℕ) (found : List Ids) → IsKnown trail p.subject s → IsKnown trail p.predicate q → IsKnown trail p.object o → ListsOnce (IsMatch s q o ids) found → MayStand ids trail p found
+pub may_stand : (ids : List Ids) (trail : List BoundVariable) (p : JoinPattern ℕ) (s q o : Option ℕ) (found : List Ids) → IsKnown trail p.subject s → IsKnown trail p.predicate q → IsKnown trail p.object o → ListsOnce (IsMatch s q o ids) found → MayStand ids trail p found
 may_stand ids trail p s q o found a b c l = record {
   apart = l.apart;
   inside = λ t i. ((l.members t).0 i).there;

@@ -2,8 +2,8 @@
 use Rattle.std.specs.Prelude.{◌≡◌, ◌<◌, ◌≤◌, List, length}
 use Rattle.rdf_model.specs.declared.term.Term.{Term}
 use Rattle.rdf_model.specs.declared.triple.Triple.{Triple}
-use Rattle.bgp_query.specs.declared.fault.SelectFault.{SelectFault}
-use Rattle.bgp_query.specs.declared.fault.SelectFault.TheVariants.{TooMany, Memory}
+use Rattle.bgp_query.specs.declared.fault.JoinFault.{JoinFault}
+use Rattle.bgp_query.specs.declared.fault.JoinFault.TheVariants.{TooMany, Memory}
 use Rattle.bgp_query.specs.declared.pattern.JoinPattern.{JoinPattern}
 use Rattle.bgp_query.specs.Bindings.{most_bindings}
 use Rattle.bgp_query.specs.TermBindings.{bindings}
@@ -17,6 +17,6 @@ pub record AreSelected (graph : List Triple) (patterns : List (JoinPattern Term)
 abbrev pub AreTooMany : List Triple → List (JoinPattern Term) → Type 0
 AreTooMany graph patterns = most_bindings < length (bindings graph patterns)
 
-abbrev pub IsSelectFault : SelectFault → List Triple → List (JoinPattern Term) → Type 0
-IsSelectFault TooMany graph patterns = AreTooMany graph patterns
-IsSelectFault Memory graph patterns = Unit {0}
+abbrev pub IsJoinFault : JoinFault → List Triple → List (JoinPattern Term) → Type 0
+IsJoinFault TooMany graph patterns = AreTooMany graph patterns
+IsJoinFault Memory graph patterns = Unit {0}

@@ -1,12 +1,12 @@
 //! The bindings of patterns.
 ghost use Rattle.std.specs.Prelude.{◌≡◌, ◌<◌, ◌≤◌, IfErr, IfOk, [], length, map, ℕ};
-ghost use Rattle.bgp_query.specs.declared.fault.SelectFault.TheVariants as faults;
+ghost use Rattle.bgp_query.specs.declared.fault.JoinFault.TheVariants as faults;
 ghost use Rattle.triple_index.specs.Patterns.{ListsOnce};
 ghost use Rattle.bgp_query.specs.AllBindings.{AreBindings};
 ghost use Rattle.bgp_query.specs.Bindings.{HasMore, IsBinding, IsIn, Occurs, most_bindings};
 ghost use Rattle.bgp_query.specs.Trails.{Covers, IsReach, IsRow, PatternsBelow};
 
-use crate::fault::SelectFault;
+use crate::fault::JoinFault;
 use crate::join::{Search, join_from};
 use crate::matcher::Matcher;
 use crate::pattern::JoinPattern;
@@ -20,7 +20,7 @@ use std::alloc::Global;
 fn all_rows<R: Matcher>(
     search: &Search<R>,
     patterns: &[JoinPattern<u32>],
-) -> Result<Vec<Row>, SelectFault>
+) -> Result<Vec<Row>, JoinFault>
     requires below { PatternsBelow search.now.variables patterns.now }
     requires covered { Covers search.now.variables [] patterns.now }
     ensures rows { IfOk result (λ rows. ListsOnce (IsRow (R.triples search.now.set.now) search.now.variables [] patterns.now) rows.items) }
@@ -37,7 +37,7 @@ fn all_rows<R: Matcher>(
 fn ordered_rows<R: Matcher>(
     search: &Search<R>,
     patterns: &[JoinPattern<u32>],
-) -> Result<Vec<Row>, SelectFault>
+) -> Result<Vec<Row>, JoinFault>
     requires reach { IsReach (Occurs patterns.now) search.now.variables }
     requires all { (v : ℕ) → v < search.now.variables → Occurs patterns.now v }
     ensures bindings { IfOk result (λ rows. AreBindings (R.triples search.now.set.now) patterns.now rows.items) }
@@ -57,7 +57,7 @@ pub fn select<R: Matcher>(
     alloc: Global,
     set: &R,
     patterns: &[JoinPattern<u32>],
-) -> Result<Vec<Vec<u32>>, SelectFault>
+) -> Result<Vec<Vec<u32>>, JoinFault>
     ensures bindings { IfOk result (λ rows. AreBindings (R.triples set.now) patterns.now (map (λ v. v.items) rows.items)) }
     ensures many { IfErr result (λ e. e ≡ faults.TooMany → HasMore most_bindings (IsBinding (IsIn (R.triples set.now)) patterns.now)) }
 {

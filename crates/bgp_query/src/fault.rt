@@ -3,19 +3,19 @@ use std::alloc::AllocError;
 
 /// Why there are no bindings to answer.
 #[derive(Clone, Copy, Debug, PartialEq, Eq)]
-pub enum SelectFault {
+pub enum JoinFault {
     /// There are more than 100,000.
     TooMany,
     Memory,
 }
 
-impl From<AllocError> for SelectFault {
-    ghost use Rattle.bgp_query.specs.declared.fault.SelectFault.TheVariants as faults;
+impl From<AllocError> for JoinFault {
+    ghost use Rattle.bgp_query.specs.declared.fault.JoinFault.TheVariants as faults;
     ghost use Rattle.std.specs.Prelude.{◌≡◌};
 
     ghost from_gives = { λ _ e. e ≡ faults.Memory };
 
     fn from(_error: AllocError) -> Self {
-        SelectFault::Memory
+        JoinFault::Memory
     }
 }

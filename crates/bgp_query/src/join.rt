@@ -1,15 +1,15 @@
 //! The walk through the patterns, depth first: each binding is complete before the next is begun.
 ghost use Rattle.std.specs.Prelude.{◌≡◌, ◌∷◌, ◌++◌, ◌≤◌, IfOk, MatchResult, OnOk, Some, [], length};
-ghost use Rattle.bgp_query.specs.declared.fault.SelectFault.TheVariants as faults;
+ghost use Rattle.bgp_query.specs.declared.fault.JoinFault.TheVariants as faults;
 ghost use Rattle.triple_index.specs.Patterns.{AreApart, IsMatch, ListsOnce};
 ghost use Rattle.bgp_query.specs.Bindings.{most_bindings};
 ghost use Rattle.bgp_query.specs.Trails.{Added, Covers, IsFull, IsMet, IsRow, IsTrail, IsUnder, MayStand, Overflows, PatternsBelow};
 
-use crate::fault::SelectFault;
+use crate::fault::JoinFault;
 use crate::matcher::Matcher;
 use crate::pattern::JoinPattern;
 use crate::row::Row;
-use crate::trail::{Bound, give_triple, known_number, number_of};
+use crate::trail::{BoundVariable, give_triple, known_number, number_of};
 use rdf_model::Ids;
 use std::alloc::{AllocError, Global};
 
@@ -25,7 +25,7 @@ pub(crate) struct Search<'a, R> {
 }
 
 // The row of the numbers of all variables.
-fn row_of(alloc: Global, variables: usize, trail: &[Bound]) -> Result<Row, AllocError>
+fn row_of(alloc: Global, variables: usize, trail: &[BoundVariable]) -> Result<Row, AllocError>
     requires trail { IsTrail variables trail.now }
     requires covered { Covers variables trail.now [] }
     ensures { IfOk result (IsFull variables trail.now) }
@@ -53,9 +53,9 @@ fn push_row(rows: &mut Vec<Row>, row: Row) -> Result<(), AllocError>
 fn add_row(
     alloc: Global,
     variables: usize,
-    trail: &[Bound],
+    trail: &[BoundVariable],
     rows: &mut Vec<Row>,
-) -> Result<(), SelectFault>
+) -> Result<(), JoinFault>
     requires trail { IsTrail variables trail.now }
     requires covered { Covers variables trail.now [] }
     ensures { MatchResult result (λ _. Added most_bindings (IsFull variables trail.now) rows.old.items rows.new.items)
@@ -63,7 +63,7 @@ fn add_row(
 {
     push_row(rows, row_of(alloc, variables, trail)?)?;
     if rows.len() > MOST_BINDINGS {
-        return Err(SelectFault::TooMany);
+        return Err(JoinFault::TooMany);
     }
     Ok(())
 }
@@ -105,7 +105,7 @@ fn found_for<R: Matcher>(
 fn triples_for<R: Matcher>(
     search: &Search<R>,
     pattern: &JoinPattern<u32>,
-    trail: &[Bound],
+    trail: &[BoundVariable],
 ) -> Result<Vec<Ids>, AllocError>
     ensures { IfOk result (λ found. MayStand (R.triples search.now.set.now) trail.now pattern.now found.items) }
 {
@@ -122,9 +122,9 @@ fn join_one<R: Matcher>(
     pattern: &JoinPattern<u32>,
     rest: &[JoinPattern<u32>],
     triple: Ids,
-    trail: &mut Vec<Bound>,
+    trail: &mut Vec<BoundVariable>,
     rows: &mut Vec<Row>,
-) -> Result<(), SelectFault>
+) -> Result<(), JoinFault>
     requires trail { IsTrail search.now.variables trail.old.items }
     requires below { PatternsBelow search.now.variables (pattern.now ∷ rest.now) }
     requires covered { Covers search.now.variables trail.old.items (pattern.now ∷ rest.now) }
@@ -148,9 +148,9 @@ fn join_each<R: Matcher>(
     pattern: &JoinPattern<u32>,
     rest: &[JoinPattern<u32>],
     found: &[Ids],
-    trail: &mut Vec<Bound>,
+    trail: &mut Vec<BoundVariable>,
     rows: &mut Vec<Row>,
-) -> Result<(), SelectFault>
+) -> Result<(), JoinFault>
     requires trail { IsTrail search.now.variables trail.old.items }
     requires below { PatternsBelow search.now.variables (pattern.now ∷ rest.now) }
     requires covered { Covers search.now.variables trail.old.items (pattern.now ∷ rest.now) }
@@ -171,9 +171,9 @@ fn join_each<R: Matcher>(
 pub(crate) fn join_from<R: Matcher>(
     search: &Search<R>,
     left: &[JoinPattern<u32>],
-    trail: &mut Vec<Bound>,
+    trail: &mut Vec<BoundVariable>,
     rows: &mut Vec<Row>,
-) -> Result<(), SelectFault>
+) -> Result<(), JoinFault>
     requires trail { IsTrail search.now.variables trail.old.items }
     requires below { PatternsBelow search.now.variables left.now }
     requires covered { Covers search.now.variables trail.old.items left.now }

@@ -4,6 +4,8 @@
 //! which each pattern stands in the set (SPARQL 1.1 Query, section 18.3), each once, ascending from the first
 //! variable on; it refuses exactly where there are more than 100,000. It asks the set pattern by pattern, first
 //! those of which most is known, and keeps no binding that a later pattern cuts.
+//!
+//! Storey: pages.
 #![tactic(auto)]
 
 mod bindings;
@@ -17,6 +19,6 @@ mod trail;
 mod variables;
 
 pub use bindings::select;
-pub use fault::SelectFault;
+pub use fault::JoinFault;
 pub use matcher::Matcher;
 pub use pattern::{JoinPattern, Part};

@@ -10,13 +10,13 @@ use std::alloc::AllocError;
 
 /// A variable that has a number.
 #[derive(Clone, Copy, Debug)]
-pub(crate) struct Bound {
+pub(crate) struct BoundVariable {
     pub(crate) variable: usize,
     pub(crate) number: u32,
 }
 
 /// The number of a variable, if it has one.
-pub(crate) fn number_of(trail: &[Bound], variable: usize) -> Option<u32>
+pub(crate) fn number_of(trail: &[BoundVariable], variable: usize) -> Option<u32>
     ensures { MatchOption result (IsFree trail.now variable) (λ n. Contains trail.now (bound variable n)) }
 {
     for bound in trail {
@@ -28,7 +28,7 @@ pub(crate) fn number_of(trail: &[Bound], variable: usize) -> Option<u32>
 }
 
 /// The number that a part has to stand for, if it is known.
-pub(crate) fn known_number(trail: &[Bound], part: &Part<u32>) -> Option<u32>
+pub(crate) fn known_number(trail: &[BoundVariable], part: &Part<u32>) -> Option<u32>
     ensures { IsKnown trail.now part.now result }
 {
     match part {
@@ -37,20 +37,24 @@ pub(crate) fn known_number(trail: &[Bound], part: &Part<u32>) -> Option<u32>
     }
 }
 
-fn give_variable(trail: &mut Vec<Bound>, variable: usize, number: u32) -> Result<bool, AllocError>
+fn give_variable(
+    trail: &mut Vec<BoundVariable>,
+    variable: usize,
+    number: u32,
+) -> Result<bool, AllocError>
     ensures { IfOk result (Gave trail.old.items trail.new.items (Variable variable) number) }
 {
     match number_of(trail, variable) {
         Some(other) => Ok(other == number),
         None => {
-            trail.push(Bound { variable, number })?;
+            trail.push(BoundVariable { variable, number })?;
             Ok(true)
         }
     }
 }
 
 // Has a part stand for a number, if it can.
-fn give(trail: &mut Vec<Bound>, part: &Part<u32>, number: u32) -> Result<bool, AllocError>
+fn give(trail: &mut Vec<BoundVariable>, part: &Part<u32>, number: u32) -> Result<bool, AllocError>
     ensures { IfOk result (Gave trail.old.items trail.new.items part.now number) }
 {
     match part {
@@ -61,7 +65,7 @@ fn give(trail: &mut Vec<Bound>, part: &Part<u32>, number: u32) -> Result<bool, A
 
 /// Has a pattern stand for a triple, if it can. The trail only grows.
 pub(crate) fn give_triple(
-    trail: &mut Vec<Bound>,
+    trail: &mut Vec<BoundVariable>,
     pattern: &JoinPattern<u32>,
     triple: Ids,
 ) -> Result<bool, AllocError>

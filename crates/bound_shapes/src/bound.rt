@@ -1,7 +1,7 @@
 //! A shapes graph and its bound shapes, which are shared together.
 ghost use Rattle.std.specs.Prelude.{◌≡◌, IfOk};
 ghost use Rattle.path_eval.specs.Instances.{AreClassWords};
-ghost use Rattle.term_validation.specs.Named.{AreNamedTriples};
+ghost use Rattle.parallel_validate.specs.Named.{AreNamedTriples};
 ghost use Rattle.bound_shapes.specs.Bound.{IsBoundTo};
 
 use graph_plans::plan_graph;
@@ -76,7 +76,7 @@ impl BoundShapes {
         &self.planned
     }
 
-    /// The same once more. Nothing is copied.
+    /// These bound shapes once more. Nothing is copied.
     pub fn share(&self) -> Result<BoundShapes, AllocError>
         ensures { IfOk result (λ share. share ≡ self.now) }
     {

@@ -4,6 +4,8 @@
 //! touches gives the same results afterwards, so the results of a graph after changes are those of its untouched pairs before and
 //! those of the touched ones after them. What was found of the touched ones holds in each graph that agrees on the looks that
 //! were made.
+//!
+//! Storey: laws.
 #![tactic(auto)]
 
 ghost use Rattle.change_laws.specs.Laws.{BackReadsLaw, CheckedLaw, CheckedListingLaw, CheckedMergeLaw, FootprintLaw, KeptListingLaw, MembersLaw, MergeLaw, NewListingLaw, UntouchedLaw, WayLaw};

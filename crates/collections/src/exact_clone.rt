@@ -1,3 +1,4 @@
+//! Clones that are equal to their source.
 ghost use Rattle.std.specs.Prelude.{◌≡◌};
 
 /// A type whose clones are equal to their source, as contracts see both.

@@ -1,3 +1,4 @@
+//! Orders that tell all apart that aren't equal.
 ghost use Rattle.std.specs.Prelude.{◌≡◌};
 ghost use Rattle.std.specs.declared.cmp.Ordering.TheVariants.{Equal};
 

@@ -3,6 +3,11 @@
 //! A `Sequence` owns its items, and any data that holds one is plain data to a contract. The
 //! functions of `ordered` keep a set as a vector that ascends strictly in the order of its items:
 //! each ensures exactly what the set is afterwards.
+//!
+//! No crate of the program takes an item out of a set or asks for one: `remove_item` and `contains_item` are for sets that
+//! shrink, and for tests.
+//!
+//! Storey: terms.
 #![tactic(auto)]
 
 mod exact_clone;

@@ -1,3 +1,4 @@
+//! Sets as ascending vectors.
 ghost use Rattle.std.specs.Prelude.{◌≡◌, ◌<◌, ◌≤◌, length, OnOk, OnErr, MatchOption, insert, remove};
 ghost use Rattle.collections.specs.Ordered.{with_item, without_item, has_item};
 

@@ -1,3 +1,4 @@
+//! Owned values that are let go, or kept in pairs, by a call.
 ghost use Rattle.std.specs.Prelude.{◌≡◌, IfOk};
 
 use std::alloc::AllocError;

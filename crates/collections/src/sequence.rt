@@ -1,3 +1,4 @@
+//! A list that contracts see as the list of its items' values.
 ghost use Rattle.std.specs.Prelude.{◌≡◌, ◌↔◌, [], ◌∷◌, ◌++◌, IsTrue, IfOk, OnOk, OnErr, length};
 
 use crate::ExactClone;

@@ -6,7 +6,7 @@ use Rattle.rdf_model.specs.Terms.{term_cmp, triple_cmp}
 use Rattle.rdf_model.specs.Graphs.{after, differing}
 use Rattle.collections.specs.Ordered.{IsAscending, has_item}
 use Rattle.shape_model.specs.declared.result_row.ResultRow.{ResultRow}
-use Rattle.shape_model.specs.Validation.{Listing, NoResult}
+use Rattle.shape_model.specs.Validation.{Listing}
 use Rattle.shape_model.proofs.Listings.{conforms_law, no_shapes_law}
 use Rattle.store_model.specs.declared.commit.Accepted.{Accepted}
 use Rattle.store_model.specs.declared.commit.Again.{Again}
@@ -15,8 +15,6 @@ use Rattle.store_model.specs.declared.commit.Transaction.{Transaction}
 use Rattle.store_model.specs.declared.commit.Verdict.{Verdict}
 use Rattle.store_model.specs.declared.event.Action.{Action}
 use Rattle.store_model.specs.declared.event.Action.TheVariants.{Begin, Name, Head, Commit}
-use Rattle.store_model.specs.declared.event.BlockMode.{BlockMode}
-use Rattle.store_model.specs.declared.event.BlockMode.TheVariants.{All}
 use Rattle.store_model.specs.declared.event.Event.{Event}
 use Rattle.store_model.specs.declared.event.Limits.{Limits}
 use Rattle.store_model.specs.declared.event.NameKind.{NameKind}
@@ -32,6 +30,7 @@ use Rattle.store_model.proofs.Nodes.{ascending-given_with}
 use Rattle.store_model.proofs.Outcomes.{Passes, outcome}
 use Rattle.store_model.proofs.Steps.{names, names_none, names_unknown, conflicts, overflows, accepts, fails, refuses}
 use Rattle.data_graph.specs.DataGraphs.{NamedGraph, names_of, with_names}
+use Rattle.commit_core.specs.declared.bounds.Bounds.{Bounds}
 use Rattle.commit_core.specs.declared.commit.Refusal.{Refusal}
 use Rattle.commit_core.specs.Commits.{IsWithin, NoneBlocks, Refuses, committed_graph, data_of}
 use Rattle.commit_core.specs.Consistent.{IsConsistent, IsSoundState}
@@ -121,18 +120,9 @@ sound_empty l small = record {
   given = tt;
 }
 
-never : true ≡ false → ⊥
-never e = cc
-
--- where every result blocks there is none
-pub no_result : (mode : BlockMode) (g s : List Triple) → mode ≡ All → NoBlocking mode g s → NoResult g s
-no_result mode g s e none row i = never (subst (λ (m : BlockMode). NoBlocking m g s) e none row i)
-
--- each earlier state of a history had an ascending graph without a result, where every result blocks
-pub past_sound : (s : RecordedStore) (head : State) (front : List Event) → IsConsistent s → s.limits.mode ≡ All → Replays s.limits s.start front head → IsAscending triple_cmp head.graph × NoResult head.graph head.shapes
-past_sound s head front k all r =
-    let b = sound_along s.limits s.start head front k.small r k.begins in
-    (b.sound.ascending, no_result s.limits.mode head.graph head.shapes all b.sound.no_blocking)
+-- each earlier state of a history had an ascending graph
+pub past_ascends : (s : RecordedStore) (head : State) (front : List Event) → IsConsistent s → Replays s.limits s.start front head → IsAscending triple_cmp head.graph
+past_ascends s head front k r = (sound_along s.limits s.start head front k.small r k.begins).sound.ascending
 
 -- what is kept after each method's event
 abbrev more : RecordedStore → State → Event → RecordedStore
@@ -159,13 +149,6 @@ IsConsistent-empty l small =
     let b = sound_empty l small in
     record { replays = refl; running = refl; begins = b; small = small; opened = b.opened; sound = b.sound; two = b.two; within = b.within; given = b.given }
 
--- a store that is opened
-abbrev empty_at : Limits → RecordedStore
-empty_at l = record { limits = l; start = empty_store; state = empty_store; history = [] }
-
-pub opens_empty : (l : Limits) → l.mode ≡ All → empty_at (record { terms = l.terms; triples = l.triples; mode = All }) ≡ empty_at l
-opens_empty l e = let own = sym e in λ k. empty_at (record { terms = l.terms; triples = l.triples; mode = own k })
-
 -- a fact on a value, by the fields that it is the view of
 pub at_fields : (a b : RecordedStore) (P : RecordedStore → Type 0) → a ≡ b → P b → P a
 at_fields a b P e h = subst P (sym e) h
@@ -188,9 +171,9 @@ pub consistent_refusal : (s o : RecordedStore) (i : ℕ) (x : Transaction) (r : 
 consistent_refusal s o i x r k v h = IsConsistent-step s s.state (record { session = i; action = Commit x; reply = r }) k (at_fields s o (λ y. StepOf y.limits y.state i (Commit x) r y.state) v h)
 
 -- the store of a data graph with its names and of the other fields
-abbrev fields : State → NamedGraph → ℕ → List Accepted → List Term → ℕ → Bool → List Event → RecordedStore
+abbrev fields : State → NamedGraph → Bounds → List Accepted → List Term → ℕ → Bool → List Event → RecordedStore
 fields b d m cs gs n off h = record {
-  limits = record { terms = d.limit; triples = m; mode = All };
+  limits = record { terms = d.limit; triples = m.triples; mode = m.mode };
   start = b;
   state = record { graph = d.triples; shapes = d.shapes; commits = cs; named = d.terms; given = gs; opened = n; stopped = off };
   history = h;
@@ -200,7 +183,7 @@ fields b d m cs gs n off h = record {
 abbrev naming : ℕ → NameKind → List Term → Reply → Event
 naming i kind ts r = record { session = i; action = Name kind ts; reply = r }
 
-module _ (b : State) (d e : NamedGraph) (m : ℕ) (cs : List Accepted) (gs : List Term) (n : ℕ) (off : Bool) (h : List Event) (o : RecordedStore) (i : ℕ) (kind : NameKind) (ts : List Term) (consistent : IsConsistent (fields b d m cs gs n off h)) (view : fields b d m cs gs n off h ≡ o) (opened : IsOpened o.state i) (known : unknown_by kind o.state.given ts ≡ []) where
+module _ (b : State) (d e : NamedGraph) (m : Bounds) (cs : List Accepted) (gs : List Term) (n : ℕ) (off : Bool) (h : List Event) (o : RecordedStore) (i : ℕ) (kind : NameKind) (ts : List Term) (consistent : IsConsistent (fields b d m cs gs n off h)) (view : fields b d m cs gs n off h ≡ o) (opened : IsOpened o.state i) (known : unknown_by kind o.state.given ts ≡ []) where
   known_inside : unknown_by kind gs ts ≡ []
   known_inside = at_fields (fields b d m cs gs n off h) o (λ y. unknown_by kind y.state.given ts ≡ []) view known
 
@@ -298,7 +281,7 @@ accepted_step s o i x n graph shapes a why k =
     (accepts s.limits s.state i x none.0 (opened_inside s o i k.view k.opened) (at_fields s o (λ y. IsCommittable y.state x) k.view k.fits) (at_fields s o (λ y. y.state.stopped ≡ false) k.view k.running) within.0 within.1 none.1 none.2)))
 
 -- by the data graph that the commit makes, which has the same names
-module _ (b : State) (d e : NamedGraph) (m : ℕ) (cs : List Accepted) (gs : List Term) (n : ℕ) (off : Bool) (h : List Event) (o : RecordedStore) (i : ℕ) (x : Transaction) (number : ℕ) (a : Accepted) (why : Again) (consistent : IsConsistent (fields b d m cs gs n off h)) (view : fields b d m cs gs n off h ≡ o) where
+module _ (b : State) (d e : NamedGraph) (m : Bounds) (cs : List Accepted) (gs : List Term) (n : ℕ) (off : Bool) (h : List Event) (o : RecordedStore) (i : ℕ) (x : Transaction) (number : ℕ) (a : Accepted) (why : Again) (consistent : IsConsistent (fields b d m cs gs n off h)) (view : fields b d m cs gs n off h ≡ o) where
   abbrev accepting : Event
   accepting = record { session = i; action = Commit x; reply = Done number why }
 
@@ -308,7 +291,7 @@ module _ (b : State) (d e : NamedGraph) (m : ℕ) (cs : List Accepted) (gs : Lis
       let terms : d.terms ≡ e.terms = sym (ap (λ (g : NamedGraph). g.terms) own) in
       let limit : d.limit ≡ e.limit = sym (ap (λ (g : NamedGraph). g.limit) own) in
       λ k. record {
-        limits = record { terms = limit k; triples = m; mode = All };
+        limits = record { terms = limit k; triples = m.triples; mode = m.mode };
         start = b;
         state = record { graph = e.triples; shapes = e.shapes; commits = cs ++ a ∷ []; named = terms k; given = gs; opened = n; stopped = off };
         history = h ++ accepting ∷ [];

@@ -1,6 +1,7 @@
 pub mod NamedTerms
 pub mod Running
 pub mod Consistency
+pub mod Outcomes
 pub mod Verdicts
 pub mod Work
 pub mod Planning

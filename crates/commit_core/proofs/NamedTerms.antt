@@ -21,7 +21,7 @@ use Rattle.collections.specs.Ordered.{has_item, with_item, without_item}
 use Rattle.collections.proofs.Members.{has_cases, has_equal, has_tail, with_cases, without_old}
 use Rattle.store_model.specs.Store.{AreNamed, NetNamed, StagedNamed, changed_triple, named_with, number_of, numbers_of, shapes_under, terms_of}
 use Rattle.term_dict.specs.Names.{AreNumbersOf, first_terms, with_terms}
-use Rattle.term_validation.specs.Named.{AreNamedTriples, IsNamedTriple}
+use Rattle.parallel_validate.specs.Named.{AreNamedTriples, IsNamedTriple}
 use Rattle.data_graph.specs.DataGraphs.{AreNamedChanges}
 
 -- whether a term has a name

@@ -1,17 +1,12 @@
 -- From what the listing makes of a commit to its plan.
-use Rattle.std.proofs.Common.{◌≡◌, Bool, true, false, List, [], ◌∷◌, Option, None, ap, arith, refl}
-use Rattle.std.specs.Prelude.{◌↔◌, IfOk, IsTrue, Result, Ok, Err}
-use Rattle.shape_model.specs.declared.result_row.ResultRow.{ResultRow}
+use Rattle.std.proofs.Common.{◌≡◌, List, Option, None, ap}
+use Rattle.std.specs.Prelude.{IfOk, Result, Ok, Err}
 use Rattle.std.specs.declared.alloc.AllocError.{AllocError}
 use Rattle.rdf_model.specs.declared.triple.Triple.{Triple}
 use Rattle.store_model.specs.Store.{shapes_under}
 use Rattle.store_model.specs.declared.commit.Accepted.{Accepted}
 use Rattle.store_model.specs.declared.commit.Transaction.{Transaction}
-use Rattle.store_model.specs.declared.event.BlockMode.{BlockMode}
-use Rattle.store_model.specs.declared.event.BlockMode.TheVariants.{All}
 use Rattle.store_model.specs.declared.event.Limits.{Limits}
-use Rattle.store_model.specs.Blocking.{has_blocking}
-use Rattle.store_model.proofs.Steps.{some_block}
 use Rattle.data_graph.specs.DataGraphs.{NamedGraph, with_changes, with_shapes}
 use Rattle.commit_core.specs.declared.commit.Plan.{Plan}
 use Rattle.commit_core.specs.declared.commit.Plan.TheVariants.{Overtaken, TooLarge, Refuse, Accept}
@@ -30,8 +25,3 @@ judged_result l g commits x (Err e) w j = tt
 -- without staged shapes a commit makes the graph after its changes
 pub unstaged : (g : NamedGraph) (x : Transaction) → x.staged ≡ None → committed_graph g x ≡ with_changes g x.net
 unstaged g x e = ap (λ (o : Option (List Triple)). with_shapes (with_changes g x.net) (shapes_under g.shapes o)) e
-
--- where every result blocks, one blocks exactly where there are rows
-pub rows_block : (mode : BlockMode) (shapes : List Triple) (is_none : Bool) (rows : List ResultRow) → mode ≡ All → (IsTrue is_none ↔ rows ≡ []) → is_none ≡ false → has_blocking mode shapes rows ≡ true
-rows_block mode shapes is_none [] all h e = let every : is_none ≡ true = h.1 refl in absurd (cc (every, e))
-rows_block mode shapes is_none (r ∷ rs) all h e = some_block mode shapes (r ∷ rs) all (omega arith)

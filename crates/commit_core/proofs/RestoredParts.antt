@@ -1,6 +1,6 @@
 -- What records restore: its parts record by record, and that it is sound.
-use Rattle.std.proofs.Common.{◌≡◌, ◌∙◌, ℕ, zero, suc, ◌+◌, ◌^◌, ◌<◌, ◌≤◌, Bool, true, false, cond, List, [], ◌∷◌, ◌++◌, length, get_or, take, drop, map, Option, Some, None, refl, sym, ap, subst, arith, inl, inr, append-nil, append_assoc, length-append}
-use Rattle.std.specs.Prelude.{◌↔◌, ◌⊎◌, IsTrue, MatchBool, MatchOption, not}
+use Rattle.std.proofs.Common.{◌≡◌, ◌∙◌, ℕ, zero, suc, ◌+◌, ◌^◌, ◌<◌, ◌≤◌, true, false, cond, List, [], ◌∷◌, ◌++◌, length, get_or, take, drop, map, Option, Some, None, refl, sym, ap, subst, arith, inl, inr, append-nil, append_assoc, length-append}
+use Rattle.std.specs.Prelude.{◌⊎◌, MatchOption}
 use Rattle.std.specs.Borrow.{Bor}
 use Rattle.std.specs.List.{Contains, flat_map}
 use Rattle.std.proofs.lemmas.List.{take_all, take_more}
@@ -20,22 +20,17 @@ use Rattle.collections.proofs.Members.{has_cases, has_equal, has_head, has_tail,
 use Rattle.record_text.specs.declared.record.Record.{Record}
 use Rattle.commit_log.specs.Format.{AreRecordsFrom}
 use Rattle.store_model.specs.declared.commit.Accepted.{Accepted}
-use Rattle.shape_model.specs.declared.result_row.ResultRow.{ResultRow}
-use Rattle.shape_model.specs.Validation.{Listing, NoResult}
-use Rattle.shape_model.proofs.Listings.{conforms_law}
-use Rattle.store_model.specs.declared.event.BlockMode.{BlockMode}
-use Rattle.store_model.specs.declared.event.BlockMode.TheVariants.{All as Every}
 use Rattle.store_model.specs.declared.event.Limits.{Limits}
 use Rattle.store_model.specs.Blocking.{NoBlocking}
 use Rattle.store_model.specs.Store.{RecordedStore, State, changed_triple, empty_store, named_with, shapes_under, terms_of}
 use Rattle.store_model.proofs.Nodes.{ascending-given_with}
-use Rattle.store_model.proofs.Steps.{all_block}
 use Rattle.term_dict.specs.Names.{first_terms, with_terms}
-use Rattle.term_validation.specs.Named.{AreNamedTriples, IsNamedTriple}
+use Rattle.parallel_validate.specs.Named.{AreNamedTriples, IsNamedTriple}
 use Rattle.data_graph.specs.DataGraphs.{AreNamedChanges, NamedGraph, with_changes, with_shapes}
 use Rattle.data_graph.proofs.AtOnce.{after_added}
 use Rattle.commit_core.specs.Consistent.{IsConsistent, IsSoundState}
-use Rattle.commit_core.specs.Restored.{FitInTurn, HasBlocking, IsFirstMisfit, IsRestoreFault, IsRestored, accepted_by, fits_record, graph_after, record_terms, restored, restored_from, shapes_terms, with_record, without_each}
+use Rattle.commit_core.specs.Outcomes.{HasBlocking}
+use Rattle.commit_core.specs.Restored.{FitInTurn, IsFirstMisfit, IsRestoreFault, IsRestored, accepted_by, fits_record, graph_after, record_terms, restored, restored_from, shapes_terms, with_record, without_each}
 use Rattle.commit_core.specs.declared.restoring.RestoreFault.{RestoreFault}
 use Rattle.commit_core.specs.declared.restoring.RestoreFault.TheVariants.{Misfit, TooLarge, Blocked, Memory}
 use Rattle.commit_core.specs.RestoredParts.{IsLastGraph, IsNamedStart, IsNamingFault, givens, graphs, names, shapes_after, staged_in, with_names_of}
@@ -396,13 +391,6 @@ filled_is g f n net ts shapes a none e ef en =
     let all : after g.triples net ≡ ts = (λ i. after (none i) (e i)) ∙ sym (after_added (map Add ts) ts (record { adds = refl; ascending = a })) in
     en ∙ (ap (λ (x : NamedGraph). with_shapes x shapes) ef ∙ (λ i. record { triples = all i; shapes = shapes; terms = g.terms; limit = g.limit }))
 
--- the results of a graph, by whether there are any
-pub result_by : (g s : List Triple) (rows : List ResultRow) (none : Bool) → Listing g s rows → (IsTrue none ↔ rows ≡ []) → MatchBool (not none) (HasBlocking Every g s) (NoResult g s)
-result_by g s [] true l h = (conforms_law g s).1 l
-result_by g s [] false l h = let every : false ≡ true = h.1 refl in cc
-result_by g s (row ∷ rows) true l h = let no : row ∷ rows ≡ [] = h.0 refl in cc
-result_by g s (row ∷ rows) false l h = (row ∷ rows, l, all_block s (row ∷ rows) (omega arith))
-
 -- what a restored store is made of
 module _ (l : Limits) (rs : List Record) (triples shapes : List Triple) (named : NamedGraph) (given : List Term) (last : IsLastGraph l rs triples) (start : IsNamedStart l rs named given) (staged : shapes ≡ (restored rs).shapes) where
   terms_are : named.terms ≡ (restored rs).named
@@ -425,21 +413,18 @@ module _ (l : Limits) (rs : List Record) (triples shapes : List Triple) (named :
         let names = terms_are in
         filled ∙ (λ i. record { triples = all i; shapes = staged i; terms = names i; limit = limit i })
 
-    pub blocks : l.mode ≡ Every → HasBlocking Every graph.triples graph.shapes → IsRestoreFault l rs Blocked
-    blocks mode h =
-        let size = ap length last.1 in (
-          last.0,
-          record { terms = start.within; triples = omega (arith, last.2, size) },
-          subst (λ (m : BlockMode). HasBlocking m (restored rs).graph (restored rs).shapes) (sym mode) (subst (λ (x : NamedGraph). HasBlocking Every x.triples x.shapes) last_is h),
-        )
+    pub blocks : HasBlocking l.mode graph.triples graph.shapes → IsRestoreFault l rs Blocked
+    blocks h =
+        let size = ap length last.1 in
+        (last.0, record { terms = start.within; triples = omega (arith, last.2, size) }, subst (λ (x : NamedGraph). HasBlocking l.mode x.triples x.shapes) last_is h)
 
-    module _ (later : NamedGraph) (cs : List Accepted) (mode : l.mode ≡ Every) (same : later ≡ graph) (commits : cs ≡ (restored rs).commits) (none : NoResult graph.triples graph.shapes) where
+    module _ (later : NamedGraph) (cs : List Accepted) (same : later ≡ graph) (commits : cs ≡ (restored rs).commits) (none : NoBlocking l.mode graph.triples graph.shapes) where
       no_blocking : NoBlocking l.mode (restored rs).graph (restored rs).shapes
-      no_blocking row i = absurd (subst (λ (x : NamedGraph). NoResult x.triples x.shapes) last_is none row i)
+      no_blocking = subst (λ (x : NamedGraph). NoBlocking l.mode x.triples x.shapes) last_is none
 
       abbrev core : RecordedStore
       core = record {
-        limits = record { terms = later.limit; triples = l.triples; mode = Every };
+        limits = record { terms = later.limit; triples = l.triples; mode = l.mode };
         start = restored rs;
         state = record { graph = later.triples; shapes = later.shapes; commits = cs; named = later.terms; given = given; opened = 0; stopped = false };
         history = [];
@@ -449,9 +434,8 @@ module _ (l : Limits) (rs : List Record) (triples shapes : List Triple) (named :
       core_is =
           let whole = same ∙ last_is in
           let limit : later.limit ≡ l.terms = ap (λ (x : NamedGraph). x.limit) whole in
-          let own : Every ≡ l.mode = sym mode in
           let state = state_is rs later.triples later.shapes cs later.terms given (ap (λ (x : NamedGraph). x.triples) whole) (ap (λ (x : NamedGraph). x.shapes) whole) commits (ap (λ (x : NamedGraph). x.terms) whole) start.given_is in
-          λ i. record { limits = record { terms = limit i; triples = l.triples; mode = own i }; start = restored rs; state = state i; history = [] }
+          λ i. record { limits = record { terms = limit i; triples = l.triples; mode = l.mode }; start = restored rs; state = state i; history = [] }
 
       pub core_consistent : l.terms + 2 < 2 ^ 32 → IsConsistent core
       core_consistent small = subst (λ (x : RecordedStore). IsConsistent x) (sym core_is) (consistent_restored l rs small start.within no_blocking)

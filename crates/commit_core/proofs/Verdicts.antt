@@ -1,40 +1,44 @@
--- A verdict that no later commit touched has the listing of the newest graph.
-use Rattle.std.proofs.Common.{◌≡◌, ◌∙◌, ℕ, ◌+◌, Bool, true, false, ◌||◌, cond, List, [], ◌∷◌, ◌++◌, drop, Option, Some, None, refl, sym, ap, subst, arith, inl, inr}
+-- A verdict that no later commit touched has the pairs that its changes touch in the newest graph.
+use Rattle.std.proofs.Common.{◌≡◌, ◌∙◌, ℕ, ◌+◌, Bool, true, false, ◌||◌, cond, List, [], ◌∷◌, ◌++◌, append-nil, length-append, drop, Option, Some, None, refl, sym, ap, subst, arith, inl, inr}
 use Rattle.std.specs.Prelude.{◌↔◌, MatchBool}
 use Rattle.std.specs.List.{AllByRecursion, Contains}
 use Rattle.std.specs.Ordering.{eq_by_cmp}
 use Rattle.std.proofs.lemmas.List.{append_assoc}
+use Rattle.std.proofs.Math.ListN.{get_or-append}
 use Rattle.rdf_model.specs.declared.change.Change.{Change}
 use Rattle.rdf_model.specs.declared.look.Look.{Look}
 use Rattle.rdf_model.specs.declared.term.Term.{Term}
+use Rattle.rdf_model.specs.declared.term.Term.TheVariants.{Blank}
 use Rattle.rdf_model.specs.declared.triple.Triple.{Triple}
-use Rattle.rdf_model.specs.Graphs.{after}
 use Rattle.rdf_model.specs.Matching.{is_read, is_read_by}
 use Rattle.rdf_model.specs.Orders.{triple_exact}
-use Rattle.rdf_model.specs.Terms.{triple_cmp}
+use Rattle.rdf_model.specs.Terms.{term_cmp, triple_cmp}
 use Rattle.collections.specs.Ordered.{has_item}
-use Rattle.collections.proofs.Members.{has_cases}
+use Rattle.collections.proofs.Members.{has_cases, has_head, has_tail}
 use Rattle.shape_model.specs.Agreement.{Agree}
-use Rattle.shape_model.specs.Validation.{Listing, NoResult}
-use Rattle.shape_model.specs.declared.result_row.ResultRow.{ResultRow}
 use Rattle.shape_model.proofs.Looks.{look_law}
-use Rattle.change_laws.proofs.Checked.{checked_law, checked_listing_law}
+use Rattle.change_laws.specs.Checks.{AreChecked, CheckedPair}
+use Rattle.change_laws.proofs.Checked.{checked_law}
+use Rattle.kept_rows.specs.declared.pair_rows.PairRows.{PairRows}
+use Rattle.kept_rows.specs.Laws.{AreBoundPairs, ChecksPairs, read_pair, read_pairs}
 use Rattle.store_model.specs.declared.commit.Accepted.{Accepted}
 use Rattle.store_model.specs.declared.commit.Again.{Again}
 use Rattle.store_model.specs.declared.commit.Again.TheVariants.{No, ShapesChanged}
 use Rattle.store_model.specs.declared.commit.Verdict.{Verdict}
-use Rattle.store_model.specs.declared.event.BlockMode.TheVariants.{All}
+use Rattle.store_model.specs.declared.commit.Transaction.{Transaction}
+use Rattle.store_model.specs.declared.event.Action.{Action}
 use Rattle.store_model.specs.declared.event.Event.{Event}
 use Rattle.store_model.specs.declared.event.Limits.{Limits}
-use Rattle.store_model.specs.Store.{RecordedStore, Replays, State, again, again_from, first_read, shapes_under, touched_or, version}
+use Rattle.store_model.specs.declared.event.Reply.{Reply}
+use Rattle.store_model.specs.Store.{RecordedStore, Replays, State, StepOf, again, again_from, first_read, named_with, touched_or, version}
 use Rattle.store_model.specs.Snapshots.{Snapshot, snapshot_of}
+use Rattle.store_model.proofs.Outcomes.{outcome}
 use Rattle.store_model.proofs.Steps.{ReplyGivesOneState-holds}
 use Rattle.store_model.proofs.Versions.{Grows, between_is, replayed}
 use Rattle.data_graph.proofs.Tests.{is_equal, or_last, to_list, to_test}
 use Rattle.commit_core.specs.Consistent.{IsConsistent}
-use Rattle.data_graph.specs.Changes.{IsCheckOf}
-use Rattle.commit_core.specs.Verdicts.{AreOfVerdict, AreOfVerdictIn, IsVerdict, IsVerdictIn}
-use Rattle.commit_core.proofs.Consistency.{no_result, past_sound}
+use Rattle.commit_core.specs.Verdicts.{AreOfVerdict, AreOfVerdictIn, IsHeld, IsPairedCheck, IsVerdict, IsVerdictIn}
+use Rattle.commit_core.proofs.Consistency.{past_ascends}
 
 -- a replay in two parts
 split : (l : Limits) (s u : State) (front back : List Event) → Replays l s (front ++ back) u → (m : State) × Replays l s front m × Replays l m back u
@@ -94,44 +98,96 @@ looks_read (l ∷ ls) look t c h = elim (has_cases l ls look c) [
 agree : (g h : List Triple) (ls : List (Look Term)) → ((t : Triple) → is_read ls t ≡ true → has_item triple_cmp t h ≡ has_item triple_cmp t g) → Agree g h ls
 agree g h ls same look c t m = alike g h t (same t (looks_read ls look t c ((look_law look t).0 m)))
 
-verdict_stands : (s : RecordedStore) (net : List Change) (v : Verdict) (rows : List ResultRow) → IsConsistent s → s.limits.mode ≡ All → IsVerdict s net v rows → again_from (v.head + 1) v.looks (drop v.head s.state.commits) ≡ No → Listing (after s.state.graph net) s.state.shapes rows
-verdict_stands s net v rows k all i h =
-    let g : Grows i.head s.state = replayed s.limits i.head s.state i.back (since s i.head i.front i.back k.replays i.history i.replays) in
+-- names are put behind those that are there
+named_grows : (named ts : List Term) → (more : List Term) × (named_with named ts ≡ named ++ more)
+named_grows named [] = ([], sym (append-nil named))
+named_grows named (t ∷ ts) = elim (has_item term_cmp t named) as (λ b. (more : List Term) × (named_with (cond b named (named ++ t ∷ [])) ts ≡ named ++ more)) [
+  | true ↦ named_grows named ts
+  | false ↦ let k = named_grows (named ++ t ∷ []) ts in (t ∷ k.0, k.1 ∙ append_assoc named (t ∷ []) k.0)
+]
+
+unchanged : (s t : State) → t.named ≡ s.named → (more : List Term) × (t.named ≡ s.named ++ more)
+unchanged s t e = ([], e ∙ sym (append-nil s.named))
+
+named_by : (l : Limits) (s t : State) (i : ℕ) (a : Action) (r : Reply) → StepOf l s i a r t → (more : List Term) × (t.named ≡ s.named ++ more)
+named_by l s t i a r h = elim (outcome l s t i a r h) [
+  | inl e ↦ unchanged s t (ap (λ (x : State). x.named) e.state)
+  | inr (inl e) ↦ unchanged s t (ap (λ (x : State). x.named) e.state)
+  | inr (inr (inl e)) ↦ let k = named_grows s.named e.terms in (k.0, ap (λ (x : State). x.named) e.state ∙ k.1)
+  | inr (inr (inr (inl e))) ↦ unchanged s t (ap (λ (x : State). x.named) e.state)
+  | inr (inr (inr (inr e))) ↦ unchanged s t (ap (λ (x : State). x.named) e.state)
+]
+
+named_since : (l : Limits) (s t : State) (es : List Event) → Replays l s es t → (more : List Term) × (t.named ≡ s.named ++ more)
+named_since l s t [] h = unchanged s t (ap (λ (x : State). x.named) h)
+named_since l s t (e ∷ es) h =
+    let first = named_by l s h.0 e.session e.action e.reply h.1 in
+    let rest = named_since l h.0 t es h.2 in
+    (first.0 ++ rest.0, rest.1 ∙ ap (λ (ns : List Term). ns ++ rest.0) first.1 ∙ append_assoc s.named first.0 rest.0)
+
+-- so numbers that had a term keep it
+read_stays : (named more : List Term) (pairs : List PairRows) → AreBoundPairs named pairs → read_pairs (named ++ more) pairs ≡ read_pairs named pairs
+read_stays named more [] bound = refl
+read_stays named more (p ∷ ps) bound =
+    let here = bound p (has_head p ps) in
+    let shape = get_or-append named more (Blank 0 0) p.shape here.0 in
+    let focus = get_or-append named more (Blank 0 0) p.focus here.1 in
+    let one : read_pair (named ++ more) p ≡ read_pair named p = λ i. record { shape = shape i; focus = focus i; rows = p.rows } in
+    let rest = read_stays named more ps (λ q c. bound q (has_tail p ps q c)) in
+    λ i. one i ∷ rest i
+
+checks_stay : (named more later : List Term) (g s : List Triple) (net : List Change) (pairs : List PairRows) → later ≡ named ++ more → ChecksPairs named g s net pairs → ChecksPairs later g s net pairs
+checks_stay named more later g s net pairs e k =
+    let l = length-append named more in
+    subst (λ (us : List Term). ChecksPairs us g s net pairs) (sym e) (record {
+      bound = λ p c. let n = k.bound p c in (omega (arith, l, n.0), omega (arith, l, n.1));
+      checked = subst (λ (cs : List CheckedPair). AreChecked g s net cs) (sym (read_stays named more pairs k.bound)) k.checked;
+    })
+
+verdict_stands : (s : RecordedStore) (net : List Change) (v : Verdict) (pairs : List PairRows) → IsConsistent s → IsVerdict s net v pairs → again_from (v.head + 1) v.looks (drop v.head s.state.commits) ≡ No
+    → ChecksPairs s.state.named s.state.graph s.state.shapes net pairs
+verdict_stands s net v pairs k i h =
+    let later_on = since s i.head i.front i.back k.replays i.history i.replays in
+    let g : Grows i.head s.state = replayed s.limits i.head s.state i.back later_on in
     let later : drop v.head s.state.commits ≡ g.more = ap (λ n. drop n s.state.commits) i.number ∙ between_is i.head s.state g in
     let leave = untouched (v.head + 1) v.looks g.more (subst (λ (cs : List Accepted). again_from (v.head + 1) v.looks cs ≡ No) later h) in
-    let past = past_sound s i.head i.front k all i.replays in
+    let past = past_ascends s i.head i.front k i.replays in
     let shapes : s.state.shapes ≡ i.head.shapes = g.shapes leave.0 in
-    let none : NoResult s.state.graph i.head.shapes = subst (λ (ts : List Triple). NoResult s.state.graph ts) shapes (no_result s.limits.mode s.state.graph s.state.shapes all k.sound.no_blocking) in
-    subst (λ (ts : List Triple). Listing (after s.state.graph net) ts rows) (sym shapes)
-    (checked_listing_law s.state.graph i.head.shapes net i.check.checked rows
-    (checked_law i.head.graph s.state.graph i.head.shapes net v.looks i.check.checked past.0 k.sound.ascending i.check.looks i.check.pairs (agree i.head.graph s.state.graph v.looks (λ t r. g.graph t (leave.1 t r))))
-    none i.check.listing)
+    let names = named_since s.limits i.head s.state i.back later_on in
+    let now : ChecksPairs i.head.named s.state.graph i.head.shapes net pairs = record {
+      bound = i.check.checks.bound;
+      checked =
+          checked_law i.head.graph s.state.graph i.head.shapes net v.looks (read_pairs i.head.named pairs) past k.sound.ascending i.check.looks i.check.checks.checked
+          (agree i.head.graph s.state.graph v.looks (λ t r. g.graph t (leave.1 t r)));
+    } in
+    subst (λ (ts : List Triple). ChecksPairs s.state.named s.state.graph ts net pairs) (sym shapes) (checks_stay i.head.named names.0 s.state.named s.state.graph i.head.shapes net pairs names.1 now)
 
-held_listing : (s : RecordedStore) (net : List Change) (staged : Option (List Triple)) (verdict : Option Verdict) (rows : List ResultRow) → IsConsistent s → s.limits.mode ≡ All → AreOfVerdict s net verdict rows → again s.state.commits staged verdict ≡ No → Listing (after s.state.graph net) (shapes_under s.state.shapes staged) rows
-held_listing s net (Some shapes) verdict rows k all a h = cc
-held_listing s net None None rows k all a h = cc
-held_listing s net None (Some v) rows k all a h = verdict_stands s net v rows k all a h
+held_parts : (s : RecordedStore) (net : List Change) (staged : Option (List Triple)) (verdict : Option Verdict) (pairs : List PairRows) → IsConsistent s → AreOfVerdict s net verdict pairs → again s.state.commits staged verdict ≡ No
+    → (staged ≡ None) × ChecksPairs s.state.named s.state.graph s.state.shapes net pairs
+held_parts s net (Some shapes) verdict pairs k a h = cc
+held_parts s net None None pairs k a h = cc
+held_parts s net None (Some v) pairs k a h = (refl, verdict_stands s net v pairs k a h)
 
 -- by the test of the reason
-pub held : (s : RecordedStore) (net : List Change) (staged : Option (List Triple)) (verdict : Option Verdict) (rows : List ResultRow) (why : Again) (b : Bool) → IsConsistent s → s.limits.mode ≡ All → AreOfVerdict s net verdict rows → why ≡ again s.state.commits staged verdict → MatchBool b (why ≡ No) (Unit {0})
-    → MatchBool b (Listing (after s.state.graph net) (shapes_under s.state.shapes staged) rows) (Unit {0})
-held s net staged verdict rows why true k all a e h = held_listing s net staged verdict rows k all a (sym e ∙ h)
-held s net staged verdict rows why false k all a e h = tt
+pub held : (s : RecordedStore) (x : Transaction) (pairs : List PairRows) (why : Again) (b : Bool) → IsConsistent s → AreOfVerdict s x.net x.verdict pairs → why ≡ again s.state.commits x.staged x.verdict → MatchBool b (why ≡ No) (Unit {0})
+    → MatchBool b (IsHeld s x pairs) (Unit {0})
+held s x pairs why true k a e h = let p = held_parts s x.net x.staged x.verdict pairs k a (sym e ∙ h) in record { unstaged = p.0; checks = p.1 }
+held s x pairs why false k a e h = tt
 
 -- a check at the version that the events in front lead to is a verdict of each history that begins with them
-pub verdict_at : (l : Limits) (start : State) (front back : List Event) (head : State) (net : List Change) (v : Verdict) (rows : List ResultRow) → Replays l start front head → v.head ≡ version head → IsCheckOf head.graph head.shapes net v.looks rows
-    → IsVerdictIn l start (front ++ back) net v rows
-verdict_at l start front back head net v rows replays number check = record { front = front; back = back; history = refl; head = head; replays = replays; number = number; check = check }
+pub verdict_at : (l : Limits) (start : State) (front back : List Event) (head : State) (net : List Change) (v : Verdict) (pairs : List PairRows) → Replays l start front head → v.head ≡ version head → IsPairedCheck head.named head.graph head.shapes net v.looks pairs
+    → IsVerdictIn l start (front ++ back) net v pairs
+verdict_at l start front back head net v pairs replays number check = record { front = front; back = back; history = refl; head = head; replays = replays; number = number; check = check }
 
 -- and so is one on the snapshot of that version
-pub verdict_of_snapshot : (l : Limits) (start : State) (front back : List Event) (head : State) (n : Snapshot) (net : List Change) (v : Verdict) (rows : List ResultRow) → Replays l start front head → n ≡ snapshot_of head → v.head ≡ n.number
-    → IsCheckOf n.graph n.shapes net v.looks rows → IsVerdictIn l start (front ++ back) net v rows
-verdict_of_snapshot l start front back head n net v rows replays is number check =
-    verdict_at l start front back head net v rows replays (number ∙ ap (λ (x : Snapshot). x.number) is) (subst (λ (x : Snapshot). IsCheckOf x.graph x.shapes net v.looks rows) is check)
+pub verdict_of_snapshot : (l : Limits) (start : State) (front back : List Event) (head : State) (n : Snapshot) (net : List Change) (v : Verdict) (pairs : List PairRows) → Replays l start front head → n ≡ snapshot_of head → v.head ≡ n.number
+    → IsPairedCheck n.named n.graph n.shapes net v.looks pairs → IsVerdictIn l start (front ++ back) net v pairs
+verdict_of_snapshot l start front back head n net v pairs replays is number check =
+    verdict_at l start front back head net v pairs replays (number ∙ ap (λ (x : Snapshot). x.number) is) (subst (λ (x : Snapshot). IsPairedCheck x.named x.graph x.shapes net v.looks pairs) is check)
 
 -- a verdict stays one where the history grows
-pub verdict_lasts : (l : Limits) (start : State) (events more : List Event) (net : List Change) (v : Verdict) (rows : List ResultRow) → IsVerdictIn l start events net v rows → IsVerdictIn l start (events ++ more) net v rows
-verdict_lasts l start events more net v rows i = record {
+pub verdict_lasts : (l : Limits) (start : State) (events more : List Event) (net : List Change) (v : Verdict) (pairs : List PairRows) → IsVerdictIn l start events net v pairs → IsVerdictIn l start (events ++ more) net v pairs
+verdict_lasts l start events more net v pairs i = record {
   front = i.front;
   back = i.back ++ more;
   history = ap (λ (es : List Event). es ++ more) i.history ∙ append_assoc i.front i.back more;
@@ -141,6 +197,6 @@ verdict_lasts l start events more net v rows i = record {
   check = i.check;
 }
 
-pub rows_last : (l : Limits) (start : State) (events more : List Event) (net : List Change) (verdict : Option Verdict) (rows : List ResultRow) → AreOfVerdictIn l start events net verdict rows → AreOfVerdictIn l start (events ++ more) net verdict rows
-rows_last l start events more net None rows a = tt
-rows_last l start events more net (Some v) rows a = verdict_lasts l start events more net v rows a
+pub pairs_last : (l : Limits) (start : State) (events more : List Event) (net : List Change) (verdict : Option Verdict) (pairs : List PairRows) → AreOfVerdictIn l start events net verdict pairs → AreOfVerdictIn l start (events ++ more) net verdict pairs
+pairs_last l start events more net None pairs a = tt
+pairs_last l start events more net (Some v) pairs a = verdict_lasts l start events more net v pairs a

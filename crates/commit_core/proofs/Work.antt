@@ -12,7 +12,7 @@ use Rattle.store_model.specs.declared.commit.Transaction.{Transaction}
 use Rattle.store_model.specs.declared.commit.Verdict.{Verdict}
 use Rattle.store_model.specs.Store.{State, again, again_from, first_read, shapes_under, touched_or}
 use Rattle.parallel_validate.specs.Verdicts.{IsEvaluated}
-use Rattle.graph_validation.specs.Counting.{GrowsByCount, IsTargetPair}
+use Rattle.parallel_validate.specs.Counting.{GrowsByCount, IsTargetPair}
 use Rattle.commit_core.specs.declared.commit.Commit.{Commit}
 use Rattle.commit_core.specs.declared.commit.Commit.TheVariants.{Done, Conflict, FullTriples, Refused, LogFault, Stopped, Memory}
 use Rattle.commit_core.specs.Work.{AnswerSteps, CommitSteps, IsByResults, ResultSteps, StepsBy, is_no}

@@ -8,7 +8,7 @@ use Rattle.store_model.specs.declared.event.Limits.{Limits}
 use Rattle.store_model.specs.Blocking.{NoBlocking}
 use Rattle.store_model.specs.Store.{RecordedStore, Replays, State}
 use Rattle.store_model.specs.Snapshots.{Snapshot, snapshot_of}
-use Rattle.term_validation.specs.Named.{AreNamedTriples}
+use Rattle.parallel_validate.specs.Named.{AreNamedTriples}
 
 -- The graph ascends and has no result under the shapes that blocks; no term has two numbers, each number is less than 2^32,
 -- and the terms of both graphs are named.

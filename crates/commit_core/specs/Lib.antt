@@ -5,6 +5,7 @@ pub mod Events
 pub mod Faults
 pub mod Logged
 pub mod Naming
+pub mod Outcomes
 pub mod Replaying
 pub mod Restored
 pub mod RestoredParts

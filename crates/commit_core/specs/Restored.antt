@@ -7,14 +7,12 @@ use Rattle.rdf_model.specs.Graphs.{with_each}
 use Rattle.rdf_model.specs.Terms.{triple_cmp}
 use Rattle.collections.specs.Ordered.{has_item, without_item}
 use Rattle.record_text.specs.declared.record.Record.{Record}
-use Rattle.shape_model.specs.declared.result_row.ResultRow.{ResultRow}
-use Rattle.shape_model.specs.Validation.{Listing}
 use Rattle.store_model.specs.declared.commit.Accepted.{Accepted}
-use Rattle.store_model.specs.declared.event.BlockMode.{BlockMode}
 use Rattle.store_model.specs.declared.event.Limits.{Limits}
-use Rattle.store_model.specs.Blocking.{NoBlocking, has_blocking}
+use Rattle.store_model.specs.Blocking.{NoBlocking}
 use Rattle.store_model.specs.Nodes.{given_with}
 use Rattle.store_model.specs.Store.{RecordedStore, State, empty_store, is_staged, named_with, shapes_under, terms_of}
+use Rattle.commit_core.specs.Outcomes.{HasBlocking}
 use Rattle.commit_core.specs.declared.restoring.RestoreFault.{RestoreFault}
 use Rattle.commit_core.specs.declared.restoring.RestoreFault.TheVariants.{Misfit, TooLarge, Blocked, Memory}
 
@@ -82,10 +80,6 @@ pub record IsWithinLimits (l : Limits) (s : State) : Type 0 where
 
 abbrev pub IsTooLarge : Limits → State → Type 0
 IsTooLarge l s = (l.terms + 2 < length s.named) ⊎ (l.triples < length s.graph)
-
--- one of the results of validating the graph blocks
-abbrev pub HasBlocking : BlockMode → List Triple → List Triple → Type 0
-HasBlocking mode g s = (rows : List ResultRow) × Listing g s rows × (has_blocking mode s rows ≡ true)
 
 abbrev pub IsRestoreFault : Limits → List Record → RestoreFault → Type 0
 IsRestoreFault l records (Misfit number) = IsFirstMisfit records number

@@ -7,7 +7,7 @@ use Rattle.store_model.specs.declared.commit.Again.TheVariants as whys
 use Rattle.store_model.specs.declared.commit.Transaction.{Transaction}
 use Rattle.store_model.specs.Store.{State, again, shapes_under}
 use Rattle.parallel_validate.specs.Verdicts.{IsEvaluated}
-use Rattle.graph_validation.specs.Counting.{GrowsByCount, IsTargetPair}
+use Rattle.parallel_validate.specs.Counting.{GrowsByCount, IsTargetPair}
 use Rattle.commit_core.specs.declared.commit.Commit.{Commit}
 use Rattle.commit_core.specs.declared.commit.Commit.TheVariants.{Done, Conflict, FullTriples, Refused, LogFault, Stopped, Memory}
 use Rattle.commit_core.specs.declared.commit.Plan.{Plan}

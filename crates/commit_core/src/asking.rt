@@ -1,3 +1,4 @@
+//! Whether a transaction that is handed in may be committed.
 ghost use Rattle.std.specs.Prelude.{◌≡◌};
 ghost use Rattle.std.specs.List.{list_all};
 ghost use Rattle.collections.specs.Ordered.{has_item};

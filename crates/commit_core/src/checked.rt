@@ -2,13 +2,13 @@
 ghost use Rattle.std.specs.Prelude.{◌≡◌};
 
 use collections::Sequence;
-use shape_model::ResultRow;
+use kept_rows::PairRows;
 use store_model::Verdict;
 
-/// The verdict of some changes at its head, with the results that it found.
+/// The verdict of some changes at its head, with the pairs that they touch there, each with its results after them.
 pub struct CheckedNet {
     pub verdict: Verdict,
-    pub rows: Sequence<ResultRow>,
+    pub pairs: Sequence<PairRows>,
 }
 
 // Written by hand, so that what owns one calls it in place of having it written out.
@@ -16,17 +16,17 @@ impl Drop for CheckedNet {
     fn drop(self) {
         let CheckedNet {
             verdict: _,
-            rows: _,
+            pairs: _,
         } = self;
     }
 }
 
 impl CheckedNet {
-    /// The verdict, and its results.
-    pub fn into_parts(self) -> (Verdict, Sequence<ResultRow>)
-        ensures { result ≡ (self.verdict, self.rows) }
+    /// The verdict, and its pairs.
+    pub fn into_parts(self) -> (Verdict, Sequence<PairRows>)
+        ensures { result ≡ (self.verdict, self.pairs) }
     {
-        let CheckedNet { verdict, rows } = self;
-        (verdict, rows)
+        let CheckedNet { verdict, pairs } = self;
+        (verdict, pairs)
     }
 }

@@ -1,21 +1,24 @@
+//! What a commit hands in, is planned as and is answered.
 ghost use Rattle.std.specs.Prelude.{◌≡◌, [], IfOk, OnOk};
 ghost use Rattle.rdf_model.specs.Graphs.{after, differing};
 ghost use Rattle.store_model.specs.Store.{StagedNamed, is_staged, shapes_under};
+ghost use Rattle.shape_model.specs.Validation.{Listing};
 ghost use Rattle.data_graph.specs.DataGraphs.{with_shapes};
 
 use collections::Sequence;
-use data_graph::{DataGraph, graph_differing};
+use data_graph::{DataGraph, ValidatedGraph, graph_differing};
+use kept_rows::PairRows;
 use rdf_model::{Change, Triple};
 use shape_model::ResultRow;
 use shapes_graph::ShapesGraph;
 use std::alloc::{AllocError, Global};
 use store_model::{Accepted, Again, Overtaker, Transaction};
 
-/// A transaction with the results that its verdict found; where it has no verdict, they count for
+/// A transaction with the pairs that its verdict found, each with its results; where it has no verdict, they count for
 /// nothing.
 pub struct CheckedTransaction {
     pub transaction: Transaction,
-    pub rows: Sequence<ResultRow>,
+    pub pairs: Sequence<PairRows>,
 }
 
 // Written by hand, so that what owns one calls it in place of having it written out.
@@ -23,7 +26,7 @@ impl Drop for CheckedTransaction {
     fn drop(self) {
         let CheckedTransaction {
             transaction: _,
-            rows: _,
+            pairs: _,
         } = self;
     }
 }
@@ -31,20 +34,20 @@ impl Drop for CheckedTransaction {
 impl CheckedTransaction {
     /// A transaction that nothing was checked of.
     pub fn unchecked(alloc: Global, transaction: Transaction) -> CheckedTransaction
-        ensures { result ≡ record { transaction = transaction; rows = [] } }
+        ensures { result ≡ record { transaction = transaction; pairs = [] } }
     {
         CheckedTransaction {
             transaction,
-            rows: Sequence::new(alloc),
+            pairs: Sequence::new(alloc),
         }
     }
 
-    /// The transaction, and the results.
-    pub fn into_parts(self) -> (Transaction, Sequence<ResultRow>)
-        ensures { result ≡ (self.transaction, self.rows) }
+    /// The transaction, and the pairs.
+    pub fn into_parts(self) -> (Transaction, Sequence<PairRows>)
+        ensures { result ≡ (self.transaction, self.pairs) }
     {
-        let CheckedTransaction { transaction, rows } = self;
-        (transaction, rows)
+        let CheckedTransaction { transaction, pairs } = self;
+        (transaction, pairs)
     }
 
     /// The transaction alone.
@@ -53,7 +56,7 @@ impl CheckedTransaction {
     {
         let CheckedTransaction {
             transaction,
-            rows: _,
+            pairs: _,
         } = self;
         transaction
     }
@@ -76,7 +79,7 @@ pub enum Commit {
     FullTriples {
         count: usize,
     },
-    /// The graph would have these results, under these shapes.
+    /// The graph would have these results, under these shapes, and one of them blocks.
     Refused {
         rows: Sequence<ResultRow>,
         again: Again,
@@ -119,7 +122,7 @@ impl Reasons {
     }
 }
 
-/// A commit whose graph would have results, for the answer and for the history, under these shapes.
+/// A commit whose graph would have a result that blocks: all its results, for the answer and for the history, and the shapes.
 pub struct Refusal {
     pub rows: Sequence<ResultRow>,
     pub recorded: Sequence<ResultRow>,
@@ -151,9 +154,9 @@ impl Refusal {
     }
 }
 
-/// A commit whose graph has none: the next graph with its shapes, and the commit as it is kept.
+/// A commit whose graph has no result that blocks: the next graph with its shapes and its results, and the commit as it is kept.
 pub struct Acceptance {
-    pub graph: DataGraph,
+    pub graph: ValidatedGraph,
     pub accepted: Accepted,
 }
 
@@ -169,7 +172,7 @@ impl Drop for Acceptance {
 
 impl Acceptance {
     /// The next graph, and the commit as it is kept.
-    pub fn into_parts(self) -> (DataGraph, Accepted)
+    pub fn into_parts(self) -> (ValidatedGraph, Accepted)
         ensures { result ≡ (self.graph, self.accepted) }
     {
         let Acceptance { graph, accepted } = self;
@@ -208,11 +211,25 @@ fn stages_shapes(staged: &Option<ShapesGraph>) -> bool
     }
 }
 
-/// The plan of a commit whose graph, after the changes, has no result.
+/// All results of the graph, and its shapes.
+pub fn refusing(alloc: Global, graph: &ValidatedGraph) -> Result<Refusal, AllocError>
+    ensures listing { IfOk result (λ p. Listing graph.now.triples graph.now.shapes p.rows) }
+    ensures same { IfOk result (λ p. (p.recorded ≡ p.rows) × (p.shapes ≡ graph.now.shapes)) }
+{
+    let rows = Sequence::from_vec(graph.listing()?);
+    let recorded = Sequence::copied_from(alloc, rows.as_slice())?;
+    Ok(Refusal {
+        rows,
+        recorded,
+        shapes: graph.shapes().share()?,
+    })
+}
+
+/// The plan of a commit whose graph, after the changes, has no result that blocks.
 pub fn accepting(
     alloc: Global,
     graph: &DataGraph,
-    next: DataGraph,
+    next: ValidatedGraph,
     net: &[Change],
     staged: &Option<ShapesGraph>,
 ) -> Result<Acceptance, AllocError>

@@ -1,3 +1,4 @@
+//! The history of a core: its events, the newest first.
 ghost use Rattle.std.specs.Prelude.{◌≡◌, [], ◌∷◌, ◌++◌, ◌<◌, length, map, reverse, IfOk, IfSome, MatchOption};
 ghost use Rattle.std.specs.Vec.{vec_capacity};
 ghost use Rattle.commit_core.specs.Replaying.{newest_replied};

@@ -3,14 +3,21 @@
 //! A `Core` keeps the state and the whole history that led to it; its type keeps that the replay of
 //! that history is the state. Each call is one event, added to the history with the plain store's
 //! reply, or it runs out of memory and changes nothing.
+//!
+//! `Core::replay` and `Core::into_events` are for callers that keep a history: of the program's crates none does, and tests call
+//! them. `last_staged` is for tests too.
+//!
+//! Storey: store.
 #![tactic(auto)]
 
 mod asking;
+mod bounds;
 mod checked;
 mod commit;
 mod history;
 mod logging;
 mod naming;
+mod outcome;
 mod overtaking;
 mod reasons;
 mod replay;

@@ -5,15 +5,14 @@ ghost use Rattle.std.specs.List.{filter};
 ghost use Rattle.collections.specs.Ordered.{has_item};
 ghost use Rattle.rdf_model.specs.Graphs.{after, differing};
 ghost use Rattle.rdf_model.specs.Terms.{triple_cmp};
-ghost use Rattle.shape_model.specs.Validation.{Listing};
 ghost use Rattle.disk.specs.Crashes.{Throughout};
 ghost use Rattle.commit_log.specs.Log.{IsSameLater, OpensOneOf};
 ghost use Rattle.record_text.specs.declared.record.Record.{Record as RecordData};
 ghost use Rattle.record_text.specs.Records.{IsReadableRecord};
-ghost use Rattle.store_model.specs.Store.{IsCommittable, IsOpened, shapes_under, version};
+ghost use Rattle.store_model.specs.Store.{IsCommittable, IsOpened, version};
 ghost use Rattle.commit_core.specs.Commits.{Answers, IsPlan, data_of};
 ghost use Rattle.commit_core.specs.Logged.{IsBeside, IsInStep, IsLoggable, IsRecordOf, LogsCommit, logged, record_of};
-ghost use Rattle.commit_core.specs.Verdicts.{AreOfVerdict, AreReasons};
+ghost use Rattle.commit_core.specs.Verdicts.{AreOfVerdict, AreReasons, IsHeld};
 ghost use Rattle.commit_core.specs.Work.{AnswerSteps, CommitSteps, IsByResults, is_no};
 
 use crate::commit::{Acceptance, CheckedTransaction, Commit, Plan, Reasons};
@@ -207,7 +206,7 @@ impl Core {
         requires opened { IsOpened self.old.state session }
         requires committable { IsCommittable self.old.state checked.transaction }
         requires reasons { AreReasons self.old.state.commits checked.transaction reasons }
-        requires found { MatchBool (is_no reasons.answer) (Listing (after self.old.state.graph checked.transaction.net) (shapes_under self.old.state.shapes checked.transaction.staged) checked.rows) (Unit {0}) }
+        requires found { MatchBool (is_no reasons.answer) (IsHeld self.old checked.transaction checked.pairs) (Unit {0}) }
         requires beside { IsBeside self.old log.old }
         requires loggable { IsLoggable checked.transaction }
         ensures answer { Answers result self.old self.new session checked }
@@ -251,7 +250,7 @@ impl Core {
     ) -> Commit
         requires opened { IsOpened self.old.state session }
         requires committable { IsCommittable self.old.state checked.transaction }
-        requires verdict { AreOfVerdict self.old checked.transaction.net checked.transaction.verdict checked.rows }
+        requires verdict { AreOfVerdict self.old checked.transaction.net checked.transaction.verdict checked.pairs }
         requires beside { IsBeside self.old log.old }
         requires loggable { IsLoggable checked.transaction }
         ensures answer { Answers result self.old self.new session checked }
@@ -290,7 +289,7 @@ impl Core {
     ) -> Commit
         requires opened { IsOpened self.old.state session }
         requires committable { IsCommittable self.old.state checked.transaction }
-        requires verdict { AreOfVerdict self.old checked.transaction.net checked.transaction.verdict checked.rows }
+        requires verdict { AreOfVerdict self.old checked.transaction.net checked.transaction.verdict checked.pairs }
         requires beside { IsBeside self.old log.old }
         requires loggable { IsLoggable checked.transaction }
         ensures answer { Answers result self.old self.new session checked }

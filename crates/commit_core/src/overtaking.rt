@@ -1,3 +1,4 @@
+//! The commit that overtook a transaction.
 ghost use Rattle.std.specs.Prelude.{◌≡◌, ◌≤◌, ◌+◌, ◌<◌, ◌^◌, length, IfOk};
 ghost use Rattle.rdf_model.specs.Matching.{is_found};
 ghost use Rattle.store_model.specs.Store.{first_matching, overtaker_from, overtaker};

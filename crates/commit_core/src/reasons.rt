@@ -1,3 +1,4 @@
+//! Why a commit evaluates in its own step.
 ghost use Rattle.std.specs.Prelude.{◌≡◌, ◌+◌, ◌<◌, ◌^◌, MatchBool, length, IfOk};
 ghost use Rattle.store_model.specs.Store.{again, again_from, first_read};
 ghost use Rattle.commit_core.specs.Verdicts.{AreReasons, IsAtHead};
@@ -46,7 +47,7 @@ fn again_among<'a>(
     Ok(Again::No)
 }
 
-// The same of looks in any order. Where there is no commit nothing is done with them.
+// Why a commit was evaluated again, by looks in any order. Where there is no later commit nothing is done with them.
 fn again_after<'a>(
     alloc: Global,
     first: u64,

@@ -1,3 +1,4 @@
+//! A core made of a history, event by event.
 ghost use Rattle.std.specs.Prelude.{false, ◌≡◌, ◌+◌, ◌<◌, ◌≤◌, ◌^◌, MatchBool, MatchResult, IfOk, OnOk, IsTrue};
 ghost use Rattle.store_model.specs.Actions.{IsNoCommit};
 ghost use Rattle.store_model.specs.Store.{IsCommittable, IsOpened};
@@ -14,7 +15,7 @@ use rdf_model::Term;
 use shape_eval::Steps;
 use std::alloc::{AllocError, Global};
 use std::sync::ledger::Ledger;
-use store_model::{Action, BlockMode, Event, Limits, NameKind, Reply, Transaction};
+use store_model::{Action, Event, Limits, NameKind, Reply, Transaction};
 
 /// Why a history was not replayed.
 #[derive(Clone, Copy, Debug, PartialEq, Eq)]
@@ -233,17 +234,15 @@ impl Core {
         Ok(self.history.newest_has(&reply))
     }
 
-    /// The store without a log that a history leads to, in which every result blocks. A commit is
-    /// evaluated anew, whatever its verdict says; how many evaluations `steps` allows for it is not
-    /// promised.
+    /// The store without a log that a history leads to. A commit is evaluated anew, whatever its verdict says;
+    /// how many evaluations `steps` allows for it is not promised.
     pub fn replay<L: Ledger>(
         alloc: Global,
         limits: Limits,
         events: Vec<Event>,
         steps: &mut Steps<L>,
     ) -> Result<Core, ReplayFault>
-        requires small { limits.terms + 2 < 2 ^ 32 }
-        requires mode { limits.mode ≡ BlockMode.All }
+        requires { limits.terms + 2 < 2 ^ 32 }
         ensures { MatchResult result (IsReplayed limits events.items) (IsReplayFault limits events.items) }
     {
         let mut core = Core::open(alloc, limits)?;

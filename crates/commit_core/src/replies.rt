@@ -1,3 +1,4 @@
+//! Replies compared.
 ghost use Rattle.std.specs.Prelude.{◌≡◌};
 ghost use Rattle.commit_core.specs.Replaying.{same_again, same_reply};
 

@@ -1,23 +1,23 @@
 //! A store restored from the records of a log.
-ghost use Rattle.std.specs.Prelude.{◌≡◌, ◌≤◌, ◌<◌, ◌+◌, ◌^◌, ◌++◌, [], IfErr, IfOk, MatchBool, MatchOption, MatchResult, OnOk, length, map, not};
-ghost use Rattle.std.specs.List.{flat_map, list_all};
+ghost use Rattle.std.specs.Prelude.{◌≡◌, ◌≤◌, ◌<◌, ◌+◌, ◌^◌, ◌++◌, [], IfErr, IfOk, MatchOption, MatchResult, OnOk, length, map, not};
+ghost use Rattle.std.specs.List.{list_all};
 ghost use Rattle.rdf_model.specs.Graphs.{with_each};
 ghost use Rattle.rdf_model.specs.Terms.{triple_cmp};
 ghost use Rattle.collections.specs.Ordered.{IsAscending, has_item};
-ghost use Rattle.shape_model.specs.Validation.{NoResult};
-ghost use Rattle.graph_validation.specs.Counting.{GrowsByCount, IsTargetPair};
+ghost use Rattle.parallel_validate.specs.Counting.{GrowsByCount, IsTargetPair};
 ghost use Rattle.commit_log.specs.Format.{AreRecordsFrom};
 ghost use Rattle.store_model.specs.Nodes.{given_with};
-ghost use Rattle.store_model.specs.Store.{shapes_under, terms_of};
+ghost use Rattle.store_model.specs.Store.{shapes_under};
 ghost use Rattle.term_dict.specs.Faults.{IsCause};
-ghost use Rattle.term_dict.specs.Names.{with_terms};
-ghost use Rattle.term_validation.specs.Named.{AreNamedTriples};
+ghost use Rattle.parallel_validate.specs.Named.{AreNamedTriples};
 ghost use Rattle.data_graph.specs.DataGraphs.{names_of, with_names};
-ghost use Rattle.commit_core.specs.Restored.{FitInTurn, HasBlocking, IsRestoreFault, IsRestored, accepted_by, fits_record, graph_after, record_terms, restored, shapes_terms, without_each};
+ghost use Rattle.commit_core.specs.Restored.{FitInTurn, IsRestoreFault, IsRestored, accepted_by, fits_record, graph_after, record_terms, restored, shapes_terms, without_each};
 ghost use Rattle.commit_core.specs.RestoredParts.{IsLastGraph, IsNamedStart, IsNamingFault, givens, with_names_of};
 
+use crate::bounds::Bounds;
 use crate::history::History;
 use crate::naming::give_all;
+use crate::outcome::Outcome;
 use crate::store::Core;
 use collections::{Sequence, sorted_once};
 use data_graph::DataGraph;
@@ -28,7 +28,7 @@ use shape_eval::Steps;
 use shapes_graph::ShapesGraph;
 use std::alloc::{AllocError, Global};
 use std::sync::ledger::Ledger;
-use store_model::{Accepted, BlockMode, Limits};
+use store_model::{Accepted, Limits, push_all_terms};
 use term_dict::NameFault;
 
 /// Why no store was restored.
@@ -140,18 +140,6 @@ fn last_graph(
     Ok(graph)
 }
 
-// Adds the terms of the triples, in order.
-fn add_terms(terms: &mut Vec<Term>, triples: &[Triple]) -> Result<(), AllocError>
-    ensures { OnOk result (terms.new.items ≡ terms.old.items ++ flat_map terms_of triples.now) }
-{
-    for triple in triples {
-        terms.push(triple.subject.clone()?)?;
-        terms.push(triple.predicate.clone()?)?;
-        terms.push(triple.object.clone()?)?;
-    }
-    Ok(())
-}
-
 fn add_shapes_terms(
     terms: &mut Vec<Term>,
     shapes: &Option<Sequence<Triple>>,
@@ -159,7 +147,7 @@ fn add_shapes_terms(
     ensures { OnOk result (terms.new.items ≡ terms.old.items ++ shapes_terms shapes.now) }
 {
     match shapes {
-        Some(triples) => add_terms(terms, triples.as_slice()),
+        Some(triples) => push_all_terms(terms, triples.as_slice()),
         None => Ok(()),
     }
 }
@@ -169,8 +157,8 @@ fn terms_of_record(alloc: Global, entry: &Record) -> Result<Vec<Term>, AllocErro
     ensures { IfOk result (λ terms. terms.items ≡ record_terms entry.now) }
 {
     let mut terms = Vec::new(alloc);
-    add_terms(&mut terms, entry.removed.as_slice())?;
-    add_terms(&mut terms, entry.added.as_slice())?;
+    push_all_terms(&mut terms, entry.removed.as_slice())?;
+    push_all_terms(&mut terms, entry.added.as_slice())?;
     add_shapes_terms(&mut terms, &entry.shapes)?;
     Ok(terms)
 }
@@ -298,21 +286,9 @@ fn filled(
     Ok(filled)
 }
 
-// Whether the graph has a result.
-fn has_result<L: Ledger>(graph: &mut DataGraph, steps: &mut Steps<L>) -> Result<bool, AllocError>
-    requires { AreNamedTriples graph.old.terms graph.old.triples }
-    ensures same { graph.new ≡ graph.old }
-    ensures found { IfOk result (λ found. MatchBool found (HasBlocking BlockMode.All graph.old.triples graph.old.shapes) (NoResult graph.old.triples graph.old.shapes)) }
-    ensures steps { OnOk result (GrowsByCount (IsTargetPair graph.old.triples graph.old.shapes) steps.old steps.new) }
-    ensures counted { steps.old ≤ steps.new }
-{
-    let rows = Sequence::from_vec(graph.listing(steps)?);
-    Ok(!rows.is_empty())
-}
-
 impl Core {
-    /// The store that the records of a log lead to, in which every result blocks: their graphs and commits, their terms named,
-    /// and their blank nodes given out. No session is, and the history is empty. The shapes graph is the last that a record
+    /// The store that the records of a log lead to: their graphs and commits, their terms named, and their blank nodes given
+    /// out. No session is, and the history is empty. The shapes graph is the last that a record
     /// staged, or the empty one.
     ///
     /// `Misfit` comes before the other faults, and `TooLarge` before `Blocked`. The last graph is validated whole; the
@@ -325,7 +301,6 @@ impl Core {
         steps: &mut Steps<L>,
     ) -> Result<Core, RestoreFault>
         requires small { limits.terms + 2 < 2 ^ 32 }
-        requires mode { limits.mode ≡ BlockMode.All }
         requires numbered { AreRecordsFrom 1 records.items }
         requires shapes { shapes ≡ (restored records.items).shapes }
         ensures store { MatchResult result (IsRestored limits records.items) (IsRestoreFault limits records.items) }
@@ -334,16 +309,21 @@ impl Core {
     {
         let triples = last_graph(alloc, limits, &records)?;
         let (named, given) = named_graph(alloc, limits, &records)?;
-        let mut graph = filled(alloc, &named, &triples, shapes)?;
-        if has_result(&mut graph, steps)? {
+        let filled = filled(alloc, &named, &triples, shapes)?;
+        let outcome = Outcome::whole(limits.mode, filled, steps)?;
+        let blocks = outcome.blocks;
+        if blocks {
             return Err(RestoreFault::Blocked);
         }
         let commits = commits_of(alloc, &records)?;
         Ok(Core {
             alloc,
-            most_triples: limits.triples,
+            bounds: Bounds {
+                triples: limits.triples,
+                mode: limits.mode,
+            },
             records,
-            graph,
+            graph: outcome.into_graph(),
             commits,
             given,
             opened: 0,

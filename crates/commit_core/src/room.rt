@@ -1,3 +1,4 @@
+//! Room for an event.
 use crate::history::History;
 use std::boxed::Box;
 

@@ -1,30 +1,35 @@
+//! The store as it was at one version.
 ghost use Rattle.std.specs.Prelude.{◌≡◌, ◌≤◌, IfErr, IfOk, OnOk};
 ghost use Rattle.std.specs.List.{AllByRecursion};
 ghost use Rattle.rdf_model.specs.Graphs.{after};
-ghost use Rattle.bgp_query.specs.Selected.{AreSelected, IsSelectFault};
+ghost use Rattle.bgp_query.specs.Selected.{AreSelected, IsJoinFault};
 ghost use Rattle.store_model.specs.Finds.{found};
 ghost use Rattle.store_model.specs.Store.{AreNamed, NetNamed, looked_at};
-ghost use Rattle.graph_validation.specs.Counting.{GrowsByCount};
+ghost use Rattle.parallel_validate.specs.Counting.{GrowsByCount};
 ghost use Rattle.parallel_validate.specs.Verdicts.{IsEvaluated};
-ghost use Rattle.data_graph.specs.Changes.{IsCheckOf};
+ghost use Rattle.shape_model.specs.Validation.{Listing};
 ghost use Rattle.commit_core.specs.Consistent.{IsSound};
+ghost use Rattle.commit_core.specs.Verdicts.{IsPairedCheck};
 
 use crate::checked::CheckedNet;
-use bgp_query::{JoinPattern, SelectFault};
+use bgp_query::{JoinFault, JoinPattern};
 use collections::Sequence;
-use data_graph::DataGraph;
+use data_graph::ValidatedGraph;
+use page_index::Pages;
 use rdf_model::{Change, Pattern, Term, Triple};
 use shape_eval::Steps;
+use shape_model::ResultRow;
+use shapes_graph::ShapesGraph;
 use std::alloc::{AllocError, Global};
 use std::marker::Model;
 use std::sync::ledger::Ledger;
 use store_model::{BlockMode, Verdict};
 
-/// The store as it was at one version: its number, and its data graph, ascending, which keeps its shapes graph and
-/// its names. Contracts see these four; the graph has no result under the shapes.
+/// The store as it was at one version: its number, and its data graph, ascending, which keeps its shapes graph, its names and
+/// its results. Contracts see the first four; the graph has no result under the shapes that blocks in either mode.
 pub struct Snap {
     number: u64,
-    graph: DataGraph,
+    graph: ValidatedGraph,
 }
 
 impl Model for Snap {
@@ -36,7 +41,7 @@ impl Model for Snap {
 
     ghost view = { λ s. record { number = s.number; graph = s.graph.triples; shapes = s.graph.shapes; named = s.graph.terms } };
 
-    ghost invariant = { λ s. IsSound modes.All (record { number = s.number; graph = s.graph.triples; shapes = s.graph.shapes; named = s.graph.terms }) };
+    ghost invariant = { λ s. IsSound modes.Violation (record { number = s.number; graph = s.graph.triples; shapes = s.graph.shapes; named = s.graph.terms }) };
 }
 
 // Written by hand, so that what owns one calls it in place of having it written out.
@@ -51,8 +56,8 @@ impl Drop for Snap {
 
 impl Snap {
     // The snapshot of the graph, which it shares.
-    pub(crate) fn sharing(number: u64, graph: &DataGraph) -> Result<Snap, AllocError>
-        requires { IsSound BlockMode.All (record { number = number; graph = graph.now.triples; shapes = graph.now.shapes; named = graph.now.terms }) }
+    pub(crate) fn sharing(number: u64, graph: &ValidatedGraph) -> Result<Snap, AllocError>
+        requires { IsSound BlockMode.Violation (record { number = number; graph = graph.now.triples; shapes = graph.now.shapes; named = graph.now.terms }) }
         ensures { IfOk result (λ snap. snap ≡ record { number = number; graph = graph.now.triples; shapes = graph.now.shapes; named = graph.now.terms }) }
     {
         Ok(Snap {
@@ -68,6 +73,20 @@ impl Snap {
         self.number
     }
 
+    /// The triples.
+    pub fn triples(&self) -> &Pages<Triple>
+        ensures { result.now ≡ self.now.graph }
+    {
+        self.graph.triples()
+    }
+
+    /// The shapes graph.
+    pub fn shapes(&self) -> &ShapesGraph
+        ensures { result.now ≡ self.now.shapes }
+    {
+        self.graph.shapes()
+    }
+
     /// The triples that the pattern asks for in the graph with these changes, in their order. It asks
     /// an index of the graph, as `DataGraph::find` says.
     pub fn find(
@@ -78,7 +97,7 @@ impl Snap {
     ) -> Result<Vec<Triple>, AllocError>
         ensures { IfOk result (λ v. v.items ≡ found (after self.now.graph net.now) pattern.now) }
     {
-        self.graph.find(alloc, net, pattern)
+        self.graph.graph().find(alloc, net, pattern)
     }
 
     /// The bindings of the patterns in the graph with these changes: the terms of the variables, from the first on, under which
@@ -88,16 +107,16 @@ impl Snap {
         &mut self,
         net: &[Change],
         patterns: &[JoinPattern<Term>],
-    ) -> Result<Vec<Sequence<Term>>, SelectFault>
+    ) -> Result<Vec<Sequence<Term>>, JoinFault>
         ensures same { self.new ≡ self.old }
         ensures rows { IfOk result (λ rows. AreSelected (after self.old.graph net.now) patterns.now rows.items) }
-        ensures fault { IfErr result (λ fault. IsSelectFault fault (after self.old.graph net.now) patterns.now) }
+        ensures fault { IfErr result (λ fault. IsJoinFault fault (after self.old.graph net.now) patterns.now) }
     {
         self.graph.select(net, patterns)
     }
 
     /// Checks the changes at this version, beside the store: the verdict has this version as its head and all looks that were
-    /// made, and the rows are the results that what the changes touch has after them. All terms of the changes are named, and
+    /// made, and the pairs are those that the changes touch, each with its results after them. All terms of the changes are named, and
     /// so are those of the looks. The evaluations are counted in `steps`: there are as many as there are pairs of a shape and
     /// a node that a changed triple touches and that are targets after the changes. After an error the count is what it was,
     /// or more.
@@ -108,26 +127,35 @@ impl Snap {
     ) -> Result<CheckedNet, AllocError>
         requires { NetNamed self.now.named net.now }
         ensures head { IfOk result (λ checked. checked.verdict.head ≡ self.now.number) }
-        ensures check { IfOk result (λ checked. IsCheckOf self.now.graph self.now.shapes net.now checked.verdict.looks checked.rows) }
+        ensures check { IfOk result (λ checked. IsPairedCheck self.now.named self.now.graph self.now.shapes net.now checked.verdict.looks checked.pairs) }
         ensures named { IfOk result (λ checked. AllByRecursion (λ look. AreNamed self.now.named (looked_at look)) checked.verdict.looks) }
         ensures steps { OnOk result (GrowsByCount (IsEvaluated self.now.graph self.now.shapes net.now) steps.old steps.new) }
         ensures counted { steps.old ≤ steps.new }
     {
-        let mut next = self.graph.after(net)?;
-        let found = self.graph.check_after(net, &mut next, steps)?;
-        let (rows, looks) = found.into_parts();
+        let graph = self.graph.graph();
+        let mut next = graph.after(net)?;
+        let found = graph.paired_after(net, &mut next, steps)?;
+        let (pairs, looks) = found.into_parts();
         Ok(CheckedNet {
             verdict: Verdict {
                 head: self.number,
                 looks,
             },
-            rows,
+            pairs,
         })
+    }
+
+    /// The results of validating the graph by its shapes graph (SHACL section 3.6), each once, in the order of results. Nothing is
+    /// evaluated: its cost is theirs.
+    pub fn listing(&self) -> Result<Vec<ResultRow>, AllocError>
+        ensures { IfOk result (λ rows. Listing self.now.graph self.now.shapes rows.items) }
+    {
+        self.graph.listing()
     }
 
     /// What every snapshot is, for a caller that rests on it. It does nothing.
     pub fn recall_sound(&self)
-        ensures { IsSound BlockMode.All self.now }
+        ensures { IsSound BlockMode.Violation self.now }
     {
         let _ = &self.number;
     }

@@ -1,29 +1,38 @@
+//! The store with its history, step by step.
 ghost use Rattle.std.specs.Prelude.{false, ◌≡◌, ◌+◌, ◌≤◌, ◌<◌, ◌^◌, [], ◌∷◌, ◌++◌, MatchBool, length, map, IfOk, OnOk, OnErr, MatchResult};
-ghost use Rattle.store_model.specs.Store.{RecordedStore, empty_store, Step, TakesStep, IsOpened, IsCommittable, numbers_of, shapes_under, version};
+ghost use Rattle.store_model.specs.Store.{RecordedStore, empty_store, Step, TakesStep, IsOpened, IsCommittable, NetNamed, numbers_of, version};
 ghost use Rattle.store_model.specs.Snapshots.{snapshot_of};
 ghost use Rattle.store_model.specs.Nodes.{unknown_by};
-ghost use Rattle.rdf_model.specs.Graphs.{after};
+ghost use Rattle.parallel_validate.specs.Counting.{GrowsByCount};
+ghost use Rattle.parallel_validate.specs.Verdicts.{IsEvaluated};
 ghost use Rattle.shape_model.specs.Validation.{Listing};
 ghost use Rattle.data_graph.specs.DataGraphs.{with_changes};
+ghost use Rattle.data_graph.specs.Pairs.{IsAfterCheck};
 ghost use Rattle.commit_core.specs.Commits.{Answers, HasNoFault, IsJudged, IsPlan, IsRefusal, TakesCommit, committed_graph, data_of};
-ghost use Rattle.commit_core.specs.Verdicts.{AreOfVerdict, AreReasons};
+ghost use Rattle.commit_core.specs.Verdicts.{AreOfVerdict, AreReasons, IsHeld};
 ghost use Rattle.commit_core.specs.Work.{AnswerSteps, CommitSteps, IsByResults, PlanSteps, ResultSteps};
 ghost use Rattle.commit_core.specs.Consistent.{IsConsistent};
+ghost use Rattle.commit_core.specs.Outcomes.{IsOutcome};
 ghost use Rattle.commit_core.specs.Faults.{OpensNone, NamesNone};
 
+use crate::bounds::Bounds;
 use crate::commit::{
-    Acceptance, CheckedTransaction, Commit, Plan, Reasons, Refusal, accepting, stage_shapes,
+    Acceptance, CheckedTransaction, Commit, Plan, Reasons, Refusal, accepting, refusing,
+    stage_shapes,
 };
 use crate::history::{History, events_back, room_for, sessions_back};
 use crate::naming::{NamingFault, given_after, unknown_node};
+use crate::outcome::Outcome;
 use crate::overtaking::find_overtaker;
 use crate::reasons::{find_reasons, has_held};
 use crate::room::Slip;
 use crate::snapshot::Snap;
+use blocking::pairs_block;
 use collections::Sequence;
-use data_graph::DataGraph;
+use data_graph::{DataGraph, ValidatedGraph};
+use kept_rows::PairRows;
 use page_index::Pages;
-use rdf_model::Term;
+use rdf_model::{Change, Term};
 use record_text::Record;
 use shape_eval::Steps;
 use shape_model::ResultRow;
@@ -31,9 +40,7 @@ use std::alloc::{AllocError, Global};
 use std::boxed::Box;
 use std::marker::Model;
 use std::sync::ledger::Ledger;
-use store_model::{
-    Accepted, Action, BlockMode, Event, Limits, NameKind, Overtaker, Reply, Transaction,
-};
+use store_model::{Accepted, Action, Event, Limits, NameKind, Overtaker, Reply, Transaction};
 use term_dict::NameFault;
 
 pub(crate) const MOST_SESSIONS: u32 = 64;
@@ -78,15 +85,16 @@ fn add_commit(commits: &mut Vec<Accepted>, accepted: Accepted) -> Result<(), All
     Ok(())
 }
 
-/// The store with its history. It begins empty, or at what the records of a log restore, and every result blocks. Contracts see its limits, the state that its history
-/// begins at, its state and its events. The data graph keeps the shapes graph, the terms that are named, and their
-/// limit.
+/// The store with its history. It begins empty, or at what the records of a log restore. Contracts see its limits, the state
+/// that its history begins at, its state and its events. The data graph keeps the shapes graph, the terms that are named, and
+/// their limit.
 pub struct Core {
     pub(crate) alloc: Global,
-    pub(crate) most_triples: usize,
+    pub(crate) bounds: Bounds,
     // The records that it was restored from.
     pub(crate) records: Vec<Record>,
-    pub(crate) graph: DataGraph,
+    // With its results, by the pairs that give them.
+    pub(crate) graph: ValidatedGraph,
     pub(crate) commits: Vec<Accepted>,
     // The blank nodes that were given out.
     pub(crate) given: Pages<Term>,
@@ -97,16 +105,15 @@ pub struct Core {
 }
 
 impl Model for Core {
-    ghost use Rattle.store_model.specs.declared.event.BlockMode.TheVariants as modes;
     ghost use Rattle.store_model.specs.Store.{RecordedStore};
     ghost use Rattle.commit_core.specs.Consistent.{IsConsistent};
     ghost use Rattle.commit_core.specs.Restored.{restored};
 
     ghost Value = { RecordedStore };
 
-    ghost view = { λ c. record { limits = record { terms = c.graph.limit; triples = c.most_triples; mode = modes.All }; start = restored c.records.items; state = record { graph = c.graph.triples; shapes = c.graph.shapes; commits = c.commits.items; named = c.graph.terms; given = c.given; opened = c.opened; stopped = c.stopped }; history = c.history } };
+    ghost view = { λ c. record { limits = record { terms = c.graph.limit; triples = c.bounds.triples; mode = c.bounds.mode }; start = restored c.records.items; state = record { graph = c.graph.triples; shapes = c.graph.shapes; commits = c.commits.items; named = c.graph.terms; given = c.given; opened = c.opened; stopped = c.stopped }; history = c.history } };
 
-    ghost invariant = { λ c. IsConsistent (record { limits = record { terms = c.graph.limit; triples = c.most_triples; mode = modes.All }; start = restored c.records.items; state = record { graph = c.graph.triples; shapes = c.graph.shapes; commits = c.commits.items; named = c.graph.terms; given = c.given; opened = c.opened; stopped = c.stopped }; history = c.history }) };
+    ghost invariant = { λ c. IsConsistent (record { limits = record { terms = c.graph.limit; triples = c.bounds.triples; mode = c.bounds.mode }; start = restored c.records.items; state = record { graph = c.graph.triples; shapes = c.graph.shapes; commits = c.commits.items; named = c.graph.terms; given = c.given; opened = c.opened; stopped = c.stopped }; history = c.history }) };
 }
 
 // Written by hand, so that what owns a core calls it in place of having it written out.
@@ -114,7 +121,7 @@ impl Drop for Core {
     fn drop(self) {
         let Core {
             alloc: _,
-            most_triples: _,
+            bounds: _,
             records: _,
             graph: _,
             commits: _,
@@ -127,16 +134,18 @@ impl Drop for Core {
 }
 
 impl Core {
-    /// An empty store, in which every result blocks.
+    /// An empty store.
     pub fn open(alloc: Global, limits: Limits) -> Result<Core, AllocError>
-        requires small { limits.terms + 2 < 2 ^ 32 }
-        requires mode { limits.mode ≡ BlockMode.All }
+        requires { limits.terms + 2 < 2 ^ 32 }
         ensures { IfOk result (λ core. core ≡ record { limits = limits; start = empty_store; state = empty_store; history = [] }) }
     {
-        let graph = DataGraph::new(alloc, limits.terms)?;
+        let graph = ValidatedGraph::new(alloc, limits.terms)?;
         Ok(Core {
             alloc,
-            most_triples: limits.triples,
+            bounds: Bounds {
+                triples: limits.triples,
+                mode: limits.mode,
+            },
             records: Vec::new(alloc),
             graph,
             commits: Vec::new(alloc),
@@ -308,53 +317,85 @@ impl Core {
         Err(NamingFault::Unknown { node })
     }
 
-    // The results of the next graph by an evaluation: all of them under staged shapes, and those of what the changes touch
-    // under the shapes that this store has.
+    // The next graph with its results: those of the pairs that the changes touch are told, and all others are kept. Since none of
+    // those blocks, it is enough to ask the told ones.
+    fn merged(&self, next: DataGraph, pairs: &[PairRows]) -> Result<Outcome, AllocError>
+        requires { IsAfterCheck (data_of self.now) next pairs.now }
+        ensures { IfOk result (IsOutcome self.now.limits.mode next) }
+    {
+        self.recall_consistent();
+        let blocks = pairs_block(self.bounds.mode, self.graph.shapes(), pairs);
+        let graph = self.graph.with_pairs(next, pairs)?;
+        graph.recall_listing();
+        Ok(Outcome { graph, blocks })
+    }
+
+    // The next graph with its results, where no shapes are staged: those of what the changes touch by an evaluation, all others as
+    // they are kept.
+    fn changed<L: Ledger>(
+        &self,
+        next: DataGraph,
+        net: &[Change],
+        steps: &mut Steps<L>,
+    ) -> Result<Outcome, AllocError>
+        requires named { NetNamed self.now.state.named net.now }
+        requires next { next ≡ with_changes (data_of self.now) net.now }
+        ensures outcome { IfOk result (IsOutcome self.now.limits.mode next) }
+        ensures steps { OnOk result (GrowsByCount (IsEvaluated self.now.state.graph self.now.state.shapes net.now) steps.old steps.new) }
+        ensures counted { steps.old ≤ steps.new }
+    {
+        let mut next = next;
+        let pairs = self.graph.graph().pairs_after(net, &mut next, steps)?;
+        let outcome = self.merged(next, pairs.as_slice())?;
+        Ok(outcome)
+    }
+
+    // The next graph with its results by an evaluation: of each shape at its targets under staged shapes, else of what the changes
+    // touch.
     fn evaluated<L: Ledger>(
         &self,
-        next: &mut DataGraph,
+        next: DataGraph,
         transaction: &Transaction,
         steps: &mut Steps<L>,
-    ) -> Result<Vec<ResultRow>, AllocError>
+    ) -> Result<Outcome, AllocError>
         requires committable { IsCommittable self.now.state transaction.now }
-        requires next { next.old ≡ committed_graph (data_of self.now) transaction.now }
-        ensures same { next.new ≡ next.old }
-        ensures rows { IfOk result (λ rows. Listing (after self.now.state.graph transaction.now.net) (shapes_under self.now.state.shapes transaction.now.staged) rows.items) }
+        requires next { next ≡ committed_graph (data_of self.now) transaction.now }
+        ensures outcome { IfOk result (IsOutcome self.now.limits.mode next) }
         ensures steps { OnOk result (ResultSteps false self.now.state transaction.now steps.old steps.new) }
         ensures counted { steps.old ≤ steps.new }
     {
+        self.recall_consistent();
         match &transaction.staged {
-            Some(_) => next.listing(steps),
-            None => self
-                .graph
-                .listing_after(transaction.net.as_slice(), next, steps),
+            Some(_) => Outcome::whole(self.bounds.mode, next, steps),
+            None => self.changed(next, transaction.net.as_slice(), steps),
         }
     }
 
-    // The results of the next graph: those that a verdict found, where it held, else by an evaluation.
-    fn results<L: Ledger>(
+    // The next graph with its results, and whether one blocks: by the pairs that a verdict found, where it held, else by an
+    // evaluation.
+    fn validated<L: Ledger>(
         &self,
-        next: &mut DataGraph,
+        next: DataGraph,
         checked: &CheckedTransaction,
         held: bool,
         steps: &mut Steps<L>,
-    ) -> Result<Sequence<ResultRow>, AllocError>
+    ) -> Result<Outcome, AllocError>
         requires committable { IsCommittable self.now.state checked.now.transaction }
-        requires next { next.old ≡ committed_graph (data_of self.now) checked.now.transaction }
-        requires found { MatchBool held (Listing (after self.now.state.graph checked.now.transaction.net) (shapes_under self.now.state.shapes checked.now.transaction.staged) checked.now.rows) (Unit {0}) }
-        ensures same { next.new ≡ next.old }
-        ensures rows { IfOk result (Listing (after self.now.state.graph checked.now.transaction.net) (shapes_under self.now.state.shapes checked.now.transaction.staged)) }
+        requires next { next ≡ committed_graph (data_of self.now) checked.now.transaction }
+        requires found { MatchBool held (IsHeld self.now checked.now.transaction checked.now.pairs) (Unit {0}) }
+        ensures outcome { IfOk result (IsOutcome self.now.limits.mode next) }
         ensures steps { OnOk result (ResultSteps held self.now.state checked.now.transaction steps.old steps.new) }
         ensures counted { steps.old ≤ steps.new }
     {
         if held {
-            return Sequence::copied_from(self.alloc, checked.rows.as_slice());
+            let outcome = self.merged(next, checked.pairs.as_slice())?;
+            return Ok(outcome);
         }
-        let rows = self.evaluated(next, &checked.transaction, steps)?;
-        Ok(Sequence::from_vec(rows))
+        self.evaluated(next, &checked.transaction, steps)
     }
 
-    // What its listing makes of a commit that nothing overtook and whose graph is within the limit.
+    // What a commit that nothing overtook and whose graph is within the limit is going to do. The listing is made only where a
+    // result blocks.
     fn judge<L: Ledger>(
         &self,
         next: DataGraph,
@@ -364,7 +405,7 @@ impl Core {
     ) -> Result<Plan, AllocError>
         requires committable { IsCommittable self.now.state checked.now.transaction }
         requires next { next ≡ with_changes (data_of self.now) checked.now.transaction.net }
-        requires found { MatchBool held (Listing (after self.now.state.graph checked.now.transaction.net) (shapes_under self.now.state.shapes checked.now.transaction.staged) checked.now.rows) (Unit {0}) }
+        requires found { MatchBool held (IsHeld self.now checked.now.transaction checked.now.pairs) (Unit {0}) }
         ensures judged { IfOk result (IsJudged self.now.limits.mode (data_of self.now) checked.now.transaction) }
         ensures steps { IfOk result (PlanSteps held self.now.state checked.now.transaction steps.old steps.new) }
         ensures counted { steps.old ≤ steps.new }
@@ -372,19 +413,17 @@ impl Core {
         let mut next = next;
         let staged = &checked.transaction.staged;
         stage_shapes(&mut next, staged)?;
-        let rows = self.results(&mut next, checked, held, steps)?;
-        if rows.is_empty() {
-            let net = checked.transaction.net.as_slice();
-            let plan = accepting(self.alloc, &self.graph, next, net, staged)?;
-            return Ok(Plan::Accept(plan));
+        let outcome = self.validated(next, checked, held, steps)?;
+        let blocks = outcome.blocks;
+        if blocks {
+            let refusal = refusing(self.alloc, &outcome.graph)?;
+            return Ok(Plan::Refuse(refusal));
         }
-        let shapes = next.shapes().share()?;
-        let recorded = Sequence::copied_from(self.alloc, rows.as_slice())?;
-        Ok(Plan::Refuse(Refusal {
-            rows,
-            recorded,
-            shapes,
-        }))
+        let validated = outcome.into_graph();
+        validated.recall_listing();
+        let net = checked.transaction.net.as_slice();
+        let plan = accepting(self.alloc, self.graph.graph(), validated, net, staged)?;
+        Ok(Plan::Accept(plan))
     }
 
     // What the commit of the transaction does to this store; a verdict may have held.
@@ -395,7 +434,7 @@ impl Core {
         steps: &mut Steps<L>,
     ) -> Result<Plan, AllocError>
         requires committable { IsCommittable self.now.state checked.now.transaction }
-        requires found { MatchBool held (Listing (after self.now.state.graph checked.now.transaction.net) (shapes_under self.now.state.shapes checked.now.transaction.staged) checked.now.rows) (Unit {0}) }
+        requires found { MatchBool held (IsHeld self.now checked.now.transaction checked.now.pairs) (Unit {0}) }
         ensures plan { IfOk result (IsPlan self.now.limits (data_of self.now) self.now.state.commits checked.now.transaction) }
         ensures steps { IfOk result (PlanSteps held self.now.state checked.now.transaction steps.old steps.new) }
         ensures counted { steps.old ≤ steps.new }
@@ -406,9 +445,9 @@ impl Core {
             let triple = overtaker.triple.clone()?;
             return Ok(Plan::Overtaken(overtaker, triple));
         }
-        let next = self.graph.after(transaction.net.as_slice())?;
+        let next = self.graph.graph().after(transaction.net.as_slice())?;
         let count = next.triples().len();
-        if count > self.most_triples {
+        if count > self.bounds.triples {
             return Ok(Plan::TooLarge(count));
         }
         self.judge(next, checked, held, steps)
@@ -435,7 +474,7 @@ impl Core {
         );
     }
 
-    // Records a commit whose graph would have results.
+    // Records a commit whose graph would have a result that blocks.
     pub(crate) fn refuse_invalid(
         &mut self,
         slip: Slip,
@@ -515,7 +554,7 @@ impl Core {
         requires opened { IsOpened self.old.state session }
         requires committable { IsCommittable self.old.state checked.transaction }
         requires reasons { AreReasons self.old.state.commits checked.transaction reasons }
-        requires found { MatchBool held (Listing (after self.old.state.graph checked.transaction.net) (shapes_under self.old.state.shapes checked.transaction.staged) checked.rows) (Unit {0}) }
+        requires found { MatchBool held (IsHeld self.old checked.transaction checked.pairs) (Unit {0}) }
         ensures answer { Answers result self.old self.new session checked }
         ensures steps { AnswerSteps held reasons.answer self.old.state checked.transaction steps.old steps.new result }
         ensures no_fault { HasNoFault result }
@@ -547,8 +586,8 @@ impl Core {
 
     /// Commits a transaction that changes something or stages shapes, whose terms are named and whose
     /// base is a version of this store. The graph that it would make is validated whole under staged shapes; else just those
-    /// pairs of a shape and a node are evaluated that the changes touch, since the store's own graph has no result; and none
-    /// where a verdict held: then its rows are the results. The evaluations are counted in `steps`. No log is written to, so that
+    /// pairs of a shape and a node are evaluated that the changes touch, since the results of all others are kept; and none
+    /// where a verdict held: then its pairs have theirs. The evaluations are counted in `steps`. No log is written to, so that
     /// none fails. A store that is stopped answers so, and nothing else.
     pub fn commit<L: Ledger>(
         &mut self,
@@ -558,7 +597,7 @@ impl Core {
     ) -> Commit
         requires opened { IsOpened self.old.state session }
         requires committable { IsCommittable self.old.state checked.transaction }
-        requires verdict { AreOfVerdict self.old checked.transaction.net checked.transaction.verdict checked.rows }
+        requires verdict { AreOfVerdict self.old checked.transaction.net checked.transaction.verdict checked.pairs }
         ensures answer { Answers result self.old self.new session checked }
         ensures steps { CommitSteps result self.old.state checked.transaction steps.old steps.new }
         ensures no_fault { HasNoFault result }
@@ -644,7 +683,7 @@ impl Core {
     {
         let Core {
             alloc: _,
-            most_triples: _,
+            bounds: _,
             records: _,
             graph: _,
             commits: _,
@@ -654,6 +693,14 @@ impl Core {
             history,
         } = self;
         history
+    }
+
+    /// The results of validating the graph by its shapes graph (SHACL section 3.6), each once, in the order of results. None of
+    /// them blocks. Nothing is evaluated: its cost is theirs.
+    pub fn listing(&self) -> Result<Vec<ResultRow>, AllocError>
+        ensures { IfOk result (λ rows. Listing self.now.state.graph self.now.state.shapes rows.items) }
+    {
+        self.graph.listing()
     }
 
     /// The newest version: how many commits there were.

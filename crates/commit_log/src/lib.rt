@@ -4,6 +4,8 @@
 //! crash comes, what it leaves opens to the records that were there, then to those appended since, in
 //! order, up to one of them, and to every one whose `append` answered Ok. An image opens to one list
 //! of records, or one number says which record of it is to blame: `laws`.
+//!
+//! Storey: store.
 #![tactic(auto)]
 
 pub mod laws;

@@ -1,3 +1,4 @@
+//! Results of a bound on the number of value nodes.
 ghost use Rattle.std.specs.Prelude.{◌≡◌, ◌↔◌, IfOk, IsTrue};
 ghost use Rattle.rdf_model.specs.Numbers.{term_at};
 ghost use Rattle.shape_model.specs.Components.{found_alone};

@@ -1,3 +1,4 @@
+//! Results made of the numbers of terms.
 ghost use Rattle.std.specs.Prelude.{◌≡◌, ◌<◌, IfOk, length};
 ghost use Rattle.rdf_model.specs.Numbers.{term_at};
 ghost use Rattle.shape_model.specs.Components.{found_alone, found_at};

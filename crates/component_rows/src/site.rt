@@ -1,3 +1,4 @@
+//! Where a component is asked.
 ghost use Rattle.std.specs.Prelude.{◌≡◌, ◌<◌, length};
 ghost use Rattle.rdf_model.specs.Numbers.{IsNumbering, term_at};
 ghost use Rattle.component_rows.specs.Nodes.{AreNodes};

@@ -1,3 +1,4 @@
+//! Results about value nodes that don't pass a test.
 ghost use Rattle.std.specs.Prelude.{◌≡◌, ◌↔◌, ◌<◌, ◌++◌, IfOk, IsTrue, OnOk, length};
 ghost use Rattle.rdf_model.specs.Numbers.{term_at};
 ghost use Rattle.rdf_model.specs.declared.term.Term.{Term as TermData};

@@ -1,3 +1,4 @@
+//! Answers of yes counted.
 ghost use Rattle.std.specs.Prelude.{◌≡◌, ◌<◌, ◌+◌, ◌^◌, if◌then◌else◌, length, map};
 ghost use Rattle.std.specs.List.{Contains};
 ghost use Rattle.component_rows.specs.Conformance.{how_many, yes_at};

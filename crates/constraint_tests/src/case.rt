@@ -1,3 +1,4 @@
+//! The rows of the tables: read, and their results compared.
 ghost use Rattle.std.specs.Prelude.{◌≡◌, ◌<◌, IfOk, IsTrue, length};
 ghost use Rattle.std.specs.List.{Contains};
 ghost use Rattle.std.specs.Ordering.{nat_cmp};
@@ -6,8 +7,6 @@ ghost use Rattle.rdf_model.specs.Numbers.{AreNumbered, IsNumbering};
 ghost use Rattle.component_rows.specs.Nodes.{AreNodes};
 ghost use Rattle.component_rows.specs.Sites.{spot};
 ghost use Rattle.constraint_tests.specs.Rows.{IsRow};
-
-// The rows of the tables.
 
 use crate::checks::{are_distinct, are_named, are_nodes, are_numbered};
 use crate::short_terms::{term, text_of_row};

@@ -1,3 +1,4 @@
+//! Tests of what the calls ask for, made on the tables' rows.
 ghost use Rattle.std.specs.Prelude.{◌≡◌, ◌<◌, ℕ, [], IsTrue, length, map};
 ghost use Rattle.std.specs.List.{All, Contains};
 ghost use Rattle.rdf_model.specs.declared.ids.Ids.{Ids as IdsData};
@@ -7,8 +8,6 @@ ghost use Rattle.collections.specs.Ordered.{IsAscending};
 ghost use Rattle.component_rows.specs.Conformance.{AreTold};
 ghost use Rattle.component_rows.specs.Nodes.{AreNodes};
 ghost use Rattle.rdf_model.specs.Numbers.{AreNumbered, IsNumbering, term_at};
-
-// Tests of what the calls ask for, made on the tables' rows.
 
 use rdf_model::{Ids, ListNames, Names, Term};
 

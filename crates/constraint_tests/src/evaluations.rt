@@ -1,14 +1,13 @@
+//! Tests of the evaluation of a whole shape.
 ghost use Rattle.std.specs.Prelude.{◌≡◌, ◌<◌, ◌↔◌, IfOk, IsTrue, length};
 ghost use Rattle.std.specs.List.{All, Contains};
 ghost use Rattle.rdf_model.specs.Numbers.{AreNumbered, IsNumbering, term_at};
 ghost use Rattle.rdf_model.specs.declared.term.Term.TheVariants as data_terms;
-ghost use Rattle.compiled_paths.specs.PathReadings.{IsNamed};
+ghost use Rattle.path_ast.specs.PathReadings.{IsNamed};
 ghost use Rattle.path_eval.specs.Instances.{AreClassWords};
 ghost use Rattle.shape_model.specs.Vocabulary.{rdf_type, sub_class_of};
 ghost use Rattle.shape_ast.specs.Readings.{AreBound, AreNamed, HoldsOfConstraint, HoldsOfShape};
 ghost use Rattle.shape_ast.specs.Standing.{AreBuilt, IsBuilt};
-
-// Tests of the evaluation of a whole shape.
 
 use crate::case::{Case, read_case};
 use crate::short_terms::{term, text_of};

@@ -1,3 +1,4 @@
+//! Components that read the data graph beside the value nodes: pairs and closed shapes.
 ghost use Rattle.rdf_model.specs.Numbers.{AreNumbered};
 
 use crate::case::{Case, assert_found, read_case, site_of};

@@ -1,4 +1,6 @@
 //! Tests of the constraint components of SHACL Core, each as a table of rows that were worked out by hand.
+//!
+//! Storey: tests.
 #![tactic(auto)]
 
 #[cfg(test)]

@@ -1,3 +1,4 @@
+//! The results of sh:property.
 ghost use Rattle.std.specs.Prelude.{◌≡◌, length};
 
 use crate::case::{Case, read_case};

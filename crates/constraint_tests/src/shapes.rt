@@ -1,3 +1,4 @@
+//! Components that refer to shapes, and classes.
 ghost use Rattle.std.specs.Prelude.{◌≡◌, ◌<◌, ◌∷◌, [], length, map};
 ghost use Rattle.std.specs.List.{Contains};
 ghost use Rattle.component_rows.specs.Conformance.{AreTold};

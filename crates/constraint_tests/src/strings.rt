@@ -1,3 +1,4 @@
+//! Components of strings: lengths, languages and patterns.
 use crate::case::{Case, assert_found, read_case, site_of};
 use component_rows::Site;
 use outside::{MakeFault, Maker, RegexMaker};

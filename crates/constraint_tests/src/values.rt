@@ -1,3 +1,4 @@
+//! Components of values: ranges, sets, kinds and counts.
 ghost use Rattle.component_rows.specs.Nodes.{AreNodes};
 
 use crate::case::{Case, assert_found, read_case, site_of};

@@ -14,8 +14,8 @@ use Rattle.rdf_model.specs.Matching.{fits, matches, same_term}
 use Rattle.rdf_model.specs.Numbers.{AreNumbered, IsNumbering, graph_of, term_at, triple_at}
 use Rattle.rdf_model.specs.Terms.{triple_cmp}
 use Rattle.rdf_model.proofs.SameTerms.{equal_same, same_equal}
-use Rattle.term_validation.specs.Named.{IsNumbered}
-use Rattle.term_validation.proofs.Members.{in_graph, numbered_at, of_graph}
+use Rattle.parallel_validate.specs.Named.{IsNumbered}
+use Rattle.parallel_validate.proofs.Members.{in_graph, numbered_at, of_graph}
 use Rattle.triple_index.specs.Patterns.{IsMatch, ListsOnce}
 use Rattle.data_graph.specs.Finding.{AllAskAlike, AsksAlike, AsksForNone, IsAsked, NoneIsAsked}
 

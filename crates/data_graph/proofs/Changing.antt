@@ -13,8 +13,8 @@ use Rattle.rdf_model.specs.Graphs.{after}
 use Rattle.rdf_model.specs.Numbers.{AreNumbered, IsNumbering, graph_of, triple_at}
 use Rattle.rdf_model.specs.Orders.{triple_exact, triple_total}
 use Rattle.rdf_model.specs.Terms.{triple_cmp}
-use Rattle.term_validation.specs.Named.{IsNumbered}
-use Rattle.term_validation.proofs.Members.{all_numbered, in_graph, index_members, index_numbered, numbered_at, of_graph}
+use Rattle.parallel_validate.specs.Named.{IsNumbered}
+use Rattle.parallel_validate.proofs.Members.{all_numbered, in_graph, index_members, index_numbered, numbered_at, of_graph}
 use Rattle.triple_index.specs.Changes.{after_ids}
 use Rattle.triple_index.specs.IdsOrder.{ids_exact, ids_total}
 use Rattle.triple_index.specs.Keys.{ids_cmp}

@@ -20,7 +20,7 @@ use Rattle.shape_eval.proofs.Asking.{node_bound}
 use Rattle.change_laws.specs.Checks.{AreChecked, CheckedPair}
 use Rattle.change_laws.proofs.Checked.{mapped_from, mapped_to}
 use Rattle.focus_affected.specs.Touched.{AreChanged}
-use Rattle.graph_validation.specs.Counting.{GrowsByCount}
+use Rattle.parallel_validate.specs.Counting.{GrowsByCount}
 use Rattle.parallel_validate.specs.declared.pairs.CheckedRows.{CheckedRows}
 use Rattle.parallel_validate.specs.PairsResults.{ArePlacedPairs, pair_of}
 use Rattle.parallel_validate.specs.Verdicts.{AreBoundLooks, CountsEvaluated, IsEvaluated, KeepsChecked, KeepsLooks, WhereChecked, checked_pair, checked_pairs}

@@ -14,7 +14,7 @@ use Rattle.shape_model.specs.Vocabulary.{rdf, rdf_type, sub_class_of}
 use Rattle.term_dict.specs.Names.{first_terms, with_terms}
 use Rattle.bound_shapes.specs.Bound.{BoundGraph, IsBoundTo}
 use Rattle.bound_shapes.proofs.Growing.{still_bound}
-use Rattle.term_validation.specs.Named.{AreNamedTriples, IsNumbered}
+use Rattle.parallel_validate.specs.Named.{AreNamedTriples, IsNumbered}
 use Rattle.data_graph.specs.DataGraphs.{HaveClassWords, IsIndexOf, IsIndexed}
 
 same_triple : (terms : List Term) (u : Term) (i : Ids) → IsNumbered terms i → triple_at (terms ++ u ∷ []) i ≡ triple_at terms i

@@ -5,7 +5,7 @@ use Rattle.rdf_model.specs.declared.change.Change.{Change}
 use Rattle.rdf_model.specs.declared.term.Term.{Term}
 use Rattle.rdf_model.specs.declared.triple.Triple.{Triple}
 use Rattle.shape_model.specs.ShapeSyntax.{IsShape}
-use Rattle.graph_validation.specs.Counting.{GrowsByCount}
+use Rattle.parallel_validate.specs.Counting.{GrowsByCount}
 use Rattle.parallel_validate.specs.Verdicts.{IsEvaluated}
 use Rattle.shape_model.proofs.Bridges.{makes_shape}
 use Rattle.shape_model.specs.Readings.{reading}

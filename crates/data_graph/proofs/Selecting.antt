@@ -15,9 +15,9 @@ use Rattle.rdf_model.specs.Graphs.{after}
 use Rattle.rdf_model.specs.Numbers.{graph_of}
 use Rattle.rdf_model.specs.Terms.{triple_cmp}
 use Rattle.store_model.specs.Store.{changed_triple, terms_of}
-use Rattle.bgp_query.specs.declared.fault.SelectFault.{SelectFault}
+use Rattle.bgp_query.specs.declared.fault.JoinFault.{JoinFault}
 use Rattle.bgp_query.specs.declared.pattern.JoinPattern.{JoinPattern}
-use Rattle.bgp_query.specs.Selected.{AreSelected, IsSelectFault}
+use Rattle.bgp_query.specs.Selected.{AreSelected, IsJoinFault}
 use Rattle.term_dict.specs.Names.{AreNumbersOf, IsNumberOf, with_terms}
 use Rattle.term_joins.proofs.Assigned.{in_flat}
 use Rattle.term_joins.proofs.Selecting.{fault_as, selected_as}
@@ -60,7 +60,7 @@ module _ (terms more ts : List Term) (grown : more ≡ with_terms terms ts) (ids
     pub later_selected : (rows : List (List Term)) → AreSelected (graph_of more later) ps rows → (g : List Triple) → IsAscending triple_cmp g → IsIndexOf terms ids g → AreSelected (after g net) ps rows
     later_selected rows s g a i = selected_as (graph_of more later) (after g net) ps (later_index g a i).members rows s
 
-    pub later_fault : (fault : SelectFault) → IsSelectFault fault (graph_of more later) ps → (g : List Triple) → IsAscending triple_cmp g → IsIndexOf terms ids g → IsSelectFault fault (after g net) ps
+    pub later_fault : (fault : JoinFault) → IsJoinFault fault (graph_of more later) ps → (g : List Triple) → IsAscending triple_cmp g → IsIndexOf terms ids g → IsJoinFault fault (after g net) ps
     later_fault fault s g a i = fault_as (graph_of more later) (after g net) ps (later_index g a i).members fault s
 
 -- what follows from what holds of an answer holds of it

@@ -13,7 +13,7 @@ use Rattle.rdf_model.specs.Numbers.{AreNumbered, graph_of, triple_at}
 use Rattle.store_model.specs.Store.{changed_triple}
 use Rattle.path_eval.specs.Instances.{AreClassWords}
 use Rattle.term_dict.specs.Names.{Named, with_terms}
-use Rattle.term_validation.specs.Named.{IsNamedTriple, IsNumbered}
+use Rattle.parallel_validate.specs.Named.{IsNamedTriple, IsNumbered}
 use Rattle.triple_index.specs.declared.change.NumberedChange.{NumberedChange}
 use Rattle.triple_index.specs.declared.change.NumberedChange.TheVariants.{Add, Remove}
 

@@ -13,7 +13,7 @@ use Rattle.rdf_model.specs.Matching.{fits, matches}
 use Rattle.rdf_model.specs.Numbers.{term_at, triple_at}
 use Rattle.rdf_model.specs.Terms.{term_cmp}
 use Rattle.store_model.specs.Store.{changed_triple}
-use Rattle.term_validation.specs.Named.{IsNumbered}
+use Rattle.parallel_validate.specs.Named.{IsNumbered}
 use Rattle.triple_index.specs.Patterns.{fits_number, matches_ids}
 
 -- how a term stands to the one that is given, and what comes after it if they tie; all are alike where none is given

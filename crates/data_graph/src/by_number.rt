@@ -6,7 +6,7 @@ ghost use Rattle.rdf_model.specs.declared.ids.Ids.{Ids as IdsData};
 ghost use Rattle.rdf_model.specs.Matching.{matches};
 ghost use Rattle.rdf_model.specs.Numbers.{AreNumbered, graph_of, term_at, triple_at};
 ghost use Rattle.rdf_model.specs.Terms.{triple_cmp};
-ghost use Rattle.term_validation.specs.Named.{IsNumbered};
+ghost use Rattle.parallel_validate.specs.Named.{IsNumbered};
 ghost use Rattle.data_graph.specs.Finding.{AllAskAlike, AsksAlike, AsksForNone, IsAsked, NoneIsAsked};
 
 use collections::sorted_once;

@@ -4,7 +4,7 @@ ghost use Rattle.collections.specs.Listings.{IsListing};
 ghost use Rattle.rdf_model.specs.Numbers.{AreNumbered};
 ghost use Rattle.path_eval.specs.Naming.{look_of};
 ghost use Rattle.shape_model.specs.Rows.{result_row_cmp};
-ghost use Rattle.graph_validation.specs.Counting.{GrowsByCount};
+ghost use Rattle.parallel_validate.specs.Counting.{GrowsByCount};
 ghost use Rattle.parallel_validate.specs.Verdicts.{AreBoundLooks, IsEvaluated};
 ghost use Rattle.bound_shapes.specs.Bound.{IsBoundTo};
 ghost use Rattle.data_graph.specs.Changes.{IsCheckByNumber, IsRowOf, WhereIndexed};
@@ -60,7 +60,7 @@ impl CheckedChanges {
     }
 }
 
-/// The same by number: the touched pairs, each with its results after the changes, and all looks.
+/// What checking changes found, by number: the touched pairs, each with its results after the changes, and all looks.
 #[derive(Drop)]
 pub(crate) struct NumberedCheck {
     pub(crate) pairs: Sequence<PairRows>,

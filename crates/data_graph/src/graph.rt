@@ -1,15 +1,16 @@
+//! A data graph with its shapes graph and numbers for the terms of both.
 ghost use Rattle.std.specs.Prelude.{◌≡◌, ◌+◌, ◌<◌, ◌≤◌, ◌^◌, [], IfErr, IfOk, MatchOption, OnErr, OnOk, length};
 ghost use Rattle.rdf_model.specs.Graphs.{after};
 ghost use Rattle.std.specs.List.{AllByRecursion};
-ghost use Rattle.bgp_query.specs.Selected.{AreSelected, IsSelectFault};
+ghost use Rattle.bgp_query.specs.Selected.{AreSelected, IsJoinFault};
 ghost use Rattle.store_model.specs.Finds.{found};
 ghost use Rattle.store_model.specs.Store.{AreNamed, looked_at};
 ghost use Rattle.shape_model.specs.Validation.{Listing, NoResult};
 ghost use Rattle.parallel_validate.specs.Verdicts.{IsEvaluated};
 ghost use Rattle.term_dict.specs.Faults.{IsCause};
 ghost use Rattle.term_dict.specs.Names.{AreNumbersOf, first_terms, with_terms};
-ghost use Rattle.graph_validation.specs.Counting.{GrowsByCount, IsTargetPair};
-ghost use Rattle.term_validation.specs.Named.{AreNamedTriples};
+ghost use Rattle.parallel_validate.specs.Counting.{GrowsByCount, IsTargetPair};
+ghost use Rattle.parallel_validate.specs.Named.{AreNamedTriples};
 ghost use Rattle.change_laws.specs.Pairs.{IsCheckFootprint};
 ghost use Rattle.kept_rows.specs.Laws.{ChecksPairs, KeepsResults};
 ghost use Rattle.data_graph.specs.Changes.{IsCheckByNumber, IsCheckOf};
@@ -24,11 +25,12 @@ use crate::graphs::{graph_after, graph_after_asked, list_after_asked};
 use crate::numbering::{CLASS_WORDS, index_after, index_of, kept_by, listing_by};
 use crate::run::graph_matching;
 use crate::select::select_after;
-use bgp_query::{JoinPattern, SelectFault};
+use bgp_query::{JoinFault, JoinPattern};
 use bound_shapes::BoundShapes;
 use collections::{Sequence, both};
 use kept_rows::{KeptRows, PairRows};
 use page_index::Pages;
+use parallel_validate::is_without_shapes;
 use rdf_model::{Change, Pattern, Term, Triple};
 use shape_eval::Steps;
 use shape_model::ResultRow;
@@ -37,7 +39,6 @@ use std::alloc::{AllocError, Global};
 use std::marker::Model;
 use std::sync::ledger::Ledger;
 use term_dict::{Dict, NameFault};
-use term_validation::is_without_shapes;
 use triple_index::Index;
 
 /// A data graph with the shapes graph by which it is validated, and numbers for the terms of both. Contracts see its triples,
@@ -264,11 +265,11 @@ impl DataGraph {
         &mut self,
         net: &[Change],
         patterns: &[JoinPattern<Term>],
-    ) -> Result<Vec<Sequence<Term>>, SelectFault>
+    ) -> Result<Vec<Sequence<Term>>, JoinFault>
         requires { AreNamedTriples self.old.terms self.old.triples }
         ensures same { self.new ≡ self.old }
         ensures rows { IfOk result (λ rows. AreSelected (after self.old.triples net.now) patterns.now rows.items) }
-        ensures fault { IfErr result (λ fault. IsSelectFault fault (after self.old.triples net.now) patterns.now) }
+        ensures fault { IfErr result (λ fault. IsJoinFault fault (after self.old.triples net.now) patterns.now) }
     {
         self.triples.recall_ascending();
         let numbers = self.index()?;
@@ -296,7 +297,7 @@ impl DataGraph {
         Ok(rows)
     }
 
-    /// The same results, each with the pair of a shape and a focus node that gives it, and counted alike.
+    /// The results of the listing, each with the pair of a shape and a focus node that gives it, and counted as there.
     pub fn kept_results<L: Ledger>(&mut self, steps: &mut Steps<L>) -> Result<KeptRows, AllocError>
         requires { AreNamedTriples self.old.terms self.old.triples }
         ensures same { self.new ≡ self.old }
@@ -423,8 +424,8 @@ impl DataGraph {
         Ok(checked.pairs)
     }
 
-    /// The same pairs, and all looks that were made, those by which it was found what the changes touch with them. All terms of
-    /// the looks are named.
+    /// The pairs that the changes touch, and all looks that were made, those by which it was found what they touch with them. All
+    /// terms of the looks are named.
     pub fn paired_after<L: Ledger>(
         &self,
         net: &[Change],

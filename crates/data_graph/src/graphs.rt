@@ -1,3 +1,4 @@
+//! Data graphs after changes, by terms.
 ghost use Rattle.std.specs.Prelude.{◌≡◌, IfOk, OnOk};
 ghost use Rattle.rdf_model.specs.Graphs.{after, changed, differing};
 ghost use Rattle.collections.specs.Ordered.{IsAscending};

@@ -6,6 +6,10 @@
 //! shapes are bound to the numbers, so that it is validated without numbering anything anew. A change makes
 //! another graph, which shares what it leaves, and whose results are those of what the change touches; a check of it tells
 //! the looks that it made besides. A find and a select look at the triples that the order of triples, or of their numbers, has side by side for its pattern.
+//!
+//! A `ValidatedGraph` is such a graph with just its results, each with the pair of a shape and a focus node that gives it.
+//!
+//! Storey: store.
 #![tactic(auto)]
 
 mod at_once;

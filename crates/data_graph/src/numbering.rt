@@ -1,20 +1,21 @@
+//! Data graphs and changes by the numbers of terms.
 ghost use Rattle.std.specs.Prelude.{◌≡◌, ◌≤◌, IfOk, OnOk, map};
 ghost use Rattle.std.specs.List.{AllByRecursion};
 ghost use Rattle.rdf_model.specs.Numbers.{AreNumbered, graph_of};
 ghost use Rattle.shape_model.specs.Validation.{Listing};
 ghost use Rattle.store_model.specs.Store.{changed_triple};
-ghost use Rattle.graph_validation.specs.Counting.{GrowsByCount, IsTargetPair};
+ghost use Rattle.parallel_validate.specs.Counting.{GrowsByCount, IsTargetPair};
 ghost use Rattle.bound_shapes.specs.Bound.{IsBoundTo};
 ghost use Rattle.kept_rows.specs.Laws.{KeepsResults};
-ghost use Rattle.term_validation.specs.Named.{AreNamedTriples, IsNamedTriple};
+ghost use Rattle.parallel_validate.specs.Named.{AreNamedTriples, IsNamedTriple};
 ghost use Rattle.data_graph.specs.DataGraphs.{AreNamedChanges, IsIndexOf, IsNumberedChange, KeepsIndex, change_at};
 
 use crate::graphs::triple_of;
 use bound_shapes::BoundShapes;
-use graph_validation::whole;
 use kept_rows::KeptRows;
 use kept_validation::whole_kept;
 use page_index::Pages;
+use parallel_validate::{number_triple, whole};
 use path_eval::ClassWords;
 use rdf_model::{Change, Ids, Triple};
 use shape_eval::Steps;
@@ -22,7 +23,6 @@ use shape_model::ResultRow;
 use std::alloc::{AllocError, Global};
 use std::sync::ledger::Ledger;
 use term_dict::Dict;
-use term_validation::number_triple;
 use triple_index::{Index, NumberedChange};
 
 // The numbers of rdf:type and rdfs:subClassOf, which are named first.

@@ -1,6 +1,6 @@
 //! The bindings of patterns in a graph after changes, by number.
-ghost use Rattle.std.specs.Prelude.{◌≡◌, ◌++◌, IfErr, IfOk, List, OnOk, flat_map};
-ghost use Rattle.bgp_query.specs.Selected.{AreSelected, IsSelectFault};
+ghost use Rattle.std.specs.Prelude.{◌≡◌, IfErr, IfOk, List, flat_map};
+ghost use Rattle.bgp_query.specs.Selected.{AreSelected, IsJoinFault};
 ghost use Rattle.collections.specs.Ordered.{IsAscending};
 ghost use Rattle.rdf_model.specs.declared.term.Term.{Term as TermData};
 ghost use Rattle.rdf_model.specs.declared.triple.Triple.{Triple as TripleData};
@@ -12,23 +12,14 @@ ghost use Rattle.data_graph.specs.DataGraphs.{AreNamedChanges, IsIndexOf};
 
 use crate::graphs::triple_of;
 use crate::numbering::index_after;
-use bgp_query::{JoinPattern, SelectFault};
+use bgp_query::{JoinFault, JoinPattern};
 use collections::Sequence;
-use rdf_model::{Change, Term, Triple};
+use rdf_model::{Change, Term};
 use std::alloc::{AllocError, Global};
+use store_model::push_terms;
 use term_dict::{Dict, NameFault};
 use term_joins::select_terms;
 use triple_index::Index;
-
-// Adds subject, predicate and object of a triple.
-fn add_terms(terms: &mut Vec<Term>, triple: &Triple) -> Result<(), AllocError>
-    ensures { OnOk result (terms.new.items ≡ terms.old.items ++ terms_of triple.now) }
-{
-    terms.push(triple.subject.clone()?)?;
-    terms.push(triple.predicate.clone()?)?;
-    terms.push(triple.object.clone()?)?;
-    Ok(())
-}
 
 // The terms of the triples that are added or removed.
 fn changed_terms(alloc: Global, net: &[Change]) -> Result<Vec<Term>, AllocError>
@@ -36,12 +27,12 @@ fn changed_terms(alloc: Global, net: &[Change]) -> Result<Vec<Term>, AllocError>
 {
     let mut terms = Vec::new(alloc);
     for change in net {
-        add_terms(&mut terms, triple_of(change))?;
+        push_terms(&mut terms, triple_of(change))?;
     }
     Ok(terms)
 }
 
-// The same names, and numbers for the terms of the changes.
+// The names with numbers for the terms of the changes too.
 fn names_with(alloc: Global, names: &Dict, net: &[Change]) -> Result<Dict, NameFault>
     ensures grown { IfOk result (λ more. (ts : List TermData) × (more.terms ≡ with_terms names.now.terms ts)) }
     ensures named { IfOk result (λ more. AreNamedChanges more.terms net.now) }
@@ -60,13 +51,13 @@ pub(crate) fn select_after(
     index: &Index,
     net: &[Change],
     patterns: &[JoinPattern<Term>],
-) -> Result<Vec<Sequence<Term>>, SelectFault>
+) -> Result<Vec<Sequence<Term>>, JoinFault>
     requires { (g : List TripleData) × IsAscending triple_cmp g × IsIndexOf names.now.terms index.now g }
     ensures rows { IfOk result (λ rows. (g : List TripleData) → IsAscending triple_cmp g → IsIndexOf names.now.terms index.now g → AreSelected (after g net.now) patterns.now rows.items) }
-    ensures fault { IfErr result (λ fault. (g : List TripleData) → IsAscending triple_cmp g → IsIndexOf names.now.terms index.now g → IsSelectFault fault (after g net.now) patterns.now) }
+    ensures fault { IfErr result (λ fault. (g : List TripleData) → IsAscending triple_cmp g → IsIndexOf names.now.terms index.now g → IsJoinFault fault (after g net.now) patterns.now) }
 {
     let Ok(more) = names_with(alloc, names, net) else {
-        return Err(SelectFault::Memory);
+        return Err(JoinFault::Memory);
     };
     more.recall_numbering();
     let later = index_after(alloc, &more, index, net)?;

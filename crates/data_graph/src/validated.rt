@@ -1,17 +1,17 @@
 //! A data graph with the results of validating it.
 ghost use Rattle.std.specs.Prelude.{◌≡◌, ◌+◌, ◌<◌, ◌≤◌, ◌^◌, [], IfErr, IfOk, OnErr, OnOk, length};
-ghost use Rattle.bgp_query.specs.Selected.{AreSelected, IsSelectFault};
+ghost use Rattle.bgp_query.specs.Selected.{AreSelected, IsJoinFault};
 ghost use Rattle.rdf_model.specs.Graphs.{after};
 ghost use Rattle.shape_model.specs.Validation.{Listing};
-ghost use Rattle.graph_validation.specs.Counting.{GrowsByCount, IsTargetPair};
+ghost use Rattle.parallel_validate.specs.Counting.{GrowsByCount, IsTargetPair};
 ghost use Rattle.term_dict.specs.Faults.{IsCause};
 ghost use Rattle.term_dict.specs.Names.{AreNumbersOf, first_terms, with_terms};
-ghost use Rattle.term_validation.specs.Named.{AreNamedTriples};
+ghost use Rattle.parallel_validate.specs.Named.{AreNamedTriples};
 ghost use Rattle.data_graph.specs.DataGraphs.{names_of, with_names};
 ghost use Rattle.data_graph.specs.Pairs.{HasListing, IsAfterCheck};
 
 use crate::graph::DataGraph;
-use bgp_query::{JoinPattern, SelectFault};
+use bgp_query::{JoinFault, JoinPattern};
 use collections::{Sequence, both};
 use kept_rows::{KeptRows, PairRows};
 use page_index::Pages;
@@ -132,11 +132,11 @@ impl ValidatedGraph {
         &mut self,
         net: &[Change],
         patterns: &[JoinPattern<Term>],
-    ) -> Result<Vec<Sequence<Term>>, SelectFault>
+    ) -> Result<Vec<Sequence<Term>>, JoinFault>
         requires { AreNamedTriples self.old.terms self.old.triples }
         ensures same { self.new ≡ self.old }
         ensures rows { IfOk result (λ rows. AreSelected (after self.old.triples net.now) patterns.now rows.items) }
-        ensures fault { IfErr result (λ fault. IsSelectFault fault (after self.old.triples net.now) patterns.now) }
+        ensures fault { IfErr result (λ fault. IsJoinFault fault (after self.old.triples net.now) patterns.now) }
     {
         self.graph.select(net, patterns)
     }

@@ -4,6 +4,8 @@
 //! may be torn, and nothing else. `MemDisk` keeps all its moments in memory, and its calls fail where
 //! a test wants it; `HostDisk` is a file of the system, which is trusted to be what the trait says and
 //! tells no bytes.
+//!
+//! Storey: the outside.
 #![tactic(auto)]
 
 mod device;

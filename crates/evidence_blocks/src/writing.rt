@@ -18,7 +18,7 @@ fn push_term(out: &mut String, word: &str, term: &Term) -> Result<(), AllocError
     write!(out, "{word} {term}\n")
 }
 
-// The same, where there is a term.
+// The line of a word and a term, where there is a term.
 fn push_optional(out: &mut String, word: &str, term: &Option<Term>) -> Result<(), AllocError>
     ensures { OnOk result (string_bytes out.new ≡ string_bytes out.old ++ optional_line word.now term.now) }
 {

@@ -2,6 +2,8 @@
 //!
 //! The functions do nothing: what each ensures is a statement about the definitions alone. They say why a block is evidence:
 //! whoever finds a result among the triples that the block lists knows that it is one of the whole graph.
+//!
+//! Storey: laws.
 #![tactic(auto)]
 
 ghost use Rattle.evidence_laws.specs.Shown.{EvidenceIsShown, LooksAloneDecide, ShownBlocksHold};

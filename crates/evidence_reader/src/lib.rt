@@ -2,6 +2,8 @@
 //!
 //! `read_block` ensures exactly the block that begins a text, or that none does: there is one spelling, byte for byte as
 //! `write_block` of evidence_blocks gives it.
+//!
+//! Storey: validation.
 #![tactic(auto)]
 
 mod blocks;

@@ -13,7 +13,7 @@ pub(crate) fn first_line(text: &[u8]) -> Option<(&[u8], &[u8])>
     Some((line, &rest[1..]))
 }
 
-/// The same of a line behind a mark, with which the text begins.
+/// The first line of a text behind the mark with which it begins, without its LF, and what follows it.
 pub(crate) fn line_behind<'a>(mark: &[u8], text: &'a [u8]) -> Option<(&'a [u8], &'a [u8])>
     ensures line { IsLineBehind mark.now text.now result }
     ensures shorter { IfSome result (λ r. length r.1.now < length text.now) }

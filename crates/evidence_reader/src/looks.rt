@@ -92,7 +92,7 @@ fn any_look(alloc: Global, word: &[u8]) -> Result<Option<ListedLook>, AllocError
     }
 }
 
-// The same of the first line, and what follows the line.
+// The look whose line is the first, `out` and two words, and what follows the line.
 fn out_line<'a>(alloc: Global, text: &'a [u8]) -> Result<Option<(ListedLook, &'a [u8])>, AllocError>
     ensures look { IfOk result (Finds IsReadableOut look_text Anything text.now) }
     ensures shorter { IfOk result (λ found. IfSome found (λ r. length r.1.now < length text.now)) }

@@ -2,13 +2,15 @@
 ghost use Rattle.std.specs.Prelude.{◌≡◌, ◌+◌, ◌*◌, ◌<◌, ◌≤◌, ◌^◌, IfOk, length};
 ghost use Rattle.rdf_model.specs.Numbers.{AreNumbered, IsNumbering};
 ghost use Rattle.path_eval.specs.Instances.{AreClassWords};
-ghost use Rattle.term_validation.specs.Named.{AreNamedTriples};
+ghost use Rattle.parallel_validate.specs.Named.{AreNamedTriples};
 
 use crate::rows;
 use collections::Sequence;
 use graph_explanation::explanation_over;
 use outside::RegexMaker;
+use parallel_validate::number_triple;
 use path_eval::ClassWords;
+use plain_validation::{class_words, names_of, shapes_of};
 use rdf_model::{Ids, ListGraph, ListNames, Triple};
 use shape_eval::Steps;
 use shapes_graph::ShapesGraph;
@@ -17,9 +19,7 @@ use std::marker::Brand;
 use std::process::Abort;
 use std::sync::ledger::{Blank, Ledger};
 use std::test::Fail;
-use term_validation::number_triple;
 use turtle_reader::read;
-use validation_rows::{class_words, names_of, shapes_of};
 
 // The triples by numbers.
 fn ids_of(alloc: Global, names: &ListNames, graph: &[Triple]) -> Result<Sequence<Ids>, AllocError>

@@ -1,4 +1,6 @@
 //! Tests of the evidence of results: blocks that were worked out by hand, and verdicts on such blocks.
+//!
+//! Storey: tests.
 #![tactic(auto)]
 
 #[cfg(test)]

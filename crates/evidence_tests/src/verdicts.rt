@@ -1,6 +1,6 @@
 //! The verdict on evidence, for each row.
 use crate::{rows, wrong_rows};
-use file_validation::{Verdict, verify};
+use file_validation::{EvidenceVerdict, verify};
 use outside::RegexMaker;
 use std::alloc::Global;
 use std::process::Abort;
@@ -12,7 +12,7 @@ fn assert_verdict(
     shapes: &str,
     graph: &str,
     evidence: &str,
-    wanted: Verdict,
+    wanted: EvidenceVerdict,
 ) -> Result<(), Fail> {
     assert!(rt; shapes.len() < 20000);
     assert!(rt; graph.len() < 20000);
@@ -39,7 +39,7 @@ fn what_is_explained_is_verified(rt: HostRuntime) -> Result<(), Fail> {
         rows::MIN_COUNT,
         "",
         rows::NO_VALUE,
-        Verdict::Verified { blocks: 1 },
+        EvidenceVerdict::Verified { blocks: 1 },
     )?;
     assert_verdict(
         &rt,
@@ -47,7 +47,7 @@ fn what_is_explained_is_verified(rt: HostRuntime) -> Result<(), Fail> {
         rows::INVERSE,
         rows::TWO_SUBJECTS,
         rows::BOTH_SUBJECTS,
-        Verdict::Verified { blocks: 2 },
+        EvidenceVerdict::Verified { blocks: 2 },
     )?;
     assert_verdict(
         &rt,
@@ -55,7 +55,7 @@ fn what_is_explained_is_verified(rt: HostRuntime) -> Result<(), Fail> {
         rows::CLASS,
         rows::SUBCLASS,
         rows::OF_SUBCLASS,
-        Verdict::Verified { blocks: 1 },
+        EvidenceVerdict::Verified { blocks: 1 },
     )?;
     assert_verdict(
         &rt,
@@ -63,7 +63,7 @@ fn what_is_explained_is_verified(rt: HostRuntime) -> Result<(), Fail> {
         rows::CLOSED,
         rows::ANOTHER_PREDICATE,
         rows::NOT_ALLOWED,
-        Verdict::Verified { blocks: 1 },
+        EvidenceVerdict::Verified { blocks: 1 },
     )?;
     assert_verdict(
         &rt,
@@ -71,7 +71,7 @@ fn what_is_explained_is_verified(rt: HostRuntime) -> Result<(), Fail> {
         rows::SHARED,
         rows::SHARED_VALUE,
         rows::OF_THE_LEAST,
-        Verdict::Verified { blocks: 1 },
+        EvidenceVerdict::Verified { blocks: 1 },
     )?;
     Ok(())
 }
@@ -84,7 +84,7 @@ fn what_more_is_verified(rt: HostRuntime) -> Result<(), Fail> {
         rows::MIN_COUNT,
         "",
         "",
-        Verdict::Verified { blocks: 0 },
+        EvidenceVerdict::Verified { blocks: 0 },
     )?;
     assert_verdict(
         &rt,
@@ -92,7 +92,7 @@ fn what_more_is_verified(rt: HostRuntime) -> Result<(), Fail> {
         rows::MIN_COUNT,
         "",
         wrong_rows::WITH_A_LOOK_MORE,
-        Verdict::Verified { blocks: 1 },
+        EvidenceVerdict::Verified { blocks: 1 },
     )?;
     assert_verdict(
         &rt,
@@ -100,7 +100,7 @@ fn what_more_is_verified(rt: HostRuntime) -> Result<(), Fail> {
         rows::INVERSE,
         rows::TWO_SUBJECTS,
         wrong_rows::SECOND_RESULT_ALONE,
-        Verdict::Verified { blocks: 1 },
+        EvidenceVerdict::Verified { blocks: 1 },
     )?;
     assert_verdict(
         &rt,
@@ -108,7 +108,7 @@ fn what_more_is_verified(rt: HostRuntime) -> Result<(), Fail> {
         rows::SHARED,
         rows::SHARED_VALUE,
         wrong_rows::OF_ANOTHER_SHAPE,
-        Verdict::Verified { blocks: 1 },
+        EvidenceVerdict::Verified { blocks: 1 },
     )?;
     Ok(())
 }
@@ -121,7 +121,7 @@ fn looks_and_triples(rt: HostRuntime) -> Result<(), Fail> {
         rows::MIN_COUNT,
         "",
         wrong_rows::WITHOUT_ITS_LOOK,
-        Verdict::Wrong { block: 1 },
+        EvidenceVerdict::Wrong { block: 1 },
     )?;
     assert_verdict(
         &rt,
@@ -129,7 +129,7 @@ fn looks_and_triples(rt: HostRuntime) -> Result<(), Fail> {
         rows::MIN_COUNT,
         "",
         wrong_rows::WITH_ITS_LOOK_TWICE,
-        Verdict::Wrong { block: 1 },
+        EvidenceVerdict::Wrong { block: 1 },
     )?;
     assert_verdict(
         &rt,
@@ -137,7 +137,7 @@ fn looks_and_triples(rt: HostRuntime) -> Result<(), Fail> {
         rows::MIN_COUNT,
         "",
         wrong_rows::WITH_A_TRIPLE_OF_NO_DATA,
-        Verdict::Wrong { block: 1 },
+        EvidenceVerdict::Wrong { block: 1 },
     )?;
     assert_verdict(
         &rt,
@@ -145,7 +145,7 @@ fn looks_and_triples(rt: HostRuntime) -> Result<(), Fail> {
         rows::CLASS,
         rows::SUBCLASS,
         wrong_rows::LOOKS_IN_ANOTHER_ORDER,
-        Verdict::Wrong { block: 1 },
+        EvidenceVerdict::Wrong { block: 1 },
     )?;
     assert_verdict(
         &rt,
@@ -153,7 +153,7 @@ fn looks_and_triples(rt: HostRuntime) -> Result<(), Fail> {
         rows::CLASS,
         rows::SUBCLASS,
         wrong_rows::WITHOUT_THE_LOOK_AT_A_CLASS,
-        Verdict::Wrong { block: 1 },
+        EvidenceVerdict::Wrong { block: 1 },
     )?;
     assert_verdict(
         &rt,
@@ -161,7 +161,7 @@ fn looks_and_triples(rt: HostRuntime) -> Result<(), Fail> {
         rows::CLASS,
         rows::SUBCLASS,
         wrong_rows::WITHOUT_THE_LOOK_THAT_FINDS_NOTHING,
-        Verdict::Wrong { block: 1 },
+        EvidenceVerdict::Wrong { block: 1 },
     )?;
     assert_verdict(
         &rt,
@@ -169,7 +169,7 @@ fn looks_and_triples(rt: HostRuntime) -> Result<(), Fail> {
         rows::CLASS,
         rows::SUBCLASS,
         wrong_rows::WITH_A_CLASS_MORE,
-        Verdict::Wrong { block: 1 },
+        EvidenceVerdict::Wrong { block: 1 },
     )?;
     Ok(())
 }
@@ -182,7 +182,7 @@ fn other_data_and_targets(rt: HostRuntime) -> Result<(), Fail> {
         rows::MIN_COUNT,
         "<e:a> <e:p> <e:b> .\n",
         rows::NO_VALUE,
-        Verdict::Wrong { block: 1 },
+        EvidenceVerdict::Wrong { block: 1 },
     )?;
     assert_verdict(
         &rt,
@@ -190,7 +190,7 @@ fn other_data_and_targets(rt: HostRuntime) -> Result<(), Fail> {
         rows::MIN_COUNT,
         "",
         wrong_rows::AT_NO_TARGET,
-        Verdict::Wrong { block: 1 },
+        EvidenceVerdict::Wrong { block: 1 },
     )?;
     assert_verdict(
         &rt,
@@ -198,7 +198,7 @@ fn other_data_and_targets(rt: HostRuntime) -> Result<(), Fail> {
         rows::SHARED,
         rows::SHARED_VALUE,
         wrong_rows::OF_NO_SHAPE,
-        Verdict::Wrong { block: 1 },
+        EvidenceVerdict::Wrong { block: 1 },
     )?;
     Ok(())
 }
@@ -211,7 +211,7 @@ fn other_spellings(rt: HostRuntime) -> Result<(), Fail> {
         rows::MIN_COUNT,
         "",
         wrong_rows::WITH_A_LINE_MORE,
-        Verdict::Wrong { block: 1 },
+        EvidenceVerdict::Wrong { block: 1 },
     )?;
     assert_verdict(
         &rt,
@@ -219,7 +219,7 @@ fn other_spellings(rt: HostRuntime) -> Result<(), Fail> {
         rows::MIN_COUNT,
         "",
         wrong_rows::WITH_A_SPACE_MORE,
-        Verdict::Wrong { block: 1 },
+        EvidenceVerdict::Wrong { block: 1 },
     )?;
     assert_verdict(
         &rt,
@@ -227,7 +227,7 @@ fn other_spellings(rt: HostRuntime) -> Result<(), Fail> {
         rows::MIN_COUNT,
         "",
         wrong_rows::WITHOUT_ITS_END,
-        Verdict::Wrong { block: 1 },
+        EvidenceVerdict::Wrong { block: 1 },
     )?;
     assert_verdict(
         &rt,
@@ -235,7 +235,7 @@ fn other_spellings(rt: HostRuntime) -> Result<(), Fail> {
         rows::MIN_COUNT,
         "",
         wrong_rows::FROM_2_ON,
-        Verdict::Wrong { block: 1 },
+        EvidenceVerdict::Wrong { block: 1 },
     )?;
     Ok(())
 }
@@ -248,7 +248,7 @@ fn the_second_block(rt: HostRuntime) -> Result<(), Fail> {
         rows::INVERSE,
         rows::TWO_SUBJECTS,
         wrong_rows::SECOND_WITHOUT_A_TRIPLE,
-        Verdict::Wrong { block: 2 },
+        EvidenceVerdict::Wrong { block: 2 },
     )?;
     assert_verdict(
         &rt,
@@ -256,7 +256,7 @@ fn the_second_block(rt: HostRuntime) -> Result<(), Fail> {
         rows::INVERSE,
         rows::TWO_SUBJECTS,
         wrong_rows::SECOND_WITH_TRIPLES_TURNED,
-        Verdict::Wrong { block: 2 },
+        EvidenceVerdict::Wrong { block: 2 },
     )?;
     assert_verdict(
         &rt,
@@ -264,7 +264,7 @@ fn the_second_block(rt: HostRuntime) -> Result<(), Fail> {
         rows::INVERSE,
         rows::TWO_SUBJECTS,
         wrong_rows::SECOND_OF_ANOTHER_RESULT,
-        Verdict::Wrong { block: 2 },
+        EvidenceVerdict::Wrong { block: 2 },
     )?;
     assert_verdict(
         &rt,
@@ -272,7 +272,7 @@ fn the_second_block(rt: HostRuntime) -> Result<(), Fail> {
         rows::INVERSE,
         rows::TWO_SUBJECTS,
         wrong_rows::SECOND_NUMBERED_3,
-        Verdict::Wrong { block: 2 },
+        EvidenceVerdict::Wrong { block: 2 },
     )?;
     Ok(())
 }

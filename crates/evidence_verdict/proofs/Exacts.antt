@@ -22,7 +22,7 @@ use Rattle.rdf_model.specs.Orders.{triple_exact, triple_total}
 use Rattle.rdf_model.specs.Terms.{triple_cmp}
 use Rattle.shape_model.specs.Looks.{Matches}
 use Rattle.shape_model.proofs.Listings.{one_listing}
-use Rattle.term_validation.proofs.Members.{numbered_at, of_graph}
+use Rattle.parallel_validate.proofs.Members.{numbered_at, of_graph}
 use Rattle.evidence_blocks.specs.declared.block.ShownLook.{ShownLook}
 use Rattle.evidence_blocks.specs.Blocks.{HasTriples}
 use Rattle.result_evidence.specs.Standing.{HasNumbers}

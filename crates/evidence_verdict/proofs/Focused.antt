@@ -16,7 +16,7 @@ use Rattle.shape_ast.specs.declared.target.Target.{Target as Declaration}
 use Rattle.shape_ast.specs.declared.target.Target.TheVariants.{Node, Class, ImplicitClass, SubjectsOf, ObjectsOf}
 use Rattle.shape_ast.specs.Readings.{AreBound, HoldsOfShape, HoldsOfTarget, ReadShape, read_shape, read_target}
 use Rattle.path_eval.proofs.Mirrors.{mapped_from}
-use Rattle.term_validation.specs.Named.{AreNamedTriples, IsNamedTriple}
+use Rattle.parallel_validate.specs.Named.{AreNamedTriples, IsNamedTriple}
 use Rattle.result_evidence.specs.Standing.{AreOf}
 
 -- the number of a declared node

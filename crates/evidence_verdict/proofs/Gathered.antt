@@ -9,8 +9,8 @@ use Rattle.rdf_model.specs.declared.ids.Ids.{Ids}
 use Rattle.rdf_model.specs.declared.term.Term.{Term}
 use Rattle.rdf_model.specs.declared.triple.Triple.{Triple}
 use Rattle.rdf_model.specs.Numbers.{AreNumbered, graph_of, term_at, triple_at}
-use Rattle.term_validation.specs.Named.{AreNamedTriples, IsNamedTriple, IsNumbered}
-use Rattle.term_validation.proofs.Members.{index_numbered, numbered_at, of_graph, same_graph}
+use Rattle.parallel_validate.specs.Named.{AreNamedTriples, IsNamedTriple, IsNumbered}
+use Rattle.parallel_validate.proofs.Members.{index_numbered, numbered_at, of_graph, same_graph}
 use Rattle.evidence_blocks.specs.declared.block.ShownLook.{ShownLook}
 use Rattle.evidence_blocks.specs.Blocks.{HasTriples}
 use Rattle.evidence_blocks.specs.Shown.{triples_in}

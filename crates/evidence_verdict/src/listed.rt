@@ -2,13 +2,13 @@
 ghost use Rattle.std.specs.Prelude.{◌≡◌, ◌↔◌, ◌++◌, IfOk, OnOk};
 ghost use Rattle.std.specs.List.{All, Contains};
 ghost use Rattle.rdf_model.specs.Numbers.{AreNumbered, graph_of};
-ghost use Rattle.term_validation.specs.Named.{AreNamedTriples};
+ghost use Rattle.parallel_validate.specs.Named.{AreNamedTriples};
 ghost use Rattle.evidence_blocks.specs.Shown.{triples_in};
 
 use evidence_blocks::ShownLook;
+use parallel_validate::number_triple;
 use rdf_model::{Ids, Names, Triple};
 use std::alloc::{AllocError, Global};
-use term_validation::number_triple;
 use triple_index::Index;
 
 // Adds the triples by the numbers of their terms.

@@ -4,7 +4,7 @@ ghost use Rattle.rdf_model.specs.Numbers.{AreNumbered, IsNumbering, graph_of, te
 ghost use Rattle.path_eval.specs.Instances.{AreClassWords};
 ghost use Rattle.shape_ast.specs.Readings.{AreBound};
 ghost use Rattle.shape_ast.specs.Standing.{AreBuilt};
-ghost use Rattle.term_validation.specs.Named.{AreNamedTriples};
+ghost use Rattle.parallel_validate.specs.Named.{AreNamedTriples};
 ghost use Rattle.evidence_blocks.specs.Verdicts.{IsVerified};
 ghost use Rattle.result_evidence.specs.Standing.{ForEach, HaveGraph};
 ghost use Rattle.evidence_verdict.specs.Causes.{IsCause};
@@ -99,7 +99,8 @@ pub fn verify<R: Triples, N: Names, L: Ledger>(
     count_of(&evaluation, names, text, steps)
 }
 
-/// The same under a shapes graph. All terms of the shapes, rdf:type and rdfs:subClassOf are among the names.
+/// How many blocks of evidence a text has under a shapes graph, each of which shows its result, or the first that doesn't. All terms
+/// of the shapes, rdf:type and rdfs:subClassOf are among the names.
 pub fn verdict_over<R: Triples, N: Names, L: Ledger>(
     alloc: Global,
     graph: &R,

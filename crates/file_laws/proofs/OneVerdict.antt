@@ -5,8 +5,8 @@ use Rattle.turtle_reader.specs.Document.{reads}
 use Rattle.evidence_blocks.specs.Verdicts.{IsVerified}
 use Rattle.verdict_laws.proofs.Apart.{verdicts_stay_apart}
 use Rattle.verdict_laws.proofs.Evidenced.{evidence_is_verified}
-use Rattle.file_validation.specs.declared.validating.Verdict.{Verdict}
-use Rattle.file_validation.specs.declared.validating.Verdict.TheVariants.{Verified, Wrong}
+use Rattle.file_validation.specs.declared.validating.EvidenceVerdict.{EvidenceVerdict}
+use Rattle.file_validation.specs.declared.validating.EvidenceVerdict.TheVariants.{Verified, Wrong}
 use Rattle.file_validation.specs.Validations.{IsRead, IsVerdict}
 use Rattle.file_laws.specs.Laws.{ExplanationsAreVerified, VerdictsAreOne}
 use Rattle.file_laws.proofs.Readable.{read_readable}
@@ -18,7 +18,7 @@ ok_same r x y a b = cc
 one_graph : (session : ℕ) (text : List ℕ) (ts us : List Triple) → IsRead session text ts → IsRead session text us → ts ≡ us
 one_graph session text ts us a b = ap (λ (p : List Triple × ℕ). p.0) (ok_same (reads text session 1) (ts, a.0) (us, b.0) a.1 b.1)
 
-one_verdict : (g s : List Triple) (text : List ℕ) (v w : Verdict) → IsVerdict g s text v → IsVerdict g s text w → v ≡ w
+one_verdict : (g s : List Triple) (text : List ℕ) (v w : EvidenceVerdict) → IsVerdict g s text v → IsVerdict g s text w → v ≡ w
 one_verdict g s text (Verified n) (Verified m) a b = ap Verified ((verdicts_stay_apart g s text n m 0 0).0 a b)
 one_verdict g s text (Verified n) (Wrong i) a b = absurd ((verdicts_stay_apart g s text n n i i).1 a b)
 one_verdict g s text (Wrong i) (Verified n) a b = absurd ((verdicts_stay_apart g s text n n i i).1 b a)

@@ -2,6 +2,8 @@
 //!
 //! The functions do nothing: what each ensures is a statement about the definitions alone. The evidence that is given of a data file
 //! and a shapes file is verified of them, and no text has two verdicts.
+//!
+//! Storey: laws.
 #![tactic(auto)]
 
 ghost use Rattle.file_laws.specs.Laws.{ExplanationsAreVerified, GivenEvidenceIsVerified, VerdictsAreOne};

@@ -10,8 +10,8 @@ use Rattle.rdf_model.specs.declared.triple.Triple.{Triple}
 use Rattle.rdf_model.specs.Numbers.{AreNumbered, graph_of, term_at}
 use Rattle.store_model.specs.Store.{terms_of}
 use Rattle.term_dict.specs.Names.{AreNumbersOf}
-use Rattle.term_validation.specs.Named.{AreNamedTriples, IsNamedTriple}
-use Rattle.term_validation.proofs.Members.{index_members, index_numbered}
+use Rattle.parallel_validate.specs.Named.{AreNamedTriples, IsNamedTriple}
+use Rattle.parallel_validate.proofs.Members.{index_members, index_numbered}
 use Rattle.data_graph.specs.DataGraphs.{IsIndexOf}
 use Rattle.file_validation.specs.Numbering.{triples_in}
 

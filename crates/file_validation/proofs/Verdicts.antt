@@ -8,8 +8,8 @@ use Rattle.evidence_blocks.specs.declared.block.ShownLook.{ShownLook}
 use Rattle.evidence_blocks.specs.Blocks.{HasTriples}
 use Rattle.evidence_blocks.specs.Verdicts.{IsValid}
 use Rattle.file_validation.specs.Validations.{IsVerdict}
-use Rattle.file_validation.specs.declared.validating.Verdict.{Verdict}
-use Rattle.file_validation.specs.declared.validating.Verdict.TheVariants.{Verified, Wrong}
+use Rattle.file_validation.specs.declared.validating.EvidenceVerdict.{EvidenceVerdict}
+use Rattle.file_validation.specs.declared.validating.EvidenceVerdict.TheVariants.{Verified, Wrong}
 
 module _ (g h s : List Triple) (same : (t : Triple) → Contains g t ↔ Contains h t) where
   to_triples : (x : ShownLook) → HasTriples g x → HasTriples h x
@@ -25,7 +25,7 @@ module _ (g h s : List Triple) (same : (t : Triple) → Contains g t ↔ Contain
   all_valid [] a = a
   all_valid (b ∷ bs) a = (to_valid b a.0, all_valid bs a.1)
 
-pub same_verdict : (g h s : List Triple) → ((t : Triple) → Contains g t ↔ Contains h t) → (text : List ℕ) (v : Verdict) → IsVerdict g s text v → IsVerdict h s text v
+pub same_verdict : (g h s : List Triple) → ((t : Triple) → Contains g t ↔ Contains h t) → (text : List ℕ) (v : EvidenceVerdict) → IsVerdict g s text v → IsVerdict h s text v
 same_verdict g h s same text (Verified blocks) v = record { blocks = v.blocks; count = v.count; valid = all_valid g h s same v.blocks v.valid; written = v.written }
 same_verdict g h s same text (Wrong block) v = record {
   before = v.before;

@@ -3,7 +3,7 @@ use Rattle.std.specs.Prelude.{ℕ, List, [], ◌∷◌}
 use Rattle.rdf_model.specs.declared.ids.Ids.{Ids}
 use Rattle.rdf_model.specs.declared.triple.Triple.{Triple}
 use Rattle.data_graph.specs.DataGraphs.{HaveClassWords, IsIndexOf}
-use Rattle.term_validation.specs.Named.{AreNamedTriples}
+use Rattle.parallel_validate.specs.Named.{AreNamedTriples}
 use Rattle.file_validation.specs.declared.naming.NumberedGraph.{NumberedGraph}
 
 -- the triples of numbers that stand three after three

@@ -17,8 +17,8 @@ use Rattle.file_validation.specs.declared.fault.InputFault.{InputFault}
 use Rattle.file_validation.specs.declared.fault.InputFault.TheVariants.{Data, Shapes, Rule, Pattern, Memory}
 use Rattle.file_validation.specs.declared.validating.Explanation.{Explanation}
 use Rattle.file_validation.specs.declared.validating.Validation.{Validation}
-use Rattle.file_validation.specs.declared.validating.Verdict.{Verdict}
-use Rattle.file_validation.specs.declared.validating.Verdict.TheVariants.{Verified, Wrong}
+use Rattle.file_validation.specs.declared.validating.EvidenceVerdict.{EvidenceVerdict}
+use Rattle.file_validation.specs.declared.validating.EvidenceVerdict.TheVariants.{Verified, Wrong}
 
 -- the text reads to the triples, or is refused; its blank nodes belong to the session, and are numbered from 1 with 32 bits
 abbrev pub IsRead : ℕ → List ℕ → List Triple → Type 0
@@ -66,12 +66,12 @@ pub record IsExplanationOf (data_text shapes_text : List ℕ) (e : Explanation) 
 
 -- The verdict on a text of evidence: each of its blocks shows a result of validating the graph by the shapes graph, or this is the
 -- first that doesn't.
-abbrev pub IsVerdict : List Triple → List Triple → List ℕ → Verdict → Type 0
+abbrev pub IsVerdict : List Triple → List Triple → List ℕ → EvidenceVerdict → Type 0
 IsVerdict graph shapes_graph evidence (Verified blocks) = IsVerified graph shapes_graph evidence blocks
 IsVerdict graph shapes_graph evidence (Wrong block) = IsWrongAt graph shapes_graph evidence block
 
 -- so it is for the graphs of the two texts, of which the shapes are well-formed
-pub record IsVerdictOn (data_text shapes_text evidence_text : List ℕ) (v : Verdict) : Type 0 where
+pub record IsVerdictOn (data_text shapes_text evidence_text : List ℕ) (v : EvidenceVerdict) : Type 0 where
   pub graph : List Triple
   pub shapes_graph : List Triple
   pub read : AreRead data_text shapes_text graph shapes_graph

@@ -1,3 +1,4 @@
+//! Why two texts were not validated.
 ghost use Rattle.std.specs.Prelude.{◌≡◌};
 
 use rdf_lexical::RefusalKind;

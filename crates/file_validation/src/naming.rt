@@ -1,11 +1,10 @@
 //! A data graph by numbers for its terms, which are named at once with those of a shapes graph.
-ghost use Rattle.std.specs.Prelude.{◌≡◌, ◌++◌, IfOk, OnOk};
-ghost use Rattle.std.specs.List.{flat_map};
-ghost use Rattle.store_model.specs.Store.{terms_of};
+ghost use Rattle.std.specs.Prelude.{◌≡◌, IfOk};
 ghost use Rattle.file_validation.specs.Numbering.{IsNumberedGraph, triples_in};
 
-use rdf_model::{Ids, Term, Triple};
+use rdf_model::{Ids, Triple};
 use std::alloc::{AllocError, Global};
+use store_model::push_all_terms;
 use term_dict::Dict;
 use triple_index::Index;
 
@@ -17,26 +16,6 @@ const MOST_TERMS: usize = 4_294_967_293;
 pub(crate) struct NumberedGraph {
     pub(crate) names: Dict,
     pub(crate) triples: Index,
-}
-
-// Adds subject, predicate and object of a triple.
-fn push_terms(terms: &mut Vec<Term>, triple: &Triple) -> Result<(), AllocError>
-    ensures { OnOk result (terms.new.items ≡ terms.old.items ++ terms_of triple.now) }
-{
-    terms.push(triple.subject.clone()?)?;
-    terms.push(triple.predicate.clone()?)?;
-    terms.push(triple.object.clone()?)?;
-    Ok(())
-}
-
-// Adds those of each triple.
-fn push_all_terms(terms: &mut Vec<Term>, triples: &[Triple]) -> Result<(), AllocError>
-    ensures { OnOk result (terms.new.items ≡ terms.old.items ++ flat_map terms_of triples.now) }
-{
-    for triple in triples {
-        push_terms(terms, triple)?;
-    }
-    Ok(())
 }
 
 // The triples of numbers, three after three.

@@ -1,3 +1,4 @@
+//! The texts of the data and of the shapes, read.
 ghost use Rattle.std.specs.Prelude.{◌≡◌, ◌≤◌, ◌<◌, ◌^◌, length, IfOk, MatchResult};
 ghost use Rattle.collections.specs.Ordered.{IsAscending};
 ghost use Rattle.rdf_lexical.specs.Refusals.{Refuses};

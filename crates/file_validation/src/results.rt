@@ -1,12 +1,13 @@
+//! The listing of two graphs, its explanation, and the verdict on evidence.
 ghost use Rattle.std.specs.Prelude.{◌≡◌, ◌<◌, ◌^◌, IfOk, length, string_bytes};
 ghost use Rattle.data_graph.specs.DataGraphs.{HaveClassWords};
 ghost use Rattle.graph_explanation.specs.Explanations.{IsExplanation};
 ghost use Rattle.rdf_model.specs.Numbers.{AreNumbered, graph_of};
 ghost use Rattle.shape_model.specs.Validation.{Listing};
-ghost use Rattle.term_validation.specs.Named.{AreNamedTriples};
+ghost use Rattle.parallel_validate.specs.Named.{AreNamedTriples};
 ghost use Rattle.file_validation.specs.Validations.{IsVerdict};
 
-use crate::Verdict;
+use crate::EvidenceVerdict;
 use crate::naming::{NumberedGraph, numbered};
 use collections::Sequence;
 use evidence_verdict::{VerdictFault, verdict_over};
@@ -123,7 +124,7 @@ fn verdict_in<L: Ledger>(
     shapes: &ShapesGraph,
     evidence: &[u8],
     blank: Blank,
-) -> Result<Verdict, AllocError>
+) -> Result<EvidenceVerdict, AllocError>
     requires words { HaveClassWords graph.now.names.terms }
     requires graph { AreNumbered graph.now.names.terms graph.now.triples }
     requires shapes { AreNamedTriples graph.now.names.terms shapes.now }
@@ -145,8 +146,8 @@ fn verdict_in<L: Ledger>(
         evidence,
         &mut steps,
     ) {
-        Ok(blocks) => Ok(Verdict::Verified { blocks }),
-        Err(VerdictFault::Block { number }) => Ok(Verdict::Wrong { block: number }),
+        Ok(blocks) => Ok(EvidenceVerdict::Verified { blocks }),
+        Err(VerdictFault::Block { number }) => Ok(EvidenceVerdict::Wrong { block: number }),
         Err(VerdictFault::Memory) => Err(AllocError),
     }
 }
@@ -157,7 +158,7 @@ pub(crate) fn verdict(
     graph: &[Triple],
     shapes: &ShapesGraph,
     evidence: &[u8],
-) -> Result<Verdict, AllocError>
+) -> Result<EvidenceVerdict, AllocError>
     requires { length evidence.now < 2 ^ 32 }
     ensures { IfOk result (IsVerdict graph.now shapes.now evidence.now) }
 {

@@ -1,3 +1,4 @@
+//! The three calls on two texts, and what they answer.
 ghost use Rattle.std.specs.Prelude.{◌≡◌, ◌<◌, ◌^◌, length, IfOk, MatchResult};
 ghost use Rattle.file_validation.specs.Asked.{AsksInVain, AsksOfText};
 ghost use Rattle.file_validation.specs.Validations.{AreRead, IsCause, IsExplained, IsExplanationOf, IsReported, IsValidation, IsVerdictOn};
@@ -39,7 +40,7 @@ pub struct Explanation {
 
 /// The verdict on a text of evidence.
 #[derive(Clone, Copy, Debug, PartialEq, Eq)]
-pub enum Verdict {
+pub enum EvidenceVerdict {
     /// All of it is spelled as evidence is, and each block shows its result; it has so many blocks.
     Verified { blocks: u32 },
     /// The first block, from 1, that isn't spelled so or doesn't show its result.
@@ -163,7 +164,7 @@ pub fn verify<M: Maker>(
     data_text: &[u8],
     shapes_text: &[u8],
     evidence_text: &[u8],
-) -> Result<Verdict, InputFault>
+) -> Result<EvidenceVerdict, InputFault>
     requires data { length data_text.now < 2 ^ 31 }
     requires shapes { length shapes_text.now < 2 ^ 31 }
     requires evidence { length evidence_text.now < 2 ^ 32 }

@@ -10,8 +10,8 @@ use Rattle.rdf_model.specs.Numbers.{AreNumbered, IsNumbering, graph_of, term_at}
 use Rattle.shape_model.specs.Looks.{BackLook}
 use Rattle.shape_model.specs.NodeLooks.{IsLook, PathReads}
 use Rattle.shape_model.specs.Walks.{Walk, Walks}
-use Rattle.compiled_paths.specs.declared.path.Path.{Path}
-use Rattle.compiled_paths.specs.PathReadings.{path_of}
+use Rattle.path_ast.specs.declared.path.Path.{Path}
+use Rattle.path_ast.specs.PathReadings.{path_of}
 use Rattle.path_eval.specs.Naming.{AddsLooks, NumberedEach}
 use Rattle.path_eval.proofs.Footprints.{looks_more, looks_none, looks_same, none_before, some_next}
 use Rattle.path_eval.proofs.Mirrors.{mapped_from, mapped_to}

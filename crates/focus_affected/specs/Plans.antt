@@ -6,8 +6,8 @@ use Rattle.rdf_model.specs.declared.ids.Ids.{Ids}
 use Rattle.rdf_model.specs.Numbers.{term_at}
 use Rattle.shape_model.specs.Looks.{LookKind, LookRow, ByIn, ByOut, ByOutAny}
 use Rattle.shape_model.specs.Paths.{Path as DefinedPath}
-use Rattle.compiled_paths.specs.declared.path.Path.{Path, Sequence'}
-use Rattle.compiled_paths.specs.PathReadings.{IsBoundOptional, path_of, read_row}
+use Rattle.path_ast.specs.declared.path.Path.{Path, Sequence'}
+use Rattle.path_ast.specs.PathReadings.{IsBoundOptional, path_of, read_row}
 use Rattle.focus_affected.specs.declared.plan.NumberedKind.{NumberedKind}
 use Rattle.focus_affected.specs.declared.plan.NumberedKind.TheVariants.{Out, In, OutAny}
 use Rattle.focus_affected.specs.declared.plan.NumberedLook.{NumberedLook}

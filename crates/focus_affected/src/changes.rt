@@ -42,7 +42,7 @@ impl Model for ChangedTriples {
     ghost invariant = { λ c. IsNonDecreasingBy (λ (i : IdsData). i.predicate) c.triples.items × IsListing nat_cmp (Contains (filter_map (node_in OutAny) c.triples.items)) c.subjects.items × IsListing nat_cmp (Contains (map (λ (i : IdsData). i.predicate) c.triples.items)) c.predicates.items };
 }
 
-// The same nodes.
+// The nodes in a list of their own.
 fn copied(alloc: Global, nodes: &[u32]) -> Result<Vec<u32>, AllocError>
     ensures { IfOk result (λ copy. copy.items ≡ nodes.now) }
 {

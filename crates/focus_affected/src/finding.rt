@@ -5,7 +5,7 @@ ghost use Rattle.focus_affected.specs.Finding.{FindsBy, FindsFrom, WhereNodes};
 
 use crate::NumberedLook;
 use crate::changes::ChangedTriples;
-use compiled_paths::Path;
+use path_ast::Path;
 use rdf_model::{Footprint, Triples};
 use reverse_walk::back_from;
 use std::alloc::{AllocError, Global};

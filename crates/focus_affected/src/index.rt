@@ -127,7 +127,7 @@ fn in_order(rows: Vec<IndexedRow>) -> Result<Vec<IndexedRow>, AllocError>
     Ok(sorted)
 }
 
-// The same places.
+// The places of rows in a list of their own.
 fn copied(alloc: Global, places: &[RowPlace]) -> Result<Vec<RowPlace>, AllocError>
     ensures { IfOk result (λ copy. copy.items ≡ places.now) }
 {

@@ -3,6 +3,8 @@
 //! `touched` ensures exactly the pairs for which a changed triple matches a row of looks of the shape at a node to which
 //! the focus node walks, and exactly the looks of the ways back by which they are found. The rows stand in an index by
 //! predicate, so that rows which ask of no changed triple's predicate cost nothing.
+//!
+//! Storey: validation.
 #![tactic(auto)]
 
 mod changes;

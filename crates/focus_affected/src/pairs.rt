@@ -70,7 +70,7 @@ fn found_pairs<R: Triples>(
 /// or not, matches a row of the shape's looks at a node to which the focus node walks in the graph. Each stands once,
 /// ascending. `changed` has the triples of the changes, `plans` the looks of each shape with a target declaration: of their
 /// rows those alone are passed over that ask of the predicate of a changed triple, or of any predicate.
-/// The footprint takes exactly the looks of each row's way turned round, from each node at which a changed triple
+/// The footprint takes exactly the looks of each row's way reversed, from each node at which a changed triple
 /// matches the row; it keeps what it had, also where memory runs out.
 pub fn touched<R: Triples>(
     alloc: Global,

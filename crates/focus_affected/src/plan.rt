@@ -1,6 +1,6 @@
 //! Plans of looks by the numbers of terms.
 use collections::Sequence;
-use compiled_paths::Path;
+use path_ast::Path;
 
 /// What is asked of a node, by the numbers of terms.
 #[derive(Clone, Copy, Debug)]

@@ -3,6 +3,8 @@
 //! `follow_files` loads both files, the log first, and prints each answer, the version, and the data graph of the version that
 //! is asked for. It ensures that the text is what a follower of those records prints, or exactly why there is none, and which
 //! files were loaded.
+//!
+//! Storey: commands.
 #![tactic(auto)]
 
 mod fault;

@@ -7,7 +7,7 @@ ghost use Rattle.follower.specs.Versions.{AreNamesWith, CanAdvance, IsFull, IsVe
 
 use crate::fed::Fed;
 use crate::kept::{applied_under, kept_under, move_run, put};
-use crate::run::{Run, run_on};
+use crate::run::{AppliedRecords, run_on};
 use crate::same::are_same;
 use crate::served::{AtFault, Served};
 use crate::terms::terms_of;
@@ -159,7 +159,12 @@ impl Follower {
     }
 
     // Applies a record with the kept ones that follow it, whose versions were made.
-    fn advance(&mut self, names: Dict, next: Record, run: Run) -> Result<Option<u64>, AllocError>
+    fn advance(
+        &mut self,
+        names: Dict,
+        next: Record,
+        run: AppliedRecords,
+    ) -> Result<Option<u64>, AllocError>
         requires { CanAdvance self.old next names run.versions run.dropped }
         ensures ok { IfOk result (λ dropped. IsApplied self.old next dropped self.new) }
         ensures err { OnErr result (self.new ≡ self.old) }

@@ -4,6 +4,8 @@
 //! that fits the graph when all before it were applied, keeps those that come early, and ensures which
 //! of its answers it gives and what it is afterwards. `at` serves each version, and copies no triple of
 //! its data graph. The law is that it has the graphs of a leader whose records it was fed.
+//!
+//! Storey: store.
 #![tactic(auto)]
 
 mod fed;

@@ -50,7 +50,7 @@ fn removals(
     Ok(changes)
 }
 
-// The same of additions.
+// The additions of the triples, by number.
 fn additions(
     alloc: Global,
     names: &Dict,

@@ -15,28 +15,28 @@ use std::alloc::{AllocError, Global};
 use term_dict::Dict;
 
 /// The versions after the records that were applied in turn, and the number of the one that was dropped.
-pub(crate) struct Run {
+pub(crate) struct AppliedRecords {
     pub(crate) versions: Sequence<Version>,
     pub(crate) dropped: Option<u64>,
 }
 
 // Written by hand, so that what owns one calls it in place of having it written out.
-impl Drop for Run {
+impl Drop for AppliedRecords {
     fn drop(self) {
-        let Run {
+        let AppliedRecords {
             versions: _,
             dropped: _,
         } = self;
     }
 }
 
-impl Run {
+impl AppliedRecords {
     /// The versions, and the number of the record that was dropped.
     pub(crate) fn into_parts(self) -> (Vec<Version>, Option<u64>)
         ensures versions { result.0.items ≡ self.versions }
         ensures dropped { result.1 ≡ self.dropped }
     {
-        let Run { versions, dropped } = self;
+        let AppliedRecords { versions, dropped } = self;
         (versions.into_vec(), dropped)
     }
 }
@@ -48,7 +48,7 @@ pub(crate) fn run_on(
     number: u64,
     first: &Version,
     kept: &[Record],
-) -> Result<Run, AllocError>
+) -> Result<AppliedRecords, AllocError>
     requires named { AllByRecursion (IsNamedRecord names.now.terms) kept.now }
     requires numbered { AreNumbered names.now.terms first.now.graph }
     requires few { number + length kept.now < 2 ^ 64 }
@@ -61,14 +61,14 @@ pub(crate) fn run_on(
     let mut newest = number;
     for next in kept {
         if next.number != newest + 1 {
-            return Ok(Run {
+            return Ok(AppliedRecords {
                 versions,
                 dropped: None,
             });
         }
         match version_after(alloc, names, &current, next)? {
             Outcome::Misfit(_) => {
-                return Ok(Run {
+                return Ok(AppliedRecords {
                     versions,
                     dropped: Some(next.number),
                 });
@@ -80,7 +80,7 @@ pub(crate) fn run_on(
         }
         newest += 1;
     }
-    Ok(Run {
+    Ok(AppliedRecords {
         versions,
         dropped: None,
     })

@@ -14,7 +14,7 @@ use Rattle.shape_model.specs.Validation.{Listing, NoResult}
 use Rattle.shape_model.specs.Walks.{Walks}
 use Rattle.shape_model.proofs.Covers.{cover_law}
 use Rattle.shape_model.proofs.Walks.{walk_same}
-use Rattle.term_validation.proofs.Members.{same_listing}
+use Rattle.parallel_validate.proofs.Members.{same_listing}
 use Rattle.evidence_blocks.specs.declared.block.Block.{Block}
 use Rattle.evidence_blocks.specs.declared.block.ShownLook.{ShownLook}
 use Rattle.evidence_blocks.specs.Blocks.{Gives, HasTriples, IsEvidence, IsLeastAim}

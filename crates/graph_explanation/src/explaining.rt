@@ -5,7 +5,7 @@ ghost use Rattle.rdf_model.specs.Numbers.{AreNumbered, IsNumbering, graph_of, te
 ghost use Rattle.path_eval.specs.Instances.{AreClassWords};
 ghost use Rattle.shape_ast.specs.Readings.{AreBound};
 ghost use Rattle.shape_ast.specs.Standing.{AreBuilt};
-ghost use Rattle.term_validation.specs.Named.{AreNamedTriples};
+ghost use Rattle.parallel_validate.specs.Named.{AreNamedTriples};
 ghost use Rattle.result_evidence.specs.AimedRows.{AreAimedRows};
 ghost use Rattle.result_evidence.specs.Standing.{HaveGraph};
 ghost use Rattle.graph_explanation.specs.Explanations.{IsExplanation};

@@ -2,6 +2,8 @@
 //!
 //! `plan_graph` makes what `parallel_validate::check` takes of a shapes graph. It is made once, when the graph is staged or
 //! read: naming more terms leaves it as it is.
+//!
+//! Storey: validation.
 #![tactic(auto)]
 
 ghost use Rattle.std.specs.Prelude.{IfOk};
@@ -10,7 +12,7 @@ ghost use Rattle.shape_ast.specs.Readings.{named_shapes};
 ghost use Rattle.shape_ast.specs.Standing.{StandFor};
 ghost use Rattle.shape_rules.specs.Broken.{IsWellFormed};
 ghost use Rattle.shape_plans.specs.Planned.{ArePlanned};
-ghost use Rattle.term_validation.specs.Named.{AreNamedTriples};
+ghost use Rattle.parallel_validate.specs.Named.{AreNamedTriples};
 
 use path_eval::ClassWords;
 use rdf_model::Names;

@@ -1,3 +1,4 @@
+//! Blocks of a growing list.
 ghost use Rattle.std.specs.Prelude.{◌≡◌, ◌+◌, ◌<◌, ◌≤◌, [], ◌∷◌, ◌++◌, length, get_or, slice_get, IfOk, OnErr, OnOk, MatchOption, Some};
 ghost use Rattle.growing_list.specs.Chunks.{AreChunks, AreFull, HasOneMore, full_block, full_chunk};
 

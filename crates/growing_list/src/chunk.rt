@@ -1,3 +1,4 @@
+//! Chunks of a block.
 ghost use Rattle.std.specs.Prelude.{◌≡◌, ◌≤◌, [], ◌∷◌, ◌++◌, length, slice_get, IfOk, OnErr, OnOk, MatchOption, Some};
 
 use collections::ExactClone;

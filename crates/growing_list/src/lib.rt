@@ -5,6 +5,8 @@
 //! away, and `share` copies no item, only where each block stands. A push copies where the chunks of
 //! the last block stand, and the last chunk, each where it is shared, so that a share keeps its items
 //! whatever is done to its source.
+//!
+//! Storey: pages.
 #![tactic(auto)]
 
 mod block;

@@ -10,15 +10,15 @@ use Rattle.store_model.specs.declared.event.Action.TheVariants as actions
 use Rattle.store_model.specs.declared.event.Reply.TheVariants as replies
 use Rattle.rdf_model.specs.declared.change.Change.{Change}
 use Rattle.rdf_model.specs.declared.pattern.Pattern.{Pattern}
-use Rattle.shape_model.specs.declared.result_row.ResultRow.{ResultRow}
+use Rattle.kept_rows.specs.declared.pair_rows.PairRows.{PairRows}
 use Rattle.store_model.specs.declared.commit.Transaction.{Transaction}
 use Rattle.store_model.specs.declared.commit.Verdict.{Verdict}
 use Rattle.store_model.specs.Snapshots.{Snapshot, snapshot_of}
 use Rattle.store_model.specs.Store.{State, RecordedStore, version, with_named, changed_triple, HasChange, IsCommittable, NetNamed}
 use Rattle.commit_core.specs.Verdicts.{AreOfVerdict, AreOfVerdictIn}
-use Rattle.commit_core.proofs.Verdicts.{rows_last}
-use Rattle.session_transaction.specs.Checks.{IsVersionIn, KeepsIn, committing, rows_of, verdict_of}
-use Rattle.session_transaction.proofs.Checking.{check_keeps, check_same, committable_kept, committable_more, keeps_last, rows_kept, version_lasts, version_now}
+use Rattle.commit_core.proofs.Verdicts.{pairs_last}
+use Rattle.session_transaction.specs.Checks.{IsVersionIn, KeepsIn, committing, pairs_of, verdict_of}
+use Rattle.session_transaction.proofs.Checking.{check_keeps, check_same, committable_kept, committable_more, keeps_last, pairs_kept, version_lasts, version_now}
 use Rattle.store_model.proofs.Histories.{Replays-push}
 use Rattle.std.specs.List.{AllByRecursion}
 use Rattle.session_model.specs.Sessions.{additions, parts_of, removals}
@@ -59,10 +59,10 @@ pub committable_now : (store : SharedStore) (pass held : Caller Event Origin) (c
 committable_now store pass held core x n f = now_at store pass held core (λ s. IsCommittable s x) (committable_more x) n f
 
 -- and its verdict is one of what the turn found
-pub verdict_now : (store : SharedStore) (pass held : Caller Event Origin) (core : RecordedStore) (net : List Change) (v : Option Verdict) (rows : List ResultRow) → Entered store pass held core → AreOfVerdictIn store.limits store.start pass.known.front net v rows → AreOfVerdict core net v rows
-verdict_now store pass held core net v rows n a =
-    let seen : AreOfVerdictIn store.limits store.start core.history net v rows = subst (λ (es : List Event). AreOfVerdictIn store.limits store.start es net v rows) n.others.begins.1 (rows_last store.limits store.start pass.known.front n.others.begins.0 net v rows a) in
-    subst (λ (k : Limits). AreOfVerdictIn k core.start core.history net v rows) (sym n.limits) (subst (λ (s : State). AreOfVerdictIn store.limits s core.history net v rows) (sym n.start) seen)
+pub verdict_now : (store : SharedStore) (pass held : Caller Event Origin) (core : RecordedStore) (net : List Change) (v : Option Verdict) (pairs : List PairRows) → Entered store pass held core → AreOfVerdictIn store.limits store.start pass.known.front net v pairs → AreOfVerdict core net v pairs
+verdict_now store pass held core net v pairs n a =
+    let seen : AreOfVerdictIn store.limits store.start core.history net v pairs = subst (λ (es : List Event). AreOfVerdictIn store.limits store.start es net v pairs) n.others.begins.1 (pairs_last store.limits store.start pass.known.front n.others.begins.0 net v pairs a) in
+    subst (λ (k : Limits). AreOfVerdictIn k core.start core.history net v pairs) (sym n.limits) (subst (λ (s : State). AreOfVerdictIn store.limits s core.history net v pairs) (sym n.start) seen)
 
 -- what is kept of a check stays so when what was seen grows, and so does the version of the head
 kept_last : (store : SharedStore) (w : Option OpenTransaction) (a b : List Event) → KeptIn store a w → KeptIn store (a ++ b) w
@@ -250,8 +250,8 @@ head_named store s w n is o h = subst (HeadIn store s.pass.known.front (Some w))
 pub committable_open : (store : SharedStore) (s : StoreSession) (w : OpenTransaction) → IsSession store s → s.current ≡ Some w → HasChange w.transaction.net w.transaction.staged → At store s.pass.known.front (λ t. IsCommittable t (committing w))
 committable_open store s w is o change = λ t r. committable_kept store.limits store.start s.pass.known.front w.transaction w.checked t (open_fits store s w is o t r) change (open_kept store s w is o).1 r
 
-pub verdict_open : (store : SharedStore) (s : StoreSession) (w : OpenTransaction) → IsSession store s → s.current ≡ Some w → AreOfVerdictIn store.limits store.start s.pass.known.front w.transaction.net (verdict_of w.checked) (rows_of w.checked)
-verdict_open store s w is o = rows_kept store.limits store.start s.pass.known.front w.transaction.net w.checked (open_kept store s w is o).1
+pub verdict_open : (store : SharedStore) (s : StoreSession) (w : OpenTransaction) → IsSession store s → s.current ≡ Some w → AreOfVerdictIn store.limits store.start s.pass.known.front w.transaction.net (verdict_of w.checked) (pairs_of w.checked)
+verdict_open store s w is o = pairs_kept store.limits store.start s.pass.known.front w.transaction.net w.checked (open_kept store s w is o).1
 
 -- and its commit can be logged
 pub loggable_open : (store : SharedStore) (s : StoreSession) (w : OpenTransaction) → IsSession store s → s.current ≡ Some w → IsLoggable (committing w)

@@ -11,8 +11,8 @@ use Rattle.store_model.specs.declared.event.Action.TheVariants as actions
 use Rattle.store_model.specs.declared.event.Reply.TheVariants as replies
 use Rattle.store_model.specs.Store.{State, Step, Replays, OpensNext, OpensNothing, IsOpened}
 use Rattle.store_model.proofs.Histories.{Replays-push}
-use Rattle.thread_model.specs.Following.{is_opening}
-use Rattle.thread_model.proofs.Placing.{within, opening}
+use Rattle.session_laws.specs.Following.{is_opening}
+use Rattle.session_laws.proofs.Placing.{within, opening}
 use Rattle.guard_store.specs.Slots.{Origin}
 use Rattle.guard_store.specs.Sessions.{StoreKeeper, StoreSession}
 use Rattle.guard_store.specs.declared.faults.OpenFault.{OpenFault}

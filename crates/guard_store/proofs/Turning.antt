@@ -20,8 +20,8 @@ use Rattle.commit_core.specs.declared.store.SessionFault.TheVariants as sessions
 use Rattle.commit_core.specs.Faults.{NamesNone, OpensNone}
 use Rattle.store_model.specs.Store.{State, RecordedStore, Step, Replays, TakesStep, IsOpened}
 use Rattle.store_model.proofs.Histories.{Replays-push}
-use Rattle.thread_model.specs.Following.{is_opening}
-use Rattle.thread_model.proofs.Placing.{within, opening, grows, grows_all}
+use Rattle.session_laws.specs.Following.{is_opening}
+use Rattle.session_laws.proofs.Placing.{within, opening, grows, grows_all}
 use Rattle.session_transaction.proofs.Growing.{More}
 use Rattle.guard_store.specs.Slots.{LogOrigin, Origin}
 use Rattle.guard_store.specs.Fronts.{SharedStore, opening_of, session_of, turned_pass, Turn, At, Entered, MayLeave}

@@ -16,6 +16,7 @@ use Rattle.store_model.specs.declared.commit.Transaction.{Transaction}
 use Rattle.store_model.specs.Snapshots.{Snapshot, snapshot_of}
 use Rattle.store_model.specs.Nodes.{not_given}
 use Rattle.store_model.specs.Store.{again, State, HasChange, shapes_under}
+use Rattle.session_model.specs.Reports.{ReportedGraph}
 use Rattle.session_model.specs.Sessions.{additions, parts_of}
 use Rattle.commit_core.specs.Work.{StepsBy}
 use Rattle.commit_core.specs.declared.naming.NamingFault.{NamingFault}
@@ -38,6 +39,8 @@ use Rattle.guard_store.specs.declared.faults.CheckFault.{CheckFault}
 use Rattle.guard_store.specs.declared.faults.CheckFault.TheVariants as checks
 use Rattle.guard_store.specs.declared.faults.FindFault.{FindFault}
 use Rattle.guard_store.specs.declared.faults.FindFault.TheVariants as finds
+use Rattle.guard_store.specs.declared.faults.ReportFault.{ReportFault}
+use Rattle.guard_store.specs.declared.faults.ReportFault.TheVariants as reports
 use Rattle.guard_store.specs.declared.faults.SelectFault.{SelectFault}
 use Rattle.guard_store.specs.declared.faults.SelectFault.TheVariants as selects
 use Rattle.bgp_query.specs.declared.pattern.JoinPattern.{JoinPattern}
@@ -232,6 +235,15 @@ abbrev pub SelectsNot : SelectFault → List (JoinPattern Term) → StoreSession
 SelectsNot selects.NoTransaction ps old new = (old.current ≡ None) × (new ≡ old)
 SelectsNot selects.TooMany ps old new = (w : OpenTransaction) × IsOpen old w × AreTooMany (graph_so_far w) ps × (new ≡ record old { current = Some (with_finds w (map opened ps)) })
 SelectsNot selects.Memory ps old new = ((w : OpenTransaction) × IsOpen old w) × (new ≡ old)
+
+-- the graph at the begin of the open transaction, and the shapes graph there, whatever it changed since
+abbrev pub Reports : StoreSession → ReportedGraph → Type 0
+Reports s report = (w : OpenTransaction) × IsOpen s w × (report ≡ record { graph = w.snap.graph; shapes = w.snap.shapes })
+
+-- why no results are reported
+abbrev pub ReportsNot : ReportFault → StoreSession → Type 0
+ReportsNot reports.NoTransaction s = s.current ≡ None
+ReportsNot reports.Memory s = (w : OpenTransaction) × IsOpen s w
 
 -- The open transaction was checked at the version of the last head, and is as the check left it; the rest of the session is as
 -- it was.

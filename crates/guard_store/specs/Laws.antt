@@ -7,7 +7,7 @@ use Rattle.store_model.specs.declared.event.Event.{Event}
 use Rattle.store_model.specs.declared.event.Action.TheVariants as actions
 use Rattle.store_model.specs.declared.event.Reply.TheVariants as replies
 use Rattle.store_model.specs.Store.{State, Step, Replays}
-use Rattle.thread_model.specs.Following.{is_opening}
+use Rattle.session_laws.specs.Following.{is_opening}
 use Rattle.guard_store.specs.Slots.{Origin}
 use Rattle.guard_store.specs.Sessions.{StoreKeeper, StoreSession}
 use Rattle.guard_store.specs.declared.faults.OpenFault.{OpenFault}

@@ -1,3 +1,4 @@
+//! Why the calls of a store and its sessions were refused.
 use rdf_model::Term;
 use std::alloc::AllocError;
 
@@ -75,6 +76,13 @@ impl From<AllocError> for FindFault {
     fn from(_error: AllocError) -> Self {
         FindFault::Memory
     }
+}
+
+/// Why no results are reported.
+#[derive(Clone, Copy, Debug, PartialEq, Eq)]
+pub enum ReportFault {
+    NoTransaction,
+    Memory,
 }
 
 /// Why no bindings are answered.

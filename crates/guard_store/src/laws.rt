@@ -24,7 +24,8 @@ pub fn an_opening_keeps_entries()
     ensures { OpeningsKeepEntries }
 {}
 
-/// The same of a call that opened nothing: its entry stands under 0.
+/// After a call that opened nothing the keeper's front has those of its old one and its entry, which stands under 0; of each
+/// session met so far it has just the entries of that session's last front.
 pub fn a_failed_opening_keeps_entries()
     ensures { FailedOpeningsKeepEntries }
 {}

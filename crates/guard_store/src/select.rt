@@ -7,7 +7,7 @@ ghost use Rattle.guard_store.specs.Answers.{IsOpen, SelectsNot};
 
 use crate::faults::SelectFault;
 use crate::session::Session;
-use bgp_query::JoinPattern;
+use bgp_query::{JoinFault, JoinPattern};
 use collections::Sequence;
 use disk::Disk;
 use rdf_model::Term;
@@ -35,8 +35,8 @@ impl<D: Disk> Session<D> {
         self.current = Some(open);
         match selected {
             Ok(rows) => Ok(rows),
-            Err(bgp_query::SelectFault::TooMany) => Err(SelectFault::TooMany),
-            Err(bgp_query::SelectFault::Memory) => Err(SelectFault::Memory),
+            Err(JoinFault::TooMany) => Err(SelectFault::TooMany),
+            Err(JoinFault::Memory) => Err(SelectFault::Memory),
         }
     }
 }

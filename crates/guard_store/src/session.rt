@@ -1,3 +1,4 @@
+//! The callers of a shared store.
 ghost use Rattle.std.specs.Prelude.{◌≡◌, ◌≢◌, None, Some, MatchBool, MatchResult};
 ghost use Rattle.session_transaction.specs.declared.transaction.OpenTransaction.{OpenTransaction};
 ghost use Rattle.session_transaction.specs.Transactions;

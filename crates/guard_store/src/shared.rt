@@ -1,3 +1,4 @@
+//! What turns pass on: the core, with its log.
 ghost use Rattle.std.specs.Prelude.{◌≡◌, ◌≤◌, [], false, IfOk, OnErr, MatchResult};
 ghost use Rattle.store_model.specs.Store.{IsCommittable, IsOpened, TakesStep};
 ghost use Rattle.store_model.specs.Snapshots.{snapshot_of};
@@ -183,7 +184,7 @@ impl<D: Disk> Shared<D> {
     ) -> Result<Committed, CheckedTransaction>
         requires opened { IsOpened self.old.core.state session }
         requires committable { IsCommittable self.old.core.state checked.transaction }
-        requires verdict { AreOfVerdict self.old.core checked.transaction.net checked.transaction.verdict checked.rows }
+        requires verdict { AreOfVerdict self.old.core checked.transaction.net checked.transaction.verdict checked.pairs }
         requires loggable { IsLoggable checked.transaction }
         ensures answer { MatchResult result
             (IsCommitted self.old.core self.new.core session checked.transaction steps.old steps.new)

@@ -1,3 +1,4 @@
+//! A store that callers enter in turns.
 ghost use Rattle.std.specs.Prelude.{◌≡◌, ◌+◌, ◌^◌, ◌<◌, false, true, [], None, Some, IfErr, IfOk, MatchResult};
 ghost use Rattle.turn_lock.specs.History.{OthersAdded};
 ghost use Rattle.turn_lock.specs.Callers.{kept_caller, met_caller, new_caller};
@@ -18,7 +19,7 @@ use std::alloc::{AllocError, Global};
 use std::marker::Model;
 use std::snapshot::Snapshot;
 use std::sync::Wait;
-use store_model::{Action, BlockMode, Event, Limits, Reply};
+use store_model::{Action, Event, Limits, Reply};
 use turn_lock::{Held, Pass, Turns};
 
 /// A store that its callers enter in turns. Contracts see which one it is, its limits, the state that its history begins at, and
@@ -86,8 +87,7 @@ impl<D: Disk> Store<D> {
     pub fn new(alloc: Global, limits: Limits) -> Result<(Store<D>, Keeper<D>), AllocError>
     where
         D: Drop,
-        requires small { limits.terms + 2 < 2 ^ 32 }
-        requires mode { limits.mode ≡ BlockMode.All }
+        requires { limits.terms + 2 < 2 ^ 32 }
         ensures limits { IfOk result (λ r. r.0.limits ≡ limits) }
         ensures start { IfOk result (λ r. r.0.start ≡ empty_store) }
         ensures log { IfOk result (λ r. r.0.log ≡ None) }

@@ -142,7 +142,7 @@ impl<D: Disk> Store<D> {
         requires caller { IsCaller self.now number pass }
         requires committable { At self.now pass.known.front (λ s. IsCommittable s handed.transaction) }
         requires loggable { IsLoggable handed.transaction }
-        requires kept { AreOfVerdictIn self.now.limits self.now.start pass.known.front handed.transaction.net handed.transaction.verdict handed.rows }
+        requires kept { AreOfVerdictIn self.now.limits self.now.start pass.known.front handed.transaction.net handed.transaction.verdict handed.pairs }
         ensures commits { MatchResult result.1
             (TurnCommits self.now pass result.0 number handed.transaction)
             (λ back. (back ≡ handed) × Fails self.now pass result.0 number) }

@@ -1,3 +1,4 @@
+//! The places of a history's text.
 ghost use Rattle.std.specs.Prelude.{◌≡◌, ◌==◌, IfOk, map};
 ghost use Rattle.std.specs.List.{slice_split};
 ghost use Rattle.std.specs.Io.BufRead.{strip_last};

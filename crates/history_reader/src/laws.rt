@@ -1,3 +1,4 @@
+//! A printed order is read back.
 ghost use Rattle.history_reader.specs.Laws.{ReadsBack};
 
 /// The line that tells an order of sessions is read back as that order.

@@ -1,3 +1,4 @@
+//! The text of one file.
 ghost use Rattle.std.specs.Prelude.{◌≡◌, ◌<◌, ◌≤◌, List, MatchResult, length};
 ghost use Rattle.outside.specs.Faults.{Refusal};
 ghost use Rattle.input_files.specs.Faults.{IsCause};

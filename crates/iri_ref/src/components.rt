@@ -1,3 +1,4 @@
+//! The components of an IRI reference (RFC 3986 section 3).
 ghost use Rattle.std.specs.Prelude.{◌≡◌, ◌==◌, ◌++◌, ◌<◌, ◌≤◌, OnOk, IfOk, length, position, codes, string_bytes, option_copied};
 ghost use Rattle.std.specs.List.{position_or_len};
 ghost use Rattle.iri_ref.specs.Components;

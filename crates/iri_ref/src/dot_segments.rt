@@ -1,3 +1,4 @@
+//! Paths without dot segments (RFC 3986 section 5.2.4).
 ghost use Rattle.std.specs.Prelude.{◌≡◌, ◌+◌, ◌++◌, ◌<◌, OnOk, IfOk, MatchOption, length, take, drop, true, false, codes, string_bytes};
 ghost use Rattle.iri_ref.specs.DotSegments;
 ghost use Rattle.iri_ref.specs.DotSegments.{begins_with_segment, segment_len};

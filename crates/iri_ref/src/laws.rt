@@ -1,3 +1,4 @@
+//! Laws of components and of resolution.
 ghost use Rattle.iri_ref.specs.Laws.{JoinsAgain, SplitsAtDelimiters, KeepsWithScheme, BeginsWithScheme, GivesScheme, RemovesDotSegments, KeepsOtherSegments, ShortensInput, KeepsCharacters};
 
 /// The components of a text, joined, are that text.

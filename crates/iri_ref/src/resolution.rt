@@ -1,3 +1,4 @@
+//! The resolution of a reference against a base (RFC 3986 section 5.2).
 ghost use Rattle.std.specs.Prelude.{◌≡◌, IfOk, true, string_bytes, option_copied};
 ghost use Rattle.iri_ref.specs.Scheme;
 ghost use Rattle.iri_ref.specs.Components;

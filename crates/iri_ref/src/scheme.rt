@@ -1,3 +1,4 @@
+//! Whether a reference has a scheme.
 ghost use Rattle.std.specs.Prelude.{◌≡◌};
 ghost use Rattle.iri_ref.specs.Scheme;
 ghost use Rattle.iri_ref.specs.Scheme.{reaches_colon as colon_follows};

@@ -3,6 +3,8 @@
 //! Contracts see `KeptRows` as a list of rows, ascending by shape, focus node and result. A change costs the rows of the pairs that
 //! it checks, and a share copies nothing, so that each version of a store has its own. The listing is made only where it is asked
 //! for.
+//!
+//! Storey: validation.
 #![tactic(auto)]
 
 mod kept_row;

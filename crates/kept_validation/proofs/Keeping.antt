@@ -23,7 +23,7 @@ use Rattle.shape_eval.specs.Told.{node_at}
 use Rattle.shape_eval.proofs.Asking.{node_bound}
 use Rattle.shape_eval.proofs.Growing.{joined}
 use Rattle.shape_eval.proofs.Lookups.{at_place, got_at, is_at, only_some}
-use Rattle.graph_validation.specs.Counting.{IsNodeOf}
+use Rattle.parallel_validate.specs.Counting.{IsNodeOf}
 use Rattle.change_laws.specs.Pairs.{PairRow, PairedRow}
 use Rattle.kept_rows.specs.declared.kept_row.KeptRow.{KeptRow}
 use Rattle.kept_rows.specs.Laws.{paired_row, paired_rows}

@@ -13,7 +13,7 @@ use Rattle.shape_ast.specs.declared.shape.Shape.{Shape}
 use Rattle.shape_ast.specs.Readings.{ReadShape, named_shapes}
 use Rattle.shape_ast.specs.Standing.{StandFor}
 use Rattle.shape_eval.specs.Results.{AtPlace}
-use Rattle.graph_validation.specs.Counting.{IsNodeOf}
+use Rattle.parallel_validate.specs.Counting.{IsNodeOf}
 use Rattle.change_laws.specs.Pairs.{PairRow, PairedRow}
 use Rattle.kept_rows.specs.declared.kept_row.KeptRow.{KeptRow}
 use Rattle.kept_rows.specs.Laws.{AreBoundRows, KeepsResults, paired_rows}

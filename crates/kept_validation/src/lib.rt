@@ -3,6 +3,8 @@
 //! `whole_kept` ensures exactly the results of each pair of a shape and its target, for each shapes graph that the shapes
 //! stand for, in which no shape refers to itself and no chain of references is longer than 256. It takes as many steps as
 //! there are such pairs.
+//!
+//! Storey: validation.
 #![tactic(auto)]
 
 mod whole;

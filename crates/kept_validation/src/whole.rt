@@ -7,7 +7,7 @@ ghost use Rattle.shape_ast.specs.Readings.{AreBound};
 ghost use Rattle.shape_ast.specs.Standing.{AreBuilt};
 ghost use Rattle.shape_eval.specs.Told.{node_at};
 ghost use Rattle.target_nodes.specs.ShapeTargets.{AreTargets, AtShape};
-ghost use Rattle.graph_validation.specs.Counting.{StepsOfFirst, StepsOfGraph, StepsOfShape};
+ghost use Rattle.parallel_validate.specs.Counting.{StepsOfFirst, StepsOfGraph, StepsOfShape};
 ghost use Rattle.kept_rows.specs.declared.kept_row.KeptRow.{KeptRow as KeptData};
 ghost use Rattle.kept_validation.specs.Keeping.{IsOfPair, KeepsAtNode, KeepsAtNodes, KeepsGraph, KeepsOfFirst, KeepsOfShape};
 

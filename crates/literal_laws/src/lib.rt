@@ -2,6 +2,8 @@
 //!
 //! The functions do nothing: each states a law, that what is read as well-formed is of the standard's
 //! pattern, and all that is.
+//!
+//! Storey: laws.
 #![tactic(auto)]
 
 ghost use Rattle.literal_laws.specs.DateForms;

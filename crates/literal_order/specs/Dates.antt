@@ -13,7 +13,7 @@ use Rattle.literal_order.specs.declared.literal_value.Instant.{Instant}
 use Rattle.literal_order.specs.declared.literal_value.LiteralValue.TheVariants as values
 use Rattle.literal_order.specs.declared.literal_value.LiteralReading.{LiteralReading}
 use Rattle.literal_order.specs.declared.literal_value.LiteralReading.TheVariants.{IllTyped, Refused, Value}
-use Rattle.literal_order.specs.declared.literal_value.Refusal.TheVariants.{TooManyDigits, YearOutOfRange}
+use Rattle.literal_order.specs.declared.literal_value.ProfileRefusal.TheVariants.{TooManyDigits, YearOutOfRange}
 
 infixl 10 ◌>>=◌
 abbrev pub ◌>>=◌ : {A B : Type 0} → Option A → (A → Option B) → Option B

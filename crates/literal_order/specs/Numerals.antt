@@ -8,7 +8,7 @@ use Rattle.literal_order.specs.declared.datatype.IntegerType.{IntegerType}
 use Rattle.literal_order.specs.declared.literal_value.LiteralValue.TheVariants as values
 use Rattle.literal_order.specs.declared.literal_value.LiteralReading.{LiteralReading}
 use Rattle.literal_order.specs.declared.literal_value.LiteralReading.TheVariants.{IllTyped, Refused, Value}
-use Rattle.literal_order.specs.declared.literal_value.Refusal.TheVariants.{TooManyDigits}
+use Rattle.literal_order.specs.declared.literal_value.ProfileRefusal.TheVariants.{TooManyDigits}
 
 -- what follows the sign, `+` or `-`, if there is one
 abbrev pub unsigned : List ℕ → List ℕ

@@ -12,8 +12,8 @@ use Rattle.literal_order.specs.declared.literal_value.Lexical.{Lexical}
 use Rattle.literal_order.specs.declared.literal_value.Lexical.TheVariants as lexicals
 use Rattle.literal_order.specs.declared.literal_value.LiteralReading.{LiteralReading}
 use Rattle.literal_order.specs.declared.literal_value.LiteralReading.TheVariants as readings
-use Rattle.literal_order.specs.declared.literal_value.Refusal.{Refusal}
-use Rattle.literal_order.specs.declared.literal_value.Refusal.TheVariants as refusals
+use Rattle.literal_order.specs.declared.literal_value.ProfileRefusal.{ProfileRefusal}
+use Rattle.literal_order.specs.declared.literal_value.ProfileRefusal.TheVariants as refusals
 
 -- rdf:langString goes with a language tag (RDF 1.1 Concepts, 3.3)
 abbrev pub tagged_reading : Option (List ℕ) → LiteralReading
@@ -47,7 +47,7 @@ abbrev pub lexical : Term → Lexical
 lexical term = lexical_of (reading term)
 
 -- the kinds of refusal at reading
-abbrev pub kind_of : Refusal → ℕ
+abbrev pub kind_of : ProfileRefusal → ℕ
 kind_of refusals.FloatingPoint = 7
 kind_of refusals.TooManyDigits = 8
 kind_of refusals.YearOutOfRange = 9

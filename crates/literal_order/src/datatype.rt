@@ -2,6 +2,8 @@
 ghost use Rattle.std.specs.Prelude.{◌≡◌};
 ghost use Rattle.literal_order.specs.Datatypes;
 
+use vocabulary::RDF_LANG_STRING;
+
 /// xsd:integer and the types derived from it (XSD 1.1 Part 2, sections 3.4.13 to 3.4.25).
 #[derive(Debug, Clone, Copy)]
 pub enum IntegerType {
@@ -149,7 +151,7 @@ fn local_datatype(name: &str) -> Datatype
 pub fn datatype_of(iri: &str) -> Datatype
     ensures { result ≡ Datatypes.datatype_of iri.now }
 {
-    if iri == "http://www.w3.org/1999/02/22-rdf-syntax-ns#langString" {
+    if iri == RDF_LANG_STRING {
         return Datatype::LangString;
     }
     match iri.strip_prefix("http://www.w3.org/2001/XMLSchema#") {

@@ -4,7 +4,7 @@ ghost use Rattle.literal_order.specs.Dates;
 ghost use Rattle.literal_order.specs.Digits;
 
 use crate::digits::{are_zeros, fraction_of, number};
-use crate::literal_value::{Instant, LiteralReading, LiteralValue, Refusal};
+use crate::literal_value::{Instant, LiteralReading, LiteralValue, ProfileRefusal};
 use jiff::civil::Date;
 
 /// The number of days from 1 January of the year 0 to 1 January 1970.
@@ -293,8 +293,8 @@ fn date_time_value(day: Day, time: Time, offset: Offset) -> LiteralReading<'stat
     ensures { result ≡ Dates.date_time_value day time.nanoseconds time.seconds offset }
 {
     match (time.nanoseconds, day) {
-        (None, _) => LiteralReading::Refused(Refusal::TooManyDigits),
-        (Some(_), Day::YearOutOfRange) => LiteralReading::Refused(Refusal::YearOutOfRange),
+        (None, _) => LiteralReading::Refused(ProfileRefusal::TooManyDigits),
+        (Some(_), Day::YearOutOfRange) => LiteralReading::Refused(ProfileRefusal::YearOutOfRange),
         (Some(nanoseconds), Day::Number(day)) => LiteralReading::Value(LiteralValue::DateTime(
             instant(day, time.seconds, nanoseconds, offset),
         )),
@@ -328,7 +328,7 @@ fn date_value(day: Day, offset: Offset) -> LiteralReading<'static>
     ensures { result ≡ Dates.date_value day offset }
 {
     match day {
-        Day::YearOutOfRange => LiteralReading::Refused(Refusal::YearOutOfRange),
+        Day::YearOutOfRange => LiteralReading::Refused(ProfileRefusal::YearOutOfRange),
         Day::Number(day) => LiteralReading::Value(LiteralValue::Date(instant(day, 0, 0, offset))),
     }
 }

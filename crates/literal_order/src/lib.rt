@@ -4,6 +4,8 @@
 //! integers, dateTimes and dates, and `profile` names the literals that the product has no place for;
 //! no literal of those has a value here. `less` and `less_or_equal` compare by value as SPARQL 1.1 does,
 //! exactly as `specs/Order.antt` says. No call takes memory.
+//!
+//! Storey: terms.
 #![tactic(auto)]
 
 mod datatype;

@@ -69,23 +69,23 @@ pub enum Lexical<'a> {
 
 /// Why the profile has no place for a literal.
 #[derive(Debug, Clone, Copy)]
-pub enum Refusal {
+pub enum ProfileRefusal {
     FloatingPoint,
     TooManyDigits,
     YearOutOfRange,
     NoLanguageTag,
 }
 
-impl Refusal {
+impl ProfileRefusal {
     /// The number of this kind of refusal.
     pub fn kind(self) -> u8
         ensures { result ≡ Values.kind_of self }
     {
         match self {
-            Refusal::FloatingPoint => 7,
-            Refusal::TooManyDigits => 8,
-            Refusal::YearOutOfRange => 9,
-            Refusal::NoLanguageTag => 10,
+            ProfileRefusal::FloatingPoint => 7,
+            ProfileRefusal::TooManyDigits => 8,
+            ProfileRefusal::YearOutOfRange => 9,
+            ProfileRefusal::NoLanguageTag => 10,
         }
     }
 }
@@ -95,6 +95,6 @@ impl Refusal {
 pub enum LiteralReading<'a> {
     NotTyped,
     IllTyped,
-    Refused(Refusal),
+    Refused(ProfileRefusal),
     Value(LiteralValue<'a>),
 }

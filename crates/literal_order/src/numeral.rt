@@ -5,7 +5,7 @@ ghost use Rattle.literal_order.specs.Numerals;
 
 use crate::datatype::IntegerType;
 use crate::digits::{are_digits, fraction_number, whole_number};
-use crate::literal_value::{LiteralReading, LiteralValue, Refusal};
+use crate::literal_value::{LiteralReading, LiteralValue, ProfileRefusal};
 
 /// Units of 10^-18 in one.
 const SCALE: u128 = 1_000_000_000_000_000_000;
@@ -53,7 +53,7 @@ pub fn integer_reading(integer: IntegerType, text: &[u8]) -> LiteralReading<'sta
         return LiteralReading::IllTyped;
     }
     match whole_number(digits) {
-        None => LiteralReading::Refused(Refusal::TooManyDigits),
+        None => LiteralReading::Refused(ProfileRefusal::TooManyDigits),
         Some(whole) if integer.is_in_range(signed(negative, whole)) => {
             LiteralReading::Value(LiteralValue::Number(signed(negative, whole * SCALE)))
         }
@@ -75,7 +75,7 @@ pub fn decimal_reading(text: &[u8]) -> LiteralReading<'static>
         (Some(whole), Some(fraction)) => {
             LiteralReading::Value(LiteralValue::Number(signed(negative, whole * SCALE + fraction)))
         }
-        _ => LiteralReading::Refused(Refusal::TooManyDigits),
+        _ => LiteralReading::Refused(ProfileRefusal::TooManyDigits),
     }
 }
 

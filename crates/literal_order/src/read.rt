@@ -4,7 +4,7 @@ ghost use Rattle.literal_order.specs.Values;
 
 use crate::datatype::{Datatype, datatype_of};
 use crate::date_time::{date_reading, date_time_reading};
-use crate::literal_value::{Characters, Lexical, LiteralReading, LiteralValue, Refusal};
+use crate::literal_value::{Characters, Lexical, LiteralReading, LiteralValue, ProfileRefusal};
 use crate::numeral::{boolean_reading, decimal_reading, integer_reading};
 use rdf_model::Term;
 
@@ -29,9 +29,9 @@ pub fn reading(term: &Term) -> LiteralReading<'_>
         Datatype::Integer(integer) => integer_reading(integer, text.as_bytes()),
         Datatype::DateTime => date_time_reading(text.as_bytes()),
         Datatype::Date => date_reading(text.as_bytes()),
-        Datatype::Floating => LiteralReading::Refused(Refusal::FloatingPoint),
+        Datatype::Floating => LiteralReading::Refused(ProfileRefusal::FloatingPoint),
         Datatype::LangString if language.is_none() => LiteralReading::Refused(
-            Refusal::NoLanguageTag,
+            ProfileRefusal::NoLanguageTag,
         ),
         Datatype::LangString | Datatype::Other => LiteralReading::NotTyped,
     }

@@ -1,3 +1,4 @@
+//! The text of a session file of a load.
 ghost use Rattle.std.specs.Prelude.{◌≡◌, ◌++◌, ◌<◌, ◌≤◌, IfOk, OnOk, string_bytes};
 ghost use Rattle.load_maker.specs.Workload;
 ghost use Rattle.load_maker.specs.Workload.{commit_lines, lines_text, own_lines, transaction_lines, type_lines, value_lines};

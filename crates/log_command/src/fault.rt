@@ -1,3 +1,4 @@
+//! Why a log was not made or opened.
 use rdf_model::Term;
 use std::alloc::AllocError;
 

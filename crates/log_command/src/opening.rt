@@ -6,7 +6,7 @@ ghost use Rattle.log_command.specs.Opened.{BlamesDisk, IsMade, IsStored, StopsCr
 use crate::restoring::restore;
 use crate::{CreateLogFault, LogFault};
 use collections::Sequence;
-use commit_core::{BlockMode, Core, Limits};
+use commit_core::{Core, Limits};
 use commit_log::{CreateFault, Log, OpenLogFault, create, open};
 use disk::{Disk, DiskFault};
 use outside::Maker;
@@ -73,7 +73,6 @@ pub fn open_log<D: Disk, M: Maker>(
     maker: &mut M,
 ) -> Result<StoredLog<D>, (LogFault, D)>
     requires small { limits.terms + 2 < 2 ^ 32 }
-    requires mode { limits.mode ≡ BlockMode.All }
     requires few { sessions ≤ 64 }
     ensures answer { MatchResult result (λ stored. IsStored D.tells D.bytes D.history limits disk sessions stored.core stored.log stored.first_numbers)
         (λ e. StopsLog D.tells (D.bytes disk) limits (M.refused maker.old) (M.refused maker.new) e.0) }

@@ -9,7 +9,7 @@ use crate::LogFault;
 use crate::nodes::{first_numbers, is_spent};
 use crate::staged::last_graph;
 use collections::Sequence;
-use commit_core::{BlockMode, Core, Limits, RestoreFault};
+use commit_core::{Core, Limits, RestoreFault};
 use outside::Maker;
 use record_text::Record;
 use shape_eval::Steps;
@@ -27,7 +27,6 @@ fn restore_counted<L: Ledger>(
     blank: Blank,
 ) -> Result<Core, RestoreFault>
     requires small { limits.terms + 2 < 2 ^ 32 }
-    requires mode { limits.mode ≡ BlockMode.All }
     requires numbered { AreRecordsFrom 1 records.items }
     requires shapes { shapes ≡ (restored records.items).shapes }
     requires name { blank.name ≡ L.name }
@@ -75,8 +74,7 @@ fn shapes_and_numbers<M: Maker>(
     Ok((shapes, numbers))
 }
 
-/// The store that the records of a log restore, in which every result blocks, and the first numbers that so many sessions may
-/// give to their blank nodes.
+/// The store that the records of a log restore, and the first numbers that so many sessions may give to their blank nodes.
 pub(crate) fn restore<M: Maker>(
     alloc: Global,
     limits: Limits,
@@ -85,7 +83,6 @@ pub(crate) fn restore<M: Maker>(
     maker: &mut M,
 ) -> Result<(Core, Sequence<u32>), LogFault>
     requires small { limits.terms + 2 < 2 ^ 32 }
-    requires mode { limits.mode ≡ BlockMode.All }
     requires few { sessions ≤ 64 }
     requires numbered { AreRecordsFrom 1 records.items }
     ensures answer { MatchResult result (λ stored. AreRestored limits records.items sessions stored.0 stored.1)

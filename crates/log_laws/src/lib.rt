@@ -1,5 +1,7 @@
 //! Laws above the store and the follower: the records of a store's commits restore what these made of it, and a follower of them
 //! has its graphs. Each function does nothing, and ensures a statement about the definitions alone.
+//!
+//! Storey: laws.
 #![tactic(auto)]
 
 ghost use Rattle.log_laws.specs.Laws.{FollowersGraphsAreRestored, FollowsStore, RecordsRestoreCommits};

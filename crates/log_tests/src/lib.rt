@@ -1,4 +1,6 @@
 //! Tests of the texts of records, of the images of logs, of logs on disks that fail, of stores with a log, and of followers.
+//!
+//! Storey: tests.
 #![tactic(auto)]
 
 #[cfg(test)]

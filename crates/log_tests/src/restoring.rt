@@ -59,7 +59,6 @@ fn restored<L: Ledger>(
     blank: Blank,
 ) -> Result<Result<Core, RestoreFault>, Fail>
     requires small { limits.terms + 2 < 2 ^ 32 }
-    requires mode { limits.mode ≡ BlockMode.All }
     requires name { blank.name ≡ L.name }
     requires parts { blank.parts ≡ L.parts }
     requires some { 0 < L.parts }
@@ -74,15 +73,14 @@ fn restored<L: Ledger>(
     Ok(Core::restore(alloc, limits, records, shapes, &mut steps))
 }
 
-// The same where a fault is expected.
+// Why no store is restored of records without shapes.
 fn fault_of(
     rt: &impl Abort,
     alloc: Global,
     limits: Limits,
     texts: &[&str],
 ) -> Result<RestoreFault, Fail>
-    requires small { limits.terms + 2 < 2 ^ 32 }
-    requires mode { limits.mode ≡ BlockMode.All }
+    requires { limits.terms + 2 < 2 ^ 32 }
 {
     match restored::<Brand>(rt, alloc, limits, texts, Blank::new(1))? {
         Ok(_) => Err(Fail::new("no store is restored")),

@@ -1,3 +1,4 @@
+//! The components not, and, or, xone and node (SHACL sections 4.6 and 4.7.1).
 ghost use Rattle.std.specs.Prelude.{◌<◌, ◌∷◌, [], IfOk, length, map};
 ghost use Rattle.std.specs.List.{Contains};
 ghost use Rattle.rdf_model.specs.Numbers.{term_at};

@@ -1,3 +1,4 @@
+//! To how many shapes value nodes have to conform.
 ghost use Rattle.std.specs.Prelude.{◌≡◌, ◌<◌, ◌↔◌, IfOk, IsTrue, length, map};
 ghost use Rattle.std.specs.List.{Contains};
 ghost use Rattle.shape_model.specs.Components.{ForEach};

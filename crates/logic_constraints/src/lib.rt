@@ -3,6 +3,8 @@
 //!
 //! Whether each value node conforms to each of those shapes is handed in; to property, the results that it gives there.
 //! Each call lists exactly the results that the definition of its component gives for one value of the parameter.
+//!
+//! Storey: validation.
 #![tactic(auto)]
 
 mod components;

@@ -1,3 +1,4 @@
+//! The results of sh:property (SHACL section 4.7.2).
 ghost use Rattle.std.specs.Prelude.{◌≡◌, IfOk, length, map};
 ghost use Rattle.shape_model.specs.Components.{PropertyRow};
 ghost use Rattle.component_rows.specs.Listed.{Lists};

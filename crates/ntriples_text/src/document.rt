@@ -1,3 +1,4 @@
+//! Texts of N-Triples 1.1, read line by line.
 ghost use Rattle.std.specs.Prelude.{◌≡◌, ℕ, ◌+◌, ◌<◌, ◌≤◌, ◌^◌, Ok, [], List, Result, length, IfOk, MatchResult, OnOk, OnErr};
 ghost use Rattle.std.specs.Str.{chars};
 ghost use Rattle.rdf_lexical.specs.declared.refusal.RefusalKind.{RefusalKind as KindData};

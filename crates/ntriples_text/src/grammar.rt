@@ -1,3 +1,4 @@
+//! The triple of a line, and a term that stands alone.
 ghost use Rattle.std.specs.Prelude.{◌≡◌, ◌≤◌, ◌<◌, Ok, Some, None, length, IfOk, IsSome};
 ghost use Rattle.rdf_model.specs.declared.term.Term.TheVariants as terms;
 ghost use Rattle.rdf_model.specs.NTriples.{xsd_string};
@@ -14,10 +15,7 @@ use rdf_lexical::RefusalKind;
 use rdf_model::Term;
 use rdf_text::Text;
 use std::alloc::{AllocError, Global};
-
-const XSD_STRING: &str = "http://www.w3.org/2001/XMLSchema#string";
-
-const RDF_LANG_STRING: &str = "http://www.w3.org/1999/02/22-rdf-syntax-ns#langString";
+use vocabulary::{RDF_LANG_STRING, XSD_STRING};
 
 fn unexpected(token: &Token) -> LineFault
     ensures { result ≡ LineFault.Refused (Grammar.unexpected token.now) }

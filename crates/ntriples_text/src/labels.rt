@@ -1,3 +1,4 @@
+//! The labels of a text, numbered in order of first appearance.
 ghost use Rattle.std.specs.Prelude.{◌≡◌, ◌+◌, ◌<◌, ◌≤◌, ◌^◌, [], length, IfOk, OnOk, nat_eq, bytes_eq};
 ghost use Rattle.std.specs.List.{position_or_len};
 ghost use Rattle.std.specs.Cmp.{partial_equiv_from_equiv};

@@ -1,3 +1,4 @@
+//! Laws of reading, of writing and of tokens.
 ghost use Rattle.ntriples_text.specs.Laws.{ReadsAgain, ReadsNamedAgain, GivesReadable, LabelsStayApart, StoreLabelsAreWritten, FindsLongest, MissesNone, StandsAlone, EndsEarly};
 
 /// Reading what was written gives the same triples, whatever triples without blank nodes a text can

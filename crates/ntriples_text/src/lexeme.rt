@@ -1,3 +1,4 @@
+//! The kind and the length of the token that begins a text.
 ghost use Rattle.std.specs.Prelude.{◌≡◌, ◌+◌, ◌<◌, ◌≤◌, suc, IfOk, length};
 ghost use Rattle.rdf_lexical.specs.Enclosed as Lexical;
 ghost use Rattle.ntriples_text.specs.Tokens;

@@ -4,6 +4,10 @@
 //! `specs/Document.antt` says; `read_named` is the same with the labels of the store, and
 //! `named_term` reads one term. `write` ensures the text of a list of triples, one line each, and
 //! `laws` that it is read again.
+//!
+//! No crate of the program calls `write`, which tests and the laws are about: a session prints its triples one by one.
+//!
+//! Storey: texts.
 #![tactic(auto)]
 
 mod document;

@@ -1,3 +1,4 @@
+//! Why a line is refused.
 use rdf_lexical::RefusalKind;
 use std::alloc::AllocError;
 

@@ -1,3 +1,4 @@
+//! The blank nodes of a text.
 ghost use Rattle.std.specs.Prelude.{◌≡◌, ◌+◌, ◌<◌, ◌≤◌, ◌^◌, length, IfOk, OnOk};
 ghost use Rattle.ntriples_text.specs.Blanks.{statement_labels, triple_of};
 ghost use Rattle.ntriples_text.specs.Progress.{with_more};

@@ -1,3 +1,4 @@
+//! A triple as its line has it.
 ghost use Rattle.std.specs.Prelude.{◌≡◌, ◌+◌, ◌<◌, ◌≤◌, ◌^◌, length, IfOk, OnOk};
 ghost use Rattle.ntriples_text.specs.Blanks.{node_labels, term_of};
 ghost use Rattle.ntriples_text.specs.Grammar.{plain_term};

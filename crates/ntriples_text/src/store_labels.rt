@@ -1,3 +1,4 @@
+//! The labels of the store.
 ghost use Rattle.std.specs.Prelude.{◌≡◌, ◌<◌, nat_lt, length, slice_index};
 ghost use Rattle.ntriples_text.specs.StoreLabels;
 

@@ -1,3 +1,4 @@
+//! The lines of a text.
 ghost use Rattle.std.specs.Prelude.{◌≡◌, ◌+◌, ◌<◌, ◌^◌, ◌∷◌, length};
 ghost use Rattle.ntriples_text.specs.Document;
 

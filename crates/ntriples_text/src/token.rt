@@ -1,3 +1,4 @@
+//! The tokens of a line.
 ghost use Rattle.std.specs.Prelude.{◌≡◌, ◌≤◌, length, IfOk};
 ghost use Rattle.ntriples_text.specs.Faults.{Gives};
 ghost use Rattle.ntriples_text.specs.Tokens;

@@ -1,3 +1,4 @@
+//! Triples as N-Triples writes them.
 ghost use Rattle.std.specs.Prelude.{◌≡◌, IfOk, string_bytes};
 ghost use Rattle.ntriples_text.specs.Writing.{written};
 

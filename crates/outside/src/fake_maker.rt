@@ -1,3 +1,4 @@
+//! A maker that refuses the builds that a test names.
 ghost use Rattle.std.specs.Prelude.{◌≡◌, []};
 ghost use Rattle.outside.specs.Counts.{is_listed};
 

@@ -1,3 +1,4 @@
+//! Files that are read by their names.
 ghost use Rattle.std.specs.Prelude.{◌≡◌, ◌≤◌, ℕ, List, Option, Result, Vec, IfOk, MatchResult, length, ⊤};
 ghost use Rattle.std.specs.Global.{Global};
 ghost use Rattle.outside.specs.Files.{Contents, Loads};

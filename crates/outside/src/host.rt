@@ -1,3 +1,4 @@
+//! The files of the system and standard output.
 ghost use Rattle.std.specs.Prelude.{◌≡◌, ◌≤◌, [], IfOk, length};
 
 use crate::{Failed, Files, LoadFault, Sink};

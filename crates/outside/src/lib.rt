@@ -4,6 +4,8 @@
 //! noted in a list or a count that never loses one, so that code over these traits cannot give up
 //! by itself. Each has a form in memory, for tests and exact claims, and a real form, which is trusted
 //! to be what it says and tells no contents.
+//!
+//! Storey: the outside.
 #![tactic(auto)]
 
 mod fake_maker;

@@ -1,3 +1,4 @@
+//! A maker of regular expressions.
 ghost use Rattle.std.specs.Prelude.{◌≡◌, ℕ, List, Result, IfOk, MatchResult, ⊤};
 ghost use Rattle.outside.specs.Faults.{NotesBuild, NotesRefusal, Refusal, Request};
 ghost use Rattle.outside.specs.Patterns.{IsBuilt};

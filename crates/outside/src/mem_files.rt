@@ -1,3 +1,4 @@
+//! Files in memory.
 ghost use Rattle.std.specs.Prelude.{◌≡◌, [], MatchResult, take};
 ghost use Rattle.std.specs.Option.{option_copied};
 ghost use Rattle.outside.specs.Memory.{content};

@@ -1,3 +1,4 @@
+//! The maker that the crate `regex` is.
 ghost use Rattle.std.specs.Prelude.{◌≡◌, []};
 ghost use Rattle.outside.specs.Patterns.{has_flag};
 

@@ -1,3 +1,4 @@
+//! What a maker is asked to build.
 ghost use Rattle.std.specs.Prelude.{◌≡◌, IfOk};
 
 use std::alloc::{AllocError, Global};

@@ -1,3 +1,4 @@
+//! The forms in memory, and the maker of the crate `regex`.
 use outside::{
     EventKind, FakeMaker, Files, Gate, HostFiles, HostSink, LoadFault, MakeFault, Maker, MemFile,
     MemFiles, MemSink, OpenGate, Place, RegexMaker, write_all,

@@ -3,6 +3,8 @@
 //! An `Overlay` over a set of triples and a list of changes stands for the set after the changes. It
 //! copies nothing of the set: it keeps the triples that the changes add and those that they remove, and
 //! answers from both and from the set beneath.
+//!
+//! Storey: pages.
 #![tactic(auto)]
 
 mod kept;

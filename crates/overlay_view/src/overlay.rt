@@ -1,3 +1,4 @@
+//! A set of triples after changes.
 ghost use Rattle.std.specs.Prelude.{◌≡◌, ◌↔◌, [], IfOk, map};
 ghost use Rattle.std.specs.List.{Contains};
 ghost use Rattle.rdf_model.specs.declared.ids.Ids.{Ids as IdsData};

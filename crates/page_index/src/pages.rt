@@ -1,3 +1,4 @@
+//! A sorted set of keys in shared pages.
 ghost use Rattle.std.specs.Prelude.{◌≡◌, ◌<◌, [], ◌∷◌, ◌++◌, length, not, IfOk, OnOk, OnErr, MatchOption, MatchResult, None, Some, filter};
 ghost use Rattle.std.specs.declared.cmp.Ordering.{Ordering};
 ghost use Rattle.std.specs.Ordering.{is_lt};

@@ -1,3 +1,4 @@
+//! Dictionaries against lists of terms.
 ghost use Rattle.std.specs.Prelude.{◌<◌};
 
 use collections::{Sequence, contains_item};

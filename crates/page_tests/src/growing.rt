@@ -1,3 +1,4 @@
+//! Growing lists against vectors.
 use collections::ExactClone;
 use growing_list::GrowingList;
 use std::alloc::AllocError;

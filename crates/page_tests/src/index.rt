@@ -1,3 +1,4 @@
+//! Indexes against lists of triples.
 ghost use Rattle.std.specs.Prelude.{◌<◌, IfSome, length};
 ghost use Rattle.rdf_model.specs.Numbers.{AsksForOne};
 

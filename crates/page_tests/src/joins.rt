@@ -1,5 +1,5 @@
 //! Joins over an overlay and over an index, against tables and against all assignments in turn.
-use bgp_query::{JoinPattern, Matcher, Part, SelectFault, select};
+use bgp_query::{JoinFault, JoinPattern, Matcher, Part, select};
 use overlay_view::Overlay;
 use rdf_model::{Ids, Triples};
 use std::alloc::{AllocError, Global};
@@ -173,7 +173,7 @@ fn more_than_100000_are_too_many(rt: HostRuntime) -> Result<(), Fail> {
     let more = index_of_pairs(alloc, 317)?;
     match select(alloc, &more, &pairs) {
         Ok(_) => panic!(&rt; "100,489 are answered"),
-        Err(fault) => assert_eq!(&rt; fault, SelectFault::TooMany),
+        Err(fault) => assert_eq!(&rt; fault, JoinFault::TooMany),
     }
     Ok(())
 }
@@ -190,7 +190,7 @@ fn the_limit_is_100000(rt: HostRuntime) -> Result<(), Fail> {
     let more = index_of_pairs(alloc, 100_001)?;
     match select(alloc, &more, &edges) {
         Ok(_) => panic!(&rt; "100,001 are answered"),
-        Err(fault) => assert_eq!(&rt; fault, SelectFault::TooMany),
+        Err(fault) => assert_eq!(&rt; fault, JoinFault::TooMany),
     }
     Ok(())
 }

@@ -2,7 +2,7 @@
 ghost use Rattle.std.specs.Prelude.{IfOk, OnOk};
 ghost use Rattle.rdf_model.specs.Numbers.{AreNumbered};
 
-use bgp_query::{JoinPattern, Part, SelectFault};
+use bgp_query::{JoinFault, JoinPattern, Part};
 use rdf_model::{Ids, Names, Term};
 use std::alloc::{AllocError, Global};
 use std::process::Abort;
@@ -190,8 +190,8 @@ fn pairs_of_edges(rt: &impl Abort, alloc: Global, count: u32) -> Result<usize, N
         &patterns_of(alloc, &[(0, 100, 1), (2, 100, 3)])?,
     ) {
         Ok(rows) => Ok(rows.len()),
-        Err(SelectFault::TooMany) => Ok(0),
-        Err(SelectFault::Memory) => panic!(rt; "no memory"),
+        Err(JoinFault::TooMany) => Ok(0),
+        Err(JoinFault::Memory) => panic!(rt; "no memory"),
     }
 }
 

@@ -1,4 +1,6 @@
 //! Tests of the crates that stand on pages.
+//!
+//! Storey: tests.
 #![tactic(auto)]
 
 #[cfg(test)]

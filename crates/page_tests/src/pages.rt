@@ -1,3 +1,4 @@
+//! Sets of keys against vectors.
 ghost use Rattle.std.specs.Prelude.{◌≡◌, IfOk};
 
 use collections::ExactClone;

@@ -1,3 +1,4 @@
+//! A key put into a page.
 ghost use Rattle.std.specs.Prelude.{◌≡◌, ◌<◌, length, not, IfOk, MatchResult};
 ghost use Rattle.collections.specs.Ordered.{with_item, has_item};
 ghost use Rattle.page_tree.specs.Blocks.{AreSound, IsPlace, IsLowFor, IsAs, AreAs, width_at, height_of, most};

@@ -1,3 +1,4 @@
+//! The keys of a leaf.
 ghost use Rattle.std.specs.Prelude.{◌≡◌, not, MatchResult};
 ghost use Rattle.collections.specs.Ordered.{IsAscending, with_item, without_item, has_item};
 

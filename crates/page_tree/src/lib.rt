@@ -4,6 +4,8 @@
 //! leaves and its width. The pages right below one are of one height, and neither too narrow nor too wide,
 //! so a way down is short; a key is put in or taken out on one such way, and others may share the pages:
 //! a change copies those on its way, and those alone that are shared.
+//!
+//! Storey: pages.
 #![tactic(auto)]
 
 mod insertion;

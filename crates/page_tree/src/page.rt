@@ -1,3 +1,4 @@
+//! A page of the tree and its entries.
 ghost use Rattle.std.specs.Prelude.{◌≡◌, ◌<◌, ◌≤◌, length, MatchOption};
 ghost use Rattle.page_tree.specs.Blocks.{AreSound, IsRemovable, height_of, inner_image, leaf_image, with_low, most};
 ghost use Rattle.std.specs.Arc.{arc_value};

@@ -1,3 +1,4 @@
+//! Pages split and merged.
 ghost use Rattle.std.specs.Prelude.{◌≡◌, [], ◌∷◌, ◌+◌, ◌<◌, ◌≤◌, ◌++◌, length, IfOk, OnOk};
 ghost use Rattle.collections.specs.Ordered.{IsAscending};
 ghost use Rattle.page_tree.specs.Blocks.{AreSound, AreBelow, IsParted, keys_of, height_of, pair_blocks, least, most};

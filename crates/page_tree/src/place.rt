@@ -1,3 +1,4 @@
+//! The entry below which a key belongs.
 ghost use Rattle.std.specs.Prelude.{◌≡◌, ◌+◌, ◌<◌, ◌≤◌, ◌++◌, length, take, drop, OnOk, OnErr};
 ghost use Rattle.page_tree.specs.Blocks.{AreSound, IsPlace, IsSide, height_of, pair_blocks};
 

@@ -1,3 +1,4 @@
+//! A key taken out of a page.
 ghost use Rattle.std.specs.Prelude.{◌≡◌, ◌⊎◌, ◌+◌, ◌<◌, ◌≤◌, length, IfOk, MatchOption, MatchResult, None, Some};
 ghost use Rattle.collections.specs.Ordered.{without_item, has_item};
 ghost use Rattle.page_tree.specs.Blocks.{AreSound, IsPlace, IsLowWithout, IsAs, AreAs, width_at, height_of, second_of, IsRemovable, least, most};

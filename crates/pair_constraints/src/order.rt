@@ -1,3 +1,4 @@
+//! The components less-than and less-than-or-equals (SHACL sections 4.5.3 and 4.5.4).
 ghost use Rattle.std.specs.Prelude.{◌≡◌, ◌↔◌, ◌<◌, ◌++◌, IfOk, IsTrue, OnOk, length};
 ghost use Rattle.std.specs.List.{Contains};
 ghost use Rattle.rdf_model.specs.Numbers.{AreNumbered};
@@ -53,7 +54,7 @@ fn add_pair<N: Names>(
     Ok(())
 }
 
-// The same for each of the values.
+// Adds the result of the value for each of the others to which it does not stand as compared.
 fn add_pairs<N: Names>(
     rows: &mut Vec<ResultRow>,
     site: &Site<'_, N>,

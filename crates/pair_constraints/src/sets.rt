@@ -1,3 +1,4 @@
+//! The components equals and disjoint (SHACL sections 4.5.1 and 4.5.2).
 ghost use Rattle.std.specs.Prelude.{◌≡◌, ◌↔◌, ◌∷◌, ◌++◌, [], IfOk, IsTrue, OnOk};
 ghost use Rattle.std.proofs.Common.{cond};
 ghost use Rattle.std.specs.List.{Contains};

@@ -12,7 +12,7 @@ use Rattle.collections.proofs.Members.{below, has_cases, has_equal, has_head, ha
 use Rattle.rdf_model.specs.declared.term.Term.{Term}
 use Rattle.rdf_model.specs.declared.triple.Triple.{Triple}
 use Rattle.shape_model.specs.Targets.{Target}
-use Rattle.graph_validation.specs.Counting.{GrowsByCount, IsApart, IsCount}
+use Rattle.parallel_validate.specs.Counting.{GrowsByCount, IsApart, IsCount}
 use Rattle.parallel_validate.specs.PairResults.{CountsTarget}
 use Rattle.parallel_validate.specs.PairsResults.{CountsPairs}
 

@@ -21,7 +21,7 @@ use Rattle.shape_ast.specs.Readings.{named_shapes}
 use Rattle.shape_ast.specs.Standing.{StandFor}
 use Rattle.focus_affected.specs.Touched.{AreChanged}
 use Rattle.change_laws.specs.Checks.{AreChecked, CheckedPair, SameMembers}
-use Rattle.graph_validation.specs.Counting.{GrowsByCount}
+use Rattle.parallel_validate.specs.Counting.{GrowsByCount}
 use Rattle.change_laws.specs.Pairs.{IsCheckFootprint}
 use Rattle.parallel_validate.specs.declared.pairs.CheckedRows.{CheckedRows}
 use Rattle.parallel_validate.specs.PairsResults.{pair_of, shape_at}

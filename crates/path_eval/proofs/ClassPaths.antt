@@ -10,13 +10,13 @@ use Rattle.shape_model.specs.Paths as defined
 use Rattle.shape_model.specs.Walks.{Chain, Walk}
 use Rattle.shape_model.specs.Instances.{class_path}
 use Rattle.shape_model.specs.NodeLooks.{PathReads}
-use Rattle.compiled_paths.specs.declared.path.Path.{Predicate}
+use Rattle.path_ast.specs.declared.path.Path.{Predicate}
 use Rattle.path_eval.specs.declared.instances.ClassWords.{ClassWords}
 use Rattle.path_eval.specs.Instances.{AreClassWords}
 use Rattle.path_eval.specs.Relations.{Repeated}
 use Rattle.path_eval.specs.NumberedWalks.{Reaches}
 use Rattle.path_eval.specs.NumberedLooks.{AtRepeated, Reads}
-use Rattle.path_eval.proofs.Mirrors.{Mirrors, many_turned, mirrors, mirrors_repeated, mirrors_same, mirrors_then}
+use Rattle.path_eval.proofs.Mirrors.{Mirrors, many_reversed, mirrors, mirrors_repeated, mirrors_same, mirrors_then}
 use Rattle.path_eval.proofs.MirroredLooks.{Shows, repeated, shows, shows_either, shows_then}
 
 module _ (terms : List Term) (numbering : IsNumbering terms) (ids : List Ids) (numbered : AreNumbered terms ids) (words : ClassWords) (named : AreClassWords terms words) where
@@ -48,14 +48,14 @@ module _ (terms : List Term) (numbering : IsNumbering terms) (ids : List Ids) (n
       (repeated terms numbering ids numbered (Predicate words.sub_class_of) false named.above_bound (shows terms numbering ids numbered (Predicate words.sub_class_of) false named.above_bound)))))
 
   -- the same along the way back
-  above_turned : Mirrors terms (Repeated (Reaches ids true (Predicate words.sub_class_of))) (λ x y. Walk (graph_of terms ids) (defined.ZeroOrMore (defined.Predicate (term_at terms words.sub_class_of))) y x)
-  above_turned =
+  above_reversed : Mirrors terms (Repeated (Reaches ids true (Predicate words.sub_class_of))) (λ x y. Walk (graph_of terms ids) (defined.ZeroOrMore (defined.Predicate (term_at terms words.sub_class_of))) y x)
+  above_reversed =
       let W = Walk (graph_of terms ids) (defined.Predicate (term_at terms words.sub_class_of)) in
-      mirrors_same terms (Repeated (Reaches ids true (Predicate words.sub_class_of))) (λ x y. (zs : List Term) × Chain (λ a b. W b a) x zs y) (λ x y. (zs : List Term) × Chain W y zs x) (many_turned terms W)
+      mirrors_same terms (Repeated (Reaches ids true (Predicate words.sub_class_of))) (λ x y. (zs : List Term) × Chain (λ a b. W b a) x zs y) (λ x y. (zs : List Term) × Chain W y zs x) (many_reversed terms W)
       (mirrors_repeated terms (Reaches ids true (Predicate words.sub_class_of)) (λ a b. W b a) (mirrors terms numbering ids numbered (Predicate words.sub_class_of) true named.above_bound))
 
-  pub turned_mirrors : Mirrors terms (λ x y. (z : ℕ) × Repeated (Reaches ids true (Predicate words.sub_class_of)) x z × Reaches ids true (Predicate words.rdf_type) z y) (λ x y. Walk (graph_of terms ids) class_path y x)
-  turned_mirrors =
+  pub reversed_mirrors : Mirrors terms (λ x y. (z : ℕ) × Repeated (Reaches ids true (Predicate words.sub_class_of)) x z × Reaches ids true (Predicate words.rdf_type) z y) (λ x y. Walk (graph_of terms ids) class_path y x)
+  reversed_mirrors =
       let R = λ (x y : ℕ). (z : ℕ) × Repeated (Reaches ids true (Predicate words.sub_class_of)) x z × Reaches ids true (Predicate words.rdf_type) z y in
       let own = term_at terms words.rdf_type in
       let up = term_at terms words.sub_class_of in
@@ -65,11 +65,11 @@ module _ (terms : List Term) (numbering : IsNumbering terms) (ids : List Ids) (n
       (subst (λ (s : Term). Mirrors terms R (λ x y. Walk (graph_of terms ids) (defined.Sequence (defined.Also (defined.Predicate own) (defined.Last (defined.ZeroOrMore (defined.Predicate s))))) y x)) named.above
       (mirrors_same terms R (λ x y. (z : Term) × V z x × W y z) (λ x y. (z : Term) × W y z × V z x) (λ x y. (λ c. (c.0, c.2, c.1), λ c. (c.0, c.2, c.1)))
       (mirrors_then terms (Repeated (Reaches ids true (Predicate words.sub_class_of))) (Reaches ids true (Predicate words.rdf_type)) (λ x y. V y x) (λ x y. W y x)
-      above_turned (mirrors terms numbering ids numbered (Predicate words.rdf_type) true named.types_bound))))
+      above_reversed (mirrors terms numbering ids numbered (Predicate words.rdf_type) true named.types_bound))))
 
-  pub turned_shows : Shows terms (λ x look. AtRepeated (Reaches ids true (Predicate words.sub_class_of)) (Reads ids true (Predicate words.sub_class_of)) x look
+  pub reversed_shows : Shows terms (λ x look. AtRepeated (Reaches ids true (Predicate words.sub_class_of)) (Reads ids true (Predicate words.sub_class_of)) x look
       ⊎ ((z : ℕ) × Repeated (Reaches ids true (Predicate words.sub_class_of)) x z × Reads ids true (Predicate words.rdf_type) z look)) (PathReads (graph_of terms ids) true class_path)
-  turned_shows =
+  reversed_shows =
       let K = AtRepeated (Reaches ids true (Predicate words.sub_class_of)) (Reads ids true (Predicate words.sub_class_of)) in
       let R = Repeated (Reaches ids true (Predicate words.sub_class_of)) in
       let L = λ (x : ℕ) (look : Look ℕ). K x look ⊎ ((z : ℕ) × R x z × Reads ids true (Predicate words.rdf_type) z look) in
@@ -82,5 +82,5 @@ module _ (terms : List Term) (numbering : IsNumbering terms) (ids : List Ids) (n
       (shows_either terms K (λ x look. (z : ℕ) × R x z × Reads ids true (Predicate words.rdf_type) z look)
       (PathReads (graph_of terms ids) true (defined.ZeroOrMore (defined.Predicate up))) (λ x l. (z : Term) × V z x × PathReads (graph_of terms ids) true (defined.Predicate own) z l)
       (repeated terms numbering ids numbered (Predicate words.sub_class_of) true named.above_bound (shows terms numbering ids numbered (Predicate words.sub_class_of) true named.above_bound))
-      (shows_then terms R (λ x y. V y x) (Reads ids true (Predicate words.rdf_type)) (PathReads (graph_of terms ids) true (defined.Predicate own)) above_turned
+      (shows_then terms R (λ x y. V y x) (Reads ids true (Predicate words.rdf_type)) (PathReads (graph_of terms ids) true (defined.Predicate own)) above_reversed
       (shows terms numbering ids numbered (Predicate words.rdf_type) true named.types_bound))))

@@ -11,10 +11,10 @@ use Rattle.rdf_model.specs.declared.look.Look.{Look}
 use Rattle.rdf_model.specs.declared.look.Look.TheVariants.{Out, In, OutAny}
 use Rattle.rdf_model.specs.Numbers.{term_at, graph_of, IsNumbering}
 use Rattle.shape_model.specs.Walks.{Walk}
-use Rattle.shape_model.specs.Looks.{turn}
+use Rattle.shape_model.specs.Looks.{directed}
 use Rattle.shape_model.specs.NodeLooks.{PathReads}
-use Rattle.compiled_paths.specs.declared.path.Path.{Path}
-use Rattle.compiled_paths.specs.PathReadings.{path_of}
+use Rattle.path_ast.specs.declared.path.Path.{Path}
+use Rattle.path_ast.specs.PathReadings.{path_of}
 use Rattle.path_eval.specs.Naming.{look_of, AddsReads, AreValues, IsBoundLook, Numbered}
 use Rattle.path_eval.specs.Relations.{Adds, FromSome, IsFollowed}
 use Rattle.path_eval.specs.NumberedWalks.{Reaches}
@@ -64,14 +64,14 @@ module _ (terms : List Term) (numbering : IsNumbering terms) (x : ℕ) (lt : x <
   pub every_look : (L : ℕ → Look ℕ → Type 0) (M : Term → Look Term → Type 0) → Shows terms L M → (old new : List (Look ℕ)) → Adds old new (L x) → (l : Look Term) → M (term_at terms x) l → Contains (map (look_of terms) new) l
   every_look L M m old new a l r = let k = m.from x l lt r in subst (λ (w : Look Term). Contains (map (look_of terms) new) w) k.2 (mapped_to (look_of terms) new k.0 ((a k.0).1 (inr k.1)))
 
-pub are_values : (ids : List Ids) (turned : Bool) (p : Path ℕ) (x : ℕ) (ends : List ℕ) → IsListing nat_cmp (Reaches ids turned p x) ends → Numbered ids p x (λ terms. AreValues terms ids turned p x ends)
-are_values ids turned p x ends l terms numbering numbered bound lt =
-    let m = mirrors terms numbering ids numbered p turned bound in
-    let W = Walk (graph_of terms ids) (turn turned (path_of terms p)) in
-    record { listed = ends_named terms numbering x lt (Reaches ids turned p) W m ends l; every = every_end terms numbering x lt (Reaches ids turned p) W m ends l }
+pub are_values : (ids : List Ids) (reversed : Bool) (p : Path ℕ) (x : ℕ) (ends : List ℕ) → IsListing nat_cmp (Reaches ids reversed p x) ends → Numbered ids p x (λ terms. AreValues terms ids reversed p x ends)
+are_values ids reversed p x ends l terms numbering numbered bound lt =
+    let m = mirrors terms numbering ids numbered p reversed bound in
+    let W = Walk (graph_of terms ids) (directed reversed (path_of terms p)) in
+    record { listed = ends_named terms numbering x lt (Reaches ids reversed p) W m ends l; every = every_end terms numbering x lt (Reaches ids reversed p) W m ends l }
 
-pub adds_reads : (ids : List Ids) (turned : Bool) (p : Path ℕ) (x : ℕ) (old new : List (Look ℕ)) → Adds old new (Reads ids turned p x) → Numbered ids p x (λ terms. AddsReads terms ids turned p x old new)
-adds_reads ids turned p x old new a terms numbering numbered bound lt =
-    let m = shows terms numbering ids numbered p turned bound in
-    let M = PathReads (graph_of terms ids) turned (path_of terms p) in
-    record { added = looks_named terms numbering x lt (Reads ids turned p) M m old new a; every = every_look terms numbering x lt (Reads ids turned p) M m old new a }
+pub adds_reads : (ids : List Ids) (reversed : Bool) (p : Path ℕ) (x : ℕ) (old new : List (Look ℕ)) → Adds old new (Reads ids reversed p x) → Numbered ids p x (λ terms. AddsReads terms ids reversed p x old new)
+adds_reads ids reversed p x old new a terms numbering numbered bound lt =
+    let m = shows terms numbering ids numbered p reversed bound in
+    let M = PathReads (graph_of terms ids) reversed (path_of terms p) in
+    record { added = looks_named terms numbering x lt (Reads ids reversed p) M m old new a; every = every_look terms numbering x lt (Reads ids reversed p) M m old new a }

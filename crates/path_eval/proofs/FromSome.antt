@@ -8,10 +8,10 @@ use Rattle.rdf_model.specs.declared.ids.Ids.{Ids}
 use Rattle.rdf_model.specs.declared.look.Look.{Look}
 use Rattle.rdf_model.specs.Numbers.{term_at, graph_of}
 use Rattle.shape_model.specs.Walks.{Walk}
-use Rattle.shape_model.specs.Looks.{turn}
+use Rattle.shape_model.specs.Looks.{directed}
 use Rattle.shape_model.specs.NodeLooks.{PathReads}
-use Rattle.compiled_paths.specs.declared.path.Path.{Path}
-use Rattle.compiled_paths.specs.PathReadings.{path_of}
+use Rattle.path_ast.specs.declared.path.Path.{Path}
+use Rattle.path_ast.specs.PathReadings.{path_of}
 use Rattle.path_eval.specs.Naming.{look_of, AddsReadsOfSome, AreValuesOfSome, IsBoundLook, NumberedEach}
 use Rattle.path_eval.specs.Relations.{Adds, FromSome}
 use Rattle.path_eval.specs.NumberedWalks.{Reaches}
@@ -21,11 +21,11 @@ use Rattle.path_eval.proofs.Growing.{listing_same, adds_same}
 use Rattle.path_eval.proofs.Mirrors.{mapped_to, mirrors}
 use Rattle.path_eval.proofs.MirroredLooks.{shows}
 
-pub are_values_of_some : (ids : List Ids) (turned : Bool) (p : Path ℕ) (xs ends : List ℕ) → IsListing nat_cmp (FromSome xs (Reaches ids turned p)) ends → NumberedEach ids p xs (λ terms. AreValuesOfSome terms ids turned p xs ends)
-are_values_of_some ids turned p xs ends l terms numbering numbered bound within =
-    let m = mirrors terms numbering ids numbered p turned bound in
-    let R = Reaches ids turned p in
-    let W = Walk (graph_of terms ids) (turn turned (path_of terms p)) in
+pub are_values_of_some : (ids : List Ids) (reversed : Bool) (p : Path ℕ) (xs ends : List ℕ) → IsListing nat_cmp (FromSome xs (Reaches ids reversed p)) ends → NumberedEach ids p xs (λ terms. AreValuesOfSome terms ids reversed p xs ends)
+are_values_of_some ids reversed p xs ends l terms numbering numbered bound within =
+    let m = mirrors terms numbering ids numbered p reversed bound in
+    let R = Reaches ids reversed p in
+    let W = Walk (graph_of terms ids) (directed reversed (path_of terms p)) in
     record {
       listed = listing_same nat_cmp (FromSome xs R) (λ n. (n < length terms) × ((x : ℕ) × Contains xs x × W (term_at terms x) (term_at terms n))) (λ n. (
         λ h. let t = m.to h.0 n (within h.0 h.1) h.2 in (t.0, (h.0, h.1, t.1)),
@@ -34,11 +34,11 @@ are_values_of_some ids turned p xs ends l terms numbering numbered bound within 
       every = λ x v c w. let k = m.from x v (within x c) w in subst (λ (t : Term). Contains (map (term_at terms) ends) t) k.3 (mapped_to (term_at terms) ends k.0 ((l.members k.0).1 (x, c, k.2)));
     }
 
-pub adds_reads_of_some : (ids : List Ids) (turned : Bool) (p : Path ℕ) (xs : List ℕ) (old new : List (Look ℕ)) → Adds old new (FromSome xs (Reads ids turned p)) → NumberedEach ids p xs (λ terms. AddsReadsOfSome terms ids turned p xs old new)
-adds_reads_of_some ids turned p xs old new a terms numbering numbered bound within =
-    let m = shows terms numbering ids numbered p turned bound in
-    let L = Reads ids turned p in
-    let M = PathReads (graph_of terms ids) turned (path_of terms p) in
+pub adds_reads_of_some : (ids : List Ids) (reversed : Bool) (p : Path ℕ) (xs : List ℕ) (old new : List (Look ℕ)) → Adds old new (FromSome xs (Reads ids reversed p)) → NumberedEach ids p xs (λ terms. AddsReadsOfSome terms ids reversed p xs old new)
+adds_reads_of_some ids reversed p xs old new a terms numbering numbered bound within =
+    let m = shows terms numbering ids numbered p reversed bound in
+    let L = Reads ids reversed p in
+    let M = PathReads (graph_of terms ids) reversed (path_of terms p) in
     record {
       added = adds_same old new (FromSome xs L) (λ look. IsBoundLook (length terms) look × ((x : ℕ) × Contains xs x × M (term_at terms x) (look_of terms look))) (λ look. (
         λ h. let t = m.to h.0 look (within h.0 h.1) h.2 in (t.0, (h.0, h.1, t.1)),

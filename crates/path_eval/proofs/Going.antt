@@ -22,7 +22,7 @@ use Rattle.path_eval.proofs.Closure.{closed_chain, from_back, no_start, then_ste
 abbrev pub plan_size : Plan → ℕ
 plan_size Stay = 0
 plan_size Stop = 0
-plan_size (Along turned p) = 0
+plan_size (Along reversed p) = 0
 plan_size (OneThenOther a b) = plan_size a + plan_size b + 1
 plan_size (OneOrOther a b) = plan_size a + plan_size b + 1
 plan_size (Again a) = plan_size a + 1
@@ -58,7 +58,7 @@ module _ (ids : List Ids) where
   pub wider : (w : Walker) (ins ins' outs outs' : List ℕ) (looks more : List (Look ℕ)) → Within ins' ins → Within outs outs' → Within looks more → IsClosed ids w ins outs looks → IsClosed ids w ins' outs' more
   wider Here ins ins' outs outs' looks more i o l c = λ x h. o x (c x (i x h))
   wider Nowhere ins ins' outs outs' looks more i o l c = tt
-  wider (Edges p turned seen) ins ins' outs outs' looks more i o l c = (λ x h. c.0 x (i x h), λ x h. let k = c.1 x h in (l (look_from turned p x) k.0, λ y f. o y (k.1 y f)))
+  wider (Edges p reversed seen) ins ins' outs outs' looks more i o l c = (λ x h. c.0 x (i x h), λ x h. let k = c.1 x h in (l (look_from reversed p x) k.0, λ y f. o y (k.1 y f)))
   wider (Then' _ a _ b) ins ins' outs outs' looks more i o l c = (c.0, wider a ins ins' c.0 c.0 looks more i (λ x h. h) l c.1, wider b c.0 c.0 outs outs' looks more (λ x h. h) o l c.2)
   wider (Either' _ a _ b) ins ins' outs outs' looks more i o l c = (wider a ins ins' outs outs' looks more i o l c.0, wider b ins ins' outs outs' looks more i o l c.1)
   wider (More' _ a entered) ins ins' outs outs' looks more i o l c =
@@ -68,7 +68,7 @@ module _ (ids : List Ids) where
   pub ends_closed : (w : Walker) (ins outs : List ℕ) (looks : List (Look ℕ)) → IsClosed ids w ins outs looks → (x y : ℕ) → Contains ins x → Goes ids (plan_of w) x y → Contains outs y
   ends_closed Here ins outs looks c x y i r = subst (λ (a : ℕ). Contains outs a) r (c x i)
   ends_closed Nowhere ins outs looks c x y i r = absurd r
-  ends_closed (Edges p turned seen) ins outs looks c x y i r = (c.1 x (c.0 x i)).1 y r
+  ends_closed (Edges p reversed seen) ins outs looks c x y i r = (c.1 x (c.0 x i)).1 y r
   ends_closed (Then' _ a _ b) ins outs looks c x y i r = ends_closed b c.0 outs looks c.2 r.0 y (ends_closed a ins c.0 looks c.1 x r.0 i r.1) r.2
   ends_closed (Either' _ a _ b) ins outs looks c x y i r = elim r [ inl r ↦ ends_closed a ins outs looks c.0 x y i r | inr r ↦ ends_closed b ins outs looks c.1 x y i r ]
   ends_closed (More' _ a entered) ins outs looks c x y i r =
@@ -79,7 +79,7 @@ module _ (ids : List Ids) where
   pub looks_closed : (w : Walker) (ins outs : List ℕ) (looks : List (Look ℕ)) → IsClosed ids w ins outs looks → (x : ℕ) (look : Look ℕ) → Contains ins x → Sees ids (plan_of w) x look → Contains looks look
   looks_closed Here ins outs looks c x look i s = absurd s
   looks_closed Nowhere ins outs looks c x look i s = absurd s
-  looks_closed (Edges p turned seen) ins outs looks c x look i s = subst (λ (l : Look ℕ). Contains looks l) (sym s) (c.1 x (c.0 x i)).0
+  looks_closed (Edges p reversed seen) ins outs looks c x look i s = subst (λ (l : Look ℕ). Contains looks l) (sym s) (c.1 x (c.0 x i)).0
   looks_closed (Then' _ a _ b) ins outs looks c x look i s = elim s [
     | inl s ↦ looks_closed a ins c.0 looks c.1 x look i s
     | inr s ↦ looks_closed b c.0 outs looks c.2 s.0 look (ends_closed a ins c.0 looks c.1 x s.0 i s.1) s.2
@@ -107,10 +107,10 @@ module _ (ids : List Ids) where
     closed = λ ins outs c. tt;
   })
 
-  pub edges_on : (p : ℕ) (turned : Bool) (seen seen' starts ends : List ℕ) (looks more : List (Look ℕ)) → Enters seen seen' (Contains starts)
-      → IsFollowed (drop (length seen) seen') (λ x y. IsFound (look_from turned p x) ids y) (λ x look. look ≡ look_from turned p x) looks more ends
-      → GoesOn ids (Edges p turned seen) (Edges p turned seen') starts looks more ends
-  edges_on p turned seen seen' starts ends looks more e h =
+  pub edges_on : (p : ℕ) (reversed : Bool) (seen seen' starts ends : List ℕ) (looks more : List (Look ℕ)) → Enters seen seen' (Contains starts)
+      → IsFollowed (drop (length seen) seen') (λ x y. IsFound (look_from reversed p x) ids y) (λ x look. look ≡ look_from reversed p x) looks more ends
+      → GoesOn ids (Edges p reversed seen) (Edges p reversed seen') starts looks more ends
+  edges_on p reversed seen seen' starts ends looks more e h =
       let new : drop (length seen) seen' ≡ e.more = ap (drop (length seen)) e.extended ∙ drop-append_seam seen e.more in
       let only : Within (drop (length seen) seen') starts = λ x c. e.only x (subst (λ (l : List ℕ). Contains l x) new c) in
       let grown : Within looks more = λ look c. (h.looks look).1 (inl c) in
@@ -122,9 +122,9 @@ module _ (ids : List Ids) where
         closed = λ ins outs c. (
           λ x i. elim (Contains-append_cases ins starts x i) [ inl d ↦ (e.members x).1 (inl (c.0 x d)) | inr d ↦ (e.members x).1 (inr d) ],
           λ x i. elim (Contains-append_cases seen e.more x (subst (λ (l : List ℕ). Contains l x) e.extended i)) [
-            | inl d ↦ (grown (look_from turned p x) (c.1 x d).0, λ y f. Contains-append_left outs ends y ((c.1 x d).1 y f))
+            | inl d ↦ (grown (look_from reversed p x) (c.1 x d).0, λ y f. Contains-append_left outs ends y ((c.1 x d).1 y f))
             | inr d ↦ let b = subst (λ (l : List ℕ). Contains l x) (sym new) d in
-                ((h.looks (look_from turned p x)).1 (inr (x, b, refl)), λ y f. Contains-append_right outs ends y ((h.listed.members y).1 (x, b, f)))
+                ((h.looks (look_from reversed p x)).1 (inr (x, b, refl)), λ y f. Contains-append_right outs ends y ((h.listed.members y).1 (x, b, f)))
           ],
         );
       }

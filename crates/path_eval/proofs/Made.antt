@@ -4,15 +4,15 @@ use Rattle.std.specs.Prelude.{◌⊎◌, ◌↔◌, not}
 use Rattle.std.proofs.lemmas.List.{take-append-drop}
 use Rattle.rdf_model.specs.declared.ids.Ids.{Ids}
 use Rattle.rdf_model.specs.declared.look.Look.{Look}
-use Rattle.compiled_paths.specs.declared.path.Path.{Path, Predicate, Inverse, Sequence, Alternative, ZeroOrMore, OneOrMore, ZeroOrOne}
-use Rattle.compiled_paths.proofs.Sizes.{list_size, path_size}
+use Rattle.path_ast.specs.declared.path.Path.{Path, Predicate, Inverse, Sequence, Alternative, ZeroOrMore, OneOrMore, ZeroOrOne}
+use Rattle.path_ast.proofs.Sizes.{list_size, path_size}
 use Rattle.path_eval.specs.declared.walker.Walker.{Walker, Here, Edges}
 use Rattle.path_eval.specs.Relations.{NumberChain, Repeated}
 use Rattle.path_eval.specs.NumberedWalks.{Backward, Onward, Reaches, ReachesSome}
 use Rattle.path_eval.specs.NumberedLooks.{AtRepeated, Reads, ReadsBackward, ReadsOnward, ReadsSome}
 use Rattle.path_eval.specs.Walkers.{Again, Goes, IsAnyNumber, IsClosed, IsEither, IsMade, IsMore, IsNew, IsThen, OneOrOther, OneThenOther, Plan, Sees, Stay, plan_of}
 use Rattle.path_eval.proofs.Closure.{no_start}
-use Rattle.path_eval.proofs.Rows.{alternative_reads, alternative_reaches, sequence_reads, sequence_reaches, turned_reads, turned_reaches}
+use Rattle.path_eval.proofs.Rows.{alternative_reads, alternative_reaches, sequence_reads, sequence_reaches, reversed_reads, reversed_reaches}
 
 chain_same : (R S : ℕ → ℕ → Type 0) → ((x y : ℕ) → R x y → S x y) → (zs : List ℕ) (x y : ℕ) → NumberChain R x zs y → NumberChain S x zs y
 chain_same R S e [] x y c = c
@@ -105,62 +105,62 @@ module _ (a walker : Walker) (R : List Ids → ℕ → ℕ → Type 0) (L : List
       (λ ids x look. (elim [ inl n ↦ absurd n | inr s ↦ (h.reads ids x look).0 s ], λ s. inr ((h.reads ids x look).1 s)))
 
 -- the walker of a path, by its kind
-module _ (path : Path ℕ) (turned : Bool) where
+module _ (path : Path ℕ) (reversed : Bool) where
   abbrev pub IsMadeFor : Walker → Type 0
-  IsMadeFor walker = IsMade walker (λ ids. Reaches ids turned path) (λ ids. Reads ids turned path)
+  IsMadeFor walker = IsMade walker (λ ids. Reaches ids reversed path) (λ ids. Reads ids reversed path)
 
-  made_for : (walker : Walker) (q : Path ℕ) → path ≡ q → IsMade walker (λ ids. Reaches ids turned q) (λ ids. Reads ids turned q) → IsMadeFor walker
-  made_for walker q e h = subst (λ (p : Path ℕ). IsMade walker (λ ids. Reaches ids turned p) (λ ids. Reads ids turned p)) (sym e) h
+  made_for : (walker : Walker) (q : Path ℕ) → path ≡ q → IsMade walker (λ ids. Reaches ids reversed q) (λ ids. Reads ids reversed q) → IsMadeFor walker
+  made_for walker q e h = subst (λ (p : Path ℕ). IsMade walker (λ ids. Reaches ids reversed p) (λ ids. Reads ids reversed p)) (sym e) h
 
-  pub predicate_made : (p : ℕ) (seen : List ℕ) → path ≡ Predicate p → seen ≡ [] → IsMadeFor (Edges p turned seen)
-  predicate_made p seen e none = made_for (Edges p turned seen) (Predicate p) e (record {
-    fresh = λ ids looks. subst (λ (l : List ℕ). IsClosed ids (Edges p turned l) [] [] looks) (sym none) (λ x c. c, λ x c. absurd (no_start x c));
+  pub predicate_made : (p : ℕ) (seen : List ℕ) → path ≡ Predicate p → seen ≡ [] → IsMadeFor (Edges p reversed seen)
+  predicate_made p seen e none = made_for (Edges p reversed seen) (Predicate p) e (record {
+    fresh = λ ids looks. subst (λ (l : List ℕ). IsClosed ids (Edges p reversed l) [] [] looks) (sym none) (λ x c. c, λ x c. absurd (no_start x c));
     reaches = λ ids x y. (λ r. r, λ r. r);
     reads = λ ids x look. (λ s. s, λ s. s);
   })
 
   module _ (inner : Box (Path ℕ) Global) (f : Path ℕ) (is : f ≡ inner.value) (once walker : Walker) where
-    pub inverse_made : path ≡ Inverse inner → IsMade once (λ ids. Reaches ids (not turned) f) (λ ids. Reads ids (not turned) f) → IsMadeFor once
-    inverse_made e h = made_for once (Inverse inner) e (subst (λ (q : Path ℕ). IsMade once (λ ids. Reaches ids (not turned) q) (λ ids. Reads ids (not turned) q)) is h)
+    pub inverse_made : path ≡ Inverse inner → IsMade once (λ ids. Reaches ids (not reversed) f) (λ ids. Reads ids (not reversed) f) → IsMadeFor once
+    inverse_made e h = made_for once (Inverse inner) e (subst (λ (q : Path ℕ). IsMade once (λ ids. Reaches ids (not reversed) q) (λ ids. Reads ids (not reversed) q)) is h)
 
-    inside : IsMade once (λ ids. Reaches ids turned f) (λ ids. Reads ids turned f) → IsMade once (λ ids. Reaches ids turned inner.value) (λ ids. Reads ids turned inner.value)
-    inside h = subst (λ (q : Path ℕ). IsMade once (λ ids. Reaches ids turned q) (λ ids. Reads ids turned q)) is h
+    inside : IsMade once (λ ids. Reaches ids reversed f) (λ ids. Reads ids reversed f) → IsMade once (λ ids. Reaches ids reversed inner.value) (λ ids. Reads ids reversed inner.value)
+    inside h = subst (λ (q : Path ℕ). IsMade once (λ ids. Reaches ids reversed q) (λ ids. Reads ids reversed q)) is h
 
-    pub many_made : path ≡ ZeroOrMore inner → IsMade once (λ ids. Reaches ids turned f) (λ ids. Reads ids turned f) → IsAnyNumber once walker → IsMadeFor walker
-    many_made e h j = made_for walker (ZeroOrMore inner) e (made_any_number once walker (λ ids. Reaches ids turned inner.value) (λ ids. Reads ids turned inner.value) (inside h) j)
+    pub many_made : path ≡ ZeroOrMore inner → IsMade once (λ ids. Reaches ids reversed f) (λ ids. Reads ids reversed f) → IsAnyNumber once walker → IsMadeFor walker
+    many_made e h j = made_for walker (ZeroOrMore inner) e (made_any_number once walker (λ ids. Reaches ids reversed inner.value) (λ ids. Reads ids reversed inner.value) (inside h) j)
 
-    pub more_made : path ≡ OneOrMore inner → IsMade once (λ ids. Reaches ids turned f) (λ ids. Reads ids turned f) → IsMore once walker → IsMadeFor walker
-    more_made e h j = made_for walker (OneOrMore inner) e (made_more once walker (λ ids. Reaches ids turned inner.value) (λ ids. Reads ids turned inner.value) (inside h) j)
+    pub more_made : path ≡ OneOrMore inner → IsMade once (λ ids. Reaches ids reversed f) (λ ids. Reads ids reversed f) → IsMore once walker → IsMadeFor walker
+    more_made e h j = made_for walker (OneOrMore inner) e (made_more once walker (λ ids. Reaches ids reversed inner.value) (λ ids. Reads ids reversed inner.value) (inside h) j)
 
-    pub optional_made : path ≡ ZeroOrOne inner → IsMade once (λ ids. Reaches ids turned f) (λ ids. Reads ids turned f) → IsEither Here once walker → IsMadeFor walker
-    optional_made e h j = made_for walker (ZeroOrOne inner) e (made_optional once walker (λ ids. Reaches ids turned inner.value) (λ ids. Reads ids turned inner.value) (inside h) j)
+    pub optional_made : path ≡ ZeroOrOne inner → IsMade once (λ ids. Reaches ids reversed f) (λ ids. Reads ids reversed f) → IsEither Here once walker → IsMadeFor walker
+    optional_made e h j = made_for walker (ZeroOrOne inner) e (made_optional once walker (λ ids. Reaches ids reversed inner.value) (λ ids. Reads ids reversed inner.value) (inside h) j)
 
   module _ (first : Box (Path ℕ) Global) (others : Vec (Path ℕ) Global) (f : Path ℕ) (ps : List (Path ℕ)) (is_first : f ≡ first.value) (are_others : ps ≡ others.items) (one rest walker : Walker) where
-    pub sequence_made : path ≡ Sequence first others → turned ≡ false → IsMade one (λ ids. Reaches ids turned f) (λ ids. Reads ids turned f) → IsMade rest (λ ids. Onward ids ps) (λ ids. ReadsOnward ids ps) → IsThen one rest walker → IsMadeFor walker
+    pub sequence_made : path ≡ Sequence first others → reversed ≡ false → IsMade one (λ ids. Reaches ids reversed f) (λ ids. Reads ids reversed f) → IsMade rest (λ ids. Onward ids ps) (λ ids. ReadsOnward ids ps) → IsThen one rest walker → IsMadeFor walker
     sequence_made e t h k j =
         let once = subst (λ (b : Bool). IsMade one (λ ids. Reaches ids b f) (λ ids. Reads ids b f)) t h in
-        made_as walker (λ ids x y. (z : ℕ) × Reaches ids false f x z × Onward ids ps z y) (λ ids. Reaches ids turned path)
-        (λ ids x look. Reads ids false f x look ⊎ ((z : ℕ) × Reaches ids false f x z × ReadsOnward ids ps z look)) (λ ids. Reads ids turned path)
+        made_as walker (λ ids x y. (z : ℕ) × Reaches ids false f x z × Onward ids ps z y) (λ ids. Reaches ids reversed path)
+        (λ ids x look. Reads ids false f x look ⊎ ((z : ℕ) × Reaches ids false f x z × ReadsOnward ids ps z look)) (λ ids. Reads ids reversed path)
         (λ ids. (λ i x y. (z : ℕ) × Reaches ids false (is_first i) x z × Onward ids (are_others i) z y) ∙ sym (sequence_reaches ids first others) ∙ (λ i. Reaches ids (sym t i) (sym e i)))
         (λ ids. (λ i x look. Reads ids false (is_first i) x look ⊎ ((z : ℕ) × Reaches ids false (is_first i) x z × ReadsOnward ids (are_others i) z look)) ∙ sym (sequence_reads ids first others) ∙ (λ i. Reads ids (sym t i) (sym e i)))
         (made_then one rest walker (λ ids. Reaches ids false f) (λ ids. Onward ids ps) (λ ids. Reads ids false f) (λ ids. ReadsOnward ids ps) once k j)
 
-    pub turned_made : path ≡ Sequence first others → turned ≡ true → IsMade one (λ ids. Reaches ids turned f) (λ ids. Reads ids turned f) → IsMade rest (λ ids. Backward ids ps) (λ ids. ReadsBackward ids ps) → IsThen rest one walker → IsMadeFor walker
-    turned_made e t h k j =
+    pub reversed_made : path ≡ Sequence first others → reversed ≡ true → IsMade one (λ ids. Reaches ids reversed f) (λ ids. Reads ids reversed f) → IsMade rest (λ ids. Backward ids ps) (λ ids. ReadsBackward ids ps) → IsThen rest one walker → IsMadeFor walker
+    reversed_made e t h k j =
         let once = subst (λ (b : Bool). IsMade one (λ ids. Reaches ids b f) (λ ids. Reads ids b f)) t h in
-        made_as walker (λ ids x y. (z : ℕ) × Backward ids ps x z × Reaches ids true f z y) (λ ids. Reaches ids turned path)
-        (λ ids x look. ReadsBackward ids ps x look ⊎ ((z : ℕ) × Backward ids ps x z × Reads ids true f z look)) (λ ids. Reads ids turned path)
-        (λ ids. (λ i x y. (z : ℕ) × Backward ids (are_others i) x z × Reaches ids true (is_first i) z y) ∙ sym (turned_reaches ids first others) ∙ (λ i. Reaches ids (sym t i) (sym e i)))
-        (λ ids. (λ i x look. ReadsBackward ids (are_others i) x look ⊎ ((z : ℕ) × Backward ids (are_others i) x z × Reads ids true (is_first i) z look)) ∙ sym (turned_reads ids first others) ∙ (λ i. Reads ids (sym t i) (sym e i)))
+        made_as walker (λ ids x y. (z : ℕ) × Backward ids ps x z × Reaches ids true f z y) (λ ids. Reaches ids reversed path)
+        (λ ids x look. ReadsBackward ids ps x look ⊎ ((z : ℕ) × Backward ids ps x z × Reads ids true f z look)) (λ ids. Reads ids reversed path)
+        (λ ids. (λ i x y. (z : ℕ) × Backward ids (are_others i) x z × Reaches ids true (is_first i) z y) ∙ sym (reversed_reaches ids first others) ∙ (λ i. Reaches ids (sym t i) (sym e i)))
+        (λ ids. (λ i x look. ReadsBackward ids (are_others i) x look ⊎ ((z : ℕ) × Backward ids (are_others i) x z × Reads ids true (is_first i) z look)) ∙ sym (reversed_reads ids first others) ∙ (λ i. Reads ids (sym t i) (sym e i)))
         (made_then rest one walker (λ ids. Backward ids ps) (λ ids. Reaches ids true f) (λ ids. ReadsBackward ids ps) (λ ids. Reads ids true f) k once j)
 
-    pub alternative_made : path ≡ Alternative first others → IsMade one (λ ids. Reaches ids turned f) (λ ids. Reads ids turned f) → IsMade rest (λ ids. ReachesSome ids turned ps) (λ ids. ReadsSome ids turned ps) → IsEither one rest walker → IsMadeFor walker
+    pub alternative_made : path ≡ Alternative first others → IsMade one (λ ids. Reaches ids reversed f) (λ ids. Reads ids reversed f) → IsMade rest (λ ids. ReachesSome ids reversed ps) (λ ids. ReadsSome ids reversed ps) → IsEither one rest walker → IsMadeFor walker
     alternative_made e h k j =
-        made_as walker (λ ids x y. Reaches ids turned f x y ⊎ ReachesSome ids turned ps x y) (λ ids. Reaches ids turned path)
-        (λ ids x look. Reads ids turned f x look ⊎ ReadsSome ids turned ps x look) (λ ids. Reads ids turned path)
-        (λ ids. (λ i x y. Reaches ids turned (is_first i) x y ⊎ ReachesSome ids turned (are_others i) x y) ∙ sym (alternative_reaches ids first others turned) ∙ (λ i. Reaches ids turned (sym e i)))
-        (λ ids. (λ i x look. Reads ids turned (is_first i) x look ⊎ ReadsSome ids turned (are_others i) x look) ∙ sym (alternative_reads ids first others turned) ∙ (λ i. Reads ids turned (sym e i)))
-        (made_either one rest walker (λ ids. Reaches ids turned f) (λ ids. ReachesSome ids turned ps) (λ ids. Reads ids turned f) (λ ids. ReadsSome ids turned ps) h k j)
+        made_as walker (λ ids x y. Reaches ids reversed f x y ⊎ ReachesSome ids reversed ps x y) (λ ids. Reaches ids reversed path)
+        (λ ids x look. Reads ids reversed f x look ⊎ ReadsSome ids reversed ps x look) (λ ids. Reads ids reversed path)
+        (λ ids. (λ i x y. Reaches ids reversed (is_first i) x y ⊎ ReachesSome ids reversed (are_others i) x y) ∙ sym (alternative_reaches ids first others reversed) ∙ (λ i. Reaches ids reversed (sym e i)))
+        (λ ids. (λ i x look. Reads ids reversed (is_first i) x look ⊎ ReadsSome ids reversed (are_others i) x look) ∙ sym (alternative_reads ids first others reversed) ∙ (λ i. Reads ids reversed (sym e i)))
+        (made_either one rest walker (λ ids. Reaches ids reversed f) (λ ids. ReachesSome ids reversed ps) (λ ids. Reads ids reversed f) (λ ids. ReadsSome ids reversed ps) h k j)
 
 -- how many parts a list of paths has, by two parts of it; a part has fewer
 size_append : (ps qs : List (Path ℕ)) → list_size (ps ++ qs) ≡ list_size ps + list_size qs
@@ -236,18 +236,18 @@ module _ (ids : List Ids) where
     ],
   )
 
-  some_append : (turned : Bool) (ps qs : List (Path ℕ)) (x y : ℕ) → (ReachesSome ids turned ps x y ⊎ ReachesSome ids turned qs x y) ↔ ReachesSome ids turned (ps ++ qs) x y
-  some_append turned [] qs x y = (elim [ inl n ↦ absurd n | inr h ↦ h ], λ h. inr h)
-  some_append turned (p ∷ ps) qs x y = (
-    elim [ inl (inl r) ↦ inl r | inl (inr r) ↦ inr ((some_append turned ps qs x y).0 (inl r)) | inr r ↦ inr ((some_append turned ps qs x y).0 (inr r)) ],
-    elim [ inl r ↦ inl (inl r) | inr h ↦ elim ((some_append turned ps qs x y).1 h) [ inl r ↦ inl (inr r) | inr r ↦ inr r ] ],
+  some_append : (reversed : Bool) (ps qs : List (Path ℕ)) (x y : ℕ) → (ReachesSome ids reversed ps x y ⊎ ReachesSome ids reversed qs x y) ↔ ReachesSome ids reversed (ps ++ qs) x y
+  some_append reversed [] qs x y = (elim [ inl n ↦ absurd n | inr h ↦ h ], λ h. inr h)
+  some_append reversed (p ∷ ps) qs x y = (
+    elim [ inl (inl r) ↦ inl r | inl (inr r) ↦ inr ((some_append reversed ps qs x y).0 (inl r)) | inr r ↦ inr ((some_append reversed ps qs x y).0 (inr r)) ],
+    elim [ inl r ↦ inl (inl r) | inr h ↦ elim ((some_append reversed ps qs x y).1 h) [ inl r ↦ inl (inr r) | inr r ↦ inr r ] ],
   )
 
-  reads_some_append : (turned : Bool) (ps qs : List (Path ℕ)) (x : ℕ) (look : Look ℕ) → (ReadsSome ids turned ps x look ⊎ ReadsSome ids turned qs x look) ↔ ReadsSome ids turned (ps ++ qs) x look
-  reads_some_append turned [] qs x look = (elim [ inl n ↦ absurd n | inr h ↦ h ], λ h. inr h)
-  reads_some_append turned (p ∷ ps) qs x look = (
-    elim [ inl (inl r) ↦ inl r | inl (inr r) ↦ inr ((reads_some_append turned ps qs x look).0 (inl r)) | inr r ↦ inr ((reads_some_append turned ps qs x look).0 (inr r)) ],
-    elim [ inl r ↦ inl (inl r) | inr h ↦ elim ((reads_some_append turned ps qs x look).1 h) [ inl r ↦ inl (inr r) | inr r ↦ inr r ] ],
+  reads_some_append : (reversed : Bool) (ps qs : List (Path ℕ)) (x : ℕ) (look : Look ℕ) → (ReadsSome ids reversed ps x look ⊎ ReadsSome ids reversed qs x look) ↔ ReadsSome ids reversed (ps ++ qs) x look
+  reads_some_append reversed [] qs x look = (elim [ inl n ↦ absurd n | inr h ↦ h ], λ h. inr h)
+  reads_some_append reversed (p ∷ ps) qs x look = (
+    elim [ inl (inl r) ↦ inl r | inl (inr r) ↦ inr ((reads_some_append reversed ps qs x look).0 (inl r)) | inr r ↦ inr ((reads_some_append reversed ps qs x look).0 (inr r)) ],
+    elim [ inl r ↦ inl (inl r) | inr h ↦ elim ((reads_some_append reversed ps qs x look).1 h) [ inl r ↦ inl (inr r) | inr r ↦ inr r ] ],
   )
 
 -- the same by facts that hold together
@@ -260,7 +260,7 @@ made_where walker R S L M e d h = record {
 }
 
 -- the walker of two parts of a list
-module _ (walker : Walker) (turned : Bool) (paths : List (Path ℕ)) where
+module _ (walker : Walker) (reversed : Bool) (paths : List (Path ℕ)) where
   abbrev pub GoesOnward : Type 0
   GoesOnward = IsMade walker (λ ids. Onward ids paths) (λ ids. ReadsOnward ids paths)
 
@@ -268,7 +268,7 @@ module _ (walker : Walker) (turned : Bool) (paths : List (Path ℕ)) where
   GoesBackward = IsMade walker (λ ids. Backward ids paths) (λ ids. ReadsBackward ids paths)
 
   abbrev pub GoesSome : Type 0
-  GoesSome = IsMade walker (λ ids. ReachesSome ids turned paths) (λ ids. ReadsSome ids turned paths)
+  GoesSome = IsMade walker (λ ids. ReachesSome ids reversed paths) (λ ids. ReadsSome ids reversed paths)
 
 module _ (paths : List (Path ℕ)) where
   module _ (before after : List (Path ℕ)) (is : before ++ after ≡ paths) (one other walker : Walker) where
@@ -286,9 +286,9 @@ module _ (paths : List (Path ℕ)) where
         (λ ids. backward_append ids before after) (λ ids. reads_backward_append ids before after)
         (made_then one other walker (λ ids. Backward ids after) (λ ids. Backward ids before) (λ ids. ReadsBackward ids after) (λ ids. ReadsBackward ids before) h k j))
 
-    pub some_parts : (turned : Bool) → GoesSome one turned before → GoesSome other turned after → IsEither one other walker → GoesSome walker turned paths
-    some_parts turned h k j = subst (GoesSome walker turned) is
-        (made_where walker (λ ids x y. ReachesSome ids turned before x y ⊎ ReachesSome ids turned after x y) (λ ids. ReachesSome ids turned (before ++ after))
-        (λ ids x look. ReadsSome ids turned before x look ⊎ ReadsSome ids turned after x look) (λ ids. ReadsSome ids turned (before ++ after))
-        (λ ids. some_append ids turned before after) (λ ids. reads_some_append ids turned before after)
-        (made_either one other walker (λ ids. ReachesSome ids turned before) (λ ids. ReachesSome ids turned after) (λ ids. ReadsSome ids turned before) (λ ids. ReadsSome ids turned after) h k j))
+    pub some_parts : (reversed : Bool) → GoesSome one reversed before → GoesSome other reversed after → IsEither one other walker → GoesSome walker reversed paths
+    some_parts reversed h k j = subst (GoesSome walker reversed) is
+        (made_where walker (λ ids x y. ReachesSome ids reversed before x y ⊎ ReachesSome ids reversed after x y) (λ ids. ReachesSome ids reversed (before ++ after))
+        (λ ids x look. ReadsSome ids reversed before x look ⊎ ReadsSome ids reversed after x look) (λ ids. ReadsSome ids reversed (before ++ after))
+        (λ ids. some_append ids reversed before after) (λ ids. reads_some_append ids reversed before after)
+        (made_either one other walker (λ ids. ReachesSome ids reversed before) (λ ids. ReachesSome ids reversed after) (λ ids. ReadsSome ids reversed before) (λ ids. ReadsSome ids reversed after) h k j))

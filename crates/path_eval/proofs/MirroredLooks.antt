@@ -9,10 +9,10 @@ use Rattle.rdf_model.specs.declared.look.Look.TheVariants.{Out, In}
 use Rattle.rdf_model.specs.Numbers.{term_at, graph_of, IsNumbering, AreNumbered}
 use Rattle.shape_model.specs.Paths as defined
 use Rattle.shape_model.specs.Walks.{Chain, Walk}
-use Rattle.shape_model.specs.Looks.{turn, turn_all}
+use Rattle.shape_model.specs.Looks.{directed, directed_all}
 use Rattle.shape_model.specs.NodeLooks.{PathReads, ThroughReads, SomeReads}
-use Rattle.compiled_paths.specs.declared.path.Path.{Path, Predicate, Inverse', Sequence', Alternative', ZeroOrMore', OneOrMore', ZeroOrOne', Row_of-Path, end_of-Path, more_of-Path}
-use Rattle.compiled_paths.specs.PathReadings.{IsBoundPath, RowHasEach, members, path_of, read_row}
+use Rattle.path_ast.specs.declared.path.Path.{Path, Predicate, Inverse', Sequence', Alternative', ZeroOrMore', OneOrMore', ZeroOrOne', Row_of-Path, end_of-Path, more_of-Path}
+use Rattle.path_ast.specs.PathReadings.{IsBoundPath, RowHasEach, members, path_of, read_row}
 use Rattle.path_eval.specs.Naming.{IsBoundLook, look_of}
 use Rattle.path_eval.specs.Relations.{Repeated}
 use Rattle.path_eval.specs.NumberedWalks.{Reaches, RowBackward}
@@ -54,17 +54,17 @@ module _ (terms : List Term) where
   }
 
   module _ (numbering : IsNumbering terms) (ids : List Ids) (numbered : AreNumbered terms ids) where
-    pub repeated : (p : Path ℕ) (turned : Bool) → IsBoundPath (length terms) p → Shows (Reads ids turned p) (PathReads (graph_of terms ids) turned (path_of terms p))
-        → Shows (AtRepeated (Reaches ids turned p) (Reads ids turned p)) (λ x l. (z : Term) × ((zs : List Term) × Chain (Walk (graph_of terms ids) (turn turned (path_of terms p))) x zs z) × PathReads (graph_of terms ids) turned (path_of terms p) z l)
-    repeated p turned b shown =
-        let W = Walk (graph_of terms ids) (turn turned (path_of terms p)) in
-        shows_then (Repeated (Reaches ids turned p)) (λ x y. (zs : List Term) × Chain W x zs y) (Reads ids turned p) (PathReads (graph_of terms ids) turned (path_of terms p))
-        (mirrors_repeated terms (Reaches ids turned p) W (mirrors terms numbering ids numbered p turned b)) shown
+    pub repeated : (p : Path ℕ) (reversed : Bool) → IsBoundPath (length terms) p → Shows (Reads ids reversed p) (PathReads (graph_of terms ids) reversed (path_of terms p))
+        → Shows (AtRepeated (Reaches ids reversed p) (Reads ids reversed p)) (λ x l. (z : Term) × ((zs : List Term) × Chain (Walk (graph_of terms ids) (directed reversed (path_of terms p))) x zs z) × PathReads (graph_of terms ids) reversed (path_of terms p) z l)
+    repeated p reversed b shown =
+        let W = Walk (graph_of terms ids) (directed reversed (path_of terms p)) in
+        shows_then (Repeated (Reaches ids reversed p)) (λ x y. (zs : List Term) × Chain W x zs y) (Reads ids reversed p) (PathReads (graph_of terms ids) reversed (path_of terms p))
+        (mirrors_repeated terms (Reaches ids reversed p) W (mirrors terms numbering ids numbered p reversed b)) shown
 
     -- the looks of each path of the row are shown
     abbrev pub EachShows : Bool → {m : _} → Row_of-Path ℕ m → Type 0
-    EachShows turned end_of-Path = Unit {0}
-    EachShows turned (more_of-Path p ps) = Shows (Reads ids turned p) (PathReads (graph_of terms ids) turned (path_of terms p)) × EachShows turned ps
+    EachShows reversed end_of-Path = Unit {0}
+    EachShows reversed (more_of-Path p ps) = Shows (Reads ids reversed p) (PathReads (graph_of terms ids) reversed (path_of terms p)) × EachShows reversed ps
 
     -- after a path that is mirrored, with its looks
     pub shows_onward : {m : _} → (ps : Row_of-Path ℕ m) → EachMirrors terms numbering ids numbered false ps → EachShows false ps → (R : ℕ → ℕ → Type 0) (d : defined.Path) → Mirrors terms R (Walk (graph_of terms ids) d)
@@ -88,15 +88,15 @@ module _ (terms : List Term) where
         let R = λ (x y : ℕ). (z : ℕ) × RowBackward ids ps x z × Reaches ids true p z y in
         let K = λ (x : ℕ) (look : Look ℕ). RowReadsBackward ids ps x look ⊎ ((z : ℕ) × RowBackward ids ps x z × Reads ids true p z look) in
         let ms = members (path_of terms p) (read_row (term_at terms) ps) in
-        let W = Walk (graph_of terms ids) (turn_all true ms) in
+        let W = Walk (graph_of terms ids) (directed_all true ms) in
         let M = PathReads (graph_of terms ids) true d in
         shows_either K (λ x look. (z : ℕ) × R x z × L z look) (ThroughReads (graph_of terms ids) true ms) (λ x l. (z : Term) × W x z × M z l)
         (shows_backward ps b.1 e.1 (path_of terms p) (Reads ids true p) e.0)
         (shows_then R W L M (mirrors_backward terms numbering ids numbered ps b.1 (Reaches ids true p) (path_of terms p) b.0) n)
 
     -- beside a path
-    pub shows_some : {m : _} → (ps : Row_of-Path ℕ m) (turned : Bool) → EachShows turned ps → (d : defined.Path) (L : ℕ → Look ℕ → Type 0) → Shows L (PathReads (graph_of terms ids) turned d)
-        → Shows (λ x look. L x look ⊎ RowReadsSome ids turned ps x look) (SomeReads (graph_of terms ids) turned (members d (read_row (term_at terms) ps)))
+    pub shows_some : {m : _} → (ps : Row_of-Path ℕ m) (reversed : Bool) → EachShows reversed ps → (d : defined.Path) (L : ℕ → Look ℕ → Type 0) → Shows L (PathReads (graph_of terms ids) reversed d)
+        → Shows (λ x look. L x look ⊎ RowReadsSome ids reversed ps x look) (SomeReads (graph_of terms ids) reversed (members d (read_row (term_at terms) ps)))
     shows_some end_of-Path false b d L n = shows_as L (λ x look. L x look ⊎ ⊥) (PathReads (graph_of terms ids) false d) (λ x look. (λ r. inl r, elim [ inl r ↦ r | inr never ↦ absurd never ])) n
     shows_some end_of-Path true b d L n = shows_as L (λ x look. L x look ⊎ ⊥) (PathReads (graph_of terms ids) true d) (λ x look. (λ r. inl r, elim [ inl r ↦ r | inr never ↦ absurd never ])) n
     shows_some (more_of-Path p ps) false b d L n =
@@ -107,7 +107,7 @@ module _ (terms : List Term) where
         (shows_some ps true b.1 (path_of terms p) (Reads ids true p) b.0)
 
     mutual
-      pub shows : (p : Path ℕ) (turned : Bool) → IsBoundPath (length terms) p → Shows (Reads ids turned p) (PathReads (graph_of terms ids) turned (path_of terms p))
+      pub shows : (p : Path ℕ) (reversed : Bool) → IsBoundPath (length terms) p → Shows (Reads ids reversed p) (PathReads (graph_of terms ids) reversed (path_of terms p))
       shows (Predicate p) false b = shows_look (λ x. Out x p) (λ x. looks.Out x (term_at terms p)) (λ x. refl) (λ x lt. (lt, b))
       shows (Predicate p) true b = shows_look (λ x. In p x) (λ x. looks.In (term_at terms p) x) (λ x. refl) (λ x lt. (b, lt))
       shows (Inverse' _ p) false b = shows p true b
@@ -123,6 +123,6 @@ module _ (terms : List Term) where
       shows (ZeroOrOne' _ p) false b = shows p false b
       shows (ZeroOrOne' _ p) true b = shows p true b
 
-      pub each_shows : {m : _} → (ps : Row_of-Path ℕ m) (turned : Bool) → RowHasEach (λ p. p < length terms) ps → EachShows turned ps
-      each_shows end_of-Path turned b = tt
-      each_shows (more_of-Path p ps) turned b = (shows p turned b.0, each_shows ps turned b.1)
+      pub each_shows : {m : _} → (ps : Row_of-Path ℕ m) (reversed : Bool) → RowHasEach (λ p. p < length terms) ps → EachShows reversed ps
+      each_shows end_of-Path reversed b = tt
+      each_shows (more_of-Path p ps) reversed b = (shows p reversed b.0, each_shows ps reversed b.1)

@@ -30,9 +30,9 @@ pub record AreInstances (terms : List Term) (ids : List Ids) (class : ℕ) (inst
   pub listed : IsListing nat_cmp (λ n. (n < length terms) × Instance (graph_of terms ids) (term_at terms n) (term_at terms class)) instances
   pub every : (v : Term) → Instance (graph_of terms ids) v (term_at terms class) → Contains (map (term_at terms) instances) v
 
--- just the looks of the class path, or where turned of the way back along it, have been added, and each of them has numbers
+-- just the looks of the class path, or where reversed of the way back along it, have been added, and each of them has numbers
 abbrev pub ClassReads : List Term → List Ids → Bool → ℕ → List (Look ℕ) → List (Look ℕ) → Type 0
-ClassReads terms ids turned node old new = AddsLooks terms (PathReads (graph_of terms ids) turned class_path (term_at terms node)) old new
+ClassReads terms ids reversed node old new = AddsLooks terms (PathReads (graph_of terms ids) reversed class_path (term_at terms node)) old new
 
 -- in whatever way the graph, the words and the node are numbered
 abbrev pub Classed : List Ids → ClassWords → ℕ → (List Term → Type 0) → Type 0

@@ -2,7 +2,7 @@
 use Rattle.std.specs.Prelude.{◌≡◌, ◌⊎◌, ℕ, Bool, true, false, not, List, [], ◌∷◌}
 use Rattle.rdf_model.specs.declared.ids.Ids.{Ids}
 use Rattle.rdf_model.specs.declared.look.Look.{Look}
-use Rattle.compiled_paths.specs.declared.path.Path.{Path, Predicate, Inverse', Sequence', Alternative', ZeroOrMore', OneOrMore', ZeroOrOne', Row_of-Path, end_of-Path, more_of-Path}
+use Rattle.path_ast.specs.declared.path.Path.{Path, Predicate, Inverse', Sequence', Alternative', ZeroOrMore', OneOrMore', ZeroOrOne', Row_of-Path, end_of-Path, more_of-Path}
 use Rattle.path_eval.specs.Relations.{Repeated}
 use Rattle.path_eval.specs.NumberedWalks.{Reaches, RowBackward, Backward, look_from}
 
@@ -12,14 +12,14 @@ AtRepeated R L x look = (z : ℕ) × Repeated R x z × L z look
 
 abbrev mutual
   pub Reads : List Ids → Bool → Path ℕ → ℕ → Look ℕ → Type 0
-  Reads ids turned (Predicate p) x look = look ≡ look_from turned p x
-  Reads ids turned (Inverse' _ p) x look = Reads ids (not turned) p x look
+  Reads ids reversed (Predicate p) x look = look ≡ look_from reversed p x
+  Reads ids reversed (Inverse' _ p) x look = Reads ids (not reversed) p x look
   Reads ids false (Sequence' _ p _ ps) x look = Reads ids false p x look ⊎ ((z : ℕ) × Reaches ids false p x z × RowReadsOnward ids ps z look)
   Reads ids true (Sequence' _ p _ ps) x look = RowReadsBackward ids ps x look ⊎ ((z : ℕ) × RowBackward ids ps x z × Reads ids true p z look)
-  Reads ids turned (Alternative' _ p _ ps) x look = Reads ids turned p x look ⊎ RowReadsSome ids turned ps x look
-  Reads ids turned (ZeroOrMore' _ p) x look = AtRepeated (Reaches ids turned p) (Reads ids turned p) x look
-  Reads ids turned (OneOrMore' _ p) x look = AtRepeated (Reaches ids turned p) (Reads ids turned p) x look
-  Reads ids turned (ZeroOrOne' _ p) x look = Reads ids turned p x look
+  Reads ids reversed (Alternative' _ p _ ps) x look = Reads ids reversed p x look ⊎ RowReadsSome ids reversed ps x look
+  Reads ids reversed (ZeroOrMore' _ p) x look = AtRepeated (Reaches ids reversed p) (Reads ids reversed p) x look
+  Reads ids reversed (OneOrMore' _ p) x look = AtRepeated (Reaches ids reversed p) (Reads ids reversed p) x look
+  Reads ids reversed (ZeroOrOne' _ p) x look = Reads ids reversed p x look
 
   -- one after another, from the first to the last and from the last to the first; all of them
   pub RowReadsOnward : List Ids → {m : _} → Row_of-Path ℕ m → ℕ → Look ℕ → Type 0
@@ -31,8 +31,8 @@ abbrev mutual
   RowReadsBackward ids (more_of-Path p ps) x look = RowReadsBackward ids ps x look ⊎ ((z : ℕ) × RowBackward ids ps x z × Reads ids true p z look)
 
   pub RowReadsSome : List Ids → Bool → {m : _} → Row_of-Path ℕ m → ℕ → Look ℕ → Type 0
-  RowReadsSome ids turned end_of-Path x look = ⊥
-  RowReadsSome ids turned (more_of-Path p ps) x look = Reads ids turned p x look ⊎ RowReadsSome ids turned ps x look
+  RowReadsSome ids reversed end_of-Path x look = ⊥
+  RowReadsSome ids reversed (more_of-Path p ps) x look = Reads ids reversed p x look ⊎ RowReadsSome ids reversed ps x look
 
 -- the same for lists of paths
 abbrev pub ReadsOnward : List Ids → List (Path ℕ) → ℕ → Look ℕ → Type 0
@@ -44,5 +44,5 @@ ReadsBackward ids [] x look = ⊥
 ReadsBackward ids (p ∷ ps) x look = ReadsBackward ids ps x look ⊎ ((z : ℕ) × Backward ids ps x z × Reads ids true p z look)
 
 abbrev pub ReadsSome : List Ids → Bool → List (Path ℕ) → ℕ → Look ℕ → Type 0
-ReadsSome ids turned [] x look = ⊥
-ReadsSome ids turned (p ∷ ps) x look = Reads ids turned p x look ⊎ ReadsSome ids turned ps x look
+ReadsSome ids reversed [] x look = ⊥
+ReadsSome ids reversed (p ∷ ps) x look = Reads ids reversed p x look ⊎ ReadsSome ids reversed ps x look

@@ -21,7 +21,7 @@ pub data Plan : Type 0 where
 abbrev pub plan_of : Walker → Plan
 plan_of Here = Stay
 plan_of Nowhere = Stop
-plan_of (Edges predicate turned seen) = Along turned predicate
+plan_of (Edges predicate reversed seen) = Along reversed predicate
 plan_of (Then' _ a _ b) = OneThenOther (plan_of a) (plan_of b)
 plan_of (Either' _ a _ b) = OneOrOther (plan_of a) (plan_of b)
 plan_of (More' _ a entered) = Again (plan_of a)
@@ -30,7 +30,7 @@ plan_of (More' _ a entered) = Again (plan_of a)
 abbrev pub Goes : List Ids → Plan → ℕ → ℕ → Type 0
 Goes ids Stay x y = x ≡ y
 Goes ids Stop x y = ⊥
-Goes ids (Along turned p) x y = IsFound (look_from turned p x) ids y
+Goes ids (Along reversed p) x y = IsFound (look_from reversed p x) ids y
 Goes ids (OneThenOther a b) x y = (z : ℕ) × Goes ids a x z × Goes ids b z y
 Goes ids (OneOrOther a b) x y = Goes ids a x y ⊎ Goes ids b x y
 Goes ids (Again a) x y = (z : ℕ) × Goes ids a x z × Repeated (Goes ids a) z y
@@ -39,7 +39,7 @@ Goes ids (Again a) x y = (z : ℕ) × Goes ids a x z × Repeated (Goes ids a) z 
 abbrev pub Sees : List Ids → Plan → ℕ → Look ℕ → Type 0
 Sees ids Stay x look = ⊥
 Sees ids Stop x look = ⊥
-Sees ids (Along turned p) x look = look ≡ look_from turned p x
+Sees ids (Along reversed p) x look = look ≡ look_from reversed p x
 Sees ids (OneThenOther a b) x look = Sees ids a x look ⊎ ((z : ℕ) × Goes ids a x z × Sees ids b z look)
 Sees ids (OneOrOther a b) x look = Sees ids a x look ⊎ Sees ids b x look
 Sees ids (Again a) x look = AtRepeated (Goes ids a) (Sees ids a) x look
@@ -53,7 +53,7 @@ Within {X} xs ys = (x : X) → Contains xs x → Contains ys x
 abbrev pub IsClosed : List Ids → Walker → List ℕ → List ℕ → List (Look ℕ) → Type 0
 IsClosed ids Here ins outs looks = Within ins outs
 IsClosed ids Nowhere ins outs looks = Unit {0}
-IsClosed ids (Edges p turned seen) ins outs looks = Within ins seen × ((x : ℕ) → Contains seen x → Contains looks (look_from turned p x) × ((y : ℕ) → IsFound (look_from turned p x) ids y → Contains outs y))
+IsClosed ids (Edges p reversed seen) ins outs looks = Within ins seen × ((x : ℕ) → Contains seen x → Contains looks (look_from reversed p x) × ((y : ℕ) → IsFound (look_from reversed p x) ids y → Contains outs y))
 IsClosed ids (Then' _ a _ b) ins outs looks = (middle : List ℕ) × IsClosed ids a ins middle looks × IsClosed ids b middle outs looks
 IsClosed ids (Either' _ a _ b) ins outs looks = IsClosed ids a ins outs looks × IsClosed ids b ins outs looks
 IsClosed ids (More' _ a entered) ins outs looks = IsClosed ids a (ins ++ entered) entered looks × Within entered outs

@@ -1,3 +1,4 @@
+//! Walkers made of paths.
 ghost use Rattle.std.specs.Prelude.{false, true, IfOk};
 ghost use Rattle.path_eval.specs.NumberedWalks.{Backward, Onward, Reaches, ReachesSome};
 ghost use Rattle.path_eval.specs.NumberedLooks.{Reads, ReadsBackward, ReadsOnward, ReadsSome};
@@ -5,7 +6,7 @@ ghost use Rattle.path_eval.specs.Walkers.{IsAnyNumber, IsEither, IsMade, IsMore,
 
 use crate::visited::Visited;
 use crate::walker::Walker;
-use compiled_paths::Path;
+use path_ast::Path;
 use std::alloc::{AllocError, Global};
 
 // By the one, and then by the other.
@@ -42,17 +43,21 @@ pub(crate) fn any_number(alloc: Global, once: Walker) -> Result<Walker, AllocErr
     either_of(alloc, Walker::Here, more)
 }
 
-/// The walker along a path, or turned along the way back.
+/// The walker along a path, or reversed along the way back.
 #[cycle(making)]
-pub(crate) fn walker_of(alloc: Global, path: &Path<u32>, turned: bool) -> Result<Walker, AllocError>
-    ensures { IfOk result (λ walker. IsMade walker (λ ids. Reaches ids turned path.now) (λ ids. Reads ids turned path.now)) }
+pub(crate) fn walker_of(
+    alloc: Global,
+    path: &Path<u32>,
+    reversed: bool,
+) -> Result<Walker, AllocError>
+    ensures { IfOk result (λ walker. IsMade walker (λ ids. Reaches ids reversed path.now) (λ ids. Reads ids reversed path.now)) }
 {
     match path {
-        Path::Predicate(predicate) => Ok(Walker::Edges(*predicate, turned, Visited::new(alloc))),
-        Path::Inverse(inner) => walker_of(alloc, inner, !turned),
+        Path::Predicate(predicate) => Ok(Walker::Edges(*predicate, reversed, Visited::new(alloc))),
+        Path::Inverse(inner) => walker_of(alloc, inner, !reversed),
         Path::Sequence(first, others) => {
-            let one = walker_of(alloc, first, turned)?;
-            if turned {
+            let one = walker_of(alloc, first, reversed)?;
+            if reversed {
                 let rest = backward_of(alloc, others)?;
                 then_of(alloc, rest, one)
             } else {
@@ -61,20 +66,20 @@ pub(crate) fn walker_of(alloc: Global, path: &Path<u32>, turned: bool) -> Result
             }
         }
         Path::Alternative(first, others) => {
-            let one = walker_of(alloc, first, turned)?;
-            let rest = any_of(alloc, others, turned)?;
+            let one = walker_of(alloc, first, reversed)?;
+            let rest = any_of(alloc, others, reversed)?;
             either_of(alloc, one, rest)
         }
         Path::ZeroOrMore(inner) => {
-            let once = walker_of(alloc, inner, turned)?;
+            let once = walker_of(alloc, inner, reversed)?;
             any_number(alloc, once)
         }
         Path::OneOrMore(inner) => {
-            let once = walker_of(alloc, inner, turned)?;
+            let once = walker_of(alloc, inner, reversed)?;
             more_of(alloc, once)
         }
         Path::ZeroOrOne(inner) => {
-            let once = walker_of(alloc, inner, turned)?;
+            let once = walker_of(alloc, inner, reversed)?;
             either_of(alloc, Walker::Here, once)
         }
     }
@@ -97,7 +102,7 @@ fn onward_of(alloc: Global, paths: &[Path<u32>]) -> Result<Walker, AllocError>
     Ok(Walker::Here)
 }
 
-// The same along the ways back, from the last path to the first.
+// The walker along the ways back, from the last path to the first.
 #[cycle(making)]
 fn backward_of(alloc: Global, paths: &[Path<u32>]) -> Result<Walker, AllocError>
     ensures { IfOk result (λ walker. IsMade walker (λ ids. Backward ids paths.now) (λ ids. ReadsBackward ids paths.now)) }
@@ -114,19 +119,19 @@ fn backward_of(alloc: Global, paths: &[Path<u32>]) -> Result<Walker, AllocError>
     Ok(Walker::Here)
 }
 
-// The same along any of the paths.
+// The walker along any of the paths.
 #[cycle(making)]
-fn any_of(alloc: Global, paths: &[Path<u32>], turned: bool) -> Result<Walker, AllocError>
-    ensures { IfOk result (λ walker. IsMade walker (λ ids. ReachesSome ids turned paths.now) (λ ids. ReadsSome ids turned paths.now)) }
+fn any_of(alloc: Global, paths: &[Path<u32>], reversed: bool) -> Result<Walker, AllocError>
+    ensures { IfOk result (λ walker. IsMade walker (λ ids. ReachesSome ids reversed paths.now) (λ ids. ReadsSome ids reversed paths.now)) }
 {
     if paths.len() > 1 {
         let (before, after) = paths.split_at(paths.len() / 2);
-        let one = any_of(alloc, before, turned)?;
-        let other = any_of(alloc, after, turned)?;
+        let one = any_of(alloc, before, reversed)?;
+        let other = any_of(alloc, after, reversed)?;
         return either_of(alloc, one, other);
     }
     if paths.len() == 1 {
-        return walker_of(alloc, &paths[0], turned);
+        return walker_of(alloc, &paths[0], reversed);
     }
     Ok(Walker::Nowhere)
 }

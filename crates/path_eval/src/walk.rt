@@ -1,3 +1,4 @@
+//! Walks from many starts at once.
 ghost use Rattle.std.specs.Prelude.{IfOk};
 ghost use Rattle.collections.specs.Listings.{Keeps};
 ghost use Rattle.path_eval.specs.Relations.{IsFollowed, Repeated};
@@ -9,7 +10,7 @@ use crate::looking::edges;
 use crate::making::{any_number, walker_of};
 use crate::walker::{Walker, walk_on};
 use collections::sorted_once;
-use compiled_paths::Path;
+use path_ast::Path;
 use rdf_model::{Footprint, Triples};
 use std::alloc::{AllocError, Global};
 
@@ -35,32 +36,32 @@ fn walked<R: Triples>(
     alloc: Global,
     graph: &R,
     path: &Path<u32>,
-    turned: bool,
+    reversed: bool,
     starts: &[u32],
     footprint: &mut Footprint,
 ) -> Result<Vec<u32>, AllocError>
-    ensures followed { IfOk result (λ ends. IsFollowed starts.now (Reaches (R.triples graph.now) turned path.now) (Reads (R.triples graph.now) turned path.now) footprint.old footprint.new ends.items) }
+    ensures followed { IfOk result (λ ends. IsFollowed starts.now (Reaches (R.triples graph.now) reversed path.now) (Reads (R.triples graph.now) reversed path.now) footprint.old footprint.new ends.items) }
     ensures kept { Keeps footprint.old footprint.new }
 {
-    let walker = walker_of(alloc, path, turned)?;
+    let walker = walker_of(alloc, path, reversed)?;
     follow(alloc, graph, walker, starts, footprint)
 }
 
-/// The ends of walks from any of the starts along the path, or turned along the way back.
+/// The ends of walks from any of the starts along the path, or reversed along the way back.
 pub(crate) fn step<R: Triples>(
     alloc: Global,
     graph: &R,
     path: &Path<u32>,
-    turned: bool,
+    reversed: bool,
     starts: &[u32],
     footprint: &mut Footprint,
 ) -> Result<Vec<u32>, AllocError>
-    ensures followed { IfOk result (λ ends. IsFollowed starts.now (Reaches (R.triples graph.now) turned path.now) (Reads (R.triples graph.now) turned path.now) footprint.old footprint.new ends.items) }
+    ensures followed { IfOk result (λ ends. IsFollowed starts.now (Reaches (R.triples graph.now) reversed path.now) (Reads (R.triples graph.now) reversed path.now) footprint.old footprint.new ends.items) }
     ensures kept { Keeps footprint.old footprint.new }
 {
     match path {
-        Path::Predicate(predicate) => edges(alloc, graph, *predicate, turned, starts, footprint),
-        _ => walked(alloc, graph, path, turned, starts, footprint),
+        Path::Predicate(predicate) => edges(alloc, graph, *predicate, reversed, starts, footprint),
+        _ => walked(alloc, graph, path, reversed, starts, footprint),
     }
 }
 
@@ -69,14 +70,14 @@ pub(crate) fn repeated<R: Triples>(
     alloc: Global,
     graph: &R,
     path: &Path<u32>,
-    turned: bool,
+    reversed: bool,
     starts: &[u32],
     footprint: &mut Footprint,
 ) -> Result<Vec<u32>, AllocError>
-    ensures followed { IfOk result (λ ends. IsFollowed starts.now (Repeated (Reaches (R.triples graph.now) turned path.now)) (AtRepeated (Reaches (R.triples graph.now) turned path.now) (Reads (R.triples graph.now) turned path.now)) footprint.old footprint.new ends.items) }
+    ensures followed { IfOk result (λ ends. IsFollowed starts.now (Repeated (Reaches (R.triples graph.now) reversed path.now)) (AtRepeated (Reaches (R.triples graph.now) reversed path.now) (Reads (R.triples graph.now) reversed path.now)) footprint.old footprint.new ends.items) }
     ensures kept { Keeps footprint.old footprint.new }
 {
-    let once = walker_of(alloc, path, turned)?;
+    let once = walker_of(alloc, path, reversed)?;
     let walker = any_number(alloc, once)?;
     follow(alloc, graph, walker, starts, footprint)
 }

@@ -1,3 +1,4 @@
+//! A path that is walked from some starts, and later from others.
 ghost use Rattle.std.specs.Prelude.{◌≤◌, IfOk, OnOk, length, drop, ◌≡◌};
 ghost use Rattle.collections.specs.Listings.{Keeps};
 ghost use Rattle.path_eval.specs.Walkers.{Advances, Explores, GoesOn};
@@ -15,7 +16,7 @@ pub(crate) enum Walker {
     Here,
     /// To no node.
     Nowhere,
-    /// Along a predicate, or where turned the way back, from each node that was not seen before.
+    /// Along a predicate, or where reversed the way back, from each node that was not seen before.
     Edges(u32, bool, Visited),
     /// By the one, and then by the other.
     Then(Box<Walker>, Box<Walker>),
@@ -40,14 +41,14 @@ pub(crate) fn walk_on<R: Triples>(
     match walker {
         Walker::Here => copied(alloc, starts),
         Walker::Nowhere => Ok(Vec::new(alloc)),
-        Walker::Edges(predicate, turned, seen) => {
+        Walker::Edges(predicate, reversed, seen) => {
             let from = seen.len();
             enter_all(seen, starts)?;
             edges(
                 alloc,
                 graph,
                 *predicate,
-                *turned,
+                *reversed,
                 seen.entered_after(from),
                 footprint,
             )
@@ -91,7 +92,7 @@ fn advance<R: Triples>(
     Ok(())
 }
 
-// The same again and again, until all that were entered have been gone on from.
+// Enters the ends of walks from those that were entered, again and again, until all of them have been gone on from.
 #[cycle(walk)]
 fn explore<R: Triples>(
     alloc: Global,

@@ -1,8 +1,9 @@
+//! Random paths against a reading of them as sets of pairs.
 ghost use Rattle.std.specs.Prelude.{◌<◌};
 
 use crate::walks::{add_part, told, top};
 use collections::Sequence;
-use compiled_paths::Path;
+use path_ast::Path;
 use path_eval::{back, values};
 use rdf_model::{Footprint, Ids, ListGraph};
 use std::alloc::{AllocError, Global};
@@ -148,7 +149,7 @@ fn itself(alloc: Global) -> Result<Pairs, AllocError> {
     Ok(pairs)
 }
 
-fn turned(alloc: Global, pairs: &Pairs) -> Result<Pairs, AllocError> {
+fn reversed(alloc: Global, pairs: &Pairs) -> Result<Pairs, AllocError> {
     let mut all = Pairs::none(alloc);
     for pair in &pairs.all {
         all.add(pair.1, pair.0)?;
@@ -193,7 +194,7 @@ fn last_pairs(alloc: Global, stack: &mut Vec<Pairs>) -> Pairs {
 // What is made of the last part.
 fn made_of_one(alloc: Global, byte: u8, part: &Pairs) -> Result<Pairs, AllocError> {
     match byte {
-        b'^' => turned(alloc, part),
+        b'^' => reversed(alloc, part),
         b'*' => any_number(alloc, part),
         b'+' => one_after_another(alloc, part, &any_number(alloc, part)?),
         _ => {
@@ -249,11 +250,11 @@ fn path_of(alloc: Global, text: &[u8]) -> Result<Box<Path<u32>>, AllocError> {
 }
 
 // The nodes to which the pairs join the node, or from which, ascending, in digits.
-fn ends_of(pairs: &Pairs, node: u32, turned: bool) -> u64 {
+fn ends_of(pairs: &Pairs, node: u32, reversed: bool) -> u64 {
     let mut all: u64 = 0;
     for end in 0..LAST {
         let end = end + 1;
-        if (turned && pairs.has(end, node)) || (!turned && pairs.has(node, end)) {
+        if (reversed && pairs.has(end, node)) || (!reversed && pairs.has(node, end)) {
             all = all.wrapping_mul(10).wrapping_add(end as u64);
         }
     }

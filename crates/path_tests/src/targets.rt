@@ -1,3 +1,4 @@
+//! Targets by declarations of all kinds.
 ghost use Rattle.std.specs.Prelude.{◌<◌, length};
 
 use collections::Sequence;

@@ -1,5 +1,6 @@
+//! Walks along paths, and the nodes that walk to a node.
 use collections::Sequence;
-use compiled_paths::Path;
+use path_ast::Path;
 use path_eval::{ClassWords, back, is_instance, values};
 use rdf_model::{Footprint, Ids, ListGraph};
 use std::alloc::{AllocError, Global};

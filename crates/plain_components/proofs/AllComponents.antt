@@ -11,7 +11,7 @@ use Rattle.shape_model.specs.declared.component.Component.TheVariants as compone
 use Rattle.shape_model.specs.declared.result_row.ResultRow.{ResultRow}
 use Rattle.plain_terms.specs.Finds.{Finds, WithSome}
 use Rattle.plain_terms.proofs.FoundItems.{finds_at, finds_both, finds_none, finds_same}
-use Rattle.plain_values.specs.declared.place.Place.{Place}
+use Rattle.plain_values.specs.declared.site.PlainSite.{PlainSite}
 use Rattle.plain_values.specs.Around.{RowsAt}
 use Rattle.plain_components.specs.Rows.{AtPlace, ComponentAt, EntryRow, PropertyAt}
 
@@ -48,12 +48,12 @@ is_read components.Closed = (25, omega arith, refl)
 is_read components.HasValue = (26, omega arith, refl)
 is_read components.In = (27, omega arith, refl)
 
-pub component_found : (at : Place) (c : Component) (found terms : List Term) (rows : List ResultRow) → Finds (HasProperty at.shapes.now at.shape.now (parameter_of c)) found → terms ≡ found → Finds (WithSome terms (RowsAt at c)) rows → Finds (ComponentAt at c) rows
+pub component_found : (at : PlainSite) (c : Component) (found terms : List Term) (rows : List ResultRow) → Finds (HasProperty at.shapes.now at.shape.now (parameter_of c)) found → terms ≡ found → Finds (WithSome terms (RowsAt at c)) rows → Finds (ComponentAt at c) rows
 component_found at c found terms rows h e k =
     let are = finds_at (HasProperty at.shapes.now at.shape.now (parameter_of c)) found terms e h in
     finds_same (WithSome terms (RowsAt at c)) (ComponentAt at c) rows (λ r. (λ w. (w.0, (are.members w.0).0 w.1, w.2), λ w. (w.0, (are.members w.0).1 w.1, w.2))) k
 
-pub property_found : (at : Place) (found terms : List Term) (rows : List ResultRow) → Finds (HasProperty at.shapes.now at.shape.now ShProperty) found → terms ≡ found → Finds (WithSome at.told.now (EntryRow at terms)) rows → Finds (PropertyAt at) rows
+pub property_found : (at : PlainSite) (found terms : List Term) (rows : List ResultRow) → Finds (HasProperty at.shapes.now at.shape.now ShProperty) found → terms ≡ found → Finds (WithSome at.told.now (EntryRow at terms)) rows → Finds (PropertyAt at) rows
 property_found at found terms rows h e k =
     let are = finds_at (HasProperty at.shapes.now at.shape.now ShProperty) found terms e h in
     finds_same (WithSome at.told.now (EntryRow at terms)) (PropertyAt at) rows (λ r. (
@@ -61,10 +61,10 @@ property_found at found terms rows h e k =
       λ w. let x = w.2 in (record { shape = w.0; node = x.0; row = r }, x.2, (((are.members w.0).1 w.1, x.1), refl)),
     )) k
 
-pub place_off : (at : Place) (rows : List ResultRow) → HasProperty at.shapes.now at.shape.now ShDeactivated true_literal → rows ≡ [] → Finds (AtPlace at) rows
+pub place_off : (at : PlainSite) (rows : List ResultRow) → HasProperty at.shapes.now at.shape.now ShDeactivated true_literal → rows ≡ [] → Finds (AtPlace at) rows
 place_off at rows off e = finds_at (AtPlace at) [] rows e (finds_none (AtPlace at) (λ r w. w.0 off))
 
-pub place_found : (at : Place) → (HasProperty at.shapes.now at.shape.now ShDeactivated true_literal → ⊥) → (list : List Component) → list ≡ read_components → (rows more new : List ResultRow)
+pub place_found : (at : PlainSite) → (HasProperty at.shapes.now at.shape.now ShDeactivated true_literal → ⊥) → (list : List Component) → list ≡ read_components → (rows more new : List ResultRow)
     → Finds (WithSome list (ComponentAt at)) rows → Finds (PropertyAt at) more → new ≡ rows ++ more → Finds (AtPlace at) new
 place_found at on list is rows more new h k e =
     let own : Finds (WithSome read_components (ComponentAt at)) rows = subst (λ (cs : List Component). Finds (WithSome cs (ComponentAt at)) rows) is h in

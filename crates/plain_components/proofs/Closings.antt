@@ -18,7 +18,7 @@ use Rattle.shape_syntax.proofs.Equals.{negated, negation}
 use Rattle.shape_syntax.proofs.Scans.{contains_member, member_contains}
 use Rattle.plain_terms.specs.Finds.{Finds, IsListed, WithSome}
 use Rattle.plain_terms.proofs.FoundItems.{finds_at, finds_both, finds_none, finds_same}
-use Rattle.plain_values.specs.declared.place.Place.{Place}
+use Rattle.plain_values.specs.declared.site.PlainSite.{PlainSite}
 use Rattle.plain_values.specs.Around.{RowsAt, around}
 use Rattle.plain_components.specs.Rows.{ForbiddenRow, QualifiedAt, QualifiedRow}
 use Rattle.plain_components.specs.Siblings.{HasSiblings, IsCousin}
@@ -57,7 +57,7 @@ allowed_found s shape properties nodes paths terms iris heads lists ignored allo
       ],
     )) (finds_both (λ v. Contains terms v × IsIri v) (WithSome lists (IsListed s)) allowed ignored iris_are n))
 
-pub closed_made : (at : Place) (q : Term) (found allowed : List Term) (rows : List ResultRow) → q ≡ true_literal → Finds (IsAllowed at.shapes.now at.shape.now) found → allowed ≡ found → Finds (WithSome at.graph.now (ForbiddenRow at q allowed)) rows
+pub closed_made : (at : PlainSite) (q : Term) (found allowed : List Term) (rows : List ResultRow) → q ≡ true_literal → Finds (IsAllowed at.shapes.now at.shape.now) found → allowed ≡ found → Finds (WithSome at.graph.now (ForbiddenRow at q allowed)) rows
     → Finds (RowsAt at components.Closed q) rows
 closed_made at q found allowed rows is h e k =
     let are = finds_at (IsAllowed at.shapes.now at.shape.now) found allowed e h in
@@ -67,10 +67,10 @@ closed_made at q found allowed rows is h e k =
     )) k
 
 -- where it isn't true there are none
-pub not_closed : (at : Place) (q : Term) (rows : List ResultRow) → (q ≡ true_literal → ⊥) → rows ≡ [] → Finds (RowsAt at components.Closed q) rows
+pub not_closed : (at : PlainSite) (q : Term) (rows : List ResultRow) → (q ≡ true_literal → ⊥) → rows ≡ [] → Finds (RowsAt at components.Closed q) rows
 not_closed at q rows apart e = finds_at (RowsAt at components.Closed q) [] rows e (finds_none (RowsAt at components.Closed q) (λ r w. apart w.0))
 
-pub not_unique : (at : Place) (q : Term) (rows : List ResultRow) → (q ≡ true_literal → ⊥) → rows ≡ [] → Finds (RowsAt at components.UniqueLang q) rows
+pub not_unique : (at : PlainSite) (q : Term) (rows : List ResultRow) → (q ≡ true_literal → ⊥) → rows ≡ [] → Finds (RowsAt at components.UniqueLang q) rows
 not_unique at q rows apart e = finds_at (RowsAt at components.UniqueLang q) [] rows e (finds_none (RowsAt at components.UniqueLang q) (λ r w. apart w.0))
 
 -- sibling shapes
@@ -100,7 +100,7 @@ pub no_siblings : (s : List Triple) (shape : Term) (found : List Term) → (HasS
 no_siblings s shape found never e = finds_at (Sibling s shape) [] found e (finds_none (Sibling s shape) (λ t w. never (w.0, w.1)))
 
 -- qualified value nodes
-pub qualified_nodes : (at : Place) (m : Term) (siblings chosen sorted : List Term) → Finds (Sibling at.shapes.now at.shape.now) siblings → Finds (λ v. Contains at.values.now v × MeetsQualified at.told.now m siblings v) chosen
+pub qualified_nodes : (at : PlainSite) (m : Term) (siblings chosen sorted : List Term) → Finds (Sibling at.shapes.now at.shape.now) siblings → Finds (λ v. Contains at.values.now v × MeetsQualified at.told.now m siblings v) chosen
     → IsListing term_cmp (Contains chosen) sorted → IsListing term_cmp (IsQualified (around at) (reading at.shapes.now at.shape.now) m) sorted
 qualified_nodes at m siblings chosen sorted h k l = record {
   ascending = l.ascending;
@@ -110,7 +110,7 @@ qualified_nodes at m siblings chosen sorted h k l = record {
   );
 }
 
-pub qualified_made : (at : Place) (c : Component) (q : Term) (W : ℕ → Type 0) (found shapes : List Term) (rows : List ResultRow) → Finds (HasProperty at.shapes.now at.shape.now ShQualifiedValueShape) found → shapes ≡ found
+pub qualified_made : (at : PlainSite) (c : Component) (q : Term) (W : ℕ → Type 0) (found shapes : List Term) (rows : List ResultRow) → Finds (HasProperty at.shapes.now at.shape.now ShQualifiedValueShape) found → shapes ≡ found
     → Finds (WithSome shapes (QualifiedRow at c q W)) rows → Finds (QualifiedAt at c q W) rows
 qualified_made at c q W found shapes rows h e k =
     let are = finds_at (HasProperty at.shapes.now at.shape.now ShQualifiedValueShape) found shapes e h in

@@ -11,15 +11,15 @@ use Rattle.shape_model.specs.Readings.{reading}
 use Rattle.shape_model.specs.TermTests.{HasTag}
 use Rattle.shape_model.specs.Vocabulary.{string_literal}
 use Rattle.plain_values.specs.Around.{around, row_at}
-use Rattle.plain_values.specs.declared.place.Told.{Told}
-use Rattle.plain_values.specs.declared.place.Place.{Place}
+use Rattle.plain_values.specs.declared.site.ToldRow.{ToldRow}
+use Rattle.plain_values.specs.declared.site.PlainSite.{PlainSite}
 use Rattle.plain_components.specs.Pairs.{SharesSome, Stands}
 
 -- one for a value node and each value of the property q at the focus node, unless P holds of both; those of one value node
-abbrev pub PairsAt : Place → Component → Term → (Term → Term → Type 0) → ResultRow → Type 0
+abbrev pub PairsAt : PlainSite → Component → Term → (Term → Term → Type 0) → ResultRow → Type 0
 PairsAt p c q P = ForPairs (around p) q (row_at p c q) P
 
-abbrev pub PairRow : Place → Component → Term → List Term → Term → ResultRow → Type 0
+abbrev pub PairRow : PlainSite → Component → Term → List Term → Term → ResultRow → Type 0
 PairRow p c q others v r = (w : Term) × Contains others w × (Stands c v w → ⊥) × (r ≡ row_at p c q (found_beside v w))
 
 -- what tells the result of a language tag apart, and that of a triple
@@ -30,42 +30,42 @@ abbrev pub found_triple : Triple → Finding
 found_triple t = record { about = Some t.subject; value = Some t.object; other = Some t.predicate }
 
 -- one for each language tag that two value nodes have; those that the value node has
-abbrev pub TagsAt : Place → Term → ResultRow → Type 0
+abbrev pub TagsAt : PlainSite → Term → ResultRow → Type 0
 TagsAt p q = ForTags (around p) (row_at p components.UniqueLang q)
 
-abbrev pub SharedRow : Place → Term → List ℕ → Term → ResultRow → Type 0
+abbrev pub SharedRow : PlainSite → Term → List ℕ → Term → ResultRow → Type 0
 SharedRow p q tag v r = SharesSome p.values.now tag v × (r ≡ row_at p components.UniqueLang q (found_tag tag))
 
-abbrev pub TagRow : Place → Term → Term → ResultRow → Type 0
+abbrev pub TagRow : PlainSite → Term → Term → ResultRow → Type 0
 TagRow p q v r = (tag : List ℕ) × HasTag tag v × SharedRow p q tag v r
 
 -- one for each triple of a value node whose predicate isn't allowed; that of one triple
-abbrev pub TriplesAt : Place → Term → ResultRow → Type 0
+abbrev pub TriplesAt : PlainSite → Term → ResultRow → Type 0
 TriplesAt p q = ForTriples (around p) (reading p.shapes.now p.shape.now) (row_at p components.Closed q)
 
-abbrev pub IsForbidden : Place → List Term → Triple → Type 0
+abbrev pub IsForbidden : PlainSite → List Term → Triple → Type 0
 IsForbidden p allowed t = Contains p.values.now t.subject × (Contains allowed t.predicate → ⊥)
 
-abbrev pub ForbiddenRow : Place → Term → List Term → Triple → ResultRow → Type 0
+abbrev pub ForbiddenRow : PlainSite → Term → List Term → Triple → ResultRow → Type 0
 ForbiddenRow p q allowed t r = IsForbidden p allowed t × (r ≡ row_at p components.Closed q (found_triple t))
 
 -- one where a wrong number of value nodes is qualified; for one qualified value shape m
-abbrev pub QualifiedAt : Place → Component → Term → (ℕ → Type 0) → ResultRow → Type 0
+abbrev pub QualifiedAt : PlainSite → Component → Term → (ℕ → Type 0) → ResultRow → Type 0
 QualifiedAt p c q W = ForQualifiedCount (around p) (reading p.shapes.now p.shape.now) (row_at p c q) W
 
-abbrev pub QualifiedRow : Place → Component → Term → (ℕ → Type 0) → Term → ResultRow → Type 0
+abbrev pub QualifiedRow : PlainSite → Component → Term → (ℕ → Type 0) → Term → ResultRow → Type 0
 QualifiedRow p c q W m = ForCount (row_at p c q) (IsQualified (around p) (reading p.shapes.now p.shape.now) m) W
 
 -- the results of a component, of the property shapes, and all of them, where the results of other shapes are told
-abbrev pub ComponentAt : Place → Component → ResultRow → Type 0
+abbrev pub ComponentAt : PlainSite → Component → ResultRow → Type 0
 ComponentAt p c = ComponentRow c (around p) (reading p.shapes.now p.shape.now) p.shape.now p.focus.now
 
-abbrev pub PropertyAt : Place → ResultRow → Type 0
+abbrev pub PropertyAt : PlainSite → ResultRow → Type 0
 PropertyAt p = PropertyRow (around p) (reading p.shapes.now p.shape.now)
 
-abbrev pub AtPlace : Place → ResultRow → Type 0
+abbrev pub AtPlace : PlainSite → ResultRow → Type 0
 AtPlace p = AtIn (around p) (reading p.shapes.now p.shape.now) p.shape.now p.focus.now
 
 -- the result that is told of one of the property shapes at a value node
-abbrev pub EntryRow : Place → List Term → Told → ResultRow → Type 0
+abbrev pub EntryRow : PlainSite → List Term → ToldRow → ResultRow → Type 0
 EntryRow p properties e r = (Contains properties e.shape × Contains p.values.now e.node) × (r ≡ e.row)

@@ -8,7 +8,7 @@ use Rattle.shape_model.specs.Components.{NoneOf}
 use Rattle.shape_model.specs.ShapeSyntax.{HasProperty}
 use Rattle.shape_model.specs.TermTests.{IsFewer, IsMore}
 use Rattle.shape_model.specs.Vocabulary.{true_literal, ShPath, ShProperty, ShQualifiedValueShape, ShQualifiedValueShapesDisjoint}
-use Rattle.plain_values.specs.declared.place.Told.{Told}
+use Rattle.plain_values.specs.declared.site.ToldRow.{ToldRow}
 use Rattle.plain_values.specs.Tests.{Conforming}
 
 -- the shape may have siblings
@@ -22,7 +22,7 @@ IsCousin s shape t =
     × (HasProperty s shape ShQualifiedValueShape t → ⊥)
 
 -- a node that conforms to the qualified value shape m and to none of its siblings (SHACL 4.7.3)
-abbrev pub MeetsQualified : List Told → Term → List Term → Term → Type 0
+abbrev pub MeetsQualified : List ToldRow → Term → List Term → Term → Type 0
 MeetsQualified told m siblings v = Conforming told m v × NoneOf (λ k. Conforming told k v) siblings
 
 -- so many qualified value nodes are too few, too many for the count q

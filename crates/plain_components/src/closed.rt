@@ -3,7 +3,6 @@ ghost use Rattle.std.specs.Prelude.{◌≡◌, ◌⊎◌, ◌↔◌, IfOk, IsTru
 ghost use Rattle.std.specs.List.{Contains};
 ghost use Rattle.shape_model.specs.Readings.{IsAllowed};
 ghost use Rattle.shape_model.specs.Triples.{IsIri};
-ghost use Rattle.shape_model.specs.Vocabulary as vocabulary;
 ghost use Rattle.shape_model.specs.declared.component.Component.TheVariants as components;
 ghost use Rattle.plain_values.specs.Around.{RowsAt, row_at};
 ghost use Rattle.plain_components.specs.Rows.{ForbiddenRow, IsForbidden, TriplesAt, found_triple};
@@ -12,27 +11,10 @@ ghost use Rattle.plain_terms.specs.Finds.{Finds, WithSome};
 use crate::pairs::tag_rows;
 use collections::both;
 use plain_terms::{TermTest, chosen, is_among, members_of_each, parameters, parameters_of_each};
-use plain_values::{Place, row_alone};
+use plain_values::{PlainSite, row_alone};
 use rdf_model::{Term, Triple};
-use shape_model::{Component, ResultRow};
+use shape_model::{Component, ResultRow, is_true};
 use std::alloc::{AllocError, Global};
-
-const BOOLEAN: &str = "http://www.w3.org/2001/XMLSchema#boolean";
-
-/// Whether the term is `true`.
-#[tactic(auto, unfolding(shape_model::specs::Vocabulary::true_literal))]
-pub(crate) fn is_true(term: &Term) -> bool
-    ensures { IsTrue result ↔ (term.now ≡ vocabulary.true_literal) }
-{
-    match term {
-        Term::Literal {
-            lexical,
-            datatype,
-            language: None,
-        } => lexical.as_str() == "true" && datatype.as_str() == BOOLEAN,
-        _ => false,
-    }
-}
 
 // A term that is an IRI.
 #[derive(Drop)]
@@ -66,7 +48,7 @@ fn allowed_predicates(
 }
 
 // Whether the triple is one of a value node, with a predicate that isn't allowed.
-fn is_forbidden(at: &Place<'_>, allowed: &[Term], triple: &Triple) -> bool
+fn is_forbidden(at: &PlainSite<'_>, allowed: &[Term], triple: &Triple) -> bool
     ensures { IsTrue result ↔ IsForbidden at.now allowed.now triple.now }
 {
     let of_value = is_among(at.values, &triple.subject);
@@ -75,7 +57,11 @@ fn is_forbidden(at: &Place<'_>, allowed: &[Term], triple: &Triple) -> bool
 }
 
 // The result of a triple.
-fn triple_row(at: &Place<'_>, parameter: &Term, triple: &Triple) -> Result<ResultRow, AllocError>
+fn triple_row(
+    at: &PlainSite<'_>,
+    parameter: &Term,
+    triple: &Triple,
+) -> Result<ResultRow, AllocError>
     ensures { IfOk result (λ row. row ≡ row_at at.now components.Closed parameter.now (found_triple triple.now)) }
 {
     let alone = row_alone(at, Component::Closed, parameter);
@@ -90,7 +76,7 @@ fn triple_row(at: &Place<'_>, parameter: &Term, triple: &Triple) -> Result<Resul
 // The results of all triples of the graph.
 fn triple_rows(
     alloc: Global,
-    at: &Place<'_>,
+    at: &PlainSite<'_>,
     parameter: &Term,
     allowed: &[Term],
 ) -> Result<Vec<ResultRow>, AllocError>
@@ -108,7 +94,7 @@ fn triple_rows(
 /// The results of sh:closed.
 pub(crate) fn closed_rows(
     alloc: Global,
-    at: &Place<'_>,
+    at: &PlainSite<'_>,
     parameter: &Term,
 ) -> Result<Vec<ResultRow>, AllocError>
     ensures { IfOk result (λ rows. Finds (RowsAt at.now components.Closed parameter.now) rows.items) }
@@ -124,7 +110,7 @@ pub(crate) fn closed_rows(
 /// The results of sh:uniqueLang (SHACL section 4.4.5).
 pub(crate) fn unique_lang_rows(
     alloc: Global,
-    at: &Place<'_>,
+    at: &PlainSite<'_>,
     parameter: &Term,
 ) -> Result<Vec<ResultRow>, AllocError>
     ensures { IfOk result (λ rows. Finds (RowsAt at.now components.UniqueLang parameter.now) rows.items) }

@@ -7,18 +7,17 @@ ghost use Rattle.shape_model.specs.Components.{parameter_of};
 ghost use Rattle.shape_model.specs.ShapeSyntax.{HasProperty};
 ghost use Rattle.shape_model.specs.Vocabulary.{ShDeactivated, local_name, true_literal};
 ghost use Rattle.plain_values.specs.Around.{RowsAt};
-ghost use Rattle.plain_patterns.specs.Built.{ArePatternsOf};
+ghost use Rattle.plain_values.specs.Built.{ArePatternsOf};
 ghost use Rattle.plain_components.specs.Rows.{AtPlace, ComponentAt, EntryRow, PropertyAt};
 ghost use Rattle.plain_terms.specs.Finds.{Finds, WithSome};
 
 use crate::closed::{closed_rows, unique_lang_rows};
 use crate::pairs::pair_rows;
 use crate::qualified::{qualified_rows, true_term};
-use plain_patterns::{BuiltPattern, pattern_rows};
 use plain_terms::{is_among, parameters};
 use plain_values::{
-    Place, Told, class_rows, disjoint_rows, equals_rows, has_value_rows, list_rows, max_count_rows,
-    min_count_rows, node_rows, not_rows, term_rows,
+    BuiltPattern, PlainSite, ToldRow, class_rows, disjoint_rows, equals_rows, has_value_rows,
+    list_rows, max_count_rows, min_count_rows, node_rows, not_rows, pattern_rows, term_rows,
 };
 use rdf_model::{Term, Triple};
 use shape_model::{Component, ResultRow};
@@ -63,7 +62,7 @@ fn parameter_name(component: Component) -> &'static str
 // The results of the component at one value of its parameter.
 fn rows_at(
     alloc: Global,
-    at: &Place<'_>,
+    at: &PlainSite<'_>,
     patterns: &[BuiltPattern],
     component: Component,
     parameter: &Term,
@@ -118,7 +117,7 @@ fn rows_at(
 // Those at each of the values of its parameter.
 fn rows_at_each(
     alloc: Global,
-    at: &Place<'_>,
+    at: &PlainSite<'_>,
     patterns: &[BuiltPattern],
     component: Component,
     parameters: &[Term],
@@ -139,7 +138,7 @@ fn rows_at_each(
 // The results of the component.
 fn component_rows(
     alloc: Global,
-    at: &Place<'_>,
+    at: &PlainSite<'_>,
     patterns: &[BuiltPattern],
     component: Component,
 ) -> Result<Vec<ResultRow>, AllocError>
@@ -186,7 +185,7 @@ const COMPONENTS: [Component; 28] = [
 // Those of some components.
 fn rows_of_components(
     alloc: Global,
-    at: &Place<'_>,
+    at: &PlainSite<'_>,
     patterns: &[BuiltPattern],
     list: &[Component],
 ) -> Result<Vec<ResultRow>, AllocError>
@@ -203,7 +202,7 @@ fn rows_of_components(
 }
 
 // Whether the result is told of one of the property shapes at a value node.
-fn is_of_property(at: &Place<'_>, properties: &[Term], entry: &Told) -> bool
+fn is_of_property(at: &PlainSite<'_>, properties: &[Term], entry: &ToldRow) -> bool
     ensures { IsTrue result ↔ (Contains properties.now entry.now.shape × Contains at.now.values.now entry.now.node) }
 {
     let of_property = is_among(properties, &entry.shape);
@@ -214,7 +213,7 @@ fn is_of_property(at: &Place<'_>, properties: &[Term], entry: &Told) -> bool
 // The results of the property shapes at the value nodes, among those that are told.
 fn told_rows(
     alloc: Global,
-    at: &Place<'_>,
+    at: &PlainSite<'_>,
     properties: &[Term],
 ) -> Result<Vec<ResultRow>, AllocError>
     ensures { IfOk result (λ rows. Finds (WithSome at.now.told.now (EntryRow at.now properties.now)) rows.items) }
@@ -229,7 +228,7 @@ fn told_rows(
 }
 
 // The results of the property shapes at the value nodes (SHACL section 4.7.2).
-fn property_rows(alloc: Global, at: &Place<'_>) -> Result<Vec<ResultRow>, AllocError>
+fn property_rows(alloc: Global, at: &PlainSite<'_>) -> Result<Vec<ResultRow>, AllocError>
     ensures { IfOk result (λ rows. Finds (PropertyAt at.now) rows.items) }
 {
     let properties = parameters(alloc, at.shapes, at.shape, "property")?;
@@ -250,7 +249,7 @@ fn is_deactivated(alloc: Global, shapes: &[Triple], shape: &Term) -> Result<bool
 /// ascend.
 pub fn place_rows(
     alloc: Global,
-    at: &Place<'_>,
+    at: &PlainSite<'_>,
     patterns: &[BuiltPattern],
 ) -> Result<Vec<ResultRow>, AllocError>
     requires values { IsAscending term_cmp at.now.values.now }

@@ -3,7 +3,7 @@
 ghost use Rattle.std.specs.Prelude.{◌≡◌, ◌↔◌, IfOk, IsTrue};
 ghost use Rattle.shape_model.specs.Components.{found_beside};
 ghost use Rattle.shape_model.specs.TermTests.{HasTag};
-ghost use Rattle.shape_model.specs.Vocabulary as vocabulary;
+ghost use Rattle.shape_model.specs.Vocabulary as defined_words;
 ghost use Rattle.shape_model.specs.declared.component.Component.TheVariants as components;
 ghost use Rattle.plain_values.specs.Around.{row_at};
 ghost use Rattle.plain_components.specs.Rows.{PairRow, PairsAt, SharedRow, TagRow, TagsAt, found_tag};
@@ -11,13 +11,12 @@ ghost use Rattle.plain_components.specs.Pairs.{Shares, SharesSome, Stands};
 ghost use Rattle.plain_terms.specs.Finds.{Finds, WithSome};
 
 use plain_terms::{TermTest, chosen, is_among, is_same, objects};
-use plain_values::{Place, is_at_most, is_less, row_alone, row_beside, tag};
+use plain_values::{PlainSite, is_at_most, is_less, row_alone, row_beside, tag};
 use rdf_model::Term;
 use rdf_text::Text;
 use shape_model::{Component, ResultRow};
 use std::alloc::{AllocError, Global};
-
-const XSD_STRING: &str = "http://www.w3.org/2001/XMLSchema#string";
+use vocabulary::XSD_STRING;
 
 // Whether the value node stands to the other value as the component wants it.
 fn stands(component: Component, value: &Term, other: &Term) -> bool
@@ -50,7 +49,7 @@ impl TermTest for Unpaired<'_> {
 // One result about the value node and each of the others.
 fn rows_beside(
     alloc: Global,
-    at: &Place<'_>,
+    at: &PlainSite<'_>,
     component: Component,
     parameter: &Term,
     value: &Term,
@@ -68,7 +67,7 @@ fn rows_beside(
 // The results about a value node and the values of the property.
 fn pair_rows_of(
     alloc: Global,
-    at: &Place<'_>,
+    at: &PlainSite<'_>,
     component: Component,
     parameter: &Term,
     value: &Term,
@@ -85,7 +84,7 @@ fn pair_rows_of(
 // Those about each value node.
 fn pair_rows_with(
     alloc: Global,
-    at: &Place<'_>,
+    at: &PlainSite<'_>,
     component: Component,
     parameter: &Term,
     others: &[Term],
@@ -103,7 +102,7 @@ fn pair_rows_with(
 /// The results of sh:lessThan and sh:lessThanOrEquals.
 pub(crate) fn pair_rows(
     alloc: Global,
-    at: &Place<'_>,
+    at: &PlainSite<'_>,
     component: Component,
     parameter: &Term,
 ) -> Result<Vec<ResultRow>, AllocError>
@@ -154,7 +153,7 @@ fn shares_some(values: &[Term], tag: &Text, value: &Term) -> bool
 // The tag as a literal of xsd:string.
 #[tactic(auto, unfolding(shape_model::specs::Vocabulary::string_literal))]
 fn tag_literal(alloc: Global, tag: &Text) -> Result<Term, AllocError>
-    ensures { IfOk result (λ term. term ≡ vocabulary.string_literal tag.now) }
+    ensures { IfOk result (λ term. term ≡ defined_words.string_literal tag.now) }
 {
     Ok(Term::Literal {
         lexical: tag.clone()?,
@@ -166,7 +165,7 @@ fn tag_literal(alloc: Global, tag: &Text) -> Result<Term, AllocError>
 // The result of a tag that value nodes share.
 fn tag_row(
     alloc: Global,
-    at: &Place<'_>,
+    at: &PlainSite<'_>,
     parameter: &Term,
     tag: &Text,
 ) -> Result<ResultRow, AllocError>
@@ -180,7 +179,7 @@ fn tag_row(
 // The result of a tag of a value node, if it shares the tag with another one.
 fn shared_rows(
     alloc: Global,
-    at: &Place<'_>,
+    at: &PlainSite<'_>,
     parameter: &Term,
     tag: &Text,
     value: &Term,
@@ -194,10 +193,10 @@ fn shared_rows(
     Ok(rows)
 }
 
-// The same of a value node, if it has a tag.
+// The result of the tag of a value node, if it has one that others share.
 fn tag_rows_of(
     alloc: Global,
-    at: &Place<'_>,
+    at: &PlainSite<'_>,
     parameter: &Term,
     value: &Term,
 ) -> Result<Vec<ResultRow>, AllocError>
@@ -212,7 +211,7 @@ fn tag_rows_of(
 /// The results of sh:uniqueLang (SHACL section 4.4.5), where it is true.
 pub(crate) fn tag_rows(
     alloc: Global,
-    at: &Place<'_>,
+    at: &PlainSite<'_>,
     parameter: &Term,
 ) -> Result<Vec<ResultRow>, AllocError>
     ensures { IfOk result (λ rows. Finds (TagsAt at.now parameter.now) rows.items) }

@@ -3,7 +3,7 @@ ghost use Rattle.std.specs.Prelude.{◌≡◌, ◌↔◌, IfOk, IsTrue};
 ghost use Rattle.rdf_model.specs.declared.term.Term.{Term as TermData};
 ghost use Rattle.shape_model.specs.Readings.{Sibling};
 ghost use Rattle.shape_model.specs.ShapeSyntax.{HasProperty};
-ghost use Rattle.shape_model.specs.Vocabulary as vocabulary;
+ghost use Rattle.shape_model.specs.Vocabulary as defined_words;
 ghost use Rattle.plain_components.specs.Rows.{QualifiedAt, QualifiedRow};
 ghost use Rattle.plain_components.specs.Siblings.{HasSiblings, IsCousin};
 ghost use Rattle.plain_components.specs.Siblings.{IsWrong};
@@ -11,28 +11,29 @@ ghost use Rattle.plain_terms.specs.Finds.{Finds, WithSome};
 
 use collections::Sequence;
 use plain_terms::{TermTest, chosen, in_order, is_among, owners, parameters, parameters_of_each};
-use plain_values::{Demand, Outside, Place, Told, conforms, is_fewer, is_more, is_unmet, row_if};
+use plain_values::{
+    Demand, Outside, PlainSite, ToldRow, conforms, is_fewer, is_more, is_unmet, row_if,
+};
 use rdf_model::{Term, Text, Triple};
 use shape_model::{Component, ResultRow};
 use std::alloc::{AllocError, Global};
-
-const BOOLEAN: &str = "http://www.w3.org/2001/XMLSchema#boolean";
+use vocabulary::XSD_BOOLEAN;
 
 /// `true` (XSD 1.1 Part 2, section 3.3.2.2).
 #[tactic(auto, unfolding(shape_model::specs::Vocabulary::true_literal))]
 pub(crate) fn true_term(alloc: Global) -> Result<Term, AllocError>
-    ensures { IfOk result (λ term. term ≡ vocabulary.true_literal) }
+    ensures { IfOk result (λ term. term ≡ defined_words.true_literal) }
 {
     Ok(Term::Literal {
         lexical: Text::new(alloc, "true")?,
-        datatype: Text::new(alloc, BOOLEAN)?,
+        datatype: Text::new(alloc, XSD_BOOLEAN)?,
         language: None,
     })
 }
 
 // Whether it is a property shape.
 fn has_path(alloc: Global, shapes: &[Triple], shape: &Term) -> Result<bool, AllocError>
-    ensures { IfOk result (λ has. IsTrue has ↔ ((n : TermData) × HasProperty shapes.now shape.now vocabulary.ShPath n)) }
+    ensures { IfOk result (λ has. IsTrue has ↔ ((n : TermData) × HasProperty shapes.now shape.now defined_words.ShPath n)) }
 {
     let paths = parameters(alloc, shapes, shape, "path")?;
     Ok(!paths.is_empty())
@@ -40,7 +41,7 @@ fn has_path(alloc: Global, shapes: &[Triple], shape: &Term) -> Result<bool, Allo
 
 // Whether its qualified value shapes are disjoint.
 fn is_disjoint(alloc: Global, shapes: &[Triple], shape: &Term) -> Result<bool, AllocError>
-    ensures { IfOk result (λ is. IsTrue is ↔ HasProperty shapes.now shape.now vocabulary.ShQualifiedValueShapesDisjoint vocabulary.true_literal) }
+    ensures { IfOk result (λ is. IsTrue is ↔ HasProperty shapes.now shape.now defined_words.ShQualifiedValueShapesDisjoint defined_words.true_literal) }
 {
     let yes = true_term(alloc)?;
     let found = parameters(alloc, shapes, shape, "qualifiedValueShapesDisjoint")?;
@@ -86,7 +87,7 @@ pub fn siblings(
 // A node that conforms to the qualified value shape, and to no sibling shape.
 #[derive(Drop)]
 struct Qualified<'a> {
-    told: &'a [Told],
+    told: &'a [ToldRow],
     shape: &'a Term,
     siblings: &'a [Term],
 }
@@ -117,7 +118,7 @@ fn is_wrong(component: Component, number: usize, count: &Term) -> bool
 // The result for one qualified value shape.
 fn qualified_rows_of(
     alloc: Global,
-    at: &Place<'_>,
+    at: &PlainSite<'_>,
     component: Component,
     parameter: &Term,
     shape: &Term,
@@ -141,7 +142,7 @@ fn qualified_rows_of(
 // Those for each of the qualified value shapes.
 fn qualified_rows_of_each(
     alloc: Global,
-    at: &Place<'_>,
+    at: &PlainSite<'_>,
     component: Component,
     parameter: &Term,
     shapes: &[Term],
@@ -161,7 +162,7 @@ fn qualified_rows_of_each(
 /// The results of sh:qualifiedMinCount and sh:qualifiedMaxCount.
 pub(crate) fn qualified_rows(
     alloc: Global,
-    at: &Place<'_>,
+    at: &PlainSite<'_>,
     component: Component,
     parameter: &Term,
 ) -> Result<Vec<ResultRow>, AllocError>

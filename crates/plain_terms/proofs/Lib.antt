@@ -3,3 +3,11 @@ pub mod Finding
 pub mod Terms
 pub mod Lists
 pub mod Classes
+pub mod PairLists
+pub mod Reaches
+pub mod Chains
+pub mod Made
+pub mod Modifiers
+pub mod PathMembers
+pub mod Depths
+pub mod Found

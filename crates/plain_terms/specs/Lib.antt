@@ -1,1 +1,4 @@
 pub mod Finds
+pub mod Pairs
+pub mod Relations
+pub mod Ways

@@ -1,3 +1,4 @@
+//! Terms that pass a test.
 ghost use Rattle.std.specs.Prelude.{◌≡◌, ◌↔◌, IfOk, IsTrue};
 ghost use Rattle.std.specs.List.{Contains};
 ghost use Rattle.rdf_model.specs.declared.term.Term.{Term as TermData};

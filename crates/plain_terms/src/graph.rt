@@ -1,3 +1,4 @@
+//! Values, subjects and predicates by going through all triples.
 ghost use Rattle.std.specs.Prelude.{◌≡◌, IfOk};
 ghost use Rattle.std.specs.List.{filter_map};
 ghost use Rattle.rdf_model.specs.declared.term.Term.{Term as TermData};

@@ -1,3 +1,4 @@
+//! Instances of classes by going through all triples.
 ghost use Rattle.std.specs.Prelude.{◌≡◌, ◌↔◌, [], ◌∷◌, IfOk, IsTrue, MatchOption};
 ghost use Rattle.std.specs.List.{Contains};
 ghost use Rattle.rdf_model.specs.declared.term.Term.{Term as TermData};

@@ -1,3 +1,4 @@
+//! The members of lists.
 ghost use Rattle.std.specs.Prelude.{◌≡◌, ◌↔◌, ◌&&◌, [], IfOk, IsTrue, List, MatchOption};
 ghost use Rattle.rdf_model.specs.declared.term.Term.{Term as TermData};
 ghost use Rattle.shape_model.specs.Triples.{HasNone, HasOnly};

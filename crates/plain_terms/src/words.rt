@@ -4,6 +4,7 @@ ghost use Rattle.shape_model.specs.Vocabulary.{sh, rdf_first, rdf_nil, rdf_rest,
 
 use rdf_model::{Term, Text};
 use std::alloc::{AllocError, Global};
+use vocabulary::{RDF_FIRST, RDF_NIL, RDF_REST, RDF_TYPE, RDFS_CLASS, RDFS_SUB_CLASS_OF};
 
 const SHACL: &str = "http://www.w3.org/ns/shacl#";
 
@@ -31,18 +32,6 @@ pub fn is_word(alloc: Global, term: &Term, name: &str) -> Result<bool, AllocErro
     let named = word(alloc, name)?;
     Ok(is_same(term, &named))
 }
-
-const RDF_FIRST: &str = "http://www.w3.org/1999/02/22-rdf-syntax-ns#first";
-
-const RDF_REST: &str = "http://www.w3.org/1999/02/22-rdf-syntax-ns#rest";
-
-const RDF_NIL: &str = "http://www.w3.org/1999/02/22-rdf-syntax-ns#nil";
-
-const RDF_TYPE: &str = "http://www.w3.org/1999/02/22-rdf-syntax-ns#type";
-
-const SUB_CLASS_OF: &str = "http://www.w3.org/2000/01/rdf-schema#subClassOf";
-
-const RDFS_CLASS: &str = "http://www.w3.org/2000/01/rdf-schema#Class";
 
 #[tactic(auto, unfolding(shape_model::specs::Vocabulary::rdf, shape_model::specs::Vocabulary::rdf_first))]
 pub(crate) fn first_word(alloc: Global) -> Result<Term, AllocError>
@@ -76,7 +65,7 @@ pub(crate) fn type_word(alloc: Global) -> Result<Term, AllocError>
 pub(crate) fn super_word(alloc: Global) -> Result<Term, AllocError>
     ensures { IfOk result (λ term. term ≡ sub_class_of) }
 {
-    Ok(Term::Iri(Text::new(alloc, SUB_CLASS_OF)?))
+    Ok(Term::Iri(Text::new(alloc, RDFS_SUB_CLASS_OF)?))
 }
 
 /// rdfs:Class (RDFS section 2.2).

@@ -13,7 +13,7 @@ use Rattle.shape_model.specs.Readings.{Refers, ValueNode, reading}
 use Rattle.shape_model.specs.Validation.{AtDepth, surroundings}
 use Rattle.shape_model.specs.declared.result_row.ResultRow.{ResultRow}
 use Rattle.shape_model.proofs.Surroundings.{at_same, reading_itself}
-use Rattle.plain_values.specs.declared.place.Told.{Told}
+use Rattle.plain_values.specs.declared.site.ToldRow.{ToldRow}
 use Rattle.plain_values.specs.Around.{IsTold}
 use Rattle.plain_terms.specs.Finds.{Finds, WithSome}
 use Rattle.plain_terms.proofs.FoundItems.{finds_at, finds_none, finds_one, finds_same}
@@ -23,7 +23,7 @@ pub none_at : (g s : List Triple) (levels : ℕ) (shape f : Term) (rows : List R
 none_at g s levels shape f rows z e =
     subst (λ (n : ℕ). Finds (AtDepth n g (reading s) shape f) rows) (sym z) (finds_at (AtDepth 0 g (reading s) shape f) [] rows e (finds_none (AtDepth 0 g (reading s) shape f) (λ r h. h)))
 
-module _ (g s : List Triple) (below : ℕ) (shape f : Term) (values referred : List Term) (told : List Told) (listed : IsListing term_cmp (ValueNode g (reading s shape) f) values)
+module _ (g s : List Triple) (below : ℕ) (shape f : Term) (values referred : List Term) (told : List ToldRow) (listed : IsListing term_cmp (ValueNode g (reading s shape) f) values)
     (all : (m : Term) → Refers (reading s shape) m → Contains referred m) (tells : Finds (WithSome referred (λ m. WithSome values (ToldAt below g s m))) told) where
   told_is : (m v : Term) → Refers (reading s shape) m → Contains values v → (r : ResultRow) → Contains told (record { shape = m; node = v; row = r }) ↔ AtDepth below g (reading s) m v r
   told_is m v i c r = (
@@ -54,10 +54,10 @@ pub listing_at : (P : Term → Type 0) (xs ys : List Term) → ys ≡ xs → IsL
 listing_at P xs ys e l = subst (λ (zs : List Term). IsListing term_cmp P zs) (sym e) l
 
 -- what is told of the results of a shape at a node
-pub told_found : (g s : List Triple) (n : ℕ) (m v : Term) (rows slice : List ResultRow) (told : List Told) → Finds (AtDepth n g (reading s) m v) rows → slice ≡ rows → Finds (WithSome slice (IsEntry m v)) told → Finds (ToldAt n g s m v) told
+pub told_found : (g s : List Triple) (n : ℕ) (m v : Term) (rows slice : List ResultRow) (told : List ToldRow) → Finds (AtDepth n g (reading s) m v) rows → slice ≡ rows → Finds (WithSome slice (IsEntry m v)) told → Finds (ToldAt n g s m v) told
 told_found g s n m v rows slice told h e k =
     let are = finds_at (AtDepth n g (reading s) m v) rows slice e h in
     finds_same (WithSome slice (IsEntry m v)) (ToldAt n g s m v) told (λ x. (λ w. (w.0, (are.members w.0).0 w.1, w.2), λ w. (w.0, (are.members w.0).1 w.1, w.2))) k
 
-pub one_entry : (entry e : Told) → entry ≡ e → Finds (λ x. x ≡ e) (entry ∷ [])
+pub one_entry : (entry e : ToldRow) → entry ≡ e → Finds (λ x. x ≡ e) (entry ∷ [])
 one_entry entry e is = finds_one (λ x. x ≡ e) entry (λ x. (λ k. is ∙ sym k, λ k. sym k ∙ is))

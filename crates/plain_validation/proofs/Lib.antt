@@ -4,3 +4,7 @@ pub mod Referring
 pub mod Declared
 pub mod ClassShapes
 pub mod AllResults
+pub mod Taken
+pub mod Causes
+pub mod Naming
+pub mod Sizes

@@ -6,7 +6,7 @@ use Rattle.rdf_model.specs.declared.triple.Triple.{Triple}
 use Rattle.shape_model.specs.Readings.{IsNodeShape, ValueNode, reading}
 use Rattle.shape_model.specs.ShapeSyntax.{HasProperty}
 use Rattle.shape_model.specs.Vocabulary.{ShPath}
-use Rattle.plain_paths.specs.Ways.{LeadsTo}
+use Rattle.plain_terms.specs.Ways.{LeadsTo}
 use Rattle.plain_terms.specs.Finds.{Finds, WithSome}
 use Rattle.plain_terms.proofs.FoundItems.{finds_at, finds_one, finds_same}
 

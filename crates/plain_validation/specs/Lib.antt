@@ -1,2 +1,5 @@
 pub mod References
 pub mod Targets
+pub mod Patterns
+pub mod Names
+pub mod Rows

@@ -6,7 +6,7 @@ use Rattle.shape_model.specs.Readings.{reading}
 use Rattle.shape_model.specs.Triples.{Has}
 use Rattle.shape_model.specs.Validation.{AtDepth}
 use Rattle.shape_model.specs.declared.result_row.ResultRow.{ResultRow}
-use Rattle.plain_values.specs.declared.place.Told.{Told}
+use Rattle.plain_values.specs.declared.site.ToldRow.{ToldRow}
 use Rattle.plain_terms.specs.Finds.{IsListed}
 
 -- a value of the property at the shape, or a member of a list that is one
@@ -14,9 +14,9 @@ abbrev pub NamedReference : List Triple → Term → Term → Term → Type 0
 NamedReference s shape p m = Has s shape p m ⊎ ((head : Term) × Has s shape p head × IsListed s head m)
 
 -- the result, told of the shape at the node
-abbrev pub IsEntry : Term → Term → ResultRow → Told → Type 0
+abbrev pub IsEntry : Term → Term → ResultRow → ToldRow → Type 0
 IsEntry shape node row e = e ≡ record { shape = shape; node = node; row = row }
 
 -- what is told of a result of the shape at the node, through chains of fewer references than n
-abbrev pub ToldAt : ℕ → List Triple → List Triple → Term → Term → Told → Type 0
+abbrev pub ToldAt : ℕ → List Triple → List Triple → Term → Term → ToldRow → Type 0
 ToldAt n g s shape node e = (row : ResultRow) × AtDepth n g (reading s) shape node row × IsEntry shape node row e

@@ -3,23 +3,22 @@ ghost use Rattle.std.specs.Prelude.{◌≡◌, IfOk};
 ghost use Rattle.std.specs.List.{Contains};
 ghost use Rattle.shape_model.specs.Readings.{reading};
 ghost use Rattle.shape_model.specs.Validation.{AtDepth};
-ghost use Rattle.plain_patterns.specs.Built.{ArePatternsOf};
+ghost use Rattle.plain_values.specs.Built.{ArePatternsOf};
 ghost use Rattle.plain_terms.specs.Finds.{Finds, WithSome};
 ghost use Rattle.plain_validation.specs.References.{IsEntry, ToldAt};
 
 use crate::references::referred_shapes;
 use crate::values::value_nodes;
 use plain_components::place_rows;
-use plain_patterns::BuiltPattern;
-use plain_values::{Place, Told};
+use plain_values::{BuiltPattern, PlainSite, ToldRow};
 use rdf_model::{Term, Triple};
 use shape_model::ResultRow;
 use std::alloc::{AllocError, Global};
 
-fn entry(shape: &Term, node: &Term, row: &ResultRow) -> Result<Told, AllocError>
+fn entry(shape: &Term, node: &Term, row: &ResultRow) -> Result<ToldRow, AllocError>
     ensures { IfOk result (λ told. IsEntry shape.now node.now row.now told) }
 {
-    Ok(Told {
+    Ok(ToldRow {
         shape: shape.clone()?,
         node: node.clone()?,
         row: row.clone()?,
@@ -32,7 +31,7 @@ fn as_told(
     shape: &Term,
     node: &Term,
     rows: &[ResultRow],
-) -> Result<Vec<Told>, AllocError>
+) -> Result<Vec<ToldRow>, AllocError>
     ensures { IfOk result (λ told. Finds (WithSome rows.now (IsEntry shape.now node.now)) told.items) }
 {
     let mut told = Vec::new(alloc);
@@ -52,7 +51,7 @@ fn told_by(
     levels: usize,
     shape: &Term,
     nodes: &[Term],
-) -> Result<Vec<Told>, AllocError>
+) -> Result<Vec<ToldRow>, AllocError>
     requires { ArePatternsOf shapes.now patterns.now }
     ensures { IfOk result (λ told. Finds (WithSome nodes.now (ToldAt levels graph.now shapes.now shape.now)) told.items) }
 {
@@ -75,7 +74,7 @@ fn told_by_each(
     levels: usize,
     referred: &[Term],
     nodes: &[Term],
-) -> Result<Vec<Told>, AllocError>
+) -> Result<Vec<ToldRow>, AllocError>
     requires { ArePatternsOf shapes.now patterns.now }
     ensures { IfOk result (λ told. Finds (WithSome referred.now (λ m. WithSome nodes.now (ToldAt levels graph.now shapes.now m))) told.items) }
 {
@@ -116,7 +115,7 @@ pub(crate) fn rows_at(
         &referred,
         values,
     )?;
-    let at = Place {
+    let at = PlainSite {
         graph,
         shapes,
         told: &told,

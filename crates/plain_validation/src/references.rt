@@ -40,7 +40,7 @@ fn named_references(
     Ok(found)
 }
 
-// The same for some properties.
+// The values of some properties of the shape, and the members of lists among them.
 fn all_named(
     alloc: Global,
     shapes: &[Triple],

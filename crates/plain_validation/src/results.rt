@@ -1,10 +1,11 @@
+//! The listing of a data graph.
 ghost use Rattle.std.specs.Prelude.{IfOk};
-ghost use Rattle.plain_patterns.specs.Built.{ArePatternsOf};
+ghost use Rattle.plain_values.specs.Built.{ArePatternsOf};
 ghost use Rattle.shape_model.specs.Validation.{Listing};
 
 use crate::targets::all_rows;
 use collections::sorted_once;
-use plain_patterns::BuiltPattern;
+use plain_values::BuiltPattern;
 use rdf_model::Triple;
 use shape_model::ResultRow;
 use std::alloc::{AllocError, Global};

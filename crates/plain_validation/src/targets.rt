@@ -1,14 +1,14 @@
 // The results of all shapes at their targets.
 ghost use Rattle.std.specs.Prelude.{◌≡◌, ◌∷◌, [], IfOk, length};
 ghost use Rattle.shape_model.specs.Validation.{At, IsResult};
-ghost use Rattle.plain_patterns.specs.Built.{ArePatternsOf};
+ghost use Rattle.plain_values.specs.Built.{ArePatternsOf};
 ghost use Rattle.plain_terms.specs.Finds.{Finds, WithSome};
 ghost use Rattle.plain_validation.specs.Targets.{ClassRow, DeclaredResult, DeclaredRow, Declares, ImplicitResult, IsValue};
 
 use crate::evaluation::rows_at;
 use collections::Sequence;
-use plain_patterns::BuiltPattern;
 use plain_terms::{alone, class_word, instances_of, is_word, objects_of_each, subjects};
+use plain_values::BuiltPattern;
 use rdf_model::{Term, Triple};
 use shape_model::ResultRow;
 use std::alloc::{AllocError, Global};

@@ -4,12 +4,11 @@ ghost use Rattle.collections.specs.Listings.{IsListing};
 ghost use Rattle.rdf_model.specs.Terms.{term_cmp};
 ghost use Rattle.rdf_model.specs.declared.term.Term.{Term as TermData};
 ghost use Rattle.shape_model.specs.Readings.{ValueNode, reading};
-ghost use Rattle.plain_paths.specs.Ways.{LeadsTo};
+ghost use Rattle.plain_terms.specs.Ways.{LeadsTo};
 ghost use Rattle.plain_terms.specs.Finds.{Finds, WithSome};
 
 use collections::Sequence;
-use plain_paths::path_values;
-use plain_terms::{alone, in_order, parameters};
+use plain_terms::{alone, in_order, parameters, path_values};
 use rdf_model::{Term, Triple};
 use std::alloc::{AllocError, Global};
 

@@ -1,3 +1,4 @@
 pub mod Tallies
 pub mod Made
 pub mod Languages
+pub mod Matched

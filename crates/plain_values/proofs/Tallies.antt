@@ -3,7 +3,7 @@ use Rattle.std.proofs.Common.{◌≡◌, ◌∙◌, ◌==◌, ℕ, ◌+◌, ◌<
 use Rattle.std.proofs.lemmas.Bool.Decides.{nat_tests}
 use Rattle.std.proofs.lemmas.List.{take_more}
 use Rattle.shape_syntax.proofs.Equals.{negated, negation}
-use Rattle.plain_values.specs.declared.place.Told.{Told}
+use Rattle.plain_values.specs.declared.site.ToldRow.{ToldRow}
 use Rattle.plain_values.specs.declared.logic.Demand.TheVariants.{All, Any, One}
 use Rattle.std.specs.Prelude.{◌↔◌}
 use Rattle.rdf_model.specs.declared.term.Term.{Term}
@@ -72,7 +72,7 @@ equal_is n k = (λ t. grind (arith, nat_tests), λ e. grind (arith, nat_tests))
 unequal_is : (n k : ℕ) → IsTrue (not (n == k)) ↔ (n ≡ k → ⊥)
 unequal_is n k = (λ t e. negated (n == k) t ((equal_is n k).1 e), λ apart. negation (n == k) (λ t. apart ((equal_is n k).0 t)))
 
-module _ (told : List Told) (members : List Term) (v : Term) (n : ℕ) (h : Tallied (λ m. Conforming told m v) members n) where
+module _ (told : List ToldRow) (members : List Term) (v : Term) (n : ℕ) (h : Tallied (λ m. Conforming told m v) members n) where
   pub unmet_all : IsTrue (not (n == length members)) ↔ IsUnmet All told members v
   unmet_all = (λ t all. (unequal_is n (length members)).0 t (h.all.1 all), λ unmet. (unequal_is n (length members)).1 (λ e. unmet (h.all.0 e)))
 

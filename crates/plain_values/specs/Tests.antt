@@ -10,7 +10,7 @@ use Rattle.shape_model.specs.declared.result_row.ResultRow.{ResultRow}
 use Rattle.shape_model.specs.Components.{NoneOf, OneOf}
 use Rattle.shape_model.specs.TermTests.{IsAtMost, IsInLanguages, IsLess, IsOfDatatype, IsOfKind, IsTooLong, IsTooShort}
 use Rattle.shape_model.specs.Triples.{IsMember}
-use Rattle.plain_values.specs.declared.place.Told.{Told}
+use Rattle.plain_values.specs.declared.site.ToldRow.{ToldRow}
 use Rattle.plain_values.specs.declared.logic.Demand.{Demand}
 use Rattle.plain_values.specs.declared.logic.Demand.TheVariants.{All, Any, One}
 use Rattle.plain_values.specs.Around.{IsTold}
@@ -28,7 +28,7 @@ IsRefused components.MaxLength q v = IsTooLong q v
 IsRefused c q v = ⊥
 
 -- no result of the shape is told at the node (SHACL 3.5)
-abbrev pub Conforming : List Told → Term → Term → Type 0
+abbrev pub Conforming : List ToldRow → Term → Term → Type 0
 Conforming told shape node = (r : ResultRow) → IsTold told shape node r → ⊥
 
 -- it is told of so many members of the list, counted with repeats: of none, of one, of all
@@ -39,13 +39,13 @@ pub record Tallied (P : Term → Type 0) (members : List Term) (n : ℕ) : Type 
   pub most : n ≤ length members
 
 -- a value node that conforms not to all of the shapes, to none, not to exactly one (SHACL 4.6.2, 4.6.3, 4.6.4)
-abbrev pub IsUnmet : Demand → List Told → List Term → Term → Type 0
+abbrev pub IsUnmet : Demand → List ToldRow → List Term → Term → Type 0
 IsUnmet All told members v = ((m : Term) → IsMember members m → Conforming told m v) → ⊥
 IsUnmet Any told members v = NoneOf (λ m. Conforming told m v) members
 IsUnmet One told members v = OneOf (λ m. Conforming told m v) members → ⊥
 
 -- the component refuses the value node for the members of a list
-abbrev pub IsRefusedBy : Component → List Told → List Term → Term → Type 0
+abbrev pub IsRefusedBy : Component → List ToldRow → List Term → Term → Type 0
 IsRefusedBy components.LanguageIn told ms v = IsInLanguages ms v → ⊥
 IsRefusedBy components.In told ms v = IsMember ms v → ⊥
 IsRefusedBy components.And told ms v = IsUnmet All told ms v

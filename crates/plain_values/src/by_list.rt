@@ -8,8 +8,8 @@ ghost use Rattle.plain_values.specs.Tests.{IsRefusedBy, does_match, is_in_range}
 ghost use Rattle.plain_terms.specs.Finds.{Finds};
 
 use crate::logic::{Demand, is_unmet};
-use crate::place::{Place, Told};
 use crate::rows::rows_where;
+use crate::site::{PlainSite, ToldRow};
 use literal_order::lang_matches;
 use plain_terms::{TermTest, is_among, list_members};
 use rdf_model::Term;
@@ -63,7 +63,7 @@ fn is_in_languages(ranges: &[Term], value: &Term) -> bool
 }
 
 // Whether the component refuses the value node for the members of a list.
-fn is_refused_by(component: Component, told: &[Told], members: &[Term], value: &Term) -> bool
+fn is_refused_by(component: Component, told: &[ToldRow], members: &[Term], value: &Term) -> bool
     ensures { IsTrue result ↔ IsRefusedBy component told.now members.now value.now }
 {
     match component {
@@ -80,7 +80,7 @@ fn is_refused_by(component: Component, told: &[Told], members: &[Term], value: &
 #[derive(Drop)]
 struct RefusedBy<'a> {
     component: Component,
-    told: &'a [Told],
+    told: &'a [ToldRow],
     members: &'a [Term],
 }
 
@@ -98,7 +98,7 @@ impl TermTest for RefusedBy<'_> {
 /// of.
 pub fn list_rows(
     alloc: Global,
-    at: &Place<'_>,
+    at: &PlainSite<'_>,
     component: Component,
     parameter: &Term,
 ) -> Result<Vec<ResultRow>, AllocError>

@@ -7,13 +7,17 @@ ghost use Rattle.plain_values.specs.Around.{EachAt};
 ghost use Rattle.plain_values.specs.Tests.{IsRefused};
 ghost use Rattle.plain_terms.specs.Finds.{Finds};
 
-use crate::place::Place;
 use crate::rows::rows_where;
+use crate::site::PlainSite;
 use literal_order::{Lexical, char_len, less, less_or_equal, value as value_of};
 use plain_terms::TermTest;
 use rdf_model::Term;
 use shape_model::{Component, ResultRow, count_of};
 use std::alloc::{AllocError, Global};
+use vocabulary::{
+    SH_BLANK_NODE, SH_BLANK_NODE_OR_IRI, SH_BLANK_NODE_OR_LITERAL, SH_IRI, SH_IRI_OR_LITERAL,
+    SH_LITERAL,
+};
 
 /// Whether a number is less than the count that a term says (SHACL section 4.2.1).
 pub fn is_fewer(number: usize, count: &Term) -> bool
@@ -50,9 +54,9 @@ fn is_named(term: &Term, iri: &str) -> bool
 fn takes_blank(kind: &Term) -> bool
     ensures { IsTrue result ↔ ((kind.now ≡ sh (codes "BlankNode")) ⊎ (kind.now ≡ sh (codes "BlankNodeOrIRI")) ⊎ (kind.now ≡ sh (codes "BlankNodeOrLiteral"))) }
 {
-    is_named(kind, "http://www.w3.org/ns/shacl#BlankNode")
-        || is_named(kind, "http://www.w3.org/ns/shacl#BlankNodeOrIRI")
-        || is_named(kind, "http://www.w3.org/ns/shacl#BlankNodeOrLiteral")
+    is_named(kind, SH_BLANK_NODE)
+        || is_named(kind, SH_BLANK_NODE_OR_IRI)
+        || is_named(kind, SH_BLANK_NODE_OR_LITERAL)
 }
 
 // Whether a node kind takes IRIs.
@@ -60,9 +64,9 @@ fn takes_blank(kind: &Term) -> bool
 fn takes_iri(kind: &Term) -> bool
     ensures { IsTrue result ↔ ((kind.now ≡ sh (codes "IRI")) ⊎ (kind.now ≡ sh (codes "BlankNodeOrIRI")) ⊎ (kind.now ≡ sh (codes "IRIOrLiteral"))) }
 {
-    is_named(kind, "http://www.w3.org/ns/shacl#IRI")
-        || is_named(kind, "http://www.w3.org/ns/shacl#BlankNodeOrIRI")
-        || is_named(kind, "http://www.w3.org/ns/shacl#IRIOrLiteral")
+    is_named(kind, SH_IRI)
+        || is_named(kind, SH_BLANK_NODE_OR_IRI)
+        || is_named(kind, SH_IRI_OR_LITERAL)
 }
 
 // Whether a node kind takes literals.
@@ -70,9 +74,9 @@ fn takes_iri(kind: &Term) -> bool
 fn takes_literal(kind: &Term) -> bool
     ensures { IsTrue result ↔ ((kind.now ≡ sh (codes "Literal")) ⊎ (kind.now ≡ sh (codes "BlankNodeOrLiteral")) ⊎ (kind.now ≡ sh (codes "IRIOrLiteral"))) }
 {
-    is_named(kind, "http://www.w3.org/ns/shacl#Literal")
-        || is_named(kind, "http://www.w3.org/ns/shacl#BlankNodeOrLiteral")
-        || is_named(kind, "http://www.w3.org/ns/shacl#IRIOrLiteral")
+    is_named(kind, SH_LITERAL)
+        || is_named(kind, SH_BLANK_NODE_OR_LITERAL)
+        || is_named(kind, SH_IRI_OR_LITERAL)
 }
 
 // Whether the value is of the node kind (SHACL section 4.1.3).
@@ -167,7 +171,7 @@ impl TermTest for Refused<'_> {
 /// One result about each value node that the component refuses.
 pub fn term_rows(
     alloc: Global,
-    at: &Place<'_>,
+    at: &PlainSite<'_>,
     component: Component,
     parameter: &Term,
 ) -> Result<Vec<ResultRow>, AllocError>

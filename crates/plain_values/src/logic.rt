@@ -2,7 +2,7 @@
 ghost use Rattle.std.specs.Prelude.{◌≡◌, ◌↔◌, IsTrue};
 ghost use Rattle.plain_values.specs.Tests.{Conforming, IsUnmet, Tallied};
 
-use crate::place::Told;
+use crate::site::ToldRow;
 use plain_terms::is_same;
 use rdf_model::Term;
 
@@ -15,7 +15,7 @@ pub enum Demand {
 }
 
 // Whether a result of the shape is told at the node.
-fn is_about(entry: &Told, shape: &Term, node: &Term) -> bool
+fn is_about(entry: &ToldRow, shape: &Term, node: &Term) -> bool
     ensures { IsTrue result ↔ ((entry.now.shape ≡ shape.now) × (entry.now.node ≡ node.now)) }
 {
     let of_shape = is_same(&entry.shape, shape);
@@ -24,7 +24,7 @@ fn is_about(entry: &Told, shape: &Term, node: &Term) -> bool
 }
 
 /// Whether the node conforms to the shape.
-pub fn conforms(told: &[Told], shape: &Term, node: &Term) -> bool
+pub fn conforms(told: &[ToldRow], shape: &Term, node: &Term) -> bool
     ensures { IsTrue result ↔ Conforming told.now shape.now node.now }
 {
     for entry in told {
@@ -36,7 +36,7 @@ pub fn conforms(told: &[Told], shape: &Term, node: &Term) -> bool
 }
 
 // To how many of the shapes it does, counted with repeats.
-fn how_many(told: &[Told], shapes: &[Term], node: &Term) -> usize
+fn how_many(told: &[ToldRow], shapes: &[Term], node: &Term) -> usize
     ensures { Tallied (λ m. Conforming told.now m node.now) shapes.now result }
 {
     let mut yes = 0;
@@ -49,7 +49,7 @@ fn how_many(told: &[Told], shapes: &[Term], node: &Term) -> usize
 }
 
 /// Whether the node doesn't conform to as many of the shapes as it has to.
-pub fn is_unmet(demand: Demand, told: &[Told], shapes: &[Term], node: &Term) -> bool
+pub fn is_unmet(demand: Demand, told: &[ToldRow], shapes: &[Term], node: &Term) -> bool
     ensures { IsTrue result ↔ IsUnmet demand told.now shapes.now node.now }
 {
     let yes = how_many(told, shapes, node);

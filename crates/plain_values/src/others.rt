@@ -10,8 +10,8 @@ ghost use Rattle.plain_terms.specs.Finds.{Finds};
 
 use crate::by_term::{is_fewer, is_more};
 use crate::logic::conforms;
-use crate::place::{Place, Told};
 use crate::rows::{row_alone, rows_about, rows_where};
+use crate::site::{PlainSite, ToldRow};
 use collections::Sequence;
 use plain_terms::{TermTest, chosen, instances_of, is_among, objects};
 use rdf_model::Term;
@@ -52,7 +52,7 @@ impl TermTest for Outside<'_> {
 // A node that conforms to the shape, and one that doesn't.
 #[derive(Drop)]
 struct Conformant<'a> {
-    told: &'a [Told],
+    told: &'a [ToldRow],
     shape: &'a Term,
 }
 
@@ -68,7 +68,7 @@ impl TermTest for Conformant<'_> {
 
 #[derive(Drop)]
 struct NotConformant<'a> {
-    told: &'a [Told],
+    told: &'a [ToldRow],
     shape: &'a Term,
 }
 
@@ -85,7 +85,7 @@ impl TermTest for NotConformant<'_> {
 /// The results of sh:class (SHACL section 4.1.1).
 pub fn class_rows(
     alloc: Global,
-    at: &Place<'_>,
+    at: &PlainSite<'_>,
     parameter: &Term,
 ) -> Result<Vec<ResultRow>, AllocError>
     ensures { IfOk result (λ rows. Finds (RowsAt at.now components.Class parameter.now) rows.items) }
@@ -99,7 +99,7 @@ pub fn class_rows(
 /// The results of sh:disjoint (SHACL section 4.5.2).
 pub fn disjoint_rows(
     alloc: Global,
-    at: &Place<'_>,
+    at: &PlainSite<'_>,
     parameter: &Term,
 ) -> Result<Vec<ResultRow>, AllocError>
     ensures { IfOk result (λ rows. Finds (RowsAt at.now components.Disjoint parameter.now) rows.items) }
@@ -113,7 +113,7 @@ pub fn disjoint_rows(
 // The results about the values of the property at the focus node that are no value nodes.
 fn missing_rows(
     alloc: Global,
-    at: &Place<'_>,
+    at: &PlainSite<'_>,
     parameter: &Term,
     others: &Sequence<Term>,
 ) -> Result<Vec<ResultRow>, AllocError>
@@ -129,7 +129,7 @@ fn missing_rows(
 /// The results of sh:equals (SHACL section 4.5.1).
 pub fn equals_rows(
     alloc: Global,
-    at: &Place<'_>,
+    at: &PlainSite<'_>,
     parameter: &Term,
 ) -> Result<Vec<ResultRow>, AllocError>
     ensures { IfOk result (λ rows. Finds (RowsAt at.now components.Equals parameter.now) rows.items) }
@@ -145,7 +145,7 @@ pub fn equals_rows(
 /// The results of sh:not (SHACL section 4.6.1).
 pub fn not_rows(
     alloc: Global,
-    at: &Place<'_>,
+    at: &PlainSite<'_>,
     parameter: &Term,
 ) -> Result<Vec<ResultRow>, AllocError>
     ensures { IfOk result (λ rows. Finds (RowsAt at.now components.Not parameter.now) rows.items) }
@@ -161,7 +161,7 @@ pub fn not_rows(
 /// The results of sh:node (SHACL section 4.7.1).
 pub fn node_rows(
     alloc: Global,
-    at: &Place<'_>,
+    at: &PlainSite<'_>,
     parameter: &Term,
 ) -> Result<Vec<ResultRow>, AllocError>
     ensures { IfOk result (λ rows. Finds (RowsAt at.now components.Node parameter.now) rows.items) }
@@ -177,7 +177,7 @@ pub fn node_rows(
 /// The result about no value node, where something is wrong.
 pub fn row_if(
     alloc: Global,
-    at: &Place<'_>,
+    at: &PlainSite<'_>,
     component: Component,
     parameter: &Term,
     is_wrong: bool,
@@ -194,7 +194,7 @@ pub fn row_if(
 /// The results of sh:minCount (SHACL section 4.2.1).
 pub fn min_count_rows(
     alloc: Global,
-    at: &Place<'_>,
+    at: &PlainSite<'_>,
     parameter: &Term,
 ) -> Result<Vec<ResultRow>, AllocError>
     requires { IsAscending term_cmp at.now.values.now }
@@ -208,7 +208,7 @@ pub fn min_count_rows(
 /// The results of sh:maxCount (SHACL section 4.2.2).
 pub fn max_count_rows(
     alloc: Global,
-    at: &Place<'_>,
+    at: &PlainSite<'_>,
     parameter: &Term,
 ) -> Result<Vec<ResultRow>, AllocError>
     requires { IsAscending term_cmp at.now.values.now }
@@ -222,7 +222,7 @@ pub fn max_count_rows(
 /// The results of sh:hasValue (SHACL section 4.8.2).
 pub fn has_value_rows(
     alloc: Global,
-    at: &Place<'_>,
+    at: &PlainSite<'_>,
     parameter: &Term,
 ) -> Result<Vec<ResultRow>, AllocError>
     ensures { IfOk result (λ rows. Finds (RowsAt at.now components.HasValue parameter.now) rows.items) }

@@ -4,7 +4,7 @@ ghost use Rattle.shape_model.specs.Components.{found_alone, found_at, found_besi
 ghost use Rattle.plain_values.specs.Around.{EachAt, row_at};
 ghost use Rattle.plain_terms.specs.Finds.{Finds, WithSome};
 
-use crate::place::Place;
+use crate::site::PlainSite;
 use collections::both;
 use plain_terms::{TermTest, chosen};
 use rdf_model::Term;
@@ -13,7 +13,7 @@ use std::alloc::{AllocError, Global};
 
 /// The result about no value node.
 pub fn row_alone(
-    at: &Place<'_>,
+    at: &PlainSite<'_>,
     component: Component,
     parameter: &Term,
 ) -> Result<ResultRow, AllocError>
@@ -34,7 +34,7 @@ pub fn row_alone(
 
 /// The result about a value node.
 pub fn row_about(
-    at: &Place<'_>,
+    at: &PlainSite<'_>,
     component: Component,
     parameter: &Term,
     value: &Term,
@@ -50,7 +50,7 @@ pub fn row_about(
 
 /// The result about a value node, with another term beside.
 pub fn row_beside(
-    at: &Place<'_>,
+    at: &PlainSite<'_>,
     component: Component,
     parameter: &Term,
     value: &Term,
@@ -67,7 +67,7 @@ pub fn row_beside(
 /// One result about each of the nodes.
 pub fn rows_about(
     alloc: Global,
-    at: &Place<'_>,
+    at: &PlainSite<'_>,
     component: Component,
     parameter: &Term,
     nodes: &[Term],
@@ -84,7 +84,7 @@ pub fn rows_about(
 /// One result about each value node that passes the test.
 pub fn rows_where<T: TermTest>(
     alloc: Global,
-    at: &Place<'_>,
+    at: &PlainSite<'_>,
     component: Component,
     parameter: &Term,
     test: &T,

@@ -18,7 +18,7 @@ use Rattle.read_plans.specs.ShapeRows.{plan_rows}
 
 -- as many rows of a path, walked forwards or backwards after any way, as it has looks
 abbrev pub PathNumber : Type 0
-PathNumber = (turned : Bool) (p : Path) (q : List Path) → length (path_rows turned p q) ≡ looks_of p
+PathNumber = (reversed : Bool) (p : Path) (q : List Path) → length (path_rows reversed p q) ≡ looks_of p
 
 -- The shapes are those of the well-formed graph as `shape_reader::read_shapes` compiles it, each of their parts once.
 pub record AreRead (shapes : List (Shape Term)) (s : List Triple) : Type 0 where

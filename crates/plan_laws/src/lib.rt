@@ -2,6 +2,8 @@
 //! well-formed graph.
 //!
 //! Each function promises a theorem on the definitions, and does nothing.
+//!
+//! Storey: laws.
 #![tactic(auto)]
 
 ghost use Rattle.plan_laws.specs.Numbers.{NoneTooWide, OnlyMemory, PathNumber, PlanNumber};

@@ -1,4 +1,6 @@
 //! Tests of plans of looks: how many rows paths and shapes have, worked out by hand.
+//!
+//! Storey: tests.
 #![tactic(auto)]
 
 #[cfg(test)]

@@ -1,5 +1,6 @@
+//! Plans of shapes that are put together by hand.
 use collections::{Sequence, both};
-use compiled_paths::Path;
+use path_ast::Path;
 use rdf_model::Term;
 use rdf_text::Text;
 use read_plans::{LookKind, PlanFault, PlannedLook, plan};

@@ -1,3 +1,4 @@
+//! The components qualified-min-count and qualified-max-count (SHACL section 4.7.3).
 ghost use Rattle.std.specs.Prelude.{◌≡◌, ◌<◌, ◌↔◌, ◌∷◌, IfOk, IsTrue, length, map};
 ghost use Rattle.std.specs.List.{Contains};
 ghost use Rattle.rdf_model.specs.Numbers.{term_at};

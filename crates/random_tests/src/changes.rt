@@ -6,17 +6,17 @@ ghost use Rattle.path_eval.specs.Instances.{AreClassWords};
 ghost use Rattle.rdf_model.specs.Numbers.{AreNumbered, IsNumbering};
 ghost use Rattle.rdf_model.specs.declared.term.Term.{Term as TermData};
 ghost use Rattle.shape_plans.specs.Planned.{ArePlanned};
-ghost use Rattle.term_validation.specs.Named.{AreNamedTriples, IsNumbered};
+ghost use Rattle.parallel_validate.specs.Named.{AreNamedTriples, IsNumbered};
 
 use crate::listings::{
     Draws, Tally, assert_all_occur, assert_same, expanded, graph_text, note, shapes_text,
 };
 use collections::{Sequence, both, sorted_once};
 use graph_plans::plan_graph;
-use graph_validation::whole;
 use outside::RegexMaker;
-use parallel_validate::{CheckedRows, check};
+use parallel_validate::{CheckedRows, check, listing_over, number_triple, whole};
 use path_eval::ClassWords;
+use plain_validation::{RowsFault, class_words, names_of, shapes_of, triples_of};
 use rdf_model::{Footprint, Ids, ListGraph, ListNames, Triple};
 use shape_eval::{Evaluation, Steps, eval, permit};
 use shape_model::ResultRow;
@@ -28,8 +28,6 @@ use std::process::Abort;
 use std::sync::ledger::{Blank, Ledger};
 use std::test::Fail;
 use target_nodes::targets;
-use term_validation::{listing_over, number_triple};
-use validation_rows::{RowsFault, class_words, names_of, shapes_of, triples_of};
 
 // The triples before changes and after them, and those that are added or removed, by number.
 #[derive(Drop)]

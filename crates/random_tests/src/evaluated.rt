@@ -2,14 +2,15 @@
 ghost use Rattle.std.specs.Prelude.{◌≡◌, ◌+◌, ◌*◌, ◌<◌, ◌^◌, IfOk, length};
 ghost use Rattle.path_eval.specs.Instances.{AreClassWords};
 ghost use Rattle.rdf_model.specs.Numbers.{AreNumbered, IsNumbering};
-ghost use Rattle.term_validation.specs.Named.{AreNamedTriples};
+ghost use Rattle.parallel_validate.specs.Named.{AreNamedTriples};
 
 use crate::changes::{Changed, both_graphs, push_if};
 use collections::Sequence;
 use graph_plans::plan_graph;
 use outside::RegexMaker;
-use parallel_validate::{CheckedRows, check};
+use parallel_validate::{CheckedRows, check, number_triple};
 use path_eval::ClassWords;
+use plain_validation::{class_words, names_of};
 use rdf_model::{Footprint, ListGraph, ListNames, Term, Triple};
 use shape_eval::Steps;
 use shape_plans::PlannedShapes;
@@ -20,8 +21,6 @@ use std::process::Abort;
 use std::sync::ledger::{Blank, Ledger};
 use std::test::Fail;
 use target_nodes::{is_target, targets};
-use term_validation::number_triple;
-use validation_rows::{class_words, names_of};
 
 const SHAPES: &str = "\
 <e:S> <http://www.w3.org/ns/shacl#targetClass> <e:C> .

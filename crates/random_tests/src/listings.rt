@@ -1,11 +1,11 @@
 // Small graphs that are drawn at random, each validated in both ways.
 
 use outside::RegexMaker;
+use plain_validation::{BothListings, both_listings};
 use shape_model::{Component, ResultRow};
 use std::alloc::{AllocError, Global};
 use std::process::Abort;
 use std::test::Fail;
-use validation_rows::{BothListings, both_listings};
 
 // A row of numbers by a linear congruence, the same in each run.
 #[derive(Drop)]

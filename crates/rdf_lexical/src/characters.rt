@@ -1,3 +1,4 @@
+//! The characters of the productions for terminals.
 ghost use Rattle.std.specs.Prelude.{◌≡◌};
 ghost use Rattle.rdf_lexical.specs.Characters;
 

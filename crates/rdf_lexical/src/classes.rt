@@ -1,3 +1,4 @@
+//! Classes of characters, and how far they reach.
 ghost use Rattle.std.specs.Prelude.{◌≡◌, ◌+◌, ◌≤◌, drop, length};
 ghost use Rattle.rdf_lexical.specs.Classes;
 

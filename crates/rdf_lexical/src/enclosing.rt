@@ -1,3 +1,4 @@
+//! Tokens that end where what closes them comes.
 ghost use Rattle.std.specs.Prelude.{◌≡◌, ◌≤◌, IfOk, length};
 ghost use Rattle.rdf_lexical.specs.Enclosed as spec;
 ghost use Rattle.rdf_lexical.specs.Enclosed.{IsWithin};

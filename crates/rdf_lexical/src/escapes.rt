@@ -1,3 +1,4 @@
+//! Escapes and the characters that they stand for.
 ghost use Rattle.std.specs.Prelude.{◌≡◌, ◌≤◌, suc, length};
 ghost use Rattle.rdf_lexical.specs.Escapes;
 ghost use Rattle.rdf_lexical.specs.Escaping;

@@ -6,6 +6,8 @@
 //! `lower_text` what they stand for. Each function ensures exactly its definition;
 //! `specs/Productions.antt` has the productions, on code points. `RefusalKind` is the one enum of
 //! refusals.
+//!
+//! Storey: texts.
 #![tactic(auto)]
 
 mod characters;

@@ -1,3 +1,4 @@
+//! What the characters of IRIs and strings stand for.
 ghost use Rattle.std.specs.Prelude.{◌≡◌, ◌<◌, ◌≤◌, IfOk, IfSome, length, take, drop, encode_utf8_all};
 ghost use Rattle.rdf_lexical.specs.Meanings;
 

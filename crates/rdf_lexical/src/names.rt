@@ -1,3 +1,4 @@
+//! How far a name of a class and dots reaches.
 ghost use Rattle.std.specs.Prelude.{◌≡◌, ◌≤◌, length};
 ghost use Rattle.rdf_lexical.specs.Names;
 

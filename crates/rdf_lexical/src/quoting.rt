@@ -1,3 +1,4 @@
+//! The four forms of strings.
 ghost use Rattle.std.specs.Prelude.{◌≡◌};
 ghost use Rattle.rdf_lexical.specs.Quoting.{quotes_length};
 

@@ -1,3 +1,4 @@
+//! Why a text is refused, or was not read.
 ghost use Rattle.std.specs.Prelude.{◌≡◌};
 ghost use Rattle.rdf_lexical.specs.Refusals.{number_of, kind_of_literal};
 

@@ -1,3 +1,4 @@
+//! How far a language tag reaches.
 ghost use Rattle.std.specs.Prelude.{◌≡◌, ◌≤◌, false, length};
 ghost use Rattle.rdf_lexical.specs.Tags;
 

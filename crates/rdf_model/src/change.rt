@@ -1,3 +1,4 @@
+//! Changes of triples.
 ghost use Rattle.std.specs.Prelude.{◌≡◌};
 
 use crate::Triple;

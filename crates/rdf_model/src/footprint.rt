@@ -1,3 +1,4 @@
+//! The looks of a validation.
 ghost use Rattle.std.specs.Prelude.{◌≡◌, [], ◌∷◌, ◌++◌, OnErr, OnOk};
 ghost use Rattle.rdf_model.specs.Numbers.{is_touched};
 

@@ -4,6 +4,11 @@
 //! where the terms are. A graph is a list of triples that ascends strictly in that order. A `Net` is the
 //! list of a transaction's changes, and `Pattern::matches` and `Look::reads` say which triples a
 //! pattern and a look ask for.
+//!
+//! `ListNames` and `ListGraph` are the plainest `Names` and `Triples`, in vectors: tests of the crates above use them, and no
+//! crate of the program does.
+//!
+//! Storey: terms.
 #![tactic(auto)]
 
 mod change;

@@ -1,3 +1,4 @@
+//! Which triples one step of a validation reads.
 ghost use Rattle.std.specs.Prelude.{◌≡◌};
 ghost use Rattle.rdf_model.specs.Matching.{is_read_by};
 ghost use Rattle.rdf_model.specs.Numbers.{reads_numbers};

@@ -4,8 +4,7 @@ ghost use Rattle.std.specs.Prelude.{Some};
 use crate::{Term, Triple};
 use rdf_text::Text;
 use std::fmt;
-
-const XSD_STRING: &str = "http://www.w3.org/2001/XMLSchema#string";
+use vocabulary::XSD_STRING;
 
 // A character within the quotes of a literal.
 #[derive(Clone, Copy)]

@@ -1,3 +1,4 @@
+//! Which triples a find asks for.
 ghost use Rattle.std.specs.Prelude.{◌≡◌, IfOk};
 ghost use Rattle.rdf_model.specs.Matching;
 ghost use Rattle.rdf_model.specs.Matching.{fits};

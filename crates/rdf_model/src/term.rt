@@ -1,3 +1,4 @@
+//! The terms of RDF and their order.
 ghost use Rattle.std.specs.Prelude.{◌≡◌};
 
 use collections::{ExactClone, ExactOrder};

@@ -1,3 +1,4 @@
+//! The triples of RDF and their order.
 ghost use Rattle.std.specs.Prelude.{◌≡◌};
 
 use crate::Term;

@@ -1,3 +1,4 @@
+//! Triples by the numbers of their terms.
 ghost use Rattle.std.specs.Prelude.{◌≡◌, ◌↔◌, ◌⊎◌, ◌++◌, IfOk, IsTrue, List, OnErr, OnOk};
 ghost use Rattle.std.specs.List.{Contains, filter_map};
 ghost use Rattle.std.specs.Ordering.{nat_cmp};

@@ -1,3 +1,4 @@
+//! A text whose clones share its characters.
 ghost use Rattle.std.specs.Prelude.{◌≡◌, nat_eq, IfOk, string_bytes};
 ghost use Rattle.std.proofs.Common.{rules};
 ghost use Rattle.std.specs.Cmp.{partial_equiv_from_equiv};

@@ -5,9 +5,9 @@ use Rattle.std.specs.declared.alloc.AllocError.{AllocError}
 use Rattle.shape_ast.proofs.Alike.{ok_of}
 use Rattle.rdf_model.specs.declared.term.Term.{Term}
 use Rattle.shape_model.specs.Paths as defined
-use Rattle.compiled_paths.specs.declared.path.Path.{Path, Sequence, Alternative}
-use Rattle.compiled_paths.specs.PathReadings.{defined_path, members}
-use Rattle.compiled_paths.proofs.Rows.{sequence_read, alternative_read}
+use Rattle.path_ast.specs.declared.path.Path.{Path, Sequence, Alternative}
+use Rattle.path_ast.specs.PathReadings.{defined_path, members}
+use Rattle.path_ast.proofs.Rows.{sequence_read, alternative_read}
 
 module _ (path : Path Term) (first : Box (Path Term) Global) (others : Vec (Path Term) Global) where
   module _ (f : Path Term) (ps : List (Path Term)) (is_first : f ≡ first.value) (are_others : ps ≡ others.items) where

@@ -17,8 +17,8 @@ listed_both xs ys x p q = (
   elim [ inl d ↦ Contains-append_left xs ys x (p.1 d) | inr d ↦ Contains-append_right xs ys x (q.1 d) ],
 )
 
-pub listed_turned : {X P Q : Type 0} → (xs ys : List X) (x : X) → Contains xs x ↔ P → Contains ys x ↔ Q → Contains (xs ++ ys) x ↔ (Q ⊎ P)
-listed_turned xs ys x p q = (
+pub listed_reversed : {X P Q : Type 0} → (xs ys : List X) (x : X) → Contains xs x ↔ P → Contains ys x ↔ Q → Contains (xs ++ ys) x ↔ (Q ⊎ P)
+listed_reversed xs ys x p q = (
   λ c. elim (Contains-append_cases xs ys x c) [ inl d ↦ inr (p.0 d) | inr d ↦ inl (q.0 d) ],
   elim [ inl d ↦ Contains-append_right xs ys x (q.1 d) | inr d ↦ Contains-append_left xs ys x (p.1 d) ],
 )

@@ -7,12 +7,12 @@ use Rattle.collections.proofs.Members.{has_head, has_tail}
 use Rattle.rdf_model.specs.declared.term.Term.{Term}
 use Rattle.rdf_model.specs.Matching.{same_term}
 use Rattle.shape_model.specs.Instances.{class_path}
-use Rattle.shape_model.specs.Looks.{ByOutAny, LookRow, turn, turn_all}
+use Rattle.shape_model.specs.Looks.{ByOutAny, LookRow, directed, directed_all}
 use Rattle.shape_model.specs.Paths.{Also, Alternative, Inverse, Last, OneOrMore, Path, Paths, Predicate, Sequence, ZeroOrMore, ZeroOrOne}
 use Rattle.shape_model.specs.Limits.{levels_limit}
 use Rattle.shape_model.specs.Vocabulary.{rdf_type, sub_class_of, true_literal}
-use Rattle.compiled_paths.specs.declared.path.Path as compiled
-use Rattle.compiled_paths.specs.PathReadings.{HasEach, HoldsOfAll, HoldsOfEach, IsNamed, RowHasEach, defined_path, members, read_row}
+use Rattle.path_ast.specs.declared.path.Path as compiled
+use Rattle.path_ast.specs.PathReadings.{HasEach, HoldsOfAll, HoldsOfEach, IsNamed, RowHasEach, defined_path, members, read_row}
 use Rattle.shape_ast.specs.declared.component.TermComponent.{TermComponent}
 use Rattle.shape_ast.specs.declared.component.TermComponent.TheVariants as by_term
 use Rattle.shape_ast.specs.declared.constraint.Constraint.{Constraint}
@@ -42,36 +42,36 @@ module _ (Q : Term → Type 0) where
   abbrev AreHeld : List LookRow → Type 0
   AreHeld rows = AllByRecursion (HoldsOfRow Q) rows
 
-  turned_held : (turned : Bool) (p : Path) → HoldsOfEach Q p → HoldsOfEach Q (turn turned p)
-  turned_held false p h = h
-  turned_held true p h = h
+  reversed_held : (reversed : Bool) (p : Path) → HoldsOfEach Q p → HoldsOfEach Q (directed reversed p)
+  reversed_held false p h = h
+  reversed_held true p h = h
 
   way_more : (q : List Path) (p : Path) → IsWay q → HoldsOfEach Q p → IsWay (q ++ p ∷ [])
   way_more q p w h = all_both (HoldsOfEach Q) q (p ∷ []) w (h, tt)
 
   mutual
-    path_held : (p : Path) (turned : Bool) (q : List Path) → HoldsOfEach Q p → IsWay q → AreHeld (path_rows turned p q)
+    path_held : (p : Path) (reversed : Bool) (q : List Path) → HoldsOfEach Q p → IsWay q → AreHeld (path_rows reversed p q)
     path_held (Predicate p) false q h w = (record { way = w; kind = h }, tt)
     path_held (Predicate p) true q h w = (record { way = w; kind = h }, tt)
     path_held (Inverse p) false q h w = path_held p true q h w
     path_held (Inverse p) true q h w = path_held p false q h w
-    path_held (Sequence ps) turned q h w = through_held ps turned q h w
-    path_held (Alternative ps) turned q h w = some_held ps turned q h w
-    path_held (ZeroOrMore p) turned q h w = path_held p turned (q ++ ZeroOrMore (turn turned p) ∷ []) h (way_more q (ZeroOrMore (turn turned p)) w (turned_held turned p h))
-    path_held (OneOrMore p) turned q h w = path_held p turned (q ++ ZeroOrMore (turn turned p) ∷ []) h (way_more q (ZeroOrMore (turn turned p)) w (turned_held turned p h))
-    path_held (ZeroOrOne p) turned q h w = path_held p turned q h w
+    path_held (Sequence ps) reversed q h w = through_held ps reversed q h w
+    path_held (Alternative ps) reversed q h w = some_held ps reversed q h w
+    path_held (ZeroOrMore p) reversed q h w = path_held p reversed (q ++ ZeroOrMore (directed reversed p) ∷ []) h (way_more q (ZeroOrMore (directed reversed p)) w (reversed_held reversed p h))
+    path_held (OneOrMore p) reversed q h w = path_held p reversed (q ++ ZeroOrMore (directed reversed p) ∷ []) h (way_more q (ZeroOrMore (directed reversed p)) w (reversed_held reversed p h))
+    path_held (ZeroOrOne p) reversed q h w = path_held p reversed q h w
 
-    through_held : (ps : Paths) (turned : Bool) (q : List Path) → HoldsOfAll Q ps → IsWay q → AreHeld (through_rows turned ps q)
-    through_held (Last p) turned q h w = path_held p turned q h w
+    through_held : (ps : Paths) (reversed : Bool) (q : List Path) → HoldsOfAll Q ps → IsWay q → AreHeld (through_rows reversed ps q)
+    through_held (Last p) reversed q h w = path_held p reversed q h w
     through_held (Also p ps) false q h w =
         all_both (HoldsOfRow Q) (path_rows false p q) (through_rows false ps (q ++ p ∷ [])) (path_held p false q h.0 w) (through_held ps false (q ++ p ∷ []) h.1 (way_more q p w h.0))
     through_held (Also p ps) true q h w =
-        let back = q ++ turn_all true ps ∷ [] in
-        all_both (HoldsOfRow Q) (path_rows true p back) (through_rows true ps q) (path_held p true back h.0 (way_more q (turn_all true ps) w h.1)) (through_held ps true q h.1 w)
+        let back = q ++ directed_all true ps ∷ [] in
+        all_both (HoldsOfRow Q) (path_rows true p back) (through_rows true ps q) (path_held p true back h.0 (way_more q (directed_all true ps) w h.1)) (through_held ps true q h.1 w)
 
-    some_held : (ps : Paths) (turned : Bool) (q : List Path) → HoldsOfAll Q ps → IsWay q → AreHeld (some_rows turned ps q)
-    some_held (Last p) turned q h w = path_held p turned q h w
-    some_held (Also p ps) turned q h w = all_both (HoldsOfRow Q) (path_rows turned p q) (some_rows turned ps q) (path_held p turned q h.0 w) (some_held ps turned q h.1 w)
+    some_held : (ps : Paths) (reversed : Bool) (q : List Path) → HoldsOfAll Q ps → IsWay q → AreHeld (some_rows reversed ps q)
+    some_held (Last p) reversed q h w = path_held p reversed q h w
+    some_held (Also p ps) reversed q h w = all_both (HoldsOfRow Q) (path_rows reversed p q) (some_rows reversed ps q) (path_held p reversed q h.0 w) (some_held ps reversed q h.1 w)
 
   -- what holds of each term of a compiled path holds of each of the path that it is
   together : (p : Path) (ps : List Path) → HoldsOfEach Q p → IsWay ps → HoldsOfAll Q (members p ps)

@@ -5,9 +5,9 @@ use Rattle.std.proofs.lemmas.List.{length-drop, take_all}
 use Rattle.rdf_model.specs.declared.term.Term.{Term}
 use Rattle.shape_model.specs.Looks.{LookRow}
 use Rattle.shape_model.specs.Paths as defined
-use Rattle.compiled_paths.specs.declared.path.Path.{Path, Sequence, Alternative}
-use Rattle.compiled_paths.specs.PathReadings.{defined_path, members}
-use Rattle.compiled_paths.proofs.Sizes.{alternative_size, list_size, path_size, sequence_size}
+use Rattle.path_ast.specs.declared.path.Path.{Path, Sequence, Alternative}
+use Rattle.path_ast.specs.PathReadings.{defined_path, members}
+use Rattle.path_ast.proofs.Sizes.{alternative_size, list_size, path_size, sequence_size}
 use Rattle.read_plans.specs.declared.fault.PlanFault.{PlanFault}
 use Rattle.read_plans.specs.declared.look.PlannedLook.{PlannedLook}
 use Rattle.read_plans.specs.PathRows.{path_rows, some_rows, through_rows}
@@ -23,9 +23,9 @@ pub backward_members : (p : defined.Path) (ps : List defined.Path) (q : List def
 backward_members p [] q = sym (append-nil (path_rows true p q))
 backward_members p (r ∷ rs) q = ap (λ xs. path_rows true p (q ++ defined.Inverse (defined.Sequence (members r rs)) ∷ []) ++ xs) (backward_members r rs q)
 
-pub each_members : (turned : Bool) (p : defined.Path) (ps : List defined.Path) (q : List defined.Path) → some_rows turned (members p ps) q ≡ each_rows turned (p ∷ ps) q
-each_members turned p [] q = sym (append-nil (path_rows turned p q))
-each_members turned p (r ∷ rs) q = ap (λ xs. path_rows turned p q ++ xs) (each_members turned r rs q)
+pub each_members : (reversed : Bool) (p : defined.Path) (ps : List defined.Path) (q : List defined.Path) → some_rows reversed (members p ps) q ≡ each_rows reversed (p ∷ ps) q
+each_members reversed p [] q = sym (append-nil (path_rows reversed p q))
+each_members reversed p (r ∷ rs) q = ap (λ xs. path_rows reversed p q ++ xs) (each_members reversed r rs q)
 
 -- the parts of a sequence or an alternative are smaller
 module _ (path : Path Term) (first : Box (Path Term) Global) (others : Vec (Path Term) Global) (f : Path Term) (ps : List (Path Term)) (is_first : f ≡ first.value) (are_others : ps ≡ others.items) where
@@ -51,12 +51,12 @@ module _ (ps : List (Path Term)) (i : ℕ) (p : Path Term) (lt : i < length ps) 
         (subst (λ (qs : List (Path Term)). IsLeft old now all (forward_rows (map defined_path qs) w)) next_of left)
         (subst (λ (l : List (Path Term)). IsStopped (length now + length (path_rows false (defined_path p) (map defined_path l))) fault) same s)
 
-    pub each_stopped : (turned : Bool) (way : List (Path Term)) → IsLeft old now all (each_rows turned (map defined_path (drop i ps)) (map defined_path way))
-        → IsStopped (length now + length (path_rows turned (defined_path p) (map defined_path way))) fault → IsStopped (length old + length all) fault
-    each_stopped turned way left s =
+    pub each_stopped : (reversed : Bool) (way : List (Path Term)) → IsLeft old now all (each_rows reversed (map defined_path (drop i ps)) (map defined_path way))
+        → IsStopped (length now + length (path_rows reversed (defined_path p) (map defined_path way))) fault → IsStopped (length old + length all) fault
+    each_stopped reversed way left s =
         let w = map defined_path way in
-        left_stopped old all now (path_rows turned (defined_path p) w) (each_rows turned (map defined_path (drop (i + 1) ps)) w) fault
-        (subst (λ (qs : List (Path Term)). IsLeft old now all (each_rows turned (map defined_path qs) w)) next_of left) s
+        left_stopped old all now (path_rows reversed (defined_path p) w) (each_rows reversed (map defined_path (drop (i + 1) ps)) w) fault
+        (subst (λ (qs : List (Path Term)). IsLeft old now all (each_rows reversed (map defined_path qs) w)) next_of left) s
 
     pub backward_stopped : (way back slice : List (Path Term)) → slice ≡ back
         → map defined_path back ≡ back_way (map defined_path (take (length ps - (i + 1)) (drop (i + 1) ps))) (map defined_path way)

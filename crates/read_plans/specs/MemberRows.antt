@@ -3,7 +3,7 @@ use Rattle.std.specs.Prelude.{Bool, true, false, List, [], ◌∷◌, ◌++◌}
 use Rattle.rdf_model.specs.declared.term.Term.{Term}
 use Rattle.shape_model.specs.Looks.{LookKind, LookRow, ByIn, ByOut}
 use Rattle.shape_model.specs.Paths.{Path, Inverse, Sequence}
-use Rattle.compiled_paths.specs.PathReadings.{members}
+use Rattle.path_ast.specs.PathReadings.{members}
 use Rattle.read_plans.specs.PathRows.{path_rows}
 
 abbrev pub predicate_kind_of : Bool → Term → LookKind
@@ -27,5 +27,5 @@ backward_rows (p ∷ ps) q = path_rows true p (back_way ps q) ++ backward_rows p
 
 -- each
 abbrev pub each_rows : Bool → List Path → List Path → List LookRow
-each_rows turned [] q = []
-each_rows turned (p ∷ ps) q = path_rows turned p q ++ each_rows turned ps q
+each_rows reversed [] q = []
+each_rows reversed (p ∷ ps) q = path_rows reversed p q ++ each_rows reversed ps q

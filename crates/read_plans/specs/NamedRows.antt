@@ -4,7 +4,7 @@ use Rattle.std.specs.List.{AllByRecursion}
 use Rattle.rdf_model.specs.declared.term.Term.{Term}
 use Rattle.shape_model.specs.Looks.{LookKind, LookRow, ByIn, ByOut, ByOutAny}
 use Rattle.shape_model.specs.Vocabulary.{rdf_type, sub_class_of}
-use Rattle.compiled_paths.specs.PathReadings.{HoldsOfEach, IsNamed}
+use Rattle.path_ast.specs.PathReadings.{HoldsOfEach, IsNamed}
 use Rattle.shape_ast.specs.declared.shape.Shape.{Shape}
 use Rattle.shape_ast.specs.Readings.{AreNamed}
 

@@ -3,7 +3,7 @@ use Rattle.std.specs.Prelude.{◌≡◌, ◌<◌, ◌+◌, ℕ, List, ◌++◌, 
 use Rattle.shape_model.specs.Looks.{LookRow, ByOut, ByIn, ByOutAny}
 use Rattle.shape_model.specs.Limits.{looks_limit}
 use Rattle.shape_model.specs.Looks as defined
-use Rattle.compiled_paths.specs.PathReadings.{defined_path}
+use Rattle.path_ast.specs.PathReadings.{defined_path}
 use Rattle.read_plans.specs.declared.fault.PlanFault.{PlanFault}
 use Rattle.read_plans.specs.declared.fault.PlanFault.TheVariants.{TooWide, Memory}
 use Rattle.read_plans.specs.declared.look.LookKind.{LookKind}

@@ -1,10 +1,10 @@
 //! The rows of looks of a shape without those of the shapes that it refers to, and those of its targets.
-ghost use Rattle.std.specs.Prelude.{◌≡◌, ◌↔◌, ◌∷◌, [], ◌++◌, false, IsTrue, IfOk, map};
+ghost use Rattle.std.specs.Prelude.{◌≡◌, ◌∷◌, [], ◌++◌, false, IfOk, map};
 ghost use Rattle.std.specs.List.{flat_map};
 ghost use Rattle.shape_model.specs.Instances as instances;
 ghost use Rattle.shape_model.specs.Paths as defined;
-ghost use Rattle.shape_model.specs.Vocabulary.{rdf_type, sub_class_of, true_literal};
-ghost use Rattle.compiled_paths.specs.PathReadings.{defined_path};
+ghost use Rattle.shape_model.specs.Vocabulary.{rdf_type, sub_class_of};
+ghost use Rattle.path_ast.specs.PathReadings.{defined_path};
 ghost use Rattle.shape_ast.specs.Readings.{read_constraint, read_optional_path, read_shape, read_target};
 ghost use Rattle.read_plans.specs.PathRows.{path_rows};
 ghost use Rattle.read_plans.specs.Rows.{Adds};
@@ -16,40 +16,26 @@ use crate::rows::{Rows, push_row};
 use crate::ways::{copied_way, way_along};
 use crate::{LookKind, PlanFault};
 use collections::Sequence;
-use compiled_paths::Path;
+use path_ast::Path;
 use rdf_model::Term;
 use rdf_text::Text;
 use shape_ast::{Constraint, Shape, Target, TermComponent};
+use shape_model::is_true;
 use std::alloc::{AllocError, Global};
-
-const BOOLEAN: &str = "http://www.w3.org/2001/XMLSchema#boolean";
-
-#[tactic(auto, unfolding(shape_model::specs::Vocabulary::true_literal))]
-fn is_true(term: &Term) -> bool
-    ensures { IsTrue result ↔ (term.now ≡ true_literal) }
-{
-    match term {
-        Term::Literal {
-            lexical,
-            datatype,
-            language: None,
-        } => lexical.as_str() == "true" && datatype.as_str() == BOOLEAN,
-        _ => false,
-    }
-}
+use vocabulary::{RDF_TYPE, RDFS_SUB_CLASS_OF};
 
 #[tactic(auto, unfolding(shape_model::specs::Vocabulary::rdf_type, shape_model::specs::Vocabulary::rdf))]
 fn type_word(alloc: Global) -> Result<Term, AllocError>
     ensures { IfOk result (λ term. term ≡ rdf_type) }
 {
-    Ok(Term::Iri(Text::new(alloc, "http://www.w3.org/1999/02/22-rdf-syntax-ns#type")?))
+    Ok(Term::Iri(Text::new(alloc, RDF_TYPE)?))
 }
 
 #[tactic(auto, unfolding(shape_model::specs::Vocabulary::sub_class_of))]
 fn subclass_word(alloc: Global) -> Result<Term, AllocError>
     ensures { IfOk result (λ term. term ≡ sub_class_of) }
 {
-    Ok(Term::Iri(Text::new(alloc, "http://www.w3.org/2000/01/rdf-schema#subClassOf")?))
+    Ok(Term::Iri(Text::new(alloc, RDFS_SUB_CLASS_OF)?))
 }
 
 // The path to the superclasses of a class, itself among them.

@@ -1,3 +1,4 @@
+//! Why looks were not planned.
 use std::alloc::AllocError;
 
 /// Why the looks of a shape were not planned.

@@ -2,6 +2,8 @@
 //!
 //! `plan` ensures exactly the rows of looks of the shape, each as often as it is counted, or that they are more than a shape
 //! may have.
+//!
+//! Storey: shapes.
 #![tactic(auto)]
 
 mod constraint_looks;

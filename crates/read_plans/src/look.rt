@@ -1,5 +1,6 @@
+//! A row of looks.
 use collections::Sequence;
-use compiled_paths::Path;
+use path_ast::Path;
 use rdf_model::Term;
 
 /// What is asked of a node.

@@ -1,7 +1,7 @@
 //! The rows of looks of paths.
 ghost use Rattle.std.specs.Prelude.{◌≡◌, ◌∷◌, [], IfOk, map};
 ghost use Rattle.shape_model.specs.Paths as defined;
-ghost use Rattle.compiled_paths.specs.PathReadings.{defined_path, members};
+ghost use Rattle.path_ast.specs.PathReadings.{defined_path, members};
 ghost use Rattle.read_plans.specs.PathRows.{path_rows, through_rows};
 ghost use Rattle.read_plans.specs.Rows.{Adds, read_kind};
 ghost use Rattle.read_plans.specs.MemberRows.{backward_rows, each_rows, forward_rows, predicate_kind_of};
@@ -9,15 +9,15 @@ ghost use Rattle.read_plans.specs.MemberRows.{backward_rows, each_rows, forward_
 use crate::rows::{Rows, push_row};
 use crate::ways::{push_step, way_along, way_back, way_repeated};
 use crate::{LookKind, PlanFault};
-use compiled_paths::Path;
+use path_ast::Path;
 use rdf_model::Term;
 use std::alloc::{AllocError, Global};
 
-fn predicate_kind(turned: bool, predicate: &Term) -> Result<LookKind, AllocError>
-    ensures { IfOk result (λ kind. read_kind kind ≡ predicate_kind_of turned predicate.now) }
+fn predicate_kind(reversed: bool, predicate: &Term) -> Result<LookKind, AllocError>
+    ensures { IfOk result (λ kind. read_kind kind ≡ predicate_kind_of reversed predicate.now) }
 {
     let copy = predicate.clone()?;
-    if turned {
+    if reversed {
         return Ok(LookKind::In(copy));
     }
     Ok(LookKind::Out(copy))
@@ -26,35 +26,35 @@ fn predicate_kind(turned: bool, predicate: &Term) -> Result<LookKind, AllocError
 fn push_predicate(
     alloc: Global,
     predicate: &Term,
-    turned: bool,
+    reversed: bool,
     way: &[Path<Term>],
     rows: &mut Rows,
 ) -> Result<(), PlanFault>
-    ensures { Adds (record { way = map defined_path way.now; kind = predicate_kind_of turned predicate.now } ∷ []) rows.old rows.new result }
+    ensures { Adds (record { way = map defined_path way.now; kind = predicate_kind_of reversed predicate.now } ∷ []) rows.old rows.new result }
 {
-    let kind = predicate_kind(turned, predicate)?;
+    let kind = predicate_kind(reversed, predicate)?;
     push_row(alloc, way, kind, rows)
 }
 
-/// Adds the rows of a path that is walked, backwards where turned, after the way (SHACL section 2.3.1).
+/// Adds the rows of a path that is walked, backwards where reversed, after the way (SHACL section 2.3.1).
 #[cycle(looking)]
 pub(crate) fn push_path(
     alloc: Global,
     path: &Path<Term>,
-    turned: bool,
+    reversed: bool,
     way: &[Path<Term>],
     rows: &mut Rows,
 ) -> Result<(), PlanFault>
-    ensures { Adds (path_rows turned (defined_path path.now) (map defined_path way.now)) rows.old rows.new result }
+    ensures { Adds (path_rows reversed (defined_path path.now) (map defined_path way.now)) rows.old rows.new result }
 {
     match path {
-        Path::Predicate(predicate) => push_predicate(alloc, predicate, turned, way, rows),
-        Path::Inverse(inner) => push_path(alloc, inner, !turned, way, rows),
-        Path::Sequence(first, others) => push_through(alloc, first, others, turned, way, rows),
-        Path::Alternative(first, others) => push_each(alloc, first, others, turned, way, rows),
-        Path::ZeroOrMore(inner) => push_repeated(alloc, inner, turned, way, rows),
-        Path::OneOrMore(inner) => push_repeated(alloc, inner, turned, way, rows),
-        Path::ZeroOrOne(inner) => push_path(alloc, inner, turned, way, rows),
+        Path::Predicate(predicate) => push_predicate(alloc, predicate, reversed, way, rows),
+        Path::Inverse(inner) => push_path(alloc, inner, !reversed, way, rows),
+        Path::Sequence(first, others) => push_through(alloc, first, others, reversed, way, rows),
+        Path::Alternative(first, others) => push_each(alloc, first, others, reversed, way, rows),
+        Path::ZeroOrMore(inner) => push_repeated(alloc, inner, reversed, way, rows),
+        Path::OneOrMore(inner) => push_repeated(alloc, inner, reversed, way, rows),
+        Path::ZeroOrOne(inner) => push_path(alloc, inner, reversed, way, rows),
     }
 }
 
@@ -63,14 +63,14 @@ pub(crate) fn push_path(
 fn push_repeated(
     alloc: Global,
     path: &Path<Term>,
-    turned: bool,
+    reversed: bool,
     way: &[Path<Term>],
     rows: &mut Rows,
 ) -> Result<(), PlanFault>
-    ensures { Adds (path_rows turned (defined.ZeroOrMore (defined_path path.now)) (map defined_path way.now)) rows.old rows.new result }
+    ensures { Adds (path_rows reversed (defined.ZeroOrMore (defined_path path.now)) (map defined_path way.now)) rows.old rows.new result }
 {
-    let longer = way_repeated(alloc, way, turned, path)?;
-    push_path(alloc, path, turned, longer.as_slice(), rows)
+    let longer = way_repeated(alloc, way, reversed, path)?;
+    push_path(alloc, path, reversed, longer.as_slice(), rows)
 }
 
 // Those of the members of a sequence.
@@ -79,13 +79,13 @@ fn push_through(
     alloc: Global,
     first: &Path<Term>,
     others: &[Path<Term>],
-    turned: bool,
+    reversed: bool,
     way: &[Path<Term>],
     rows: &mut Rows,
 ) -> Result<(), PlanFault>
-    ensures { Adds (through_rows turned (members (defined_path first.now) (map defined_path others.now)) (map defined_path way.now)) rows.old rows.new result }
+    ensures { Adds (through_rows reversed (members (defined_path first.now) (map defined_path others.now)) (map defined_path way.now)) rows.old rows.new result }
 {
-    if turned {
+    if reversed {
         push_backward(alloc, first, others, way, rows)
     } else {
         push_forward(alloc, first, others, way, rows)
@@ -138,15 +138,15 @@ fn push_each(
     alloc: Global,
     first: &Path<Term>,
     others: &[Path<Term>],
-    turned: bool,
+    reversed: bool,
     way: &[Path<Term>],
     rows: &mut Rows,
 ) -> Result<(), PlanFault>
-    ensures { Adds (each_rows turned (defined_path first.now ∷ map defined_path others.now) (map defined_path way.now)) rows.old rows.new result }
+    ensures { Adds (each_rows reversed (defined_path first.now ∷ map defined_path others.now) (map defined_path way.now)) rows.old rows.new result }
 {
-    push_path(alloc, first, turned, way, rows)?;
+    push_path(alloc, first, reversed, way, rows)?;
     for path in others {
-        push_path(alloc, path, turned, way, rows)?;
+        push_path(alloc, path, reversed, way, rows)?;
     }
     Ok(())
 }

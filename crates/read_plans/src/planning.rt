@@ -1,6 +1,7 @@
+//! The rows of looks of a shape, with those of the shapes that it refers to.
 ghost use Rattle.std.specs.Prelude.{◌≡◌, ◌≤◌, ◌<◌, ◌+◌, ◌++◌, IfErr, IfOk, MatchResult, length, map, slice_get};
 ghost use Rattle.std.specs.List.{flat_map};
-ghost use Rattle.compiled_paths.specs.PathReadings.{defined_path};
+ghost use Rattle.path_ast.specs.PathReadings.{defined_path};
 ghost use Rattle.shape_model.specs.Limits.{levels_limit, looks_limit};
 ghost use Rattle.shape_ast.specs.Readings.{read_shape, read_shapes};
 ghost use Rattle.read_plans.specs.Laws.{ListLooks};
@@ -12,7 +13,7 @@ use crate::constraint_looks::{push_own_rows, push_targets, way_to_values};
 use crate::references::referred_places;
 use crate::rows::Rows;
 use crate::{PlanFault, PlannedLook};
-use compiled_paths::Path;
+use path_ast::Path;
 use rdf_model::Term;
 use shape_ast::{Shape, Shapes};
 use std::alloc::Global;

@@ -1,11 +1,12 @@
+//! Rows of looks, at most as many as a shape may have.
 ghost use Rattle.std.specs.Prelude.{◌≡◌, ◌≤◌, ◌<◌, ◌+◌, ◌^◌, ◌∷◌, [], ◌++◌, MatchResult, length, map};
-ghost use Rattle.compiled_paths.specs.PathReadings.{defined_path};
+ghost use Rattle.path_ast.specs.PathReadings.{defined_path};
 ghost use Rattle.shape_model.specs.Limits.{looks_limit};
 ghost use Rattle.read_plans.specs.Rows.{Adds, IsStopped, read_kind};
 
 use crate::ways::copied_way;
 use crate::{LookKind, PlanFault, PlannedLook};
-use compiled_paths::Path;
+use path_ast::Path;
 use rdf_model::Term;
 use std::alloc::Global;
 use std::marker::Model;
@@ -31,7 +32,7 @@ impl Model for Rows {
 
     ghost Value = { List PlannedLook };
 
-    ghost use Rattle.compiled_paths.specs.contracts.path.Path as paths;
+    ghost use Rattle.path_ast.specs.contracts.path.Path as paths;
     ghost use Rattle.rdf_model.specs.contracts.term.Term as terms;
     ghost use Rattle.std.specs.Coded.{codes};
 

@@ -1,12 +1,12 @@
 //! Copies of paths, and ways that are made of them.
 ghost use Rattle.std.specs.Prelude.{◌≡◌, ◌∷◌, [], ◌++◌, IfOk, OnOk, Ok, map};
-ghost use Rattle.shape_model.specs.Looks.{turn};
+ghost use Rattle.shape_model.specs.Looks.{directed};
 ghost use Rattle.shape_model.specs.Paths as defined;
-ghost use Rattle.compiled_paths.specs.PathReadings.{defined_path, members};
+ghost use Rattle.path_ast.specs.PathReadings.{defined_path, members};
 ghost use Rattle.read_plans.specs.MemberRows.{back_way};
 
 use collections::{Sequence, both};
-use compiled_paths::Path;
+use path_ast::Path;
 use rdf_model::Term;
 use std::alloc::{AllocError, Global};
 
@@ -104,26 +104,26 @@ pub(crate) fn way_along(
 }
 
 // The path, or the way back along it.
-fn turned_path(alloc: Global, turned: bool, path: &Path<Term>) -> Result<Path<Term>, AllocError>
-    ensures { IfOk result (λ copy. defined_path copy ≡ turn turned (defined_path path.now)) }
+fn directed_path(alloc: Global, reversed: bool, path: &Path<Term>) -> Result<Path<Term>, AllocError>
+    ensures { IfOk result (λ copy. defined_path copy ≡ directed reversed (defined_path path.now)) }
 {
     let copy = copied_path(alloc, path)?;
-    if turned {
+    if reversed {
         return Ok(Path::Inverse(Box::new(alloc, copy)?));
     }
     Ok(copy)
 }
 
-/// The way, and then the path, walked backwards where turned, any number of times.
+/// The way, and then the path, walked backwards where reversed, any number of times.
 pub(crate) fn way_repeated(
     alloc: Global,
     way: &[Path<Term>],
-    turned: bool,
+    reversed: bool,
     path: &Path<Term>,
 ) -> Result<Sequence<Path<Term>>, AllocError>
-    ensures { IfOk result (λ longer. map defined_path longer ≡ map defined_path way.now ++ defined.ZeroOrMore (turn turned (defined_path path.now)) ∷ []) }
+    ensures { IfOk result (λ longer. map defined_path longer ≡ map defined_path way.now ++ defined.ZeroOrMore (directed reversed (defined_path path.now)) ∷ []) }
 {
-    let copy = turned_path(alloc, turned, path)?;
+    let copy = directed_path(alloc, reversed, path)?;
     longer_way(alloc, way, Path::ZeroOrMore(Box::new(alloc, copy)?))
 }
 

@@ -13,7 +13,7 @@ pub fn first_line(text: &[u8]) -> Option<(&[u8], &[u8])>
     Some(text.split_at(end + 1))
 }
 
-// The same of a text whose first line begins with a mark, which is left out.
+// The first line of a text without the mark with which it begins, and what follows it.
 fn marked_line<'a>(mark: &[u8], text: &'a [u8]) -> Option<(&'a [u8], &'a [u8])>
     ensures { MatchOption result ((line rest : List ℕ) → HasNoEnd line → text.now ≢ marked mark.now line ++ rest)
         (λ r. (line : List ℕ) × HasNoEnd line × (r.0.now ≡ ended line) × (text.now ≡ marked mark.now line ++ r.1.now)) }

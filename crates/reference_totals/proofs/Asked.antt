@@ -8,7 +8,7 @@ use Rattle.std.proofs.lemmas.List.Elements.{Contains-append_left, Contains-push}
 use Rattle.std.proofs.lemmas.Bool.{cases_eq}
 use Rattle.collections.proofs.Members.{has_head, has_tail}
 use Rattle.rdf_model.specs.declared.term.Term.{Term}
-use Rattle.reference_totals.specs.declared.place.Place.{Place}
+use Rattle.reference_totals.specs.declared.place.WeightedPlace.{WeightedPlace}
 use Rattle.reference_totals.specs.declared.numbers.NumberedPlace.{NumberedPlace}
 use Rattle.reference_totals.specs.Totals.{AreTotals, HasTotal, SumBy, TotalBy, capped, entry}
 use Rattle.reference_totals.specs.Numbers.{AreNumbered, IsNumbered}
@@ -38,7 +38,7 @@ set_cases known i v j l = elim (cases_eq j i) [
 set_keeps : (known : List (Option ℕ)) (i v : ℕ) → i < length known → (j : ℕ) → IsKnown known j → IsKnown (set known i (Some v)) j
 set_keeps known i v l j k = elim (set_cases known i v j l) [ inl here ↦ (v, here.1) | inr other ↦ (k.0, other ∙ k.1) ]
 
-set_sound : (places : List Place) (most : ℕ) (numbers : BTreeMap Term ℕ) (known : List (Option ℕ)) (p : Place) (q : NumberedPlace) (v : ℕ)
+set_sound : (places : List WeightedPlace) (most : ℕ) (numbers : BTreeMap Term ℕ) (known : List (Option ℕ)) (p : WeightedPlace) (q : NumberedPlace) (v : ℕ)
     → ((n m : Term) (i j : ℕ) → entry numbers n ≡ Some i → entry numbers m ≡ Some j → i ≡ j → n ≡ m) → Contains places p → IsNumbered numbers p q → q.node < length known → Shows most known q v
     → AreSound places most numbers known → AreSound places most numbers (set known q.node (Some v))
 set_sound places most numbers known p q v one c is l shows sound n w = elim (entry numbers n) as
@@ -166,7 +166,7 @@ within_next qs known new within e q c = let w = within q c in omega arith
 
 -- What holds between the rounds: each place is known or still to be asked.
 pub record AreWaiting (qs : List NumberedPlace) (most : ℕ) (known : List (Option ℕ)) (waiting : List ℕ) : Type 0 where
-  pub sound : (places : List Place) (numbers : BTreeMap Term ℕ) → AreNumbered places numbers qs → AreSound places most numbers known
+  pub sound : (places : List WeightedPlace) (numbers : BTreeMap Term ℕ) → AreNumbered places numbers qs → AreSound places most numbers known
   pub within : AreWithin qs known
   pub each : (i : ℕ) (q : NumberedPlace) → slice_get qs i ≡ Some q → IsKnown known q.node ⊎ Contains waiting i
 
@@ -216,7 +216,7 @@ not_none : (o : Option ℕ) (v : ℕ) → o ≡ Some v → o ≡ None → ⊥
 not_none o v e f = cc
 
 -- where nothing more is shown, all that have a total are known
-all_known : (places : List Place) (numbers : BTreeMap Term ℕ) (qs : List NumberedPlace) (known : List (Option ℕ)) → AreNumbered places numbers qs → ((q : NumberedPlace) → Contains qs q → IsKnown known q.node ⊎ LacksOne known q)
+all_known : (places : List WeightedPlace) (numbers : BTreeMap Term ℕ) (qs : List NumberedPlace) (known : List (Option ℕ)) → AreNumbered places numbers qs → ((q : NumberedPlace) → Contains qs q → IsKnown known q.node ⊎ LacksOne known q)
     → (d : ℕ) (n : Term) (k : ℕ) → TotalBy places d n k → (v : ℕ) × (total_known numbers known n ≡ Some v)
 all_known places numbers qs known are still zero n k h = absurd h
 all_known places numbers qs known are still (suc d) n k h =
@@ -231,7 +231,7 @@ all_known places numbers qs known are still (suc d) n k h =
     ]
 
 -- a table of what is known in the end has the totals
-pub told : (places : List Place) (most : ℕ) (numbers : BTreeMap Term ℕ) (qs : List NumberedPlace) (known : List (Option ℕ)) (table : BTreeMap Term ℕ) → AreNumbered places numbers qs → AreSettled qs most known
+pub told : (places : List WeightedPlace) (most : ℕ) (numbers : BTreeMap Term ℕ) (qs : List NumberedPlace) (known : List (Option ℕ)) (table : BTreeMap Term ℕ) → AreNumbered places numbers qs → AreSettled qs most known
     → Tells numbers known table → AreTotals places most table
 told places most numbers qs known table are settled tells = record {
   sound = λ n v e. settled.sound places numbers are n v (tells.sound n v e);

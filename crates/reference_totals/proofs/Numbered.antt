@@ -14,7 +14,7 @@ use Rattle.rdf_model.specs.declared.term.Term.{Term}
 use Rattle.rdf_model.specs.Terms.{term_cmp}
 use Rattle.rdf_model.specs.Orders.{term_exact, term_total}
 use Rattle.std.specs.Cmp.{tied_itself}
-use Rattle.reference_totals.specs.declared.place.Place.{Place}
+use Rattle.reference_totals.specs.declared.place.WeightedPlace.{WeightedPlace}
 use Rattle.reference_totals.specs.declared.numbers.NumberedPlace.{NumberedPlace}
 use Rattle.reference_totals.specs.Totals.{entry}
 use Rattle.reference_totals.specs.Numbers.{AreIndices, AreNumbered, HaveNumbers, IsNumbered, Notes}
@@ -73,17 +73,17 @@ pub none_in : (table : BTreeMap Term ℕ) → table.entries ≡ [] → (n : Term
 none_in table e n = ap (λ es. lookup (λ m. is_eq (term_cmp n m)) es) e
 
 -- a node more has a number
-pub indices_more : (places : List Place) (numbers new : BTreeMap Term ℕ) (i : ℕ) (p : Place) → slice_get places i ≡ Some p → Notes numbers p.node i new → AreIndices places numbers → AreIndices places new
+pub indices_more : (places : List WeightedPlace) (numbers new : BTreeMap Term ℕ) (i : ℕ) (p : WeightedPlace) → slice_get places i ≡ Some p → Notes numbers p.node i new → AreIndices places numbers → AreIndices places new
 indices_more places numbers new i p got notes before n j e = elim (noted_cases numbers new p.node i notes n) [
   | inl here ↦ let f : Some i ≡ Some j = sym here.1 ∙ e in let g : i ≡ j = cc in (p, subst (λ x. slice_get places x ≡ Some p) g got, here.0)
   | inr other ↦ before n j (sym other ∙ e)
 ]
 
-pub numbers_more : (places : List Place) (numbers new : BTreeMap Term ℕ) (i k : ℕ) (p d : Place) → i < length places → p ≡ get_or places i d → Notes numbers p.node k new
+pub numbers_more : (places : List WeightedPlace) (numbers new : BTreeMap Term ℕ) (i k : ℕ) (p d : WeightedPlace) → i < length places → p ≡ get_or places i d → Notes numbers p.node k new
     → HaveNumbers (take i places) numbers → HaveNumbers (take (i + 1) places) new
 numbers_more places numbers new i k p d l e notes before q c = elim (cases_more places i p d l e q c) [
   | inl old ↦ let h = before q old in noted_keeps numbers new p.node k notes q.node h.0 h.1
-  | inr same ↦ (k, subst (λ (x : Place). entry new x.node ≡ Some k) same (noted_itself numbers new p.node k notes))
+  | inr same ↦ (k, subst (λ (x : WeightedPlace). entry new x.node ≡ Some k) same (noted_itself numbers new p.node k notes))
 ]
 
 -- a place more is numbered
@@ -112,14 +112,14 @@ zip_length R [] (b ∷ bs) h = absurd h
 zip_length R (a ∷ xs) [] h = absurd h
 zip_length R (a ∷ xs) (b ∷ bs) h = ap suc (zip_length R xs bs h.1)
 
-pub zip_next : (places : List Place) (numbers : BTreeMap Term ℕ) (i : ℕ) (p d : Place) (qs : List NumberedPlace) (q : NumberedPlace) → i < length places → p ≡ get_or places i d
+pub zip_next : (places : List WeightedPlace) (numbers : BTreeMap Term ℕ) (i : ℕ) (p d : WeightedPlace) (qs : List NumberedPlace) (q : NumberedPlace) → i < length places → p ≡ get_or places i d
     → IsNumbered numbers p q → AllZip (IsNumbered numbers) (take i places) qs → AllZip (IsNumbered numbers) (take (i + 1) places) (qs ++ q ∷ [])
 zip_next places numbers i p d qs q l e one all =
-    let one_there = subst (λ (x : Place). IsNumbered numbers x q) e one in
-    subst (λ (xs : List Place). AllZip (IsNumbered numbers) xs (qs ++ q ∷ [])) (sym (take_more places i d l)) (zip_push (IsNumbered numbers) (take i places) qs (get_or places i d) q all one_there)
+    let one_there = subst (λ (x : WeightedPlace). IsNumbered numbers x q) e one in
+    subst (λ (xs : List WeightedPlace). AllZip (IsNumbered numbers) xs (qs ++ q ∷ [])) (sym (take_more places i d l)) (zip_push (IsNumbered numbers) (take i places) qs (get_or places i d) q all one_there)
 
 -- the numbers are below the count of the places
-pub numbers_within : (places : List Place) (numbers : BTreeMap Term ℕ) (qs : List NumberedPlace) → AreNumbered places numbers qs → (q : NumberedPlace) → Contains qs q → q.node < length qs
+pub numbers_within : (places : List WeightedPlace) (numbers : BTreeMap Term ℕ) (qs : List NumberedPlace) → AreNumbered places numbers qs → (q : NumberedPlace) → Contains qs q → q.node < length qs
 numbers_within places numbers qs are q c =
     let k = zip_right (IsNumbered numbers) places qs are.each q c in
     let p = are.indices k.0.node q.node k.2.node in
@@ -131,10 +131,10 @@ one_number : (a b : ℕ) → Some a ≡ Some b → a ≡ b
 one_number a b e = cc
 
 -- one node has a number
-pub one_node : (places : List Place) (numbers : BTreeMap Term ℕ) → AreIndices places numbers → (n m : Term) (i j : ℕ) → entry numbers n ≡ Some i → entry numbers m ≡ Some j → i ≡ j → n ≡ m
+pub one_node : (places : List WeightedPlace) (numbers : BTreeMap Term ℕ) → AreIndices places numbers → (n m : Term) (i j : ℕ) → entry numbers n ≡ Some i → entry numbers m ≡ Some j → i ≡ j → n ≡ m
 one_node places numbers are n m i j e f same =
     let a = are n i e in
     let b = are m j f in
     let g : Some a.0 ≡ Some b.0 = sym a.1 ∙ ap (λ x. slice_get places x) same ∙ b.1 in
     let h : a.0 ≡ b.0 = cc in
-    sym a.2 ∙ ap (λ (x : Place). x.node) h ∙ b.2
+    sym a.2 ∙ ap (λ (x : WeightedPlace). x.node) h ∙ b.2

@@ -3,7 +3,7 @@ use Rattle.std.proofs.Common.{◌≡◌, ◌∙◌, ℕ, zero, suc, ◌+◌, ◌
 use Rattle.std.specs.List.{Contains}
 use Rattle.std.specs.BTreeMap.{BTreeMap}
 use Rattle.rdf_model.specs.declared.term.Term.{Term}
-use Rattle.reference_totals.specs.declared.place.Place.{Place}
+use Rattle.reference_totals.specs.declared.place.WeightedPlace.{WeightedPlace}
 use Rattle.reference_totals.specs.Totals.{HasTotal, HaveOnePlace, OneTotalLaw, SumBy, TotalBy, capped}
 use Rattle.reference_totals.specs.Rounds.{AreSound, total_known}
 
@@ -33,13 +33,13 @@ one_sum T U (x ∷ xs) j k one h i =
     omega arith
 
 -- what is shown by shorter chains is shown by longer ones
-pub deeper : (places : List Place) (d e : ℕ) (n : Term) (k : ℕ) → d ≤ e → TotalBy places d n k → TotalBy places e n k
+pub deeper : (places : List WeightedPlace) (d e : ℕ) (n : Term) (k : ℕ) → d ≤ e → TotalBy places d n k → TotalBy places e n k
 deeper places zero e n k l h = absurd h
 deeper places (suc d) zero n k l h = absurd (omega arith)
 deeper places (suc d) (suc e) n k l h =
     (h.0, h.1, h.2, (h.3.0, sum_map (TotalBy places d) (TotalBy places e) h.0.to h.3.0 (λ m a t. deeper places d e m a (omega arith) t) h.3.1, h.3.2))
 
-gathered : (places : List Place) (ns : List Term) (k : ℕ) → SumBy (HasTotal places) ns k → (d : ℕ) × SumBy (TotalBy places d) ns k
+gathered : (places : List WeightedPlace) (ns : List Term) (k : ℕ) → SumBy (HasTotal places) ns k → (d : ℕ) × SumBy (TotalBy places d) ns k
 gathered places [] k h = (0, h)
 gathered places (n ∷ ns) k h =
     let rest = gathered places ns h.1 h.3 in
@@ -49,14 +49,14 @@ gathered places (n ∷ ns) k h =
     )
 
 -- the totals of the nodes to which a place refers give its own
-pub total_from : (places : List Place) (p : Place) (sum : ℕ) → Contains places p → SumBy (HasTotal places) p.to sum → HasTotal places p.node (p.own + sum)
+pub total_from : (places : List WeightedPlace) (p : WeightedPlace) (sum : ℕ) → Contains places p → SumBy (HasTotal places) p.to sum → HasTotal places p.node (p.own + sum)
 total_from places p sum c h = let all = gathered places p.to sum h in (suc all.0, (p, c, refl, (sum, all.1, refl)))
 
 capped_step : (most w a b c : ℕ) → capped most (w + capped most a + b) ≡ capped most (w + capped most a + c) → capped most (w + (a + c)) ≡ capped most (w + (capped most a + b))
 capped_step most w a b c e = omega arith
 
 -- sums of totals that are counted so far are the sums of totals, as far as they are counted
-pub sum_counted : (places : List Place) (most : ℕ) (numbers : BTreeMap Term ℕ) (known : List (Option ℕ)) → AreSound places most numbers known → (ns : List Term) (k : ℕ)
+pub sum_counted : (places : List WeightedPlace) (most : ℕ) (numbers : BTreeMap Term ℕ) (known : List (Option ℕ)) → AreSound places most numbers known → (ns : List Term) (k : ℕ)
     → SumBy (λ m a. total_known numbers known m ≡ Some a) ns k → (j : ℕ) × SumBy (HasTotal places) ns j × ((w : ℕ) → capped most (w + k) ≡ capped most (w + j))
 sum_counted places most numbers known sound [] k h = (0, refl, λ w. ap (λ z. capped most (w + z)) h)
 sum_counted places most numbers known sound (n ∷ ns) k h =
@@ -71,7 +71,7 @@ sum_counted places most numbers known sound (n ∷ ns) k h =
           omega arith,
     )
 
-one_by : (places : List Place) → HaveOnePlace places → (d e : ℕ) (n : Term) (j k : ℕ) → TotalBy places d n j → TotalBy places e n k → j ≡ k
+one_by : (places : List WeightedPlace) → HaveOnePlace places → (d e : ℕ) (n : Term) (j k : ℕ) → TotalBy places d n j → TotalBy places e n k → j ≡ k
 one_by places one zero e n j k h i = absurd h
 one_by places one (suc d) zero n j k h i = absurd i
 one_by places one (suc d) (suc e) n j k h i =

@@ -3,7 +3,7 @@ use Rattle.std.specs.Prelude.{◌≡◌, ◌⊎◌, ◌≤◌, ◌<◌, ◌+◌,
 use Rattle.std.specs.List.{Contains}
 use Rattle.std.specs.BTreeMap.{BTreeMap}
 use Rattle.rdf_model.specs.declared.term.Term.{Term}
-use Rattle.reference_totals.specs.declared.place.Place.{Place}
+use Rattle.reference_totals.specs.declared.place.WeightedPlace.{WeightedPlace}
 use Rattle.reference_totals.specs.declared.numbers.NumberedPlace.{NumberedPlace}
 use Rattle.reference_totals.specs.Totals.{HasTotal, SumBy, capped, entry}
 use Rattle.reference_totals.specs.Numbers.{AreNumbered}
@@ -29,7 +29,7 @@ abbrev pub AreWithin : List NumberedPlace → List (Option ℕ) → Type 0
 AreWithin places known = (q : NumberedPlace) → Contains places q → q.node < length known
 
 -- what is known of a node is its total, as far as it is counted
-abbrev pub AreSound : List Place → ℕ → BTreeMap Term ℕ → List (Option ℕ) → Type 0
+abbrev pub AreSound : List WeightedPlace → ℕ → BTreeMap Term ℕ → List (Option ℕ) → Type 0
 AreSound places most numbers known = (n : Term) (v : ℕ) → total_known numbers known n ≡ Some v → (k : ℕ) × HasTotal places n k × (v ≡ capped most k)
 
 -- the totals of all nodes to which the place refers are known, and show this number for it
@@ -49,7 +49,7 @@ WasAsked places most i known new left new_left =
 
 -- So many places were asked, in turn.
 pub record WereAsked (qs : List NumberedPlace) (most : ℕ) (n : ℕ) (asked : List ℕ) (known new : List (Option ℕ)) (left : List ℕ) : Type 0 where
-  pub sound : (places : List Place) (numbers : BTreeMap Term ℕ) → AreNumbered places numbers qs → AreSound places most numbers known → AreSound places most numbers new
+  pub sound : (places : List WeightedPlace) (numbers : BTreeMap Term ℕ) → AreNumbered places numbers qs → AreSound places most numbers known → AreSound places most numbers new
   pub room : length new ≡ length known
   pub kept : (j : ℕ) → IsKnown known j → IsKnown new j
   pub each : (i : ℕ) (q : NumberedPlace) → Contains asked i → slice_get qs i ≡ Some q → IsKnown new q.node ⊎ Contains left i
@@ -59,7 +59,7 @@ pub record WereAsked (qs : List NumberedPlace) (most : ℕ) (n : ℕ) (asked : L
 
 -- What is known is sound, and nothing more is shown.
 pub record AreSettled (qs : List NumberedPlace) (most : ℕ) (known : List (Option ℕ)) : Type 0 where
-  pub sound : (places : List Place) (numbers : BTreeMap Term ℕ) → AreNumbered places numbers qs → AreSound places most numbers known
+  pub sound : (places : List WeightedPlace) (numbers : BTreeMap Term ℕ) → AreNumbered places numbers qs → AreSound places most numbers known
   pub still : (q : NumberedPlace) → Contains qs q → IsKnown known q.node ⊎ LacksOne known q
 
 -- the table has just what is known, by the nodes

@@ -4,6 +4,8 @@
 //! refers to, each as often as it refers to it. `totals` ensures exactly the total of each place that has one, as far as
 //! a limit, and visits each reference about twice, whatever the totals are. A place that leads to itself has none. Each
 //! reference is looked up once: after that the places refer to each other by numbers.
+//!
+//! Storey: shapes.
 #![tactic(auto)]
 
 mod below;
@@ -14,6 +16,6 @@ mod rounds;
 mod sums;
 mod tables;
 
-pub use place::Place;
+pub use place::WeightedPlace;
 pub use rounds::totals;
 pub use sums::{capped_sum, total_of};

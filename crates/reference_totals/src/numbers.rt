@@ -4,7 +4,7 @@ ghost use Rattle.std.specs.List.{AllZip};
 ghost use Rattle.reference_totals.specs.Totals.{entry};
 ghost use Rattle.reference_totals.specs.Numbers.{AreIndices, HaveNumbers, IsNumbered, Notes};
 
-use crate::Place;
+use crate::WeightedPlace;
 use collections::Sequence;
 use rdf_model::Term;
 use std::alloc::{AllocError, Global};
@@ -41,7 +41,7 @@ fn put_number(
 /// The number of each node that has a place.
 pub(crate) fn numbers_of(
     alloc: Global,
-    places: &[Place],
+    places: &[WeightedPlace],
 ) -> Result<BTreeMap<Term, usize>, AllocError>
     ensures indices { IfOk result (λ numbers. AreIndices places.now numbers) }
     ensures all { IfOk result (λ numbers. HaveNumbers places.now numbers) }
@@ -79,7 +79,7 @@ fn numbers_at(
 fn numbered_place(
     alloc: Global,
     numbers: &BTreeMap<Term, usize>,
-    place: &Place,
+    place: &WeightedPlace,
 ) -> Result<NumberedPlace, AllocError>
     requires { (i : ℕ) × (entry numbers.now place.now.node ≡ Some i) }
     ensures { IfOk result (λ numbered. IsNumbered numbers.now place.now numbered) }
@@ -99,7 +99,7 @@ fn numbered_place(
 pub(crate) fn numbered_places(
     alloc: Global,
     numbers: &BTreeMap<Term, usize>,
-    places: &[Place],
+    places: &[WeightedPlace],
 ) -> Result<Sequence<NumberedPlace>, AllocError>
     requires { HaveNumbers places.now numbers.now }
     ensures { IfOk result (λ numbered. AllZip (IsNumbered numbers.now) places.now numbered) }

@@ -5,7 +5,7 @@ ghost use Rattle.reference_totals.specs.declared.numbers.NumberedPlace.{Numbered
 ghost use Rattle.reference_totals.specs.Totals.{AreTotals};
 ghost use Rattle.reference_totals.specs.Rounds.{AreSettled, AreWithin, NoneIsKnown, WasAsked, WereAsked};
 
-use crate::Place;
+use crate::WeightedPlace;
 use crate::below::from_below;
 use crate::numbers::{NumberedPlace, numbered_places, numbers_of};
 use crate::sums::shown_total;
@@ -116,7 +116,11 @@ fn known_totals(
 /// The total of each place that has one, by its node: the place's own weight, and the totals of the nodes to which it
 /// refers, each as often as it refers to it. A total over `most` is given as one more than `most`. A place that leads to
 /// itself, or to a node without a place, has none.
-pub fn totals(alloc: Global, places: &[Place], most: u64) -> Result<BTreeMap<Term, u64>, AllocError>
+pub fn totals(
+    alloc: Global,
+    places: &[WeightedPlace],
+    most: u64,
+) -> Result<BTreeMap<Term, u64>, AllocError>
     requires { most + 1 < 2 ^ 64 }
     ensures { IfOk result (λ table. AreTotals places.now most table) }
 {

@@ -4,6 +4,10 @@
 //! versions that were read, and the turns that ran out of memory. Each call that takes its turn is one entry of one history, and
 //! the pass's own list grows by just this entry. It is answered as a follower that was given the entries before it, and a
 //! read's version isn't below any that its pass had seen.
+//!
+//! No crate of the program calls it: the command `follow` feeds a `Follower` by itself.
+//!
+//! Storey: sessions.
 #![tactic(auto)]
 
 mod copying;

@@ -5,10 +5,10 @@ use Rattle.std.proofs.lemmas.Grind.{flat_map-append}
 use Rattle.std.proofs.lemmas.List.{take_more}
 use Rattle.rdf_model.specs.declared.term.Term.{Term}
 use Rattle.shape_model.specs.Paths as defined
-use Rattle.compiled_paths.specs.declared.path.Path.{Path, Sequence, Alternative}
-use Rattle.compiled_paths.specs.PathReadings.{defined_path, members}
-use Rattle.compiled_paths.proofs.Rows.{alternative_read, sequence_read}
-use Rattle.compiled_paths.proofs.Sizes.{alternative_size, list_size, path_size, sequence_size}
+use Rattle.path_ast.specs.declared.path.Path.{Path, Sequence, Alternative}
+use Rattle.path_ast.specs.PathReadings.{defined_path, members}
+use Rattle.path_ast.proofs.Rows.{alternative_read, sequence_read}
+use Rattle.path_ast.proofs.Sizes.{alternative_size, list_size, path_size, sequence_size}
 use Rattle.report_writer.specs.PathTexts.{list_text, members_text, node_text, path_text}
 
 -- a path after another

@@ -1,3 +1,4 @@
+//! The name of a component in a report.
 ghost use Rattle.std.specs.Prelude.{◌≡◌};
 ghost use Rattle.report_writer.specs.Report.{component_name};
 

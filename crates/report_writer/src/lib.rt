@@ -4,6 +4,8 @@
 //! and `specs/Report.antt` by the triples of each well-formed shapes graph that they stand for, with
 //! paths of every kind, severities and messages. By `proofs/Sources.antt` the results of a validation
 //! have their source shapes among the shapes.
+//!
+//! Storey: validation.
 #![tactic(auto)]
 
 mod component;

@@ -1,8 +1,9 @@
+//! The lines of one result.
 ghost use Rattle.std.specs.Prelude.{◌≡◌, ◌++◌, codes, string_bytes, OnOk};
 ghost use Rattle.std.specs.Option.{option_copied, unwrap_or};
 ghost use Rattle.rdf_model.specs.NTriples.{term_text};
 ghost use Rattle.shape_model.specs.Vocabulary.{sh};
-ghost use Rattle.compiled_paths.specs.PathReadings.{defined_path, optional_path};
+ghost use Rattle.path_ast.specs.PathReadings.{defined_path, optional_path};
 ghost use Rattle.shape_ast.specs.Readings.{read_shape};
 ghost use Rattle.report_writer.specs.PathTexts.{optional_text, path_text};
 ghost use Rattle.report_writer.specs.Report.{component_name, listed, result_label, statement, statements, term_statements};
@@ -89,7 +90,7 @@ fn push_path_line(out: &mut String, number: u64, path: &Path<Term>) -> Result<()
     write!(out, " .\n")
 }
 
-// The same where there is a path.
+// The line on the path of a result, where there is a path.
 fn push_own_path(out: &mut String, number: u64, path: &Option<Path<Term>>) -> Result<(), AllocError>
     ensures { OnOk result (string_bytes out.new ≡ string_bytes out.old ++ statements (result_label number) (codes "sh:resultPath") (optional_text (optional_path path.now))) }
 {

@@ -1,5 +1,6 @@
+//! The text of a path.
 ghost use Rattle.std.specs.Prelude.{◌≡◌, ◌++◌, OnOk, map, string_bytes};
-ghost use Rattle.compiled_paths.specs.PathReadings.{defined_path, members};
+ghost use Rattle.path_ast.specs.PathReadings.{defined_path, members};
 ghost use Rattle.report_writer.specs.PathTexts.{list_text, members_text, node_text, path_text};
 
 use rdf_model::Term;

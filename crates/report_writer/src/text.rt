@@ -1,3 +1,4 @@
+//! The report of a listing.
 ghost use Rattle.std.specs.Prelude.{◌≡◌, ◌++◌, List, IfOk, OnOk, codes, string_bytes};
 ghost use Rattle.std.specs.List.{Contains, find};
 ghost use Rattle.std.specs.Option.{option_copied};

@@ -115,7 +115,7 @@ pub fn evidence<R: Triples, N: Names, L: Ledger>(
     write_block(alloc, &block)
 }
 
-/// The same, where the least shape and focus node that give the result are known.
+/// The text of a result's block, where the least shape and focus node that give the result are known.
 pub fn evidence_at<R: Triples, N: Names, L: Ledger>(
     alloc: Global,
     graph: &R,

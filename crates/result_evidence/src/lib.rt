@@ -5,6 +5,10 @@
 //! shape at that node, ascending, and under each just the triples of the graph that match it. By these looks alone the result
 //! can be found again. `aimed_rows` ensures all results of a graph with each shape and focus node that give them, in order, and
 //! `evidence_at` the same text where the least of these are known.
+//!
+//! `evidence` is for callers that have a result and no list of all: the program has the list, and calls `evidence_at`.
+//!
+//! Storey: validation.
 #![tactic(auto)]
 
 mod aimed_row;

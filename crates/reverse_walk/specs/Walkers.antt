@@ -9,8 +9,8 @@ use Rattle.rdf_model.specs.declared.look.Look.{Look}
 use Rattle.rdf_model.specs.Numbers.{term_at, graph_of}
 use Rattle.shape_model.specs.Walks.{Walk}
 use Rattle.shape_model.specs.NodeLooks.{PathReads}
-use Rattle.compiled_paths.specs.declared.path.Path.{Path}
-use Rattle.compiled_paths.specs.PathReadings.{path_of}
+use Rattle.path_ast.specs.declared.path.Path.{Path}
+use Rattle.path_ast.specs.PathReadings.{path_of}
 use Rattle.path_eval.specs.Naming.{IsBoundLook, look_of}
 use Rattle.path_eval.specs.Relations.{Adds}
 

@@ -3,6 +3,8 @@
 //! `back` ensures exactly the nodes from which a walk leads to a node, each once, ascending, and exactly
 //! the looks of the way back, by which a changed triple's focus nodes are found. `back_from` does so for
 //! many nodes in one walk.
+//!
+//! Storey: validation.
 #![tactic(auto)]
 
 ghost use Rattle.std.specs.Prelude.{IfOk, OnOk};
@@ -10,7 +12,7 @@ ghost use Rattle.path_eval.specs.Naming.{Numbered, NumberedEach};
 ghost use Rattle.collections.specs.Listings.{Keeps};
 ghost use Rattle.reverse_walk.specs.Walkers.{AddsBackReads, AddsBackReadsOfSome, AreWalkers, AreWalkersToSome};
 
-use compiled_paths::Path;
+use path_ast::Path;
 use rdf_model::{Footprint, Triples};
 use std::alloc::{AllocError, Global};
 

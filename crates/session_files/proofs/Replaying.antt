@@ -7,7 +7,8 @@ use Rattle.store_model.specs.declared.event.Limits.{Limits}
 use Rattle.store_model.specs.Store.{empty_store}
 use Rattle.session_model.specs.declared.command.Command.{Command}
 use Rattle.session_model.specs.declared.reply.SessionReply.{SessionReply}
-use Rattle.session_model.specs.Print.{reply_text, line, session_text, sessions_text, history_text, IsPrint}
+use Rattle.session_model.specs.Print.{AreReplyLines, AreSessionLines, IsPrint, history_text, line}
+use Rattle.session_model.proofs.Printing.{sessions_one}
 use Rattle.session_player.specs.Histories.{IsFirstBad}
 use Rattle.session_player.proofs.Exact.{never_both, order_sessions, replays_again}
 use Rattle.history_reader.specs.History.{history_of}
@@ -72,23 +73,23 @@ ends_append a b ha hb = ⊎_elim
 ends_line : (text : List ℕ) → EndsLine (line text)
 ends_line text = inr (text, refl)
 
-ends_replies : (replies : List SessionReply) → EndsLine (flat_map (λ r. line (reply_text r)) replies)
-ends_replies [] = inl refl
-ends_replies (r ∷ replies) = ends_append (line (reply_text r)) (flat_map (λ r. line (reply_text r)) replies) (ends_line (reply_text r)) (ends_replies replies)
+ends_replies : (replies : List SessionReply) (text : List ℕ) → AreReplyLines replies text → EndsLine text
+ends_replies [] text h = inl h
+ends_replies (r ∷ replies) text h = subst EndsLine (sym h.4) (ends_append (line h.0) h.1 (ends_line h.0) (ends_replies replies h.1 h.3))
 
-ends_sessions : (i : ℕ) (all : List (List SessionReply)) → EndsLine (sessions_text i all)
-ends_sessions i [] = inl refl
-ends_sessions i (replies ∷ more) =
-    ends_append (session_text i replies) (sessions_text (i + 1) more)
-    (ends_append (line (codes "session " ++ decimal i)) (flat_map (λ r. line (reply_text r)) replies) (ends_line (codes "session " ++ decimal i)) (ends_replies replies)) (ends_sessions (i + 1) more)
+ends_sessions : (i : ℕ) (all : List (List SessionReply)) (text : List ℕ) → AreSessionLines i all text → EndsLine text
+ends_sessions i [] text h = inl h
+ends_sessions i (replies ∷ more) text h =
+    let own = line (codes "session " ++ decimal i) in
+    subst EndsLine (sym h.4) (ends_append own (h.0 ++ h.1) (ends_line (codes "session " ++ decimal i)) (ends_append h.0 h.1 (ends_replies replies h.0 h.2) (ends_sessions (i + 1) more h.1 h.3)))
 
 history_is_last : (files : List (List Command)) (l : Limits) (order text : List ℕ) → IsPrint files l empty_store order None text → IsLastLine text (history_text order)
 history_is_last files l order text p = record {
-  before = sessions_text 1 p.0;
+  before = p.2.0;
   words = codes "history" ++ flat_map (λ i. 32 ∷ decimal i) order;
-  whole = p.2;
+  whole = p.2.2;
   closed = refl;
-  ends = ends_sessions 1 p.0;
+  ends = ends_sessions 1 p.0 p.2.0 p.2.1;
   one = one_line order (order_sessions files l empty_store order p.0 (omega arith) p.1);
 }
 
@@ -105,7 +106,9 @@ one_text held name a b x y =
 prints_one : (files : List (List Command)) (l : Limits) (order again text other : List ℕ) → IsPrint files l empty_store order None text → map Some order ≡ map Some again → IsPrint files l empty_store again None other → other ≡ text
 prints_one files l order again text other p e q =
     let same = replays_again files l empty_store order again p.0 q.0 p.1 (e, q.1) in
-    q.2 ∙ (ap (λ (rs : List (List SessionReply)). sessions_text 1 rs ++ history_text again) same.1 ∙ (ap (λ (is : List ℕ). sessions_text 1 p.0 ++ history_text is) same.0 ∙ sym p.2))
+    let lines = sessions_one 1 p.0 p.2.0 q.2.0 p.2.1 (subst (λ (rs : List (List SessionReply)). AreSessionLines 1 rs q.2.0) same.1 q.2.1) in
+    let orders = same.0 in
+    q.2.2 ∙ ((λ i. lines i ++ history_text (orders i)) ∙ sym p.2.2)
 
 pub replays_print : ReplaysPrint
 replays_print held l history names old new old' new' text line run last holds alike =
@@ -160,18 +163,18 @@ session_one held firsts i name c d old other h k =
     let bytes : k.0 ≡ h.0 = one_text held name h.0 k.0 (h.1, h.2.0) (k.1, k.2.0) in
     one_session i (first_of firsts i) h.0 c d old other h.2.1 (subst (λ (b : List ℕ). IsSession i (first_of firsts i) b d other other) bytes k.2.1)
 
-sessions_one : (held : Contents) (firsts : List ℕ) (i : ℕ) (names : List (List ℕ)) (all again : List (List Command)) (old other : List Refusal) → HoldSessions (Some held) firsts i names all old old → HoldSessions (Some held) firsts i names again other other → again ≡ all
-sessions_one held firsts i [] [] [] old other h k = refl
-sessions_one held firsts i [] [] (d ∷ ds) old other h k = absurd k
-sessions_one held firsts i [] (c ∷ cs) again old other h k = absurd h
-sessions_one held firsts i (n ∷ ns) [] again old other h k = absurd h
-sessions_one held firsts i (n ∷ ns) (c ∷ cs) [] old other h k = absurd k
-sessions_one held firsts i (n ∷ ns) (c ∷ cs) (d ∷ ds) old other h k =
+files_one : (held : Contents) (firsts : List ℕ) (i : ℕ) (names : List (List ℕ)) (all again : List (List Command)) (old other : List Refusal) → HoldSessions (Some held) firsts i names all old old → HoldSessions (Some held) firsts i names again other other → again ≡ all
+files_one held firsts i [] [] [] old other h k = refl
+files_one held firsts i [] [] (d ∷ ds) old other h k = absurd k
+files_one held firsts i [] (c ∷ cs) again old other h k = absurd h
+files_one held firsts i (n ∷ ns) [] again old other h k = absurd h
+files_one held firsts i (n ∷ ns) (c ∷ cs) [] old other h k = absurd k
+files_one held firsts i (n ∷ ns) (c ∷ cs) (d ∷ ds) old other h k =
     let a = first_kept (Some held) firsts i n ns c cs old h in
     let b = first_kept (Some held) firsts i n ns d ds other k in
     let head : d ≡ c = session_one held firsts i n c d old other a.0 b.0 in
-    let tail : ds ≡ cs = sessions_one held firsts (i + 1) ns cs ds old other a.1 b.1 in
+    let tail : ds ≡ cs = files_one held firsts (i + 1) ns cs ds old other a.1 b.1 in
     ap (λ (x : List Command). x ∷ ds) head ∙ ap (λ (xs : List (List Command)). c ∷ xs) tail
 
 pub unrefused_read_alike : UnrefusedReadAlike
-unrefused_read_alike held firsts names old other all again h k = sessions_one held firsts 1 names all again old other h k
+unrefused_read_alike held firsts names old other all again h k = files_one held firsts 1 names all again old other h k

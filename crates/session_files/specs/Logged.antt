@@ -7,7 +7,7 @@ use Rattle.input_files.specs.Loads.{Loads}
 use Rattle.store_model.specs.Store.{RecordedStore}
 use Rattle.session_model.specs.declared.command.Command.{Command}
 use Rattle.session_model.specs.declared.reply.SessionReply.{SessionReply}
-use Rattle.session_model.specs.Print.{history_text, sessions_text}
+use Rattle.session_model.specs.Print.{IsRunText}
 use Rattle.session_threads.specs.Ends.{EndsRun}
 use Rattle.session_files.specs.declared.session_run.SessionRun.{SessionRun}
 use Rattle.session_files.specs.Loading.{HoldSessions}
@@ -23,7 +23,7 @@ pub record PrintsRun {D : Type 0} (tells : Type 0) (bytes : D → List ℕ) (his
   pub replies : List (List SessionReply)
   pub triples : ℕ
   pub ends : EndsRun tells bytes history chosen faults files core log order replies triples later
-  pub printed : text ≡ sessions_text 1 replies ++ history_text order
+  pub printed : IsRunText replies order text
 
 -- so it is of at most 64 session files, and all files were loaded; the numbers of the first blank nodes of their sessions are
 -- `firsts`

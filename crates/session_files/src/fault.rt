@@ -1,3 +1,4 @@
+//! Why session files were not run.
 ghost use Rattle.std.specs.Prelude.{◌≡◌};
 
 use std::alloc::AllocError;

@@ -1,3 +1,4 @@
+//! Session files loaded and prepared, one after another.
 ghost use Rattle.std.specs.Prelude.{◌≡◌, ◌<◌, ◌≤◌, [], ◌∷◌, ◌++◌, List, MatchResult, length};
 ghost use Rattle.std.specs.List.{AllByRecursion};
 ghost use Rattle.session_model.specs.declared.command.Command.{Command};

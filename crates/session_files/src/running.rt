@@ -1,7 +1,8 @@
+//! Session files run beside each other, or in the order of a history.
 ghost use Rattle.std.specs.Prelude.{◌≡◌, ◌≢◌, ◌⊎◌, ℕ, List, None, Some, [], ◌∷◌, ◌++◌, ◌≤◌, false, IfErr, MatchResult, length, map, string_bytes};
 ghost use Rattle.std.specs.List.{AllByRecursion};
 ghost use Rattle.store_model.specs.Store.{RecordedStore, empty_store};
-ghost use Rattle.session_model.specs.Print.{IsPrint, history_text, sessions_text};
+ghost use Rattle.session_model.specs.Print.{IsPrint, IsRunText};
 ghost use Rattle.history_reader.specs.History.{history_of};
 ghost use Rattle.session_reader.specs.Checking.{OnlyGrows};
 ghost use Rattle.input_files.specs.Loads.{Loads};
@@ -25,19 +26,19 @@ use input_files::load_file;
 use outside::{Files, Gate, Maker};
 use rdf_text::Text;
 use session_model::Command;
-use session_player::{ReplayFault, Run, replay_all, text_of};
+use session_player::{HistoryFault, Run, replay_all, text_of};
 use session_threads::{EndedRun, run_all};
 use std::alloc::Global;
 use std::sync::Wait;
 use std::thread::Threads;
-use store_model::{BlockMode, Limits};
+use store_model::Limits;
 
 // So many sessions may run.
 const MOST_FILES: usize = 64;
 
 // What a run prints.
 fn run_text(alloc: Global, run: &Run) -> Result<String, RunFault>
-    ensures { MatchResult result (λ text. string_bytes text ≡ sessions_text 1 run.now.replies.items ++ history_text run.now.order.items) (λ fault. fault ≡ RunFault.Memory) }
+    ensures { MatchResult result (λ text. IsRunText run.now.replies.items run.now.order.items (string_bytes text)) (λ fault. fault ≡ RunFault.Memory) }
 {
     match text_of(alloc, run) {
         Ok(text) => Ok(text),
@@ -83,7 +84,6 @@ fn print_replay(
     all: &[Sequence<Command>],
 ) -> Result<String, RunFault>
     requires terms { limits.terms ≤ 2000000 }
-    requires mode { limits.mode ≡ BlockMode.All }
     requires few { length all.now ≤ 64 }
     ensures { MatchResult result (λ text. (order : List ℕ) × (history_of history.now ≡ Some (map Some order)) × IsPrint all.now limits empty_store order None (string_bytes text))
         (λ fault. Unplayed fault (IsBadPlace all.now limits (history_of history.now))) }
@@ -98,10 +98,10 @@ fn print_replay(
             Ok(text) => Ok(text),
             Err(_) => Err(RunFault::Memory),
         },
-        Err(ReplayFault::Place(place)) => Err(RunFault::BadHistory {
+        Err(HistoryFault::Place(place)) => Err(RunFault::BadHistory {
             place: place as u64,
         }),
-        Err(ReplayFault::Memory) => Err(RunFault::Memory),
+        Err(HistoryFault::Memory) => Err(RunFault::Memory),
     }
 }
 
@@ -146,7 +146,6 @@ fn replay_sessions<F: Files, M: Maker>(
     maker: &mut M,
 ) -> Result<String, RunFault>
     requires terms { limits.terms ≤ 2000000 }
-    requires mode { limits.mode ≡ BlockMode.All }
     requires few { length names.now ≤ 64 }
     ensures answer { let before : Loads = record { loaded = F.loaded files.old; failed = F.failed files.old; refused = M.refused maker.old } in
         let after : Loads = record { loaded = F.loaded files.new; failed = F.failed files.new; refused = M.refused maker.new } in
@@ -177,7 +176,6 @@ pub fn replay_files<F: Files, M: Maker>(
     maker: &mut M,
 ) -> Result<String, RunFault>
     requires terms { limits.terms ≤ 2000000 }
-    requires mode { limits.mode ≡ BlockMode.All }
     ensures answer { let before : Loads = record { loaded = F.loaded files.old; failed = F.failed files.old; refused = M.refused maker.old } in
         let after : Loads = record { loaded = F.loaded files.new; failed = F.failed files.new; refused = M.refused maker.new } in
         let asked : SessionRun = record { limits = limits; history = Some history.now; files = names.now } in

@@ -1,3 +1,4 @@
+//! Which session files are to be run, and how.
 use collections::Sequence;
 use rdf_text::Text;
 use store_model::Limits;

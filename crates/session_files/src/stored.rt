@@ -1,3 +1,4 @@
+//! What a run of session files begins with.
 use collections::Sequence;
 use commit_core::Core;
 use commit_log::Log;

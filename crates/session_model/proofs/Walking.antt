@@ -7,7 +7,7 @@ use Rattle.store_model.specs.declared.event.Action.{Action}
 use Rattle.store_model.specs.declared.event.Action.TheVariants.{Open, Begin, Name, Head, Commit, Void}
 use Rattle.store_model.specs.declared.commit.Transaction.{Transaction}
 use Rattle.session_model.specs.declared.command.Command.TheVariants as commands
-use Rattle.session_model.specs.declared.command.Command.TheVariants.{Add, BadAdd, Remove, BadRemove, Attach, BadAttach, Shapes, BadShapes, BrokenShapes, RefusedPattern, Find, Select, BadSelect, Abort}
+use Rattle.session_model.specs.declared.command.Command.TheVariants.{Add, BadAdd, Remove, BadRemove, Attach, BadAttach, Shapes, BadShapes, BrokenShapes, RefusedPattern, Find, Select, BadSelect, Report, Abort}
 use Rattle.store_model.proofs.Outcomes.{outcome}
 use Rattle.store_model.proofs.Steps.{ReplyGivesOneState-holds, StepGivesOneReply-holds}
 use Rattle.store_model.specs.declared.event.Reply.{Reply}
@@ -113,6 +113,8 @@ opens_not None (Select ps) = refl
 opens_not (Some w) (Select ps) = refl
 opens_not None (BadSelect n) = refl
 opens_not (Some w) (BadSelect n) = refl
+opens_not None Report = refl
+opens_not (Some w) Report = refl
 opens_not None Abort = refl
 opens_not (Some w) Abort = refl
 
@@ -160,6 +162,8 @@ voids_not None (Select ps) = refl
 voids_not (Some w) (Select ps) = refl
 voids_not None (BadSelect n) = refl
 voids_not (Some w) (BadSelect n) = refl
+voids_not None Report = refl
+voids_not (Some w) Report = refl
 voids_not None Abort = refl
 voids_not (Some w) Abort = refl
 

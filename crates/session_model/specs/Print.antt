@@ -1,5 +1,5 @@
 -- What a run of session files prints.
-use Rattle.std.specs.Prelude.{◌≡◌, ℕ, ◌+◌, List, [], ◌∷◌, ◌++◌, Option, codes}
+use Rattle.std.specs.Prelude.{◌≡◌, ℕ, ◌+◌, List, [], ◌∷◌, ◌++◌, Option, Some, None, codes}
 use Rattle.std.specs.List.{flat_map}
 use Rattle.std.specs.Fmt.{decimal}
 use Rattle.rdf_model.specs.NTriples.{term_text, triple_text}
@@ -7,7 +7,8 @@ use Rattle.store_model.specs.declared.event.Limits.{Limits}
 use Rattle.store_model.specs.Store.{State}
 use Rattle.session_model.specs.declared.command.Command.{Command}
 use Rattle.session_model.specs.declared.reply.SessionReply.{SessionReply}
-use Rattle.session_model.specs.declared.reply.SessionReply.TheVariants.{AlreadyOpen, NoTransaction, Begun, Added, AddRefused, Removed, RemoveRefused, Attached, AttachRefused, UnknownNode, ShapesStaged, ShapesRefused, ShapesBroken, PatternRefused, FullTerms, Committed, ReadOnly, Overtaken, FullGraph, Refused, Found, Selected, SelectFull, SelectRefused, Aborted, LogFailed, Stopped}
+use Rattle.session_model.specs.declared.reply.SessionReply.TheVariants.{AlreadyOpen, NoTransaction, Begun, Added, AddRefused, Removed, RemoveRefused, Attached, AttachRefused, UnknownNode, ShapesStaged, ShapesRefused, ShapesBroken, PatternRefused, FullTerms, Committed, ReadOnly, Overtaken, FullGraph, Refused, Found, Selected, SelectFull, SelectRefused, Reported, Aborted, LogFailed, Stopped}
+use Rattle.session_model.specs.Reports.{IsReportText}
 use Rattle.session_model.specs.Sessions.{HasReplies}
 
 -- the line of a reply, without its end; the report of a refusal has lines of its own, and `end` after them; the triples
@@ -37,6 +38,7 @@ reply_text (Found count lines) = codes "find " ++ decimal count ++ lines
 reply_text (Selected count lines) = codes "select " ++ decimal count ++ lines
 reply_text SelectFull = codes "select full"
 reply_text (SelectRefused n) = codes "bad select " ++ decimal n
+reply_text (Reported r) = codes "report"
 reply_text Aborted = codes "abort"
 reply_text LogFailed = codes "log fault"
 reply_text (Stopped version) = codes "stopped " ++ decimal version
@@ -44,21 +46,35 @@ reply_text (Stopped version) = codes "stopped " ++ decimal version
 abbrev pub line : List ℕ → List ℕ
 line text = text ++ 10 ∷ []
 
--- `session I` and a line for each reply
-abbrev pub session_text : ℕ → List SessionReply → List ℕ
-session_text i replies = line (codes "session " ++ decimal i) ++ flat_map (λ r. line (reply_text r)) replies
+-- what a reply shows by itself; a report does by its results
+abbrev pub shown : SessionReply → Option (List ℕ)
+shown (Reported r) = None
+shown r = Some (reply_text r)
 
--- the sessions from number i on
-abbrev pub sessions_text : ℕ → List (List SessionReply) → List ℕ
-sessions_text i [] = []
-sessions_text i (replies ∷ more) = session_text i replies ++ sessions_text (i + 1) more
+abbrev pub IsReplyText : SessionReply → List ℕ → Type 0
+IsReplyText (Reported r) text = IsReportText r text
+IsReplyText r text = text ≡ reply_text r
+
+-- a line for each reply
+abbrev pub AreReplyLines : List SessionReply → List ℕ → Type 0
+AreReplyLines [] text = text ≡ []
+AreReplyLines (r ∷ rs) text = (one : List ℕ) × (rest : List ℕ) × IsReplyText r one × AreReplyLines rs rest × (text ≡ line one ++ rest)
+
+-- `session I` and the lines of its replies, for the sessions from number i on
+abbrev pub AreSessionLines : ℕ → List (List SessionReply) → List ℕ → Type 0
+AreSessionLines i [] text = text ≡ []
+AreSessionLines i (replies ∷ more) text = (lines : List ℕ) × (rest : List ℕ) × AreReplyLines replies lines × AreSessionLines (i + 1) more rest × (text ≡ line (codes "session " ++ decimal i) ++ (lines ++ rest))
 
 -- `history`, and the session of each event after a space
 abbrev pub history_text : List ℕ → List ℕ
 history_text order = line (codes "history" ++ flat_map (λ i. 32 ∷ decimal i) order)
 
+-- the text of sessions that were answered so, in this order
+abbrev pub IsRunText : List (List SessionReply) → List ℕ → List ℕ → Type 0
+IsRunText replies order text = (sessions : List ℕ) × AreSessionLines 1 replies sessions × (text ≡ sessions ++ history_text order)
+
 -- Print: the text of a run of these files over a store that begins in state s, in this order, which is valid, where the log
 -- fails at this place of it, if it does.
 abbrev pub IsPrint : List (List Command) → Limits → State → List ℕ → Option ℕ → List ℕ → Type 0
 IsPrint files limits s order fault text =
-    (replies : List (List SessionReply)) × HasReplies files limits s order fault replies × (text ≡ sessions_text 1 replies ++ history_text order)
+    (replies : List (List SessionReply)) × HasReplies files limits s order fault replies × IsRunText replies order text

@@ -13,9 +13,9 @@ use Rattle.store_model.specs.declared.event.Action.TheVariants as actions
 use Rattle.store_model.specs.declared.event.Reply.{Reply}
 use Rattle.store_model.specs.declared.event.Reply.TheVariants.{Version, Named, Full, Unknown, Conflict, FullTriples, Refused, Done, LogFault, Stopped}
 use Rattle.session_model.specs.declared.command.Command.{Command}
-use Rattle.session_model.specs.declared.command.Command.TheVariants.{Begin, Add, BadAdd, Remove, BadRemove, Attach, BadAttach, Shapes, BadShapes, BrokenShapes, RefusedPattern, Commit, Find, Select, BadSelect, Abort}
+use Rattle.session_model.specs.declared.command.Command.TheVariants.{Begin, Add, BadAdd, Remove, BadRemove, Attach, BadAttach, Shapes, BadShapes, BrokenShapes, RefusedPattern, Commit, Find, Select, BadSelect, Report, Abort}
 use Rattle.session_model.specs.declared.reply.SessionReply.{SessionReply}
-use Rattle.session_model.specs.declared.reply.SessionReply.TheVariants.{AlreadyOpen, NoTransaction, Begun, Added, AddRefused, Removed, RemoveRefused, Attached, AttachRefused, UnknownNode, ShapesStaged, ShapesRefused, ShapesBroken, PatternRefused, FullTerms, Committed, ReadOnly, Overtaken, FullGraph, Refused as RefusedBy, Found, Selected, SelectFull, SelectRefused, Aborted, LogFailed, Stopped as StoppedAt}
+use Rattle.session_model.specs.declared.reply.SessionReply.TheVariants.{AlreadyOpen, NoTransaction, Begun, Added, AddRefused, Removed, RemoveRefused, Attached, AttachRefused, UnknownNode, ShapesStaged, ShapesRefused, ShapesBroken, PatternRefused, FullTerms, Committed, ReadOnly, Overtaken, FullGraph, Refused as RefusedBy, Found, Selected, SelectFull, SelectRefused, Reported, Aborted, LogFailed, Stopped as StoppedAt}
 use Rattle.rdf_model.specs.declared.pattern.Pattern.{Pattern}
 use Rattle.rdf_model.specs.Graphs.{after}
 use Rattle.rdf_model.specs.NTriples.{term_text, triple_text}
@@ -27,11 +27,12 @@ use Rattle.store_model.specs.Finds.{found}
 use Rattle.store_model.specs.Logs.{is_fault}
 use Rattle.store_model.specs.Store.{State, StepOf, shapes_under, terms_of}
 
--- A session's open transaction: what its commit hands in, the data graph at its begin, and whether its commit has the
--- newest version already.
+-- A session's open transaction: what its commit hands in, the data graph and the shapes graph at its begin, and whether its
+-- commit has the newest version already.
 pub record OpenTransaction : Type 0 where
   pub transaction : Transaction
   pub graph : List Triple
+  pub shapes : List Triple
   pub head_taken : Bool
 
 -- A session: its open transaction, the commands that are left of its file, and what it was answered.
@@ -85,6 +86,10 @@ binding_text ts = flat_map (λ t. term_text t ++ 32 ∷ []) ts ++ codes "."
 abbrev pub select_reply : List (List Term) → SessionReply
 select_reply rows = if nat_lt most_bindings (length rows) then SelectFull else Selected (length rows) (flat_map (λ ts. 10 ∷ binding_text ts) rows)
 
+-- the report of the graph at its begin, by the shapes graph there
+abbrev pub report_by : OpenTransaction → SessionReply
+report_by w = Reported (record { graph = w.graph; shapes = w.shapes })
+
 -- what a session answers by itself, and its transaction afterwards
 pub record LocalAnswer : Type 0 where
   pub current : Option OpenTransaction
@@ -131,6 +136,8 @@ local_answer None (Select ps) = answers NoTransaction None
 local_answer (Some w) (Select ps) = answers (select_reply (selected_by w ps)) (Some (with_finds w ps))
 local_answer None (BadSelect n) = answers NoTransaction None
 local_answer (Some w) (BadSelect n) = answers (SelectRefused n) (Some w)
+local_answer None Report = answers NoTransaction None
+local_answer (Some w) Report = answers (report_by w) (Some w)
 local_answer None Abort = answers NoTransaction None
 local_answer (Some w) Abort = answers Aborted None
 
@@ -158,14 +165,14 @@ action_of (Some w) (Shapes ts) = Some (actions.Name kinds.Fresh (parts_of ts))
 action_of (Some w) Commit = Some (commit_action w.head_taken w.transaction)
 action_of w c = None
 
-abbrev pub begun : ℕ → List Triple → OpenTransaction
-begun version graph = record { transaction = record { base = version; net = []; staged = None; finds = []; verdict = None }; graph = graph; head_taken = false }
+abbrev pub begun : ℕ → List Triple → List Triple → OpenTransaction
+begun version graph shapes = record { transaction = record { base = version; net = []; staged = None; finds = []; verdict = None }; graph = graph; shapes = shapes; head_taken = false }
 
 -- The session after the store's reply r to its command c, with cs left, where s was the store before it; None where the
 -- store never replies so to that command. A commit that is refused prints the report of its results,
 -- under the shapes graph that they break.
 abbrev pub after_reply : State → Option OpenTransaction → Command → List Command → List SessionReply → Reply → Option SessionState
-after_reply s None Begin cs replies (Version n) = Some (up_to_event (Some (begun n s.graph)) cs (replies ++ Begun n ∷ []))
+after_reply s None Begin cs replies (Version n) = Some (up_to_event (Some (begun n s.graph s.shapes)) cs (replies ++ Begun n ∷ []))
 after_reply s (Some w) (Add ts) cs replies Named = Some (up_to_event (Some (with_changes w (additions ts))) cs (replies ++ Added (length ts) ∷ []))
 after_reply s (Some w) (Add ts) cs replies (Full n) = Some (up_to_event (Some w) cs (replies ++ FullTerms ∷ []))
 after_reply s (Some w) (Remove ts) cs replies Named = Some (up_to_event (Some (with_changes w (removals ts))) cs (replies ++ Removed (length ts) ∷ []))

@@ -1,3 +1,4 @@
+//! The commands of a session.
 use crate::block::{Block, ShapesBlock};
 use bgp_query::JoinPattern;
 use collections::Sequence;
@@ -35,6 +36,8 @@ pub enum Command {
     /// A select whose block has a line that is no pattern, more than eight lines, or none: the first line of the block, from 1,
     /// that is refused.
     BadSelect { line: u64 },
+    /// Asks for the results of the graph at the transaction's begin.
+    Report,
     /// Drops the transaction.
     Abort,
 }
@@ -58,6 +61,7 @@ impl Drop for Command {
             Command::Find(_) => {}
             Command::Select(_) => {}
             Command::BadSelect { line: _ } => {}
+            Command::Report => {}
             Command::Abort => {}
         }
     }

@@ -1,3 +1,5 @@
+//! The replies to commands.
+use crate::report::Report;
 use rdf_model::{Term, Text, Triple};
 use std::fmt;
 
@@ -52,6 +54,8 @@ pub enum SessionReply {
     SelectFull,
     /// The first line of a select's block, from 1, that is refused.
     SelectRefused { line: u64 },
+    /// The results of the graph at the transaction's begin.
+    Reported(Report),
     /// The transaction was dropped.
     Aborted,
     /// The store's log failed at the commit.
@@ -91,6 +95,7 @@ impl Drop for SessionReply {
             SessionReply::Selected { count: _, lines: _ } => {}
             SessionReply::SelectFull => {}
             SessionReply::SelectRefused { line: _ } => {}
+            SessionReply::Reported(_) => {}
             SessionReply::Aborted => {}
             SessionReply::LogFailed => {}
             SessionReply::Stopped(_) => {}
@@ -99,13 +104,12 @@ impl Drop for SessionReply {
 }
 
 impl fmt::Display for SessionReply {
-    ghost use Rattle.std.specs.Prelude.{Some};
-    ghost use Rattle.session_model.specs.Print.{reply_text};
+    ghost use Rattle.session_model.specs.Print.{shown};
 
-    ghost output = { λ reply. Some (reply_text reply) };
+    ghost output = { λ reply. shown reply };
 
     /// The reply's line, without its end; a refusal's report has lines of its own, and so has a
-    /// find or a select.
+    /// find or a select. A report is printed by its own text.
     fn fmt<W: fmt::Write>(&self, f: &mut fmt::Formatter<W>) -> fmt::Result {
         match self {
             SessionReply::AlreadyOpen => f.write_str("already open"),
@@ -134,6 +138,7 @@ impl fmt::Display for SessionReply {
             SessionReply::Selected { count, lines } => write!(f, "select {count}{lines}"),
             SessionReply::SelectFull => f.write_str("select full"),
             SessionReply::SelectRefused { line } => write!(f, "bad select {line}"),
+            SessionReply::Reported(report) => write!(f, "{report:?}"),
             SessionReply::Aborted => f.write_str("abort"),
             SessionReply::LogFailed => f.write_str("log fault"),
             SessionReply::Stopped(version) => write!(f, "stopped {version}"),

@@ -18,8 +18,8 @@ use Rattle.session_model.specs.declared.command.Command.TheVariants.{Commit}
 use Rattle.session_model.specs.declared.reply.SessionReply.{SessionReply}
 use Rattle.store_model.specs.Logs.{is_fault}
 use Rattle.store_model.specs.Store.{State, RecordedStore, StepOf, empty_store, OpensNext, OpensNothing, TakesStep, IsOpened}
-use Rattle.thread_model.specs.Following.{unaided}
-use Rattle.thread_model.proofs.Aside.{goes_aside}
+use Rattle.session_laws.specs.Following.{unaided}
+use Rattle.session_laws.proofs.Aside.{goes_aside}
 use Rattle.session_model.specs.Sessions.{OpenTransaction, SessionState, World, action_of, after_reply, answers, commit_action, local_answer, up_to_event, GoesOn, session_at, world, RunsOpening, RunsEvent, RunsPlace, RunsInOrder, start, HasReplies}
 use Rattle.session_player.specs.Progress.{Advances, OpensSessions, HasRun}
 use Rattle.session_model.proofs.Walking.{RunsInOrder-append, up_to_event-local, turn, opened_same, never_open}

@@ -18,13 +18,14 @@ use Rattle.store_model.specs.declared.event.Reply.TheVariants.{Session, Sessions
 use Rattle.store_model.specs.declared.commit.Transaction.{Transaction}
 use Rattle.store_model.specs.declared.commit.Verdict.{Verdict}
 use Rattle.session_model.specs.declared.command.Command.{Command}
-use Rattle.session_model.specs.declared.command.Command.TheVariants.{Begin, Commit, Select}
+use Rattle.session_model.specs.declared.command.Command.TheVariants.{Begin, Commit, Report, Select}
 use Rattle.session_model.specs.declared.reply.SessionReply.{SessionReply}
-use Rattle.session_model.specs.declared.reply.SessionReply.TheVariants.{Begun, ReadOnly}
+use Rattle.session_model.specs.declared.reply.SessionReply.TheVariants.{Begun, ReadOnly, Reported}
 use Rattle.store_model.specs.Store.{State, RecordedStore, StepOf, OpensNext, OpensNothing, TakesStep, Replays, IsOpened, HasChange, version}
 use Rattle.store_model.specs.Logs.{is_fault}
 use Rattle.store_model.specs.Snapshots.{Snapshot, snapshot_of}
 use Rattle.store_model.specs.declared.event.Limits.{Limits}
+use Rattle.session_model.specs.Reports.{ReportedGraph}
 use Rattle.session_model.specs.Sessions as Sessions
 use Rattle.session_model.specs.Sessions.{LocalAnswer, answers, local_answer, local_commit, up_to_event, begun, parts_of, action_of, commit_action, after_reply, GoesOn, SessionState}
 use Rattle.session_transaction.specs.declared.transaction.ChangeKind.{ChangeKind}
@@ -41,7 +42,7 @@ use Rattle.session_transaction.proofs.Checking.{check_keeps, version_now}
 use Rattle.session_transaction.specs.Checks.{Checks, KeepsIn}
 use Rattle.session_transaction.proofs.Listed.{sound_answer}
 use Rattle.session_transaction.proofs.Refusing.{refused_by}
-use Rattle.thread_model.proofs.Placing.{within}
+use Rattle.session_laws.proofs.Placing.{within}
 use Rattle.session_player.specs.Progress.{Advances, order_of}
 use Rattle.session_player.proofs.Advancing.{Advances-then, Advances-local, Advances-event, Advances-commit}
 use Rattle.session_model.proofs.Walking.{up_to_event-event}
@@ -75,8 +76,13 @@ pub told_select : (r : Result SessionReply AllocError) (rows all : List (List Te
 told_select (Ok x) rows all e h = sym (h ∙ ap Sessions.select_reply e)
 told_select (Err fault) rows all e h = tt
 
-pub performs_begin : (i : ℕ) (s n : RecordedStore) (replies more : List SessionReply) (v : ℕ) (graph : List Triple) → IsOpened s.state i → TakesStep s n (record { session = i; action = actions.Begin; reply = Version v }) → graph ≡ s.state.graph → more ≡ replies ++ Begun v ∷ [] → Performs i s n None (Some (begun v graph)) Begin replies more
-performs_begin i s n replies more v graph g a eg em =
+-- a report
+pub performs_report : (i : ℕ) (s : RecordedStore) (w : OpenTransaction) (r : ReportedGraph) (replies more : List SessionReply) → IsReady s i (Some (plain w)) → r ≡ record { graph = w.snap.graph; shapes = w.snap.shapes } → more ≡ replies ++ Reported r ∷ []
+    → Performs i s s (Some (plain w)) (Some (plain w)) Report replies more
+performs_report i s w r replies more ready er em = obeys_local i s (Some (plain w)) (Some (plain w)) Report replies more (Reported r) (ap (λ (x : ReportedGraph). answers (Reported x) (Some (plain w))) (sym er)) em ready
+
+pub performs_begin : (i : ℕ) (s n : RecordedStore) (replies more : List SessionReply) (v : ℕ) (graph shapes : List Triple) → IsOpened s.state i → TakesStep s n (record { session = i; action = actions.Begin; reply = Version v }) → graph ≡ s.state.graph → shapes ≡ s.state.shapes → more ≡ replies ++ Begun v ∷ [] → Performs i s n None (Some (begun v graph shapes)) Begin replies more
+performs_begin i s n replies more v graph shapes g a eg es em =
     let count : v ≡ version s.state = cc (a.step.1.0) in
     let same : n.state ≡ s.state = a.step.1.1 in
     record {
@@ -86,9 +92,10 @@ performs_begin i s n replies more v graph g a eg em =
       };
       order = one_place s n (record { session = i; action = actions.Begin; reply = Version v }) a;
       advances = λ cs.
-          subst (λ (ts : List SessionReply). Advances i s n (up_to_event None (Begin ∷ cs) replies) (up_to_event (Some (begun v graph)) cs ts)) (sym em)
-          (subst (λ (g : List Triple). Advances i s n (up_to_event None (Begin ∷ cs) replies) (up_to_event (Some (begun v g)) cs (replies ++ Begun v ∷ []))) (sym eg)
-          (Advances-event i s n None Begin cs replies actions.Begin (Version v) _ g (record { event = refl; next = refl }) refl a));
+          subst (λ (ts : List SessionReply). Advances i s n (up_to_event None (Begin ∷ cs) replies) (up_to_event (Some (begun v graph shapes)) cs ts)) (sym em)
+          (subst (λ (g : List Triple). Advances i s n (up_to_event None (Begin ∷ cs) replies) (up_to_event (Some (begun v g shapes)) cs (replies ++ Begun v ∷ []))) (sym eg)
+          (subst (λ (ts : List Triple). Advances i s n (up_to_event None (Begin ∷ cs) replies) (up_to_event (Some (begun v s.state.graph ts)) cs (replies ++ Begun v ∷ []))) (sym es)
+          (Advances-event i s n None Begin cs replies actions.Begin (Version v) _ g (record { event = refl; next = refl }) refl a)));
     }
 
 block_order : (i : ℕ) (s n : RecordedStore) (c : Command) (kind : NameKind) (ts : List Triple) (staged : OpenTransaction → OpenTransaction) (done : SessionReply) (w : OpenTransaction) (r : Reply) → IsBlock c kind ts staged done → is_commit c ≡ false
@@ -227,18 +234,18 @@ head_keeps s n e head b old new replays t is h =
     (check_keeps s.limits s.start (s.history ++ e ∷ []) b head old new (version_now s.limits s.start s.history (e ∷ []) s.state head replays is) h)))
 
 -- what the session tells of a commit's answer
-told_commit : (s : State) (x : Transaction) (o : Option Verdict) (r : Reply) (a : Committed) (reply : SessionReply) (graph : List Triple) (cs : List Command) (replies : List SessionReply) → IsAnswer s (record x { verdict = o }) r a → IsCommitReply a reply
-    → after_reply s (Some (record { transaction = x; graph = graph; head_taken = true })) Commit cs replies r ≡ Some (up_to_event None cs (replies ++ reply ∷ []))
-told_commit s x o r (committeds.ReadOnly v) reply graph cs replies h k = absurd h
-told_commit s x o r (committeds.Done n why) reply graph cs replies h k = rw (h, k) refl
-told_commit s x o r (committeds.Conflict n t) reply graph cs replies h k = rw (h, k) refl
-told_commit s x o r (committeds.FullTriples n) reply graph cs replies h k = rw (h, k) refl
-told_commit s x o r (committeds.Refused rows why shapes) reply graph cs replies h k = rw (h.0, k, h.1) refl
-told_commit s x o r committeds.LogFault reply graph cs replies h k = rw (h, k) refl
-told_commit s x o r (committeds.Stopped n) reply graph cs replies h k = rw (h, k) refl
+told_commit : (s : State) (x : Transaction) (o : Option Verdict) (r : Reply) (a : Committed) (reply : SessionReply) (graph shapes : List Triple) (cs : List Command) (replies : List SessionReply) → IsAnswer s (record x { verdict = o }) r a → IsCommitReply a reply
+    → after_reply s (Some (record { transaction = x; graph = graph; shapes = shapes; head_taken = true })) Commit cs replies r ≡ Some (up_to_event None cs (replies ++ reply ∷ []))
+told_commit s x o r (committeds.ReadOnly v) reply graph shapes cs replies h k = absurd h
+told_commit s x o r (committeds.Done n why) reply graph shapes cs replies h k = rw (h, k) refl
+told_commit s x o r (committeds.Conflict n t) reply graph shapes cs replies h k = rw (h, k) refl
+told_commit s x o r (committeds.FullTriples n) reply graph shapes cs replies h k = rw (h, k) refl
+told_commit s x o r (committeds.Refused rows why own) reply graph shapes cs replies h k = rw (h.0, k, h.1) refl
+told_commit s x o r committeds.LogFault reply graph shapes cs replies h k = rw (h, k) refl
+told_commit s x o r (committeds.Stopped n) reply graph shapes cs replies h k = rw (h, k) refl
 
 pub commits_with : (i : ℕ) (s n : RecordedStore) (x : Transaction) (o : Option Verdict) (counted now : ℕ) (a : Committed) (r : Result SessionReply AllocError) → IsCommitted s n i (record x { verdict = o }) counted now a → IsNoFault a → IfOk r (IsCommitReply a) → IfOk r (CommitsWith i s n x)
-commits_with i s n x o counted now a (Ok reply) c none k = record { verdict = o; answer = c.reply; step = c.step; sound = sound_answer s.state (record x { verdict = o }) c.reply a c.told none; told = λ graph cs replies. told_commit s.state x o c.reply a reply graph cs replies c.told k }
+commits_with i s n x o counted now a (Ok reply) c none k = record { verdict = o; answer = c.reply; step = c.step; sound = sound_answer s.state (record x { verdict = o }) c.reply a c.told none; told = λ graph shapes cs replies. told_commit s.state x o c.reply a reply graph shapes cs replies c.told k }
 commits_with i s n x o counted now a (Err error) c none k = tt
 
 -- below 64 sessions, one more is given out

@@ -5,8 +5,8 @@ use Rattle.std.proofs.lemmas.Bool.Decides.{nat_tests}
 use Rattle.std.specs.Prelude.{MatchBool, IfOk, Result, Ok, Err}
 use Rattle.std.specs.declared.alloc.AllocError.{AllocError}
 use Rattle.session_player.specs.Histories.{MayTake, IsBadPlace, IsFirstBad, IsReplayed}
-use Rattle.session_player.specs.declared.replay.ReplayFault.{ReplayFault}
-use Rattle.session_player.specs.declared.replay.ReplayFault.TheVariants.{Place, Memory}
+use Rattle.session_player.specs.declared.replay.HistoryFault.{HistoryFault}
+use Rattle.session_player.specs.declared.replay.HistoryFault.TheVariants.{Place, Memory}
 use Rattle.session_player.specs.Refused.{RefusesFrom, RefusesHistory}
 use Rattle.std.proofs.Math.Seq.{take-suc}
 use Rattle.std.specs.List.{AllByRecursion}
@@ -176,7 +176,7 @@ takes_answer i s n w cs was replies reply o bare some h =
     let none = local-change (headed w) w.transaction.net w.transaction.staged some in
     let from = up_to_event-event (Some (headed w)) Commit cs replies none in
     let one : Advances i s n (record { current = Some (headed w); commands = Commit ∷ cs; replies = replies }) (up_to_event None cs (replies ++ reply ∷ [])) =
-    Advances-commit i s n (headed w) cs replies h.verdict h.answer _ o bare refl (h.told w.graph cs replies) h.sound h.step in
+    Advances-commit i s n (headed w) cs replies h.verdict h.answer _ o bare refl (h.told w.graph w.shapes cs replies) h.sound h.step in
     record {
       ready = record { current = tt; held = tt; kept = tt };
       advances = subst (λ (x : SessionState). Advances i s n x (up_to_event None cs (replies ++ reply ∷ []))) (sym from) one;
@@ -411,7 +411,7 @@ runs_start : (l : Limits) (s : RecordedStore) (ps : List Player) (files : List (
 runs_start l s ps files order m es ep h =
     subst (λ (xs : List SessionState). RunsInOrder l (world empty_store xs) order None m) (ap states_of ep ∙ states_start files) (subst (λ (x : RecordedStore). RunsInOrder x.limits (world x.state (states_of ps)) order None m) es h)
 
-pub stops_start : (l : Limits) (s : RecordedStore) (ps : List Player) (files : List (List Command)) (places : List (Option ℕ)) (fault : ReplayFault) → s ≡ opening l → ps ≡ map new_player files → RefusesFrom s ps places fault → RefusesHistory files l empty_store places fault
+pub stops_start : (l : Limits) (s : RecordedStore) (ps : List Player) (files : List (List Command)) (places : List (Option ℕ)) (fault : HistoryFault) → s ≡ opening l → ps ≡ map new_player files → RefusesFrom s ps places fault → RefusesHistory files l empty_store places fault
 stops_start l s ps files places (Place k) es ep h = (h.0, h.1, h.2, h.3, runs_start l s ps files h.0 h.2 es ep h.4, h.5, h.6)
 stops_start l s ps files places Memory es ep h = tt
 

@@ -8,7 +8,7 @@ use Rattle.store_model.specs.declared.event.Reply.TheVariants as replies
 use Rattle.store_model.specs.declared.commit.Transaction.{Transaction}
 use Rattle.store_model.specs.declared.commit.Verdict.{Verdict}
 use Rattle.session_model.specs.declared.command.Command.{Command}
-use Rattle.session_model.specs.declared.command.Command.TheVariants.{Commit, Begin, Add, BadAdd, Remove, BadRemove, Attach, BadAttach, Shapes, BadShapes, BrokenShapes, RefusedPattern, Find, Select, BadSelect, Abort}
+use Rattle.session_model.specs.declared.command.Command.TheVariants.{Commit, Begin, Add, BadAdd, Remove, BadRemove, Attach, BadAttach, Shapes, BadShapes, BrokenShapes, RefusedPattern, Find, Select, BadSelect, Report, Abort}
 use Rattle.session_model.specs.declared.reply.SessionReply.{SessionReply}
 use Rattle.session_model.specs.declared.reply.SessionReply.TheVariants.{UnknownNode, FullTerms}
 use Rattle.store_model.specs.Logs.{is_fault}
@@ -53,7 +53,7 @@ pub record CommitsWith (i : ℕ) (old new : RecordedStore) (x : Transaction) (re
   pub answer : Reply
   pub step : TakesStep old new (record { session = i; action = actions.Commit (record x { verdict = verdict }); reply = answer })
   pub sound : is_fault answer ≡ false
-  pub told : (graph : List Triple) (cs : List Command) (replies : List SessionReply) → after_reply old.state (Some (record { transaction = x; graph = graph; head_taken = true })) Commit cs replies answer ≡ Some (up_to_event None cs (replies ++ reply ∷ []))
+  pub told : (graph shapes : List Triple) (cs : List Command) (replies : List SessionReply) → after_reply old.state (Some (record { transaction = x; graph = graph; shapes = shapes; head_taken = true })) Commit cs replies answer ≡ Some (up_to_event None cs (replies ++ reply ∷ []))
 
 -- a command that is an event is one, but for a commit, which takes the newest version first
 abbrev pub is_commit : Command → Bool
@@ -72,6 +72,7 @@ is_commit (RefusedPattern node) = false
 is_commit (Find p) = false
 is_commit (Select ps) = false
 is_commit (BadSelect n) = false
+is_commit Report = false
 is_commit Abort = false
 
 abbrev pub places_with : ℕ → Bool → Option LocalAnswer → List ℕ

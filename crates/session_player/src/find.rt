@@ -1,11 +1,11 @@
-// What the commands do that are no events: a find, a select and an abort.
+// What the commands do that are no events: a find, a select, a report and an abort.
 ghost use Rattle.std.specs.Prelude.{◌≡◌, None, IfOk, OnOk, map};
 ghost use Rattle.bgp_query.specs.TermBindings.{opened};
 ghost use Rattle.session_model.specs.Sessions.{select_reply, selected_by};
 ghost use Rattle.session_transaction.specs.Transactions.{plain, plain_in, with_finds};
 ghost use Rattle.session_player.specs.Ready.{IsReady, Performs};
 
-use bgp_query::{JoinPattern, SelectFault};
+use bgp_query::{JoinFault, JoinPattern};
 use collections::{Sequence, let_go};
 use commit_core::Core;
 use rdf_model::{Pattern, Term};
@@ -47,8 +47,8 @@ fn answer_select(
 {
     match transaction.select(alloc, patterns) {
         Ok(bindings) => reply_of_select(alloc, &bindings),
-        Err(SelectFault::TooMany) => Ok(SessionReply::SelectFull),
-        Err(SelectFault::Memory) => Err(AllocError),
+        Err(JoinFault::TooMany) => Ok(SessionReply::SelectFull),
+        Err(JoinFault::Memory) => Err(AllocError),
     }
 }
 
@@ -71,6 +71,25 @@ pub fn select(
     let mut open = open;
     let reply = answer_select(alloc, &mut open, patterns.as_slice())?;
     replies.push(reply)?;
+    Ok(Some(open))
+}
+
+/// Answers the results of the graph at the begin.
+pub fn report(
+    core: &Core,
+    session: u32,
+    current: Option<OpenTransaction>,
+    replies: &mut Sequence<SessionReply>,
+) -> Result<Option<OpenTransaction>, AllocError>
+    requires { IsReady core.now session (plain_in current) }
+    ensures { IfOk result (λ next. Performs session core.now core.now (plain_in current) (plain_in next) Command.Report replies.old replies.new) }
+{
+    let Some(open) = current else {
+        replies.push(SessionReply::NoTransaction)?;
+        return Ok(None);
+    };
+    let report = open.report()?;
+    replies.push(SessionReply::Reported(report))?;
     Ok(Some(open))
 }
 

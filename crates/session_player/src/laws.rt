@@ -1,3 +1,4 @@
+//! A run is replayed by its own history.
 ghost use Rattle.session_player.specs.Laws.{NeverBoth, ReplaysAgain};
 
 /// A history that gives a run has no place that isn't valid.

@@ -5,6 +5,10 @@
 //! core's own history: each session's events once, in the file's order, and none left over. `replay_all`
 //! runs them beside each other, in the order of a history that is handed in, or gives the first of its
 //! places that isn't valid. `text_of` prints such a run.
+//!
+//! `run_all` is for tests: the program runs files in threads (`session_threads`), and calls `replay_all` and `text_of`.
+//!
+//! Storey: sessions.
 #![tactic(auto)]
 
 mod find;
@@ -18,5 +22,5 @@ mod stage;
 
 pub use laws::{a_run_has_no_bad_place, a_run_is_replayed};
 pub use print::text_of;
-pub use replay::{ReplayFault, replay_all};
+pub use replay::{HistoryFault, replay_all};
 pub use run::{Run, run_all};

@@ -5,7 +5,7 @@ ghost use Rattle.session_transaction.specs.Checks.{KeepsIn};
 ghost use Rattle.session_transaction.specs.Transactions.{FitsState, plain, plain_in};
 ghost use Rattle.session_player.specs.Ready.{CommitsWith, IsReady, Performs, TakesHead};
 
-use crate::find::{abort, find, select};
+use crate::find::{abort, find, report, select};
 use crate::stage::{change, refuse, stage};
 use collections::{Sequence, let_go};
 use commit_core::Core;
@@ -137,6 +137,7 @@ pub fn perform<L: Ledger>(
         }
         Command::Find(pattern) => find(alloc, core, session, current, pattern, replies),
         Command::Select(patterns) => select(alloc, core, session, current, patterns, replies),
+        Command::Report => report(core, session, current, replies),
         Command::Abort => {
             abort(core, session, current, replies)?;
             Ok(None)

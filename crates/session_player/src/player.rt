@@ -66,6 +66,7 @@ fn is_event_within(transaction: &OpenTransaction, command: &Command) -> bool
         | Command::Find(_)
         | Command::Select(_)
         | Command::BadSelect { .. }
+        | Command::Report
         | Command::Abort => false,
     }
 }

@@ -12,7 +12,7 @@ ghost use Rattle.session_player.specs.Refused.{RefusesFrom, RefusesHistory};
 use crate::player::Player;
 use crate::run::Run;
 use collections::Sequence;
-use commit_core::{BlockMode, Core, Limits, SessionFault};
+use commit_core::{Core, Limits, SessionFault};
 use session_model::{Command, SessionReply};
 use shape_eval::Steps;
 use std::alloc::{AllocError, Global};
@@ -21,20 +21,20 @@ use std::sync::ledger::{Blank, Ledger};
 
 /// Why a history gave no run.
 #[derive(Clone, Copy, Debug, PartialEq, Eq)]
-pub enum ReplayFault {
+pub enum HistoryFault {
     /// The first place that isn't valid, from 1; one more than there are where the history ends early.
     Place(usize),
     /// Memory ran out.
     Memory,
 }
 
-impl From<AllocError> for ReplayFault {
-    ghost use Rattle.session_player.specs.declared.replay.ReplayFault.TheVariants.{Memory};
+impl From<AllocError> for HistoryFault {
+    ghost use Rattle.session_player.specs.declared.replay.HistoryFault.TheVariants.{Memory};
 
     ghost from_gives = { λ _ fault. fault ≡ Memory };
 
-    fn from(_: AllocError) -> ReplayFault {
-        ReplayFault::Memory
+    fn from(_: AllocError) -> HistoryFault {
+        HistoryFault::Memory
     }
 }
 
@@ -100,7 +100,7 @@ fn play_places<L: Ledger>(
     players: &mut [Player<'_>],
     places: &[Option<u32>],
     steps: &mut Steps<L>,
-) -> Result<u32, ReplayFault>
+) -> Result<u32, HistoryFault>
     requires ready { AreReady core.old players.old }
     requires none { core.old.state.opened ≡ 0 }
     ensures { MatchResult result (λ opened. PlaysAll places.now core.old core.new players.old players.new × (opened ≡ core.new.state.opened)) (RefusesFrom core.old players.old places.now) }
@@ -108,10 +108,10 @@ fn play_places<L: Ledger>(
     let mut opened = 0;
     for (i, place) in places.iter().enumerate() {
         let Some(session) = place else {
-            return Err(ReplayFault::Place(i + 1));
+            return Err(HistoryFault::Place(i + 1));
         };
         if !take_place(alloc, core, players, &mut opened, *session, steps)? {
-            return Err(ReplayFault::Place(i + 1));
+            return Err(HistoryFault::Place(i + 1));
         }
     }
     Ok(opened)
@@ -149,9 +149,8 @@ fn replay_in<L: Ledger>(
     files: &[Sequence<Command>],
     places: &[Option<u32>],
     blank: Blank,
-) -> Result<Run, ReplayFault>
+) -> Result<Run, HistoryFault>
     requires small { limits.terms + 2 < 2 ^ 32 }
-    requires mode { limits.mode ≡ BlockMode.All }
     requires few { length files.now ≤ 64 }
     requires name { blank.name ≡ L.name }
     requires parts { blank.parts ≡ L.parts }
@@ -166,10 +165,10 @@ fn replay_in<L: Ledger>(
         Err(fault) => return Err(fault),
     };
     if (opened as usize) < files.len() {
-        return Err(ReplayFault::Place(places.len() + 1));
+        return Err(HistoryFault::Place(places.len() + 1));
     }
     let Some(replies) = finish_all(alloc, &mut core, players, &mut steps)? else {
-        return Err(ReplayFault::Place(places.len() + 1));
+        return Err(HistoryFault::Place(places.len() + 1));
     };
     let order = core.order()?;
     Ok(Run { replies, order })
@@ -188,9 +187,8 @@ pub fn replay_all(
     limits: Limits,
     files: &[Sequence<Command>],
     places: &[Option<u32>],
-) -> Result<Run, ReplayFault>
+) -> Result<Run, HistoryFault>
     requires small { limits.terms + 2 < 2 ^ 32 }
-    requires mode { limits.mode ≡ BlockMode.All }
     requires few { length files.now ≤ 64 }
     ensures { MatchResult result (λ run. IsReplayed files.now limits empty_store places.now run.order.items run.replies.items) (RefusesHistory files.now limits empty_store places.now) }
 {

@@ -1,3 +1,4 @@
+//! Session files run one after another.
 ghost use Rattle.std.specs.Prelude.{◌≡◌, [], ◌+◌, ◌≤◌, ◌<◌, ◌^◌, length, IfOk, OnOk};
 ghost use Rattle.store_model.specs.Store.{IsOpened, empty_store};
 ghost use Rattle.session_model.specs.Sessions.{HasReplies};
@@ -6,7 +7,7 @@ ghost use Rattle.session_player.specs.Ready.{PerformsAll};
 
 use crate::perform::perform;
 use collections::Sequence;
-use commit_core::{BlockMode, Core, Limits, SessionFault};
+use commit_core::{Core, Limits, SessionFault};
 use session_model::{Command, SessionReply};
 use shape_eval::Steps;
 use std::alloc::{AllocError, Global};
@@ -83,7 +84,6 @@ fn run_in<L: Ledger>(
     blank: Blank,
 ) -> Result<Run, AllocError>
     requires small { limits.terms + 2 < 2 ^ 32 }
-    requires mode { limits.mode ≡ BlockMode.All }
     requires few { length files.now ≤ 64 }
     requires name { blank.name ≡ L.name }
     requires parts { blank.parts ≡ L.parts }
@@ -105,7 +105,6 @@ pub fn run_all(
     files: &[Sequence<Command>],
 ) -> Result<Run, AllocError>
     requires small { limits.terms + 2 < 2 ^ 32 }
-    requires mode { limits.mode ≡ BlockMode.All }
     requires few { length files.now ≤ 64 }
     ensures { IfOk result (λ run. HasReplies files.now limits empty_store run.order.items None run.replies.items) }
 {

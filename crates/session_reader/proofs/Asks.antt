@@ -4,7 +4,7 @@ use Rattle.outside.specs.Faults.{Refusal, Request}
 use Rattle.shape_reader.proofs.Requests.{asks_nothing}
 use Rattle.session_model.specs.declared.command.Command.{Command}
 use Rattle.session_reader.specs.declared.read_command.ReadCommand.{ReadCommand}
-use Rattle.session_reader.specs.declared.read_command.ReadCommand.TheVariants.{Begin, Add, BadAdd, Remove, BadRemove, Attach, BadAttach, Shapes, BadShapes, Commit, Find, Select, BadSelect, Abort}
+use Rattle.session_reader.specs.declared.read_command.ReadCommand.TheVariants.{Begin, Add, BadAdd, Remove, BadRemove, Attach, BadAttach, Shapes, BadShapes, Commit, Find, Select, BadSelect, Report, Abort}
 use Rattle.session_reader.specs.declared.prepare_fault.PrepareFault.{PrepareFault}
 use Rattle.session_reader.specs.declared.prepare_fault.PrepareFault.TheVariants.{Line, Memory}
 use Rattle.session_reader.specs.Asked.{AsksFirst, AsksFirstOf, AsksInVain, AsksOf, AsksOfEach, AsksPart}
@@ -25,6 +25,7 @@ part_none Commit xs = refl
 part_none (Find pattern) xs = refl
 part_none (Select ps) xs = refl
 part_none (BadSelect n) xs = refl
+part_none Report xs = refl
 part_none Abort xs = refl
 
 first_none : (rs : List ReadCommand) (refused : List Refusal) (xs : List Request) → AsksFirst rs refused refused xs xs

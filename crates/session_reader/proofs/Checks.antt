@@ -7,7 +7,7 @@ use Rattle.outside.specs.Faults.{Refusal}
 use Rattle.shape_reader.specs.Parts.{IsRefused}
 use Rattle.session_model.specs.declared.command.Command.{Command}
 use Rattle.session_reader.specs.declared.read_command.ReadCommand.{ReadCommand}
-use Rattle.session_reader.specs.declared.read_command.ReadCommand.TheVariants.{Begin, Add, BadAdd, Remove, BadRemove, Attach, BadAttach, Shapes, BadShapes, Commit, Find, Select, BadSelect, Abort}
+use Rattle.session_reader.specs.declared.read_command.ReadCommand.TheVariants.{Begin, Add, BadAdd, Remove, BadRemove, Attach, BadAttach, Shapes, BadShapes, Commit, Find, Select, BadSelect, Report, Abort}
 use Rattle.session_reader.specs.Checking.{AreChecked, IsChecked, IsCheckedGraph, OnlyGrows}
 
 -- the refused patterns grow
@@ -42,6 +42,7 @@ command_grows Commit c old new h = grows_same old new h.1
 command_grows (Find pattern) c old new h = grows_same old new h.1
 command_grows (Select ps) c old new h = grows_same old new h.1
 command_grows (BadSelect n) c old new h = grows_same old new h.1
+command_grows Report c old new h = grows_same old new h.1
 command_grows Abort c old new h = grows_same old new h.1
 
 pub commands_grow : (rs : List ReadCommand) (cs : List Command) (old new : List Refusal) → AreChecked rs cs old new → OnlyGrows old new

@@ -10,10 +10,10 @@ use Rattle.session_reader.specs.declared.line.BlockKind.TheVariants as blocks
 use Rattle.session_reader.specs.declared.line.Language.{Language}
 use Rattle.session_reader.specs.declared.line.Language.TheVariants.{One, Two}
 use Rattle.session_reader.specs.declared.line.LineKind.{LineKind}
-use Rattle.session_reader.specs.declared.line.LineKind.TheVariants.{Skipped, BeginCommand, CommitCommand, AbortCommand, FindCommand, Block, SelectBlock, Other}
+use Rattle.session_reader.specs.declared.line.LineKind.TheVariants.{Skipped, BeginCommand, CommitCommand, ReportCommand, AbortCommand, FindCommand, Block, SelectBlock, Other}
 use Rattle.session_reader.specs.declared.line.Syntax.TheVariants.{NTriples, Turtle}
 use Rattle.session_reader.specs.declared.read_command.ReadCommand.{ReadCommand}
-use Rattle.session_reader.specs.declared.read_command.ReadCommand.TheVariants.{Begin, Commit, Find, Abort}
+use Rattle.session_reader.specs.declared.read_command.ReadCommand.TheVariants.{Begin, Commit, Find, Report, Abort}
 use Rattle.session_reader.specs.FindLine.{find_of}
 use Rattle.session_reader.specs.SelectBlock.{select_of}
 use Rattle.session_reader.specs.SessionFile.{block_after, block_command, block_kind, block_reading, block_text, command_text, commands_of, common_block_kind, file_lines, header_lines, is_skipped, items_after, items_of, kind_of, kind_of_words, language_of, lines_of_block, next_after, with_command, with_item}
@@ -22,7 +22,7 @@ use Rattle.session_reader.proofs.Lengths.{split-cons}
 
 -- a line that isn't known by a single word, given what it is then
 abbrev by_words : List ℕ → LineKind → LineKind
-by_words line kind = cond (is_skipped line) Skipped (cond (bytes_eq line (codes "begin")) BeginCommand (cond (bytes_eq line (codes "commit")) CommitCommand (cond (bytes_eq line (codes "abort")) AbortCommand kind)))
+by_words line kind = cond (is_skipped line) Skipped (cond (bytes_eq line (codes "begin")) BeginCommand (cond (bytes_eq line (codes "commit")) CommitCommand (cond (bytes_eq line (codes "report")) ReportCommand (cond (bytes_eq line (codes "abort")) AbortCommand kind))))
 
 -- a line of the first language is no command of it, or the same in the second
 attach_kept : (line : List ℕ) → (kind_of One line ≡ Other) ⊎ (by_words line (kind_of_words (block_kind Two line) (find_of line)) ≡ kind_of One line)
@@ -48,6 +48,7 @@ item_kept : (s first n m : ℕ) (k : LineKind) (block : Option (List (List ℕ))
 item_kept s first n m Skipped block more then_more all rest h = rest first all h
 item_kept s first n m BeginCommand block more then_more all rest h = command_kept Begin (more first) (then_more first) all (rest first) h
 item_kept s first n m CommitCommand block more then_more all rest h = command_kept Commit (more first) (then_more first) all (rest first) h
+item_kept s first n m ReportCommand block more then_more all rest h = command_kept Report (more first) (then_more first) all (rest first) h
 item_kept s first n m AbortCommand block more then_more all rest h = command_kept Abort (more first) (then_more first) all (rest first) h
 item_kept s first n m (FindCommand p) block more then_more all rest h = command_kept (Find p) (more first) (then_more first) all (rest first) h
 item_kept s first n m (Block k) (Some lines) more then_more all rest h =
@@ -112,15 +113,16 @@ words_never false false false false true p = refl
 words_never false false false false false (Some p) = refl
 words_never false false false false false None = refl
 
-others_never : (a b c d : Bool) (k : LineKind) → begins_added k ≡ false → begins_added (cond a Skipped (cond b BeginCommand (cond c CommitCommand (cond d AbortCommand k)))) ≡ false
-others_never true b c d k h = refl
-others_never false true c d k h = refl
-others_never false false true d k h = refl
-others_never false false false true k h = refl
-others_never false false false false k h = h
+others_never : (a b c r d : Bool) (k : LineKind) → begins_added k ≡ false → begins_added (cond a Skipped (cond b BeginCommand (cond c CommitCommand (cond r ReportCommand (cond d AbortCommand k))))) ≡ false
+others_never true b c r d k h = refl
+others_never false true c r d k h = refl
+others_never false false true r d k h = refl
+others_never false false false true d k h = refl
+others_never false false false false true k h = refl
+others_never false false false false false k h = h
 
 line_never : (line : List ℕ) → begins_added (kind_of One line) ≡ false
-line_never line = others_never (is_skipped line) (bytes_eq line (codes "begin")) (bytes_eq line (codes "commit")) (bytes_eq line (codes "abort")) (kind_of_words (common_block_kind line) (find_of line))
+line_never line = others_never (is_skipped line) (bytes_eq line (codes "begin")) (bytes_eq line (codes "commit")) (bytes_eq line (codes "report")) (bytes_eq line (codes "abort")) (kind_of_words (common_block_kind line) (find_of line))
     (words_never (bytes_eq line (codes "add ntriples")) (bytes_eq line (codes "add turtle")) (bytes_eq line (codes "remove ntriples")) (bytes_eq line (codes "shapes ntriples")) (bytes_eq line (codes "shapes turtle")) (find_of line))
 
 abbrev NoneAdded : List ReadCommand → Type 0
@@ -146,6 +148,7 @@ item_never : (s first n : ℕ) (k : LineKind) (block : Option (List (List ℕ)))
 item_never s first n Skipped block more all one rest h = rest first all h
 item_never s first n BeginCommand block more all one rest h = command_never Begin (more first) all refl (rest first) h
 item_never s first n CommitCommand block more all one rest h = command_never Commit (more first) all refl (rest first) h
+item_never s first n ReportCommand block more all one rest h = command_never Report (more first) all refl (rest first) h
 item_never s first n AbortCommand block more all one rest h = command_never Abort (more first) all refl (rest first) h
 item_never s first n (FindCommand p) block more all one rest h = command_never (Find p) (more first) all refl (rest first) h
 item_never s first n (Block k) (Some lines) more all one rest h =

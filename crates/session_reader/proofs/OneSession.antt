@@ -10,7 +10,7 @@ use Rattle.shape_reader.specs.Parts.{IsRefused}
 use Rattle.session_model.specs.declared.command.Command.{Command}
 use Rattle.session_model.specs.declared.command.Command.TheVariants as commands
 use Rattle.session_reader.specs.declared.read_command.ReadCommand.{ReadCommand}
-use Rattle.session_reader.specs.declared.read_command.ReadCommand.TheVariants.{Begin, Add, BadAdd, Remove, BadRemove, Attach, BadAttach, Shapes, BadShapes, Commit, Find, Select, BadSelect, Abort}
+use Rattle.session_reader.specs.declared.read_command.ReadCommand.TheVariants.{Begin, Add, BadAdd, Remove, BadRemove, Attach, BadAttach, Shapes, BadShapes, Commit, Find, Select, BadSelect, Report, Abort}
 use Rattle.session_reader.specs.Checking.{AreChecked, IsChecked, IsCheckedGraph, OnlyGrows}
 use Rattle.session_reader.specs.Laws.{FileHasOneSession}
 use Rattle.session_reader.proofs.Checks.{command_grows, commands_grow}
@@ -55,6 +55,7 @@ command_one Commit c d old other h k = k.0 ∙ sym h.0
 command_one (Find pattern) c d old other h k = k.0 ∙ sym h.0
 command_one (Select ps) c d old other h k = k.0 ∙ sym h.0
 command_one (BadSelect n) c d old other h k = k.0 ∙ sym h.0
+command_one Report c d old other h k = k.0 ∙ sym h.0
 command_one Abort c d old other h k = k.0 ∙ sym h.0
 
 -- the first command and the others, of which no pattern was refused

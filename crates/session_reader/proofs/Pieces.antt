@@ -1,8 +1,8 @@
 -- The pieces and the parts of a line.
 use Rattle.std.proofs.Common.{◌≡◌, ℕ, suc, true, false, cond, List, [], ◌∷◌, ◌++◌, length, take, drop, Option, Some, None, refl}
 use Rattle.std.specs.List.{filter, onto_first}
-use Rattle.session_reader.specs.declared.find_line.Place.{Place}
-use Rattle.session_reader.specs.declared.find_line.Place.TheVariants.{Outside}
+use Rattle.session_reader.specs.declared.find_line.LinePlace.{LinePlace}
+use Rattle.session_reader.specs.declared.find_line.LinePlace.TheVariants.{Outside}
 use Rattle.session_reader.specs.FindLine.{behind, separates, pieces, is_part}
 use Rattle.session_reader.specs.Progress.{pieces_behind}
 
@@ -12,7 +12,7 @@ onto xs [] = xs ∷ []
 onto xs (p ∷ ps) = (xs ++ p) ∷ ps
 
 -- the pieces so far, at a place
-abbrev pub pieces_at : List ℕ → Place → ℕ → List (List ℕ)
+abbrev pub pieces_at : List ℕ → LinePlace → ℕ → List (List ℕ)
 pieces_at cs place i = onto (take i cs) (pieces place (drop i cs))
 
 onto_nothing : (c : ℕ) (ps : List (List ℕ)) → onto_first c ps ≡ onto [] (onto_first c ps)

@@ -9,12 +9,12 @@ use Rattle.std.proofs.lemmas.List.{length-take}
 use Rattle.rdf_model.specs.declared.term.Term.{Term}
 use Rattle.bgp_query.specs.declared.pattern.JoinPattern.{JoinPattern}
 use Rattle.bgp_query.specs.declared.pattern.Part.{Part}
-use Rattle.session_reader.specs.declared.find_line.Place.{Place}
-use Rattle.session_reader.specs.declared.find_line.Place.TheVariants.{Outside}
+use Rattle.session_reader.specs.declared.find_line.LinePlace.{LinePlace}
+use Rattle.session_reader.specs.declared.find_line.LinePlace.TheVariants.{Outside}
 use Rattle.session_reader.specs.declared.find_line.Role.TheVariants.{Subject, Predicate, Object}
 use Rattle.session_reader.specs.declared.read_command.ReadCommand.TheVariants.{BadSelect}
 use Rattle.session_reader.specs.declared.read_command.ReadCommand.{ReadCommand}
-use Rattle.session_reader.specs.declared.select_block.LineFault.{LineFault}
+use Rattle.session_reader.specs.declared.select_block.SelectLineFault.{SelectLineFault}
 use Rattle.session_reader.specs.Faults.{RefusesLine}
 use Rattle.session_reader.specs.FindLine.{asked, behind, has_blank_end, is_part, parts, pieces, separates}
 use Rattle.session_reader.specs.LineEnds.{without_cr}
@@ -42,7 +42,7 @@ onto_first-length : (c : ℕ) (ps : List (List ℕ)) (k : ℕ) → length ps ≤
 onto_first-length c [] k h = omega arith
 onto_first-length c (p ∷ ps) k h = h
 
-pieces-length : (place : Place) (cs : List ℕ) → length (pieces place cs) ≤ suc (length cs)
+pieces-length : (place : LinePlace) (cs : List ℕ) → length (pieces place cs) ≤ suc (length cs)
 pieces-length place [] = omega arith
 pieces-length place (c ∷ cs) = elim (separates place c) as (λ b. length (cond b ([] ∷ pieces Outside cs) (onto_first c (pieces (behind place c) cs))) ≤ suc (suc (length cs))) [
   | true ↦ omega (arith, pieces-length Outside cs)
@@ -173,7 +173,7 @@ next_line {X} f xs i d lt =
     ap (map f) there
 
 -- the block fails at it
-pub fails_line : (e : LineFault) (names : List (List ℕ)) (ps : List (JoinPattern Term)) (n : ℕ) (line : List ℕ) (there lines : List (List ℕ)) (whole : Result (List (JoinPattern Term)) ℕ) → there ≡ line ∷ lines
+pub fails_line : (e : SelectLineFault) (names : List (List ℕ)) (ps : List (JoinPattern Term)) (n : ℕ) (line : List ℕ) (there lines : List (List ℕ)) (whole : Result (List (JoinPattern Term)) ℕ) → there ≡ line ∷ lines
     → RefusesLine (with_patterns ps (with_line names n line (patterns_from names (n + 1) lines))) e → with_patterns ps (patterns_from names n there) ≡ whole → RefusesLine whole e
 fails_line e names ps n line there lines whole same h before =
     subst (λ (r : Result (List (JoinPattern Term)) ℕ). RefusesLine r e) (sym (ap (λ ls. with_patterns ps (patterns_from names n ls)) same) ∙ before) h

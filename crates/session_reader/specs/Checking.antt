@@ -9,7 +9,7 @@ use Rattle.shape_reader.specs.Parts.{IsRefused}
 use Rattle.session_model.specs.declared.command.Command.{Command}
 use Rattle.session_model.specs.declared.command.Command.TheVariants as commands
 use Rattle.session_reader.specs.declared.read_command.ReadCommand.{ReadCommand}
-use Rattle.session_reader.specs.declared.read_command.ReadCommand.TheVariants.{Begin, Add, BadAdd, Remove, BadRemove, Attach, BadAttach, Shapes, BadShapes, Commit, Find, Select, BadSelect, Abort}
+use Rattle.session_reader.specs.declared.read_command.ReadCommand.TheVariants.{Begin, Add, BadAdd, Remove, BadRemove, Attach, BadAttach, Shapes, BadShapes, Commit, Find, Select, BadSelect, Report, Abort}
 
 -- the patterns that were refused are those that had been, and perhaps others after them
 abbrev pub OnlyGrows : List Refusal → List Refusal → Type 0
@@ -51,6 +51,7 @@ IsChecked Commit c old new = IsSame commands.Commit c old new
 IsChecked (Find pattern) c old new = IsSame (commands.Find pattern) c old new
 IsChecked (Select ps) c old new = IsSame (commands.Select ps) c old new
 IsChecked (BadSelect n) c old new = IsSame (commands.BadSelect n) c old new
+IsChecked Report c old new = IsSame commands.Report c old new
 IsChecked Abort c old new = IsSame commands.Abort c old new
 
 -- one by one, equally many; each goes on from the patterns that were refused so far

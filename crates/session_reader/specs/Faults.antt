@@ -3,9 +3,9 @@ use Rattle.std.specs.Prelude.{◌≡◌, ℕ, List, Result, Err}
 use Rattle.outside.specs.Faults.{Refusal}
 use Rattle.session_reader.specs.declared.prepare_fault.PrepareFault.{PrepareFault}
 use Rattle.session_reader.specs.declared.prepare_fault.PrepareFault.TheVariants.{Line, Memory}
-use Rattle.session_reader.specs.declared.select_block.LineFault.{LineFault}
-use Rattle.session_reader.specs.declared.select_block.LineFault.TheVariants as lines
-use Rattle.session_reader.specs.declared.select_block.LineFault.TheVariants.{Refused}
+use Rattle.session_reader.specs.declared.select_block.SelectLineFault.{SelectLineFault}
+use Rattle.session_reader.specs.declared.select_block.SelectLineFault.TheVariants as lines
+use Rattle.session_reader.specs.declared.select_block.SelectLineFault.TheVariants.{Refused}
 
 -- the fault is what reading gives, unless memory ran out
 abbrev pub Fails : {X : Type 0} → PrepareFault → Result X ℕ → Type 0
@@ -18,6 +18,6 @@ MakesNone (Line n) old new = new ≡ old
 MakesNone Memory old new = Unit {0}
 
 -- Likewise of the block of a select.
-abbrev pub RefusesLine : {X : Type 0} → Result X ℕ → LineFault → Type 0
+abbrev pub RefusesLine : {X : Type 0} → Result X ℕ → SelectLineFault → Type 0
 RefusesLine reading (Refused n) = reading ≡ Err n
 RefusesLine reading lines.Memory = Unit {0}

@@ -5,8 +5,8 @@ use Rattle.rdf_model.specs.declared.term.Term.{Term}
 use Rattle.rdf_model.specs.declared.term.Term.TheVariants.{Blank, Iri, Literal}
 use Rattle.rdf_model.specs.declared.pattern.Pattern.{Pattern}
 use Rattle.ntriples_text.specs.Document.{named_term}
-use Rattle.session_reader.specs.declared.find_line.Place.{Place}
-use Rattle.session_reader.specs.declared.find_line.Place.TheVariants.{Outside, Within, Escaped}
+use Rattle.session_reader.specs.declared.find_line.LinePlace.{LinePlace}
+use Rattle.session_reader.specs.declared.find_line.LinePlace.TheVariants.{Outside, Within, Escaped}
 use Rattle.session_reader.specs.declared.find_line.Role.{Role}
 use Rattle.session_reader.specs.declared.find_line.Role.TheVariants.{Subject, Predicate, Object}
 
@@ -14,19 +14,19 @@ abbrev pub is_blank : ℕ → Bool
 is_blank c = c == 32 || c == 9
 
 -- The place behind a character: a quote begins a string, and ends it where no backslash escapes it.
-abbrev pub behind : Place → ℕ → Place
+abbrev pub behind : LinePlace → ℕ → LinePlace
 behind Outside c = if c == 34 then Within else Outside
 behind Within c = if c == 34 then Outside else (if c == 92 then Escaped else Within)
 behind Escaped c = Within
 
 -- whether a character at a place is a blank that separates
-abbrev pub separates : Place → ℕ → Bool
+abbrev pub separates : LinePlace → ℕ → Bool
 separates Outside c = is_blank c
 separates Within c = false
 separates Escaped c = false
 
 -- what stands between the blanks that are part of no string
-abbrev pub pieces : Place → List ℕ → List (List ℕ)
+abbrev pub pieces : LinePlace → List ℕ → List (List ℕ)
 pieces place [] = [] ∷ []
 pieces place (c ∷ cs) = if separates place c then [] ∷ pieces Outside cs else onto_first c (pieces (behind place c) cs)
 

@@ -2,7 +2,7 @@
 use Rattle.std.specs.Prelude.{ℕ, List, [], ◌++◌, Option, Some, None, Result, Ok, Err}
 use Rattle.rdf_model.specs.declared.term.Term.{Term}
 use Rattle.bgp_query.specs.declared.pattern.JoinPattern.{JoinPattern}
-use Rattle.session_reader.specs.declared.find_line.Place.TheVariants.{Outside}
+use Rattle.session_reader.specs.declared.find_line.LinePlace.TheVariants.{Outside}
 use Rattle.session_reader.specs.declared.read_command.ReadCommand.{ReadCommand}
 use Rattle.session_reader.specs.FindLine.{pieces}
 

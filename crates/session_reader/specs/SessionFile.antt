@@ -14,9 +14,9 @@ use Rattle.session_reader.specs.declared.line.Syntax.TheVariants.{NTriples, Turt
 use Rattle.session_reader.specs.declared.line.BlockKind.{BlockKind}
 use Rattle.session_reader.specs.declared.line.BlockKind.TheVariants as blocks
 use Rattle.session_reader.specs.declared.line.LineKind.{LineKind}
-use Rattle.session_reader.specs.declared.line.LineKind.TheVariants.{Skipped, BeginCommand, CommitCommand, AbortCommand, FindCommand, Block, SelectBlock, Other}
+use Rattle.session_reader.specs.declared.line.LineKind.TheVariants.{Skipped, BeginCommand, CommitCommand, ReportCommand, AbortCommand, FindCommand, Block, SelectBlock, Other}
 use Rattle.session_reader.specs.declared.read_command.ReadCommand.{ReadCommand}
-use Rattle.session_reader.specs.declared.read_command.ReadCommand.TheVariants.{Begin, Add, BadAdd, Remove, BadRemove, Attach, BadAttach, Shapes, BadShapes, Commit, Find, Abort}
+use Rattle.session_reader.specs.declared.read_command.ReadCommand.TheVariants.{Begin, Add, BadAdd, Remove, BadRemove, Attach, BadAttach, Shapes, BadShapes, Commit, Find, Report, Abort}
 use Rattle.rdf_lexical.specs.declared.refusal.RefusalKind.{RefusalKind}
 use Rattle.ntriples_text.specs.Document.{reads, reads_named}
 use Rattle.turtle_reader.specs.Document.{reads as turtle_reads}
@@ -85,8 +85,9 @@ abbrev pub kind_of : Language → List ℕ → LineKind
 kind_of language line = if is_skipped line then Skipped else
     (if bytes_eq line (codes "begin") then BeginCommand else
     (if bytes_eq line (codes "commit") then CommitCommand else
+    (if bytes_eq line (codes "report") then ReportCommand else
     (if bytes_eq line (codes "abort") then AbortCommand else
-    (if is_select language line then SelectBlock else kind_of_words (block_kind language line) (find_of line)))))
+    (if is_select language line then SelectBlock else kind_of_words (block_kind language line) (find_of line))))))
 
 -- the end of a block is `%%`, or that and a CR
 abbrev pub is_block_end : List ℕ → Bool
@@ -197,6 +198,7 @@ abbrev pub with_item : ℕ → ℕ → ℕ → LineKind → Option (List (List �
 with_item s first n Skipped block more = more first
 with_item s first n BeginCommand block more = with_command Begin (more first)
 with_item s first n CommitCommand block more = with_command Commit (more first)
+with_item s first n ReportCommand block more = with_command Report (more first)
 with_item s first n AbortCommand block more = with_command Abort (more first)
 with_item s first n (FindCommand pattern) block more = with_command (Find pattern) (more first)
 with_item s first n (Block k) (Some lines) more = let reading = block_reading k (block_text lines) s first in with_command (block_command k reading) (more (next_after first reading))

@@ -1,3 +1,4 @@
+//! Commands whose shapes graphs are judged.
 ghost use Rattle.std.specs.Prelude.{◌≡◌, IfOk, MatchResult};
 ghost use Rattle.shape_reader.specs.Asked.{AsksSome};
 ghost use Rattle.session_reader.specs.Asked.{AsksFirst, AsksOf, AsksOfEach, AsksOfGraph, AsksPart};
@@ -58,6 +59,7 @@ fn check_command<M: Maker>(
         ReadCommand::Find(pattern) => Ok(Command::Find(pattern)),
         ReadCommand::Select(patterns) => Ok(Command::Select(patterns)),
         ReadCommand::BadSelect { line } => Ok(Command::BadSelect { line }),
+        ReadCommand::Report => Ok(Command::Report),
         ReadCommand::Abort => Ok(Command::Abort),
     }
 }

@@ -1,7 +1,7 @@
 // The line of a find.
 ghost use Rattle.std.specs.Prelude.{◌≡◌, ◌<◌, ◌∷◌, IfOk, length, map, MatchOption, ⊤};
 ghost use Rattle.std.specs.Option.{option_copied};
-ghost use Rattle.session_reader.specs.declared.find_line.Place.TheVariants as places;
+ghost use Rattle.session_reader.specs.declared.find_line.LinePlace.TheVariants as places;
 ghost use Rattle.session_reader.specs.FindLine;
 ghost use Rattle.session_reader.specs.Progress.{pieces_behind};
 
@@ -11,7 +11,7 @@ use std::alloc::{AllocError, Global};
 
 /// Where a place of a line lies.
 #[derive(Clone, Copy, Debug, PartialEq, Eq)]
-pub enum Place {
+pub enum LinePlace {
     /// In no string.
     Outside,
     /// Within a string.
@@ -34,29 +34,29 @@ fn is_blank(byte: u8) -> bool
     byte == b' ' || byte == b'\t'
 }
 
-impl Place {
+impl LinePlace {
     // The place behind a byte at this place.
-    fn behind(self, byte: u8) -> Place
+    fn behind(self, byte: u8) -> LinePlace
         ensures { result ≡ FindLine.behind self byte }
     {
         match self {
-            Place::Outside => {
+            LinePlace::Outside => {
                 if byte == b'"' {
-                    Place::Within
+                    LinePlace::Within
                 } else {
-                    Place::Outside
+                    LinePlace::Outside
                 }
             }
-            Place::Within => {
+            LinePlace::Within => {
                 if byte == b'"' {
-                    Place::Outside
+                    LinePlace::Outside
                 } else if byte == b'\\' {
-                    Place::Escaped
+                    LinePlace::Escaped
                 } else {
-                    Place::Within
+                    LinePlace::Within
                 }
             }
-            Place::Escaped => Place::Within,
+            LinePlace::Escaped => LinePlace::Within,
         }
     }
 
@@ -65,8 +65,8 @@ impl Place {
         ensures { result ≡ FindLine.separates self byte }
     {
         match self {
-            Place::Outside => is_blank(byte),
-            Place::Within | Place::Escaped => false,
+            LinePlace::Outside => is_blank(byte),
+            LinePlace::Within | LinePlace::Escaped => false,
         }
     }
 }
@@ -76,7 +76,7 @@ fn split_piece(line: &[u8]) -> (&[u8], Option<&[u8]>)
     ensures pieces { FindLine.pieces places.Outside line.now ≡ result.0.now ∷ pieces_behind (option_copied result.1) }
     ensures shorter { MatchOption result.1 ⊤ (λ rest. length rest.now < length line.now) }
 {
-    let mut place = Place::Outside;
+    let mut place = LinePlace::Outside;
     for (i, byte) in line.iter().enumerate() {
         if place.separates(*byte) {
             return (&line[..i], Some(&line[i + 1..]));

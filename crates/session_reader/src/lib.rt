@@ -6,6 +6,8 @@
 //! block of a select is. Other blocks are read as N-Triples or as Turtle, and those of
 //! shapes as shapes graphs; one that can't be read, or breaks a rule, is a command of its own, which
 //! tells its refusal.
+//!
+//! Storey: sessions.
 #![tactic(auto)]
 
 mod checking;

@@ -1,3 +1,4 @@
+//! The kinds of lines of a session file.
 ghost use Rattle.std.specs.Prelude.{◌≡◌, IfOk};
 ghost use Rattle.session_reader.specs.FindLine.{find_of};
 ghost use Rattle.session_reader.specs.SessionFile;
@@ -44,6 +45,7 @@ pub enum LineKind {
     Skipped,
     BeginCommand,
     CommitCommand,
+    ReportCommand,
     AbortCommand,
     /// A find of these triples.
     FindCommand(Pattern),
@@ -170,6 +172,8 @@ pub fn kind_of(alloc: Global, language: Language, line: &[u8]) -> Result<LineKin
         Ok(LineKind::BeginCommand)
     } else if line == b"commit".as_slice() {
         Ok(LineKind::CommitCommand)
+    } else if line == b"report".as_slice() {
+        Ok(LineKind::ReportCommand)
     } else if line == b"abort".as_slice() {
         Ok(LineKind::AbortCommand)
     } else if is_select(language, line) {

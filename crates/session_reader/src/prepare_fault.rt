@@ -1,3 +1,4 @@
+//! Why a session file was not prepared.
 use std::alloc::AllocError;
 
 /// Why a session file was not prepared.

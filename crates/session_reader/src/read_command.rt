@@ -1,3 +1,4 @@
+//! A command before its shapes graph is judged.
 use bgp_query::JoinPattern;
 use collections::Sequence;
 use rdf_model::{Pattern, Term};
@@ -29,5 +30,6 @@ pub enum ReadCommand {
     Select(Sequence<JoinPattern<Term>>),
     /// A select whose block is refused: the first line of the block, from 1, that is no pattern or one too many.
     BadSelect { line: u64 },
+    Report,
     Abort,
 }

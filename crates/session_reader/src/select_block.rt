@@ -21,20 +21,20 @@ use std::alloc::{AllocError, Global};
 
 /// Why the lines of a block gave no patterns.
 #[derive(Clone, Copy, Debug, PartialEq, Eq)]
-pub enum LineFault {
+pub enum SelectLineFault {
     /// The first line, from 1, that is no pattern or one too many.
     Refused(u64),
     Memory,
 }
 
-impl From<AllocError> for LineFault {
-    ghost use Rattle.session_reader.specs.declared.select_block.LineFault.TheVariants as faults;
+impl From<AllocError> for SelectLineFault {
+    ghost use Rattle.session_reader.specs.declared.select_block.SelectLineFault.TheVariants as faults;
     ghost use Rattle.std.specs.Prelude.{◌≡◌};
 
     ghost from_gives = { λ _ e. e ≡ faults.Memory };
 
     fn from(_error: AllocError) -> Self {
-        LineFault::Memory
+        SelectLineFault::Memory
     }
 }
 
@@ -232,16 +232,16 @@ fn push_pattern(
     number: u64,
     line: &[u8],
     patterns: &mut Sequence<JoinPattern<Term>>,
-) -> Result<(), LineFault>
+) -> Result<(), SelectLineFault>
     requires { length names.now < 2 ^ 32 }
     ensures { (more : Result (List (PatternData Term)) ℕ) → let before = with_patterns patterns.old (SelectBlock.with_line (map (λ n. n.now) names.now) number line.now more) in
         MatchResult result (λ _. before ≡ with_patterns patterns.new more) (RefusesLine before) }
 {
     if number > MOST_PATTERNS {
-        return Err(LineFault::Refused(number));
+        return Err(SelectLineFault::Refused(number));
     }
     let Some(pattern) = pattern_of(alloc, names, trimmed(line))? else {
-        return Err(LineFault::Refused(number));
+        return Err(SelectLineFault::Refused(number));
     };
     patterns.push(pattern)?;
     Ok(())
@@ -252,7 +252,7 @@ fn patterns_of(
     alloc: Global,
     names: &[&[u8]],
     lines: &[&[u8]],
-) -> Result<Sequence<JoinPattern<Term>>, LineFault>
+) -> Result<Sequence<JoinPattern<Term>>, SelectLineFault>
     requires { length names.now < 2 ^ 32 }
     ensures { let reading = patterns_from (map (λ n. n.now) names.now) 1 (map (λ l. l.now) lines.now) in MatchResult result (λ patterns. reading ≡ Ok patterns) (RefusesLine reading) }
 {
@@ -273,8 +273,8 @@ fn refused_line(alloc: Global, lines: &[&[u8]]) -> Result<Option<u64>, AllocErro
             let_go(patterns);
             Ok(None)
         }
-        Err(LineFault::Refused(line)) => Ok(Some(line)),
-        Err(LineFault::Memory) => Err(AllocError),
+        Err(SelectLineFault::Refused(line)) => Ok(Some(line)),
+        Err(SelectLineFault::Memory) => Err(AllocError),
     }
 }
 
@@ -285,8 +285,8 @@ fn command_with(alloc: Global, names: &[&[u8]], lines: &[&[u8]]) -> Result<ReadC
 {
     match patterns_of(alloc, names, lines) {
         Ok(patterns) => Ok(ReadCommand::Select(patterns)),
-        Err(LineFault::Refused(line)) => Ok(ReadCommand::BadSelect { line }),
-        Err(LineFault::Memory) => Err(AllocError),
+        Err(SelectLineFault::Refused(line)) => Ok(ReadCommand::BadSelect { line }),
+        Err(SelectLineFault::Memory) => Err(AllocError),
     }
 }
 

@@ -1,3 +1,4 @@
+//! The commands of a session file's bytes.
 ghost use Rattle.std.specs.Prelude.{◌≡◌, ℕ, ◌+◌, ◌<◌, ◌≤◌, ◌^◌, [], List, Result, Ok, drop, slice_index_or, IfOk, IfSome, MatchResult, OnErr, map, length, ◌==◌};
 ghost use Rattle.std.specs.List.{slice_split};
 ghost use Rattle.rdf_lexical.specs.Refusals.{Refuses};
@@ -284,6 +285,7 @@ fn read_item_of(
         LineKind::Skipped => Ok(0),
         LineKind::BeginCommand => push_command(commands, ReadCommand::Begin),
         LineKind::CommitCommand => push_command(commands, ReadCommand::Commit),
+        LineKind::ReportCommand => push_command(commands, ReadCommand::Report),
         LineKind::AbortCommand => push_command(commands, ReadCommand::Abort),
         LineKind::FindCommand(pattern) => push_command(commands, ReadCommand::Find(pattern)),
         LineKind::Block(block) => {

@@ -11,7 +11,7 @@ use Rattle.store_model.specs.declared.event.Event.{Event}
 use Rattle.store_model.specs.Store.{RecordedStore, Replays, State}
 use Rattle.session_model.specs.declared.command.Command.{Command}
 use Rattle.session_model.specs.Sessions.{SessionState, no_session}
-use Rattle.thread_model.specs.Following.{Follows, first_state, Follow}
+use Rattle.session_laws.specs.Following.{Follows, first_state, Follow}
 use Rattle.guard_store.specs.Sessions.{StoreKeeper}
 use Rattle.guard_store.specs.Slots.{Origin}
 use Rattle.guard_store.specs.Fronts.{SharedStore, session_of}

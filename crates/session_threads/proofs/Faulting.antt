@@ -9,7 +9,7 @@ use Rattle.store_model.specs.declared.event.Limits.{Limits}
 use Rattle.store_model.specs.Logs.{has_fault, is_fault}
 use Rattle.store_model.specs.Store.{RecordedStore, State, Replays}
 use Rattle.store_model.proofs.Logs.{FaultsStop-holds}
-use Rattle.thread_model.specs.Following.{fault_place}
+use Rattle.session_laws.specs.Following.{fault_place}
 use Rattle.session_threads.specs.Ends.{LeavesStore}
 
 has_by : (b rest : Bool) (o : Option ℕ) → ((o ≡ None → ⊥) → rest ≡ true) → (cond b (Some 0) (option_map suc o) ≡ None → ⊥) → (b || rest) ≡ true

@@ -14,9 +14,9 @@ use Rattle.session_model.specs.Sessions.{SessionState, no_session}
 use Rattle.disk.specs.Crashes.{History}
 use Rattle.commit_log.specs.Log.{LogState}
 use Rattle.store_model.specs.declared.event.Limits.{Limits}
-use Rattle.thread_model.specs.Following.{Follow, Follows, fault_place, first_state}
-use Rattle.thread_model.proofs.Running.{following_runs}
-use Rattle.thread_model.proofs.Unfailed.{never_failed}
+use Rattle.session_laws.specs.Following.{Follow, Follows, fault_place, first_state}
+use Rattle.session_laws.proofs.Running.{following_runs}
+use Rattle.session_laws.proofs.Unfailed.{never_failed}
 use Rattle.guard_store.specs.Sessions.{StoreKeeper, StoreSession}
 use Rattle.guard_store.specs.Slots.{HasItsLog, LogOrigin, Origin, log_origin}
 use Rattle.guard_store.specs.Fronts.{SharedStore, session_of}

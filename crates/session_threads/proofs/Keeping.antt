@@ -13,7 +13,7 @@ use Rattle.store_model.specs.Store.{State, Replays}
 use Rattle.session_model.specs.declared.command.Command.{Command}
 use Rattle.session_model.specs.declared.reply.SessionReply.{SessionReply}
 use Rattle.session_model.specs.Sessions.{OpenTransaction, SessionState, GoesOn}
-use Rattle.thread_model.specs.Following.{is_opening, unaided, OwnCommand, Follows}
+use Rattle.session_laws.specs.Following.{is_opening, unaided, OwnCommand, Follows}
 use Rattle.guard_store.specs.Fronts.{session_of}
 use Rattle.guard_store.proofs.Growing.{replays_one}
 

@@ -21,15 +21,16 @@ use Rattle.store_model.specs.declared.commit.Transaction.{Transaction}
 use Rattle.store_model.specs.Snapshots.{snapshot_of}
 use Rattle.store_model.specs.Store.{version, HasChange}
 use Rattle.session_model.specs.declared.command.Command.{Command}
-use Rattle.session_model.specs.declared.command.Command.TheVariants.{Attach, Begin, Commit, Find, Select, Abort}
+use Rattle.session_model.specs.declared.command.Command.TheVariants.{Attach, Begin, Commit, Find, Report, Select, Abort}
 use Rattle.session_model.specs.declared.reply.SessionReply.{SessionReply}
 use Rattle.session_model.specs.declared.reply.SessionReply.TheVariants as said
+use Rattle.session_model.specs.Reports.{ReportedGraph}
 use Rattle.session_model.specs.Sessions as Sessions
 use Rattle.session_model.specs.Sessions.{SessionState, local_answer, answers, action_of, after_reply, GoesOn, up_to_event, additions, begun, parts_of, found_by}
 use Rattle.session_model.proofs.Walking.{up_to_event-local, up_to_event-event}
 use Rattle.report_writer.specs.Report.{report_text}
 use Rattle.session_player.proofs.Playing.{local-none, local-change}
-use Rattle.thread_model.specs.Following.{is_opening, first_state, unaided}
+use Rattle.session_laws.specs.Following.{is_opening, first_state, unaided}
 use Rattle.guard_store.specs.Slots.{Origin}
 use Rattle.guard_store.specs.declared.faults.BeginFault.{BeginFault}
 use Rattle.guard_store.specs.declared.faults.BeginFault.TheVariants as begins
@@ -38,6 +39,8 @@ use Rattle.guard_store.specs.declared.faults.AttachFault.{AttachFault}
 use Rattle.guard_store.specs.declared.faults.AttachFault.TheVariants as attaches
 use Rattle.guard_store.specs.declared.faults.FindFault.{FindFault}
 use Rattle.guard_store.specs.declared.faults.FindFault.TheVariants as finds
+use Rattle.guard_store.specs.declared.faults.ReportFault.{ReportFault}
+use Rattle.guard_store.specs.declared.faults.ReportFault.TheVariants as reports
 use Rattle.guard_store.specs.declared.faults.SelectFault.{SelectFault}
 use Rattle.guard_store.specs.declared.faults.SelectFault.TheVariants as selects
 use Rattle.guard_store.specs.declared.faults.HeadFault.{HeadFault}
@@ -54,7 +57,7 @@ use Rattle.session_transaction.specs.Transactions.{FitsState, plain, plain_in, b
 use Rattle.session_transaction.specs.Checks.{committing}
 use Rattle.session_transaction.proofs.Checking.{check_same}
 use Rattle.guard_store.specs.declared.faults.CheckFault.{CheckFault}
-use Rattle.guard_store.specs.Answers.{Attaches, AttachesNot, ChecksHead, ChecksNot, Begins, BeginsNot, NamesForNot, Stages, StagesNot, Heads, HeadsNot, Commits, CommitsNot, AnswersCommit, FindsNot, SelectsNot, IsOpen, attach_fault, event_of}
+use Rattle.guard_store.specs.Answers.{Attaches, AttachesNot, ChecksHead, ChecksNot, Begins, BeginsNot, NamesForNot, Stages, StagesNot, Heads, HeadsNot, Commits, CommitsNot, AnswersCommit, FindsNot, Reports, ReportsNot, SelectsNot, IsOpen, attach_fault, event_of}
 use Rattle.guard_store.proofs.Turning.{front_is}
 use Rattle.guard_store.proofs.Fitting.{fits_before, found_session, open_fits, selected_session, session_ended}
 use Rattle.session_transaction.specs.Replies.{IsCommitReply, IsListed, IsRefused, answer_in}
@@ -62,7 +65,7 @@ use Rattle.session_transaction.proofs.Blocks.{IsBlock, block_change}
 use Rattle.session_transaction.proofs.Fitting.{unknown_attaches}
 use Rattle.session_transaction.proofs.Refusing.{refused_by}
 use Rattle.session_transaction.proofs.Selecting.{too_many_selected}
-use Rattle.session_threads.specs.Replies.{Tells, IsAttachReply, IsBeginReply, IsBlockRefusal, IsStageReply, IsFindRefusal, IsSelectRefusal, IsAbortReply}
+use Rattle.session_threads.specs.Replies.{Tells, IsAttachReply, IsBeginReply, IsBlockRefusal, IsStageReply, IsFindRefusal, IsReportRefusal, IsSelectRefusal, IsAbortReply}
 use Rattle.session_threads.specs.Playing.{HasPlayed, Plays, PlaysAll}
 use Rattle.session_threads.proofs.Keeping.{played_still, played_on}
 
@@ -132,8 +135,8 @@ plays_begin store old new (Ok v) r rs more was is b told em =
     let t = b.1.0 in
     let h = b.1.1 in
     let count : v ≡ version t.before = cc (t.step.1.0) in
-    let now : plain_in new.current ≡ Some (begun v t.before.graph) = plain_open new (begun_at (snapshot_of t.before)) (ap (λ s. s.current) h) ∙ ap (λ (k : ℕ). Some (begun k t.before.graph)) (sym count) in
-    plays_event store old new None (Some (begun v t.before.graph)) Begin actions.Begin (replies.Version v) rs more (said.Begun v) was is (ap (λ s. s.number) h) (plain_none old b.0) now refl refl refl t (λ cs. refl) (em ∙ ap (λ x. rs ++ x ∷ []) told)
+    let now : plain_in new.current ≡ Some (begun v t.before.graph t.before.shapes) = plain_open new (begun_at (snapshot_of t.before)) (ap (λ s. s.current) h) ∙ ap (λ (k : ℕ). Some (begun k t.before.graph t.before.shapes)) (sym count) in
+    plays_event store old new None (Some (begun v t.before.graph t.before.shapes)) Begin actions.Begin (replies.Version v) rs more (said.Begun v) was is (ap (λ s. s.number) h) (plain_none old b.0) now refl refl refl t (λ cs. refl) (em ∙ ap (λ x. rs ++ x ∷ []) told)
 plays_begin store old new (Err begins.AlreadyOpen) r rs more was is b told em =
     plays_local store old new (Some (plain b.0.0)) (Some (plain b.0.0)) Begin rs more said.AlreadyOpen is (ap (λ s. s.number) b.1) (ap (λ s. s.pass) b.1) (plain_open old b.0.0 b.0.1) (plain_open new b.0.0 (ap (λ s. s.current) b.1 ∙ b.0.1)) refl
     (em ∙ ap (λ x. rs ++ x ∷ []) told)
@@ -225,6 +228,15 @@ pub few_rows : {V : Type 0} (rows_of : V → List (List Term)) (old new : StoreS
 few_rows {V} rows_of old new ps (Ok v) h = h.2.few
 few_rows {V} rows_of old new ps (Err f) h = tt
 
+-- a report, whatever it is answered: the session is as it was
+pub plays_report : (store : SharedStore) (s : StoreSession) (a : Result ReportedGraph ReportFault) (r : SessionReply) (rs more : List SessionReply) → IsSession store s → MatchResult a (Reports s) (λ f. ReportsNot f s)
+    → MatchResult a (λ report. r ≡ said.Reported report) (λ f. IsReportRefusal f r) → more ≡ rs ++ r ∷ [] → Plays store s s Report rs more
+plays_report store s (Ok report) r rs more is h told em =
+    let w = h.0 in
+    plays_local store s s (Some (plain w)) (Some (plain w)) Report rs more (said.Reported report) is refl refl (plain_open s w h.1) (plain_open s w h.1) (ap (λ (x : ReportedGraph). answers (said.Reported x) (Some (plain w))) (sym h.2)) (em ∙ ap (λ x. rs ++ x ∷ []) told)
+plays_report store s (Err reports.NoTransaction) r rs more is h told em = plays_local store s s None None Report rs more said.NoTransaction is refl refl (plain_none s h) (plain_none s h) refl (em ∙ ap (λ x. rs ++ x ∷ []) told)
+plays_report store s (Err reports.Memory) r rs more is h told em = absurd told
+
 pub plays_abort : (store : SharedStore) (old new : StoreSession) (b : Bool) (r : SessionReply) (rs more : List SessionReply) → IsSession store old
     → MatchBool b (((w : OpenTransaction) × IsOpen old w) × (new ≡ record old { current = None; head = None })) ((old.current ≡ None) × (new ≡ old)) → IsAbortReply b r → more ≡ rs ++ r ∷ [] → Plays store old new Abort rs more
 plays_abort store old new true r rs more is b told em =
@@ -263,13 +275,13 @@ plays_reading store old new (Err commits.Memory) r rs more was is reads b told e
 -- the turn of a commit
 committed_turn : (store : SharedStore) (i : ℕ) (mid new : StoreSession) (file : List Command) (w : OpenTransaction) (cs : List Command) (rs : List SessionReply) (r : Reply) (x : SessionReply) → IsCaller store i mid.pass
     → (t : Turn store mid.pass new.pass (event_of mid.number (actions.Commit (committing w)) r)) → w.transaction.verdict ≡ None → mid.number ≡ i
-    → ((cs : List Command) → after_reply t.before (Some (record { transaction = w.transaction; graph = w.snap.graph; head_taken = true })) Commit cs rs r ≡ Some (up_to_event None cs (rs ++ x ∷ [])))
-    → HasPlayed store i mid.pass.known.front file (record { current = Some (record { transaction = w.transaction; graph = w.snap.graph; head_taken = true }); commands = Commit ∷ cs; replies = rs })
+    → ((cs : List Command) → after_reply t.before (Some (record { transaction = w.transaction; graph = w.snap.graph; shapes = w.snap.shapes; head_taken = true })) Commit cs rs r ≡ Some (up_to_event None cs (rs ++ x ∷ [])))
+    → HasPlayed store i mid.pass.known.front file (record { current = Some (record { transaction = w.transaction; graph = w.snap.graph; shapes = w.snap.shapes; head_taken = true }); commands = Commit ∷ cs; replies = rs })
     → HasPlayed store i new.pass.known.front file (up_to_event None cs (rs ++ x ∷ []))
 committed_turn store i mid new file w cs rs r x caller t bare same by p =
     let z : Transaction = committing w in
     let own : record z { verdict = None } ≡ w.transaction = λ j. record w.transaction { verdict = sym bare j } in
-    let u : Sessions.OpenTransaction = record { transaction = w.transaction; graph = w.snap.graph; head_taken = true } in
+    let u : Sessions.OpenTransaction = record { transaction = w.transaction; graph = w.snap.graph; shapes = w.snap.shapes; head_taken = true } in
     let event : Event = event_of i (actions.Commit z) r in
     let seen : new.pass.known.front ≡ t.seen ++ event ∷ [] = front_is store mid.pass new.pass (event_of mid.number (actions.Commit z) r) t ∙ ap (λ (k : ℕ). t.seen ++ event_of k (actions.Commit z) r ∷ []) same in
     let start : SessionState = record { current = Some u; commands = Commit ∷ cs; replies = rs } in
@@ -288,7 +300,7 @@ pub record Readies (store : SharedStore) (old mid : StoreSession) (v : ℕ) : Ty
 -- a commit that is one, after its head
 plays_committed : (store : SharedStore) (old mid new : StoreSession) (w : OpenTransaction) (v : ℕ) (r : Reply) (x : SessionReply) (rs more : List SessionReply) → IsSession store old → IsSession store mid → IsSession store new → IsOpen mid w
     → HasChange w.transaction.net w.transaction.staged → Readies store old mid v → (t : Turn store mid.pass new.pass (event_of mid.number (actions.Commit (committing w)) r))
-    → ((cs : List Command) → after_reply t.before (Some (record { transaction = w.transaction; graph = w.snap.graph; head_taken = true })) Commit cs rs r ≡ Some (up_to_event None cs (rs ++ x ∷ []))) → new.number ≡ mid.number → new.current ≡ None → more ≡ rs ++ x ∷ []
+    → ((cs : List Command) → after_reply t.before (Some (record { transaction = w.transaction; graph = w.snap.graph; shapes = w.snap.shapes; head_taken = true })) Commit cs rs r ≡ Some (up_to_event None cs (rs ++ x ∷ []))) → new.number ≡ mid.number → new.current ≡ None → more ≡ rs ++ x ∷ []
     → Plays store old new Commit rs more
 plays_committed store old mid new w v r x rs more was mid_is is o change h t by n none em =
     let i = old.number in
@@ -296,7 +308,7 @@ plays_committed store old mid new w v r x rs more was mid_is is o change h t by 
     let begun_with : plain_in old.current ≡ Some (plain w) = sym h.current ∙ plain_open mid w o in
     let e : Event = event_of mid.number (actions.Commit (committing w)) r in
     let bare : w.transaction.verdict ≡ None = let f : FitsState w.transaction t.before = fits_before store mid.pass new.pass e (Some w) t (open_fits store mid w mid_is o) in f.verdict in
-    let u : Sessions.OpenTransaction = record { transaction = w.transaction; graph = w.snap.graph; head_taken = true } in
+    let u : Sessions.OpenTransaction = record { transaction = w.transaction; graph = w.snap.graph; shapes = w.snap.shapes; head_taken = true } in
     let caller : IsCaller store i mid.pass = subst (λ (k : ℕ). IsCaller store k mid.pass) same mid_is.caller in record {
       session = is;
       number = n ∙ same;
@@ -320,7 +332,7 @@ readies : (store : SharedStore) (old head mid : StoreSession) (v : ℕ) (b : Boo
 readies store old head mid v b h k =
     let w = k.0 in
     let same = check_same b k.2.0 w k.2.2.0 k.2.2.1 in
-    let now : plain k.2.2.0 ≡ plain w = λ i. record { transaction = same.0 i; graph = (same.1 i).graph; head_taken = false } in record {
+    let now : plain k.2.2.0 ≡ plain w = λ i. record { transaction = same.0 i; graph = (same.1 i).graph; shapes = (same.1 i).shapes; head_taken = false } in record {
       number = ap (λ s. s.number) k.2.2.2 ∙ ap (λ s. s.number) h.1.1;
       turn = subst (λ (c : Caller Event Origin). Turn store old.pass c (event_of old.number actions.Head (replies.Version v))) (sym (ap (λ s. s.pass) k.2.2.2)) h.1.0;
       current = ap (λ s. plain_in s.current) k.2.2.2 ∙ (ap Some now ∙ (sym (plain_open head w k.1) ∙ ap (λ s. plain_in s.current) h.1.1));

@@ -19,6 +19,7 @@ use Rattle.page_tree.proofs.page.Entry.TheLaws.TheKnot as page_knot
 use Rattle.page_index.specs.contracts.pages.Pages as pages
 use Rattle.growing_list.specs.contracts.growing.GrowingList as growing
 use Rattle.session_threads.proofs.ShapesCrossing as compiled
+use Rattle.rdf_text.proofs.text.Text.TheSendSync as text_sent
 use Rattle.rdf_model.proofs.term.Term.TheSendSync as term_sent
 use Rattle.rdf_model.proofs.triple.Triple.TheSendSync as triple_sent
 use Rattle.rdf_model.proofs.change.Change.TheSendSync as change_sent
@@ -48,6 +49,14 @@ use Rattle.triple_index.specs.contracts.key.KeyPartialOrd.TheImpl as key_compari
 use Rattle.triple_index.specs.contracts.index.Index as index
 use Rattle.bound_shapes.specs.contracts.bound.BoundShapes as bound_shapes
 use Rattle.data_graph.specs.contracts.graph.DataGraph as data_graph
+use Rattle.kept_rows.proofs.kept_row.KeptRow.TheSendSync as kept_row_sent
+use Rattle.kept_rows.proofs.pair_rows.PairRows.TheSendSync as pair_rows_sent
+use Rattle.kept_rows.specs.contracts.kept_row.KeptRow as kept_row
+use Rattle.kept_rows.specs.contracts.kept_row.KeptRowOrd.TheImpl as kept_row_order
+use Rattle.kept_rows.specs.contracts.kept_row.KeptRowPartialEq.TheImpl as kept_row_equality
+use Rattle.kept_rows.specs.contracts.kept_row.KeptRowPartialOrd.TheImpl as kept_row_comparison
+use Rattle.kept_rows.specs.contracts.kept_rows.KeptRows as kept_rows
+use Rattle.data_graph.specs.contracts.validated.ValidatedGraph as validated_graph
 use Rattle.shapes_graph.specs.contracts.graph.Content as content
 use Rattle.shapes_graph.specs.contracts.graph.ShapesGraph as shapes
 use Rattle.store_model.specs.contracts.event.Reply as answer
@@ -62,7 +71,8 @@ use Rattle.disk.specs.declared.device.Disk as disks
 use Rattle.commit_log.proofs.log.Log.TheSendSync as log_sent
 use Rattle.turn_lock.proofs.turns.Pass.TheSendSync as pass_sent
 use Rattle.turn_lock.proofs.turns.Turns.TheSendSync as turns_sent
-use Rattle.session_model.proofs.reply.SessionReply.TheSendSync as reply_sent
+use Rattle.session_model.specs.contracts.reply.SessionReply as reply
+use Rattle.session_model.specs.contracts.report.Report as report
 use Rattle.session_model.specs.contracts.command.Command as command
 use Rattle.bgp_query.specs.contracts.pattern.Part as part
 use Rattle.bgp_query.specs.contracts.pattern.JoinPattern as join_pattern
@@ -122,6 +132,15 @@ bound_shapes_send = search (shapes_send, compiled.planned_send, compiled.planned
 data_graph_send : IsSend data_graph.the_row
 data_graph_send = search (triples_send, dict_send, index_send, bound_shapes_send, crosses, sendable) depth 60 fits 20000
 
+kept_pages_send : IsSend (pages.the_row kept_row.the_row kept_row_order.ghosts kept_row_equality.ghosts kept_row_comparison.ghosts)
+kept_pages_send = search (page_knot.crosses, kept_row_sent.the_send, kept_row_sent.the_sync, crosses, sendable) depth 60 fits 20000
+
+kept_rows_send : IsSend kept_rows.the_row
+kept_rows_send = search (kept_pages_send, crosses, sendable) depth 60 fits 20000
+
+validated_graph_send : IsSend validated_graph.the_row
+validated_graph_send = search (data_graph_send, kept_rows_send, crosses, sendable) depth 60 fits 20000
+
 verdict_send : IsSend verdict.the_row
 verdict_send = search (look_sent.the_send, term_sent.the_send, sequence_sent.the_send, crosses, sendable) depth 60 fits 20000
 
@@ -150,7 +169,7 @@ record_send : IsSend record_row.the_row
 record_send = search (triple_sent.the_send, sequence_sent.the_send, crosses, sendable) depth 60 fits 20000
 
 core_send : IsSend core.the_row
-core_send = search (record_send, data_graph_send, shapes_send, given_send, accepted_sent.the_send, history_send, crosses, sendable) depth 60 fits 20000
+core_send = search (record_send, validated_graph_send, shapes_send, given_send, accepted_sent.the_send, history_send, crosses, sendable) depth 60 fits 20000
 
 log_send : (D : RattleType) (d : disks.Ghosts D.Denot) → IsSend D → IsSend (log_row.the_row D d)
 log_send D d sent = search (log_sent.the_send, sent, crosses, sendable) depth 60 fits 20000
@@ -165,10 +184,10 @@ shared_send : (D : RattleType) (d : disks.Ghosts D.Denot) → IsSend D → IsSen
 shared_send D d sent = search (inside_send D d sent, view_send) depth 60
 
 snap_send : IsSend snap.the_row
-snap_send = search (data_graph_send, shapes_send, crosses, sendable) depth 60 fits 20000
+snap_send = search (validated_graph_send, shapes_send, crosses, sendable) depth 60 fits 20000
 
 checked_send : IsSend checked.the_row
-checked_send = search (verdict_send, row_sent.the_send, sequence_sent.the_send, crosses, sendable) depth 60 fits 20000
+checked_send = search (verdict_send, pair_rows_sent.the_send, sequence_sent.the_send, crosses, sendable) depth 60 fits 20000
 
 open_send : IsSend open_transaction.the_row
 open_send = search (transaction_send, checked_send, snap_send, crosses, sendable) depth 60 fits 20000
@@ -185,10 +204,16 @@ session_inside_send D d sent = declared_send (session_inside.the_type D d) (
 session_send : (D : RattleType) (d : disks.Ghosts D.Denot) → IsSend D → IsSend (session.the_row D d)
 session_send D d sent = search (session_inside_send D d sent, view_send) depth 60
 
+report_send : IsSend report.the_row
+report_send = search (triples_send, shapes_send, row_sent.the_send, sequence_sent.the_send, crosses, sendable) depth 60 fits 20000
+
+reply_send : IsSend (reply.the_field).row
+reply_send = search (text_sent.the_send, triple_send, report_send, crosses, sendable) depth 60 fits 20000
+
 player_inside_send : (D : RattleType) (d : disks.Ghosts D.Denot) → IsSend D → IsSend (player_inside.the_row D d)
 player_inside_send D d sent = declared_send (player_inside.the_type D d) (
   search (option_sent.the_send, session_send D d sent, crosses, sendable) depth 60 fits 20000,
-  (search (crosses, sendable) depth 60 fits 20000, (search (reply_sent.the_send, sequence_sent.the_send, crosses, sendable) depth 60 fits 20000, tt)),
+  (search (crosses, sendable) depth 60 fits 20000, (search (reply_send, sequence_sent.the_send, crosses, sendable) depth 60 fits 20000, tt)),
 )
 
 pub player_send : (D : RattleType) (d : disks.Ghosts D.Denot) → IsSend D → IsSend (player.the_row D d)

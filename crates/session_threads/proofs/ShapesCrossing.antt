@@ -18,12 +18,12 @@ use Rattle.regex_literal.proofs.ladder.Ladder.TheSendSync as ladder_sent
 use Rattle.regex_literal.proofs.prefilter.Prefilter.TheSendSync as prefilter_sent
 use Rattle.collections.proofs.sequence.Sequence.TheSendSync as sequence_sent
 use Rattle.rdf_model.proofs.term.Term.TheSendSync as term_sent
-use Rattle.compiled_paths.proofs.path.Path.TheLaws.TheKnot as path_knot
-use Rattle.compiled_paths.specs.contracts.path.Path as path
+use Rattle.path_ast.proofs.path.Path.TheLaws.TheKnot as path_knot
+use Rattle.path_ast.specs.contracts.path.Path as path
 use Rattle.shape_ast.proofs.target.Target.TheSendSync as target_sent
 use Rattle.shape_ast.proofs.constraint.Constraint.TheSendSync as constraint_sent
 use Rattle.shape_ast.proofs.members.Members.TheSendSync as members_sent
-use Rattle.shape_ast.specs.contracts.pattern.Pattern as pattern
+use Rattle.shape_ast.specs.contracts.pattern.CompiledPattern as pattern
 use Rattle.shape_ast.specs.contracts.shape.Shape as shape
 use Rattle.shape_ast.specs.contracts.shape.Shapes as shapes
 use Rattle.rdf_model.specs.contracts.term.Term as term

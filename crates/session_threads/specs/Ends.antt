@@ -7,7 +7,7 @@ use Rattle.store_model.specs.Store.{RecordedStore, Replays, State}
 use Rattle.session_model.specs.declared.command.Command.{Command}
 use Rattle.session_model.specs.declared.reply.SessionReply.{SessionReply}
 use Rattle.session_model.specs.Sessions.{HasReplies}
-use Rattle.thread_model.specs.Following.{Follow, fault_place}
+use Rattle.session_laws.specs.Following.{Follow, fault_place}
 use Rattle.guard_store.specs.Slots.{HasItsLog, log_origin}
 
 -- The order is valid for these files and a store that begins in state s, where the log fails at this place of it, if it does; the

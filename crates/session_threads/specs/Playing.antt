@@ -4,7 +4,7 @@ use Rattle.store_model.specs.declared.event.Event.{Event}
 use Rattle.session_model.specs.declared.command.Command.{Command}
 use Rattle.session_model.specs.declared.reply.SessionReply.{SessionReply}
 use Rattle.session_model.specs.Sessions.{OpenTransaction, SessionState, up_to_event}
-use Rattle.thread_model.specs.Following.{Follows, first_state}
+use Rattle.session_laws.specs.Following.{Follows, first_state}
 use Rattle.guard_store.specs.Sessions.{StoreSession}
 use Rattle.guard_store.specs.Fronts.{SharedStore}
 use Rattle.guard_store.specs.Callers.{IsSession}

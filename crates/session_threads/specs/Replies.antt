@@ -9,6 +9,8 @@ use Rattle.guard_store.specs.declared.faults.AttachFault.{AttachFault}
 use Rattle.guard_store.specs.declared.faults.AttachFault.TheVariants as attaches
 use Rattle.guard_store.specs.declared.faults.FindFault.{FindFault}
 use Rattle.guard_store.specs.declared.faults.FindFault.TheVariants as finds
+use Rattle.guard_store.specs.declared.faults.ReportFault.{ReportFault}
+use Rattle.guard_store.specs.declared.faults.ReportFault.TheVariants as reports
 use Rattle.guard_store.specs.declared.faults.SelectFault.{SelectFault}
 use Rattle.guard_store.specs.declared.faults.SelectFault.TheVariants as selects
 use Rattle.guard_store.specs.Answers.{attach_fault}
@@ -41,6 +43,10 @@ IsAttachReply (Err f) done r = IsBlockRefusal f r
 abbrev pub IsFindRefusal : FindFault → SessionReply → Type 0
 IsFindRefusal finds.NoTransaction r = r ≡ told.NoTransaction
 IsFindRefusal finds.Memory r = ⊥
+
+abbrev pub IsReportRefusal : ReportFault → SessionReply → Type 0
+IsReportRefusal reports.NoTransaction r = r ≡ told.NoTransaction
+IsReportRefusal reports.Memory r = ⊥
 
 abbrev pub IsSelectRefusal : SelectFault → SessionReply → Type 0
 IsSelectRefusal selects.NoTransaction r = r ≡ told.NoTransaction

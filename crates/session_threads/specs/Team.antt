@@ -7,7 +7,7 @@ use Rattle.store_model.specs.declared.event.Event.{Event}
 use Rattle.session_model.specs.declared.command.Command.{Command}
 use Rattle.session_model.specs.declared.reply.SessionReply.{SessionReply}
 use Rattle.session_model.specs.Sessions.{OpenTransaction, SessionState, no_session}
-use Rattle.thread_model.specs.Following.{Follows, first_state}
+use Rattle.session_laws.specs.Following.{Follows, first_state}
 use Rattle.guard_store.specs.Sessions.{StoreKeeper, StoreSession}
 use Rattle.guard_store.specs.Slots.{Origin}
 use Rattle.guard_store.specs.Fronts.{SharedStore, session_of}

@@ -10,7 +10,8 @@ ghost use Rattle.session_threads.specs.Playing.{Plays};
 ghost use Rattle.session_threads.specs.Replies.{Tells};
 
 use crate::replies::{
-    abort_reply, attach_reply, begin_reply, commit_reply, find_reply, select_reply, stage_reply,
+    abort_reply, attach_reply, begin_reply, commit_reply, find_reply, report_reply, select_reply,
+    stage_reply,
 };
 use crate::watch::{Watch, is_ready, next_event};
 use bgp_query::JoinPattern;
@@ -183,6 +184,21 @@ fn select<D: Disk>(
     (session, tell(replies, reply))
 }
 
+fn report<D: Disk>(
+    store: &Store<D>,
+    session: Session<D>,
+    replies: &mut Sequence<SessionReply>,
+) -> (Session<D>, Result<(), AllocError>)
+    requires { IsSession store.now session }
+    ensures lock { result.0.pass.lock ≡ store.now.id }
+    ensures plays { OnOk result.1 (Plays store.now session result.0 Command.Report replies.old replies.new) }
+{
+    let _ = store;
+    let answer = session.report();
+    let reply = report_reply(answer);
+    (session, tell(replies, reply))
+}
+
 fn abort<D: Disk>(
     store: &Store<D>,
     session: Session<D>,
@@ -324,6 +340,7 @@ pub fn perform<D: Disk, L: Ledger, R: Wait, G: Gate>(
         Command::Commit => commit(rt, store, watch, session, replies, steps),
         Command::Find(pattern) => find(store, session, pattern, replies),
         Command::Select(patterns) => select(store, session, patterns, replies),
+        Command::Report => report(store, session, replies),
         Command::Abort => abort(store, session, replies),
         Command::BadAdd { line: _, kind: _ }
         | Command::BadRemove { line: _, kind: _ }

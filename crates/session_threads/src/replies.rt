@@ -3,14 +3,15 @@ ghost use Rattle.std.specs.Prelude.{◌≡◌, ◌≤◌, IfOk, MatchResult, len
 ghost use Rattle.bgp_query.specs.Bindings.{most_bindings};
 ghost use Rattle.session_model.specs.Sessions;
 ghost use Rattle.session_transaction.specs.Replies.{IsCommitReply, IsListed};
-ghost use Rattle.session_threads.specs.Replies.{IsAbortReply, IsAttachReply, IsBeginReply, IsFindRefusal, IsSelectRefusal, IsStageReply};
+ghost use Rattle.session_threads.specs.Replies.{IsAbortReply, IsAttachReply, IsBeginReply, IsFindRefusal, IsReportRefusal, IsSelectRefusal, IsStageReply};
 
 use collections::Sequence;
 use guard_store::{
-    AttachFault, BeginFault, CommitFault, Committed, FindFault, SelectFault, StageFault,
+    AttachFault, BeginFault, CommitFault, Committed, FindFault, ReportFault, SelectFault,
+    StageFault,
 };
 use rdf_model::{Term, Triple};
-use session_model::SessionReply;
+use session_model::{Report, SessionReply};
 use session_transaction::{reply_of_commit, reply_of_find, reply_of_select};
 use std::alloc::{AllocError, Global};
 
@@ -83,6 +84,17 @@ pub fn select_reply(
         Err(SelectFault::NoTransaction) => Ok(SessionReply::NoTransaction),
         Err(SelectFault::TooMany) => Ok(SessionReply::SelectFull),
         Err(SelectFault::Memory) => Err(AllocError),
+    }
+}
+
+/// The reply to a report.
+pub fn report_reply(answer: Result<Report, ReportFault>) -> Result<SessionReply, AllocError>
+    ensures { IfOk result (λ reply. MatchResult answer (λ report. reply ≡ SessionReply.Reported report) (λ fault. IsReportRefusal fault reply)) }
+{
+    match answer {
+        Ok(report) => Ok(SessionReply::Reported(report)),
+        Err(ReportFault::NoTransaction) => Ok(SessionReply::NoTransaction),
+        Err(ReportFault::Memory) => Err(AllocError),
     }
 }
 

@@ -21,7 +21,7 @@ use std::marker::Model;
 use std::sync::Wait;
 use std::thread;
 use std::thread::Threads;
-use store_model::{BlockMode, Limits};
+use store_model::Limits;
 
 // How many threads there are at most.
 const THREADS: usize = 64;
@@ -306,7 +306,6 @@ pub fn run_new<R: Threads + Wait + Sync, G: Gate>(
     gate: &G,
 ) -> Result<EndedRun<MemDisk>, AllocError>
     requires small { limits.terms + 2 < 2 ^ 32 }
-    requires mode { limits.mode ≡ BlockMode.All }
     requires few { length files.now ≤ 64 }
     ensures { IfOk result (λ ended. HasEnd files.now limits empty_store ended.run.order.items None ended.run.replies.items ended.triples) }
 {

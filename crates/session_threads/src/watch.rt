@@ -71,6 +71,7 @@ pub fn next_event<D: Disk>(session: &Session<D>, command: &Command) -> Option<Ev
         Command::Find(_)
         | Command::Select(_)
         | Command::BadSelect { line: _ }
+        | Command::Report
         | Command::Abort
         | Command::BadAdd { line: _, kind: _ }
         | Command::BadRemove { line: _, kind: _ }

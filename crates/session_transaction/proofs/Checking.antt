@@ -14,7 +14,7 @@ use Rattle.commit_core.specs.declared.checked.CheckedNet.{CheckedNet}
 use Rattle.commit_core.specs.Verdicts.{AreOfVerdictIn, IsVerdictIn}
 use Rattle.commit_core.proofs.Verdicts.{since, verdict_of_snapshot}
 use Rattle.session_transaction.specs.declared.transaction.OpenTransaction.{OpenTransaction}
-use Rattle.session_transaction.specs.Checks.{Checks, IsKept, IsVersionIn, KeepsIn, checked_of, handed_back, handed_in, rows_of, verdict_of}
+use Rattle.session_transaction.specs.Checks.{Checks, IsKept, IsVersionIn, KeepsIn, checked_of, handed_back, handed_in, pairs_of, verdict_of}
 use Rattle.session_transaction.specs.Transactions.{FitsState}
 use Rattle.session_transaction.proofs.Fitting.{verdict_fits}
 use Rattle.session_transaction.proofs.Growing.{More, more_all}
@@ -50,14 +50,14 @@ keeps_fit l start events net (Some c) s k h =
     let named = subst (λ (x : Snapshot). AllByRecursion (λ look. AreNamed x.named (looked_at look)) c.verdict.looks) k.version.is k.found.named in
     verdict_fits k.version.state s c.verdict (version_more l start events k.at s k.version h) (omega (arith, number)) named
 
-kept_verdict : (l : Limits) (start : State) (events : List Event) (net : List Change) (c : CheckedNet) → IsKept l start events net c → IsVerdictIn l start events net c.verdict c.rows
+kept_verdict : (l : Limits) (start : State) (events : List Event) (net : List Change) (c : CheckedNet) → IsKept l start events net c → IsVerdictIn l start events net c.verdict c.pairs
 kept_verdict l start events net c k =
-    subst (λ (es : List Event). IsVerdictIn l start es net c.verdict c.rows) (sym k.version.history)
-    (verdict_of_snapshot l start k.version.front k.version.back k.version.state k.at net c.verdict c.rows k.version.replays k.version.is k.found.head k.found.check)
+    subst (λ (es : List Event). IsVerdictIn l start es net c.verdict c.pairs) (sym k.version.history)
+    (verdict_of_snapshot l start k.version.front k.version.back k.version.state k.at net c.verdict c.pairs k.version.replays k.version.is k.found.head k.found.check)
 
-pub rows_kept : (l : Limits) (start : State) (events : List Event) (net : List Change) (o : Option CheckedNet) → KeepsIn l start events net o → AreOfVerdictIn l start events net (verdict_of o) (rows_of o)
-rows_kept l start events net None k = tt
-rows_kept l start events net (Some c) k = kept_verdict l start events net c k
+pub pairs_kept : (l : Limits) (start : State) (events : List Event) (net : List Change) (o : Option CheckedNet) → KeepsIn l start events net o → AreOfVerdictIn l start events net (verdict_of o) (pairs_of o)
+pairs_kept l start events net None k = tt
+pairs_kept l start events net (Some c) k = kept_verdict l start events net c k
 
 -- a transaction that changes something may be committed with what is kept
 pub committable_kept : (l : Limits) (start : State) (events : List Event) (x : Transaction) (o : Option CheckedNet) (s : State) → FitsState x s → HasChange x.net x.staged → KeepsIn l start events x.net o → Replays l start events s → IsCommittable s (record x { verdict = verdict_of o })
@@ -77,7 +77,7 @@ committable_more x s t m c = record {
 }
 
 -- what is handed back is what was handed in
-same_checked : (o : Option CheckedNet) → checked_of (verdict_of o) (rows_of o) ≡ o
+same_checked : (o : Option CheckedNet) → checked_of (verdict_of o) (pairs_of o) ≡ o
 same_checked None = refl
 same_checked (Some c) = refl
 

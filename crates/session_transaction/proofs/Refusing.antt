@@ -3,7 +3,7 @@ use Rattle.std.specs.Prelude.{◌⊎◌}
 use Rattle.std.proofs.Common.{◌≡◌, ℕ, Option, Some, None, inl, inr, refl, sym, ap, subst}
 use Rattle.rdf_model.specs.declared.term.Term.{Term}
 use Rattle.session_model.specs.declared.command.Command.{Command}
-use Rattle.session_model.specs.declared.command.Command.TheVariants.{Begin, Add, BadAdd, Remove, BadRemove, Attach, BadAttach, Shapes, BadShapes, BrokenShapes, RefusedPattern, Commit, Find, Select, BadSelect, Abort}
+use Rattle.session_model.specs.declared.command.Command.TheVariants.{Begin, Add, BadAdd, Remove, BadRemove, Attach, BadAttach, Shapes, BadShapes, BrokenShapes, RefusedPattern, Commit, Find, Select, BadSelect, Report, Abort}
 use Rattle.session_model.specs.declared.reply.SessionReply.{SessionReply}
 use Rattle.session_model.specs.declared.reply.SessionReply.TheVariants as said
 use Rattle.session_model.specs.Sessions.{OpenTransaction, local_answer, answers}
@@ -37,6 +37,7 @@ refused_none Commit r h = absurd h
 refused_none (Find p) r h = absurd h
 refused_none (Select ps) r h = absurd h
 refused_none (BadSelect n) r h = refl
+refused_none Report r h = absurd h
 refused_none Abort r h = absurd h
 
 refused_some : (c : Command) (r : SessionReply) (w : OpenTransaction) → IsRefused c r → local_answer (Some w) c ≡ answers r (Some w)
@@ -55,6 +56,7 @@ refused_some Commit r w h = absurd h
 refused_some (Find p) r w h = absurd h
 refused_some (Select ps) r w h = absurd h
 refused_some (BadSelect n) r w h = ap (λ x. answers x (Some w)) (sym h)
+refused_some Report r w h = absurd h
 refused_some Abort r w h = absurd h
 
 -- such a command changes nothing

@@ -2,16 +2,16 @@
 use Rattle.std.specs.Prelude.{◌≡◌, ◌≢◌, ◌++◌, ℕ, Bool, true, false, List, [], Option, Some, None, MatchOption}
 use Rattle.std.specs.List.{AllByRecursion}
 use Rattle.rdf_model.specs.declared.change.Change.{Change}
-use Rattle.shape_model.specs.declared.result_row.ResultRow.{ResultRow}
+use Rattle.kept_rows.specs.declared.pair_rows.PairRows.{PairRows}
 use Rattle.store_model.specs.declared.commit.Transaction.{Transaction}
 use Rattle.store_model.specs.declared.commit.Verdict.{Verdict}
 use Rattle.store_model.specs.declared.event.Event.{Event}
 use Rattle.store_model.specs.declared.event.Limits.{Limits}
 use Rattle.store_model.specs.Snapshots.{Snapshot, snapshot_of}
 use Rattle.store_model.specs.Store.{AreNamed, Replays, State, looked_at}
-use Rattle.graph_validation.specs.Counting.{GrowsByCount}
+use Rattle.parallel_validate.specs.Counting.{GrowsByCount}
 use Rattle.parallel_validate.specs.Verdicts.{IsEvaluated}
-use Rattle.data_graph.specs.Changes.{IsCheckOf}
+use Rattle.commit_core.specs.Verdicts.{IsPairedCheck}
 use Rattle.commit_core.specs.declared.checked.CheckedNet.{CheckedNet}
 use Rattle.commit_core.specs.declared.commit.CheckedTransaction.{CheckedTransaction}
 use Rattle.session_transaction.specs.declared.transaction.OpenTransaction.{OpenTransaction}
@@ -20,29 +20,29 @@ abbrev pub verdict_of : Option CheckedNet → Option Verdict
 verdict_of None = None
 verdict_of (Some c) = Some c.verdict
 
-abbrev pub rows_of : Option CheckedNet → List ResultRow
-rows_of None = []
-rows_of (Some c) = c.rows
+abbrev pub pairs_of : Option CheckedNet → List PairRows
+pairs_of None = []
+pairs_of (Some c) = c.pairs
 
 -- what a commit hands in: the transaction with the verdict of its check, if there is one
 abbrev pub committing : OpenTransaction → Transaction
 committing w = record w.transaction { verdict = verdict_of w.checked }
 
 abbrev pub handed_in : OpenTransaction → CheckedTransaction
-handed_in w = record { transaction = committing w; rows = rows_of w.checked }
+handed_in w = record { transaction = committing w; pairs = pairs_of w.checked }
 
 -- and the other way round
-abbrev pub checked_of : Option Verdict → List ResultRow → Option CheckedNet
-checked_of None rows = None
-checked_of (Some v) rows = Some (record { verdict = v; rows = rows })
+abbrev pub checked_of : Option Verdict → List PairRows → Option CheckedNet
+checked_of None pairs = None
+checked_of (Some v) pairs = Some (record { verdict = v; pairs = pairs })
 
 abbrev pub handed_back : CheckedTransaction → Snapshot → OpenTransaction
-handed_back x n = record { transaction = record x.transaction { verdict = None }; checked = checked_of x.transaction.verdict x.rows; snap = n }
+handed_back x n = record { transaction = record x.transaction { verdict = None }; checked = checked_of x.transaction.verdict x.pairs; snap = n }
 
 -- What a check of the changes at this version found: all its looks are of terms that are named there.
 pub record IsCheckAt (n : Snapshot) (net : List Change) (c : CheckedNet) : Type 0 where
   pub head : c.verdict.head ≡ n.number
-  pub check : IsCheckOf n.graph n.shapes net c.verdict.looks c.rows
+  pub check : IsPairedCheck n.named n.graph n.shapes net c.verdict.looks c.pairs
   pub named : AllByRecursion (λ look. AreNamed n.named (looked_at look)) c.verdict.looks
 
 -- The transaction was checked at this version, which is kept; of one that stages shapes nothing is.

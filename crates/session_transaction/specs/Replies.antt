@@ -4,7 +4,7 @@ use Rattle.rdf_model.specs.declared.triple.Triple.{Triple}
 use Rattle.report_writer.specs.Report.{report_text}
 use Rattle.shape_model.specs.Validation.{Listing}
 use Rattle.session_model.specs.declared.command.Command.{Command}
-use Rattle.session_model.specs.declared.command.Command.TheVariants.{Begin, Add, BadAdd, Remove, BadRemove, Attach, BadAttach, Shapes, BadShapes, BrokenShapes, RefusedPattern, Commit, Find, Select, BadSelect, Abort}
+use Rattle.session_model.specs.declared.command.Command.TheVariants.{Begin, Add, BadAdd, Remove, BadRemove, Attach, BadAttach, Shapes, BadShapes, BrokenShapes, RefusedPattern, Commit, Find, Select, BadSelect, Report, Abort}
 use Rattle.session_model.specs.declared.reply.SessionReply.{SessionReply}
 use Rattle.session_model.specs.declared.reply.SessionReply.TheVariants as told
 use Rattle.session_model.specs.Sessions.{OpenTransaction}
@@ -34,6 +34,7 @@ IsRefused Commit r = ⊥
 IsRefused (Find p) r = ⊥
 IsRefused (Select ps) r = ⊥
 IsRefused (BadSelect n) r = r ≡ told.SelectRefused n
+IsRefused Report r = ⊥
 IsRefused Abort r = ⊥
 
 -- such a command

@@ -6,8 +6,8 @@ use Rattle.rdf_model.specs.declared.pattern.Pattern.{Pattern}
 use Rattle.rdf_model.specs.declared.change.Change.{Change}
 use Rattle.rdf_model.specs.declared.change.Change.TheVariants as changes
 use Rattle.rdf_model.specs.Graphs.{after}
-use Rattle.bgp_query.specs.declared.fault.SelectFault.{SelectFault}
-use Rattle.bgp_query.specs.declared.fault.SelectFault.TheVariants.{TooMany, Memory}
+use Rattle.bgp_query.specs.declared.fault.JoinFault.{JoinFault}
+use Rattle.bgp_query.specs.declared.fault.JoinFault.TheVariants.{TooMany, Memory}
 use Rattle.bgp_query.specs.declared.pattern.JoinPattern.{JoinPattern}
 use Rattle.bgp_query.specs.Selected.{AreTooMany}
 use Rattle.bgp_query.specs.TermBindings.{opened}
@@ -79,13 +79,13 @@ graph_so_far w = after w.snap.graph w.transaction.net
 
 -- The bindings of the patterns were answered, or there were too many: each pattern, its variables open, is recorded. Without
 -- memory for them all is as it was.
-abbrev pub SelectsNot : SelectFault → List (JoinPattern Term) → OpenTransaction → OpenTransaction → Type 0
+abbrev pub SelectsNot : JoinFault → List (JoinPattern Term) → OpenTransaction → OpenTransaction → Type 0
 SelectsNot TooMany ps old new = AreTooMany (graph_so_far old) ps × (new ≡ with_finds old (map opened ps))
 SelectsNot Memory ps old new = new ≡ old
 
 -- the plain session's transaction; its commit has taken no head yet
 abbrev pub plain : OpenTransaction → Sessions.OpenTransaction
-plain w = record { transaction = w.transaction; graph = w.snap.graph; head_taken = false }
+plain w = record { transaction = w.transaction; graph = w.snap.graph; shapes = w.snap.shapes; head_taken = false }
 
 abbrev pub plain_in : Option OpenTransaction → Option Sessions.OpenTransaction
 plain_in None = None

@@ -66,7 +66,7 @@ pub fn commit<L: Ledger>(
 ) -> Result<Committed, CheckedTransaction>
     requires opened { IsOpened core.old.state session }
     requires committable { IsCommittable core.old.state checked.transaction }
-    requires verdict { AreOfVerdict core.old checked.transaction.net checked.transaction.verdict checked.rows }
+    requires verdict { AreOfVerdict core.old checked.transaction.net checked.transaction.verdict checked.pairs }
     ensures answer { MatchResult result (IsCommitted core.old core.new session checked.transaction steps.old steps.new) (λ back. (back ≡ checked) × (core.new ≡ core.old) × (steps.old ≤ steps.new)) }
     ensures no_fault { IfOk result IsNoFault }
 {
@@ -99,7 +99,7 @@ fn answer_beside<D: Disk, L: Ledger>(
 ) -> Commit
     requires opened { IsOpened core.old.state session }
     requires committable { IsCommittable core.old.state checked.transaction }
-    requires verdict { AreOfVerdict core.old checked.transaction.net checked.transaction.verdict checked.rows }
+    requires verdict { AreOfVerdict core.old checked.transaction.net checked.transaction.verdict checked.pairs }
     requires beside { StandsBeside core.old log.old }
     requires loggable { IsLoggable checked.transaction }
     ensures answer { Answers result core.old core.new session checked }
@@ -124,7 +124,7 @@ pub fn commit_beside<D: Disk, L: Ledger>(
 ) -> Result<Committed, CheckedTransaction>
     requires opened { IsOpened core.old.state session }
     requires committable { IsCommittable core.old.state checked.transaction }
-    requires verdict { AreOfVerdict core.old checked.transaction.net checked.transaction.verdict checked.rows }
+    requires verdict { AreOfVerdict core.old checked.transaction.net checked.transaction.verdict checked.pairs }
     requires beside { StandsBeside core.old log.old }
     requires loggable { IsLoggable checked.transaction }
     ensures answer { MatchResult result (IsCommitted core.old core.new session checked.transaction steps.old steps.new) (λ back. (back ≡ checked) × (core.new ≡ core.old) × (steps.old ≤ steps.new)) }

@@ -6,7 +6,7 @@ ghost use Rattle.bgp_query.specs.TermBindings.{part_opened};
 ghost use Rattle.session_transaction.specs.Transactions.{SelectsNot, graph_so_far, with_finds};
 
 use crate::transaction::{OpenTransaction, appended};
-use bgp_query::{JoinPattern, Part, SelectFault};
+use bgp_query::{JoinFault, JoinPattern, Part};
 use collections::Sequence;
 use rdf_model::{Pattern, Term};
 use std::alloc::{AllocError, Global};
@@ -61,7 +61,7 @@ impl OpenTransaction {
         &mut self,
         alloc: Global,
         patterns: &[JoinPattern<Term>],
-    ) -> Result<Vec<Sequence<Term>>, SelectFault>
+    ) -> Result<Vec<Sequence<Term>>, JoinFault>
         ensures { MatchResult result
             (λ rows. AreSelected (graph_so_far self.old) patterns.now rows.items × (self.new ≡ with_finds self.old (map TermBindings.opened patterns.now)))
             (λ fault. SelectsNot fault patterns.now self.old self.new) }
@@ -69,12 +69,12 @@ impl OpenTransaction {
         let asked = all_opened(alloc, patterns)?;
         let selected = self.snap.select(self.transaction.net.as_slice(), patterns);
         match selected {
-            Err(SelectFault::Memory) => Err(SelectFault::Memory),
+            Err(JoinFault::Memory) => Err(JoinFault::Memory),
             answer => {
                 if self.record_finds(alloc, asked) {
                     answer
                 } else {
-                    Err(SelectFault::Memory)
+                    Err(JoinFault::Memory)
                 }
             }
         }

@@ -2,16 +2,16 @@
 ghost use Rattle.std.specs.Prelude.{◌≡◌, ◌≤◌, ◌∷◌, ◌++◌, [], MatchBool, None, Some, IfOk, OnErr, OnOk};
 ghost use Rattle.store_model.specs.Store.{HasChange, NetNamed};
 ghost use Rattle.session_model.specs.Sessions.{found_by};
-ghost use Rattle.session_transaction.specs.Checks.{CheckSteps, Checks, checked_of, handed_back, handed_in, rows_of, verdict_of};
+ghost use Rattle.session_transaction.specs.Checks.{CheckSteps, Checks, checked_of, handed_back, handed_in, pairs_of, verdict_of};
 ghost use Rattle.session_transaction.specs.Transactions;
 ghost use Rattle.session_transaction.specs.Transactions.{begun_at, change_of, changes_of, name_kind_of, plain};
 
 use collections::Sequence;
 use commit_core::{CheckedNet, CheckedTransaction, Snap, Transaction, Verdict};
+use kept_rows::PairRows;
 use rdf_model::{Change, Net, Pattern, Triple};
-use session_model::SessionReply;
+use session_model::{Report, SessionReply};
 use shape_eval::Steps;
-use shape_model::ResultRow;
 use shapes_graph::ShapesGraph;
 use std::alloc::{AllocError, Global};
 use std::mem;
@@ -116,24 +116,24 @@ fn record_find(finds: &mut Sequence<Pattern>, pattern: &Pattern) -> Result<(), A
 }
 
 // A verdict and its results apart; without one there is no result.
-fn parts_of(alloc: Global, checked: Option<CheckedNet>) -> (Option<Verdict>, Sequence<ResultRow>)
-    ensures { result ≡ (verdict_of checked, rows_of checked) }
+fn parts_of(alloc: Global, checked: Option<CheckedNet>) -> (Option<Verdict>, Sequence<PairRows>)
+    ensures { result ≡ (verdict_of checked, pairs_of checked) }
 {
     match checked {
         Some(checked) => {
-            let (verdict, rows) = checked.into_parts();
-            (Some(verdict), rows)
+            let (verdict, pairs) = checked.into_parts();
+            (Some(verdict), pairs)
         }
         None => (None, Sequence::new(alloc)),
     }
 }
 
 // A verdict with its results; without one they count for nothing.
-fn checked_with(verdict: Option<Verdict>, rows: Sequence<ResultRow>) -> Option<CheckedNet>
-    ensures { result ≡ checked_of verdict rows }
+fn checked_with(verdict: Option<Verdict>, pairs: Sequence<PairRows>) -> Option<CheckedNet>
+    ensures { result ≡ checked_of verdict pairs }
 {
     match verdict {
-        Some(verdict) => Some(CheckedNet { verdict, rows }),
+        Some(verdict) => Some(CheckedNet { verdict, pairs }),
         None => None,
     }
 }
@@ -174,7 +174,7 @@ impl OpenTransaction {
         }
     }
 
-    // The same with nothing checked.
+    // The transaction with nothing checked.
     fn unchecked(self) -> OpenTransaction
         ensures { result ≡ record self { checked = None } }
     {
@@ -190,7 +190,7 @@ impl OpenTransaction {
         }
     }
 
-    /// The same with a change of each triple, and nothing checked; without the memory for them, as it was.
+    /// The transaction with a change of each triple, and nothing checked; without the memory for them, as it was.
     pub fn with_changes(
         self,
         alloc: Global,
@@ -223,7 +223,7 @@ impl OpenTransaction {
         }
     }
 
-    /// The same with these shapes staged, and nothing checked.
+    /// The transaction with these shapes staged, and nothing checked.
     pub fn with_shapes(self, shapes: ShapesGraph) -> OpenTransaction
         ensures { result ≡ Transactions.with_shapes self shapes }
     {
@@ -252,6 +252,16 @@ impl OpenTransaction {
             .find(alloc, self.transaction.net.as_slice(), pattern)?;
         record_find(&mut self.transaction.finds, pattern)?;
         Ok(found)
+    }
+
+    /// The report of the graph at its begin by the shapes graph there. Its own changes are left out, and nothing is evaluated.
+    pub fn report(&self) -> Result<Report, AllocError>
+        ensures { IfOk result (λ report. report ≡ record { graph = self.now.snap.graph; shapes = self.now.snap.shapes }) }
+    {
+        let rows = Sequence::from_vec(self.snap.listing()?);
+        let graph = self.snap.triples().share()?;
+        let shapes = self.snap.shapes().share()?;
+        Ok(Report::new(graph, shapes, rows))
     }
 
     /// Checks its changes at the head, a version of the store in which all their terms are named, and keeps the verdict with its
@@ -287,21 +297,21 @@ impl OpenTransaction {
             snap,
         } = self;
         let mut transaction = transaction;
-        let (verdict, rows) = parts_of(alloc, checked);
+        let (verdict, pairs) = parts_of(alloc, checked);
         transaction.verdict = verdict;
-        (CheckedTransaction { transaction, rows }, snap)
+        (CheckedTransaction { transaction, pairs }, snap)
     }
 
     /// The transaction that handed this in, and began at the snapshot.
     pub fn from_parts(handed: CheckedTransaction, snap: Snap) -> OpenTransaction
         ensures { result ≡ handed_back handed snap }
     {
-        let (transaction, rows) = handed.into_parts();
+        let (transaction, pairs) = handed.into_parts();
         let mut transaction = transaction;
         let verdict = transaction.verdict.take();
         OpenTransaction {
             transaction,
-            checked: checked_with(verdict, rows),
+            checked: checked_with(verdict, pairs),
             snap,
         }
     }

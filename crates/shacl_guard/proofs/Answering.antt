@@ -15,8 +15,8 @@ use Rattle.file_validation.specs.declared.fault.InputFault.{InputFault}
 use Rattle.file_validation.specs.declared.fault.InputFault.TheVariants as texts
 use Rattle.file_validation.specs.declared.validating.Explanation.{Explanation as Evidence}
 use Rattle.file_validation.specs.declared.validating.Validation.{Validation as Outcome}
-use Rattle.file_validation.specs.declared.validating.Verdict.{Verdict}
-use Rattle.file_validation.specs.declared.validating.Verdict.TheVariants.{Verified, Wrong}
+use Rattle.file_validation.specs.declared.validating.EvidenceVerdict.{EvidenceVerdict}
+use Rattle.file_validation.specs.declared.validating.EvidenceVerdict.TheVariants.{Verified, Wrong}
 use Rattle.file_validation.specs.Validations.{IsCause}
 use Rattle.session_files.specs.declared.fault.RunFault.{RunFault}
 use Rattle.session_files.specs.declared.fault.RunFault.TheVariants as run
@@ -29,8 +29,8 @@ use Rattle.validate_command.specs.declared.validated_files.VerifiedFiles.{Verifi
 use Rattle.validate_command.specs.Validated.{AreExplained, AreValidated}
 use Rattle.validate_command.specs.Faults.{StopsValidation}
 use Rattle.validate_command.specs.Verified.{AreVerified, StopsVerification}
-use Rattle.shacl_guard.specs.declared.request.Request.{Request}
-use Rattle.shacl_guard.specs.declared.request.Request.TheVariants.{Sessions, Validation, Explanation, Verification, Following, Load}
+use Rattle.shacl_guard.specs.declared.request.PlainRequest.{PlainRequest}
+use Rattle.shacl_guard.specs.declared.request.PlainRequest.TheVariants.{Sessions, Validation, Explanation, Verification, Following, Load}
 use Rattle.shacl_guard.specs.declared.status.Status.{Status}
 use Rattle.shacl_guard.specs.declared.status.Status.TheVariants.{Done, Invalid, Usage, ReadFault, WriteFault, BadSession, Memory, TooLong, TooManyFiles, BadHistory, BadInput, BadLog, LogSpent, LogTooLarge, LogStopped, BadOrder, BadEvidence}
 use Rattle.shacl_guard.specs.Requests.{request_of}
@@ -39,7 +39,7 @@ use Rattle.shacl_guard.specs.Due.{Fails, Gives, IsDue, IsDueOf, IsRequestDue, Is
 use Rattle.shacl_guard.specs.Outcome.{Call, IsOutcome, IsWritten, PrintsAll}
 
 -- nothing was loaded
-pub nothing : (q : Option Request) (before after : Loads) → after ≡ before → RunsOut q before after
+pub nothing : (q : Option PlainRequest) (before after : Loads) → after ≡ before → RunsOut q before after
 nothing q before after e = ((0, ap (λ (l : Loads). l.loaded) e ∙ sym (append-nil before.loaded)), ap (λ (l : Loads). l.failed) e)
 
 -- A status without a line of its own is of a failed load, or of want of memory.
@@ -74,7 +74,7 @@ verification_fails (validation.TooLong f) held v before after h none = cc
 verification_fails (validation.BadInput bad) held v before after h none = cc
 
 -- a verdict without a text or a line
-verdict_fails : (verdict : Verdict) (s : Status) (held : Option Contents) (v : VerifiedFiles) (before after : Loads) → AreVerified held v before after verdict → TellsNone verdict s → error_line s ≡ None → Fails s held (Some (Verification v)) before after
+verdict_fails : (verdict : EvidenceVerdict) (s : Status) (held : Option Contents) (v : VerifiedFiles) (before after : Loads) → AreVerified held v before after verdict → TellsNone verdict s → error_line s ≡ None → Fails s held (Some (Verification v)) before after
 verdict_fails (Verified n) s held v before after h t none = subst (λ (x : Status). Fails x held (Some (Verification v)) before after) (sym t) ((3, h.5.0), h.5.1)
 verdict_fails (Wrong i) s held v before after h t none = let no : None ≡ Some _ = sym none ∙ ap error_line t in cc
 
@@ -89,7 +89,7 @@ following_fails (following.BadOrder k) held f before after h same none = cc
 load_out : (n : ℕ) (before after : Loads) → LoadsNone before after → RunsOut (Some (Load n)) before after
 load_out n before after h = ((0, h.0 ∙ sym (append-nil before.loaded)), h.1)
 
-request_fails : (s : Status) (held : Option Contents) (q : Request) (before after : Loads) → error_line s ≡ None → StopsRequest s held q before after → Fails s held (Some q) before after
+request_fails : (s : Status) (held : Option Contents) (q : PlainRequest) (before after : Loads) → error_line s ≡ None → StopsRequest s held q before after → Fails s held (Some q) before after
 request_fails s held (Sessions r) before after none h =
     subst (λ (x : Status). Fails x held (Some (Sessions r)) before after) (sym h.1) (run_fails h.0 held r before after h.2 (subst (λ (x : Status). error_line x ≡ None) h.1 none))
 request_fails s held (Validation v) before after none h =
@@ -135,7 +135,7 @@ following_out (following.TooLong i) held f before after line h = ((i, h.1), h.2)
 following_out (following.BadLog n) held f before after line h = ((2, h.4.0), h.4.1)
 following_out (following.BadOrder k) held f before after line h = ((2, h.4.0), h.4.1)
 
-request_out : (s : Status) (held : Option Contents) (q : Request) (before after : Loads) → error_line s ≢ None → StopsRequest s held q before after → RunsOut (Some q) before after
+request_out : (s : Status) (held : Option Contents) (q : PlainRequest) (before after : Loads) → error_line s ≢ None → StopsRequest s held q before after → RunsOut (Some q) before after
 request_out s held (Sessions r) before after line h = run_out h.0 held r before after (subst (λ (x : Status). error_line x ≢ None) h.1 line) h.2
 request_out s held (Validation v) before after line h = validation_out h.0 held v before after (subst (λ (x : Status). error_line x ≢ None) h.1 line) h.2
 request_out s held (Explanation v) before after line h = validation_out h.0 held v before after (subst (λ (x : Status). error_line x ≢ None) h.1 line) h.2
@@ -145,7 +145,7 @@ request_out s held (Following f) before after line h = following_out h.0 held f 
 request_out s held (Load n) before after line h = load_out n before after h.1
 
 -- what is due where a request gives nothing
-pub told_request : {X : Type 0} (of_status : X → Status) (of_text : X → List ℕ) (held : Option Contents) (q : Request) (before after : Loads) (s : Status) (r : Result X Status) → StopsRequest s held q before after
+pub told_request : {X : Type 0} (of_status : X → Status) (of_text : X → List ℕ) (held : Option Contents) (q : PlainRequest) (before after : Loads) (s : Status) (r : Result X Status) → StopsRequest s held q before after
     → MatchResult r (λ a. (of_status a ≡ s) × (error_line s ≡ Some (of_text a))) (TellsNothing s)
     → MatchResult r (λ a. IsRequestDue held q (of_status a) before after (of_text a)) (λ t. Fails t held (Some q) before after)
 told_request of_status of_text held q before after s (Ok a) stops told =
@@ -155,7 +155,7 @@ told_request of_status of_text held q before after s (Err t) stops (inr h) = sub
 
 -- What is due has a status with a text.
 
-tells_request : (held : Option Contents) (q : Request) (s : Status) (before after : Loads) (text : List ℕ) → Gives held q s before after text → (s ≡ Done) ⊎ (s ≡ Invalid)
+tells_request : (held : Option Contents) (q : PlainRequest) (s : Status) (before after : Loads) (text : List ℕ) → Gives held q s before after text → (s ≡ Done) ⊎ (s ≡ Invalid)
 tells_request held (Sessions r) s before after text h = inl h.0
 tells_request held (Validation v) s before after text (true, e, h) = inl e
 tells_request held (Validation v) s before after text (false, e, h) = inr e
@@ -166,19 +166,19 @@ tells_request held (Verification v) s before after text (Wrong i, h, t) = absurd
 tells_request held (Following f) s before after text h = inl h.0
 tells_request held (Load n) s before after text h = inl h.0
 
-tells : (held : Option Contents) (q : Option Request) (s : Status) (before after : Loads) (text : List ℕ) → IsDueOf held q s before after text → ((s ≡ Done) ⊎ (s ≡ Invalid)) ⊎ (error_line s ≡ Some text)
+tells : (held : Option Contents) (q : Option PlainRequest) (s : Status) (before after : Loads) (text : List ℕ) → IsDueOf held q s before after text → ((s ≡ Done) ⊎ (s ≡ Invalid)) ⊎ (error_line s ≡ Some text)
 tells held None s before after text h = inr h.2
 tells held (Some q) s before after text (inl g) = inl (tells_request held q s before after text g)
 tells held (Some q) s before after text (inr h) = inr h.1
 
-never : (held : Option Contents) (q : Option Request) (s : Status) (before after : Loads) (text : List ℕ) → s ≢ Done → s ≢ Invalid → error_line s ≡ None → IsDueOf held q s before after text → ⊥
+never : (held : Option Contents) (q : Option PlainRequest) (s : Status) (before after : Loads) (text : List ℕ) → s ≢ Done → s ≢ Invalid → error_line s ≡ None → IsDueOf held q s before after text → ⊥
 never held q s before after text not_done not_invalid none h = elim (tells held q s before after text h) [
   | inl d ↦ elim d [ inl e ↦ not_done e | inr e ↦ not_invalid e ]
   | inr l ↦ let no : None ≡ Some text = sym none ∙ l in cc
 ]
 
 -- a sink that takes all is no fault of writing
-pub no_write_fault : (s : Status) (held : Option Contents) (q : Option Request) (before after : Loads) (text : List ℕ) → s ≡ WriteFault → IsDueOf held q s before after text → ⊥
+pub no_write_fault : (s : Status) (held : Option Contents) (q : Option PlainRequest) (before after : Loads) (text : List ℕ) → s ≡ WriteFault → IsDueOf held q s before after text → ⊥
 no_write_fault s held q before after text e h = never held q WriteFault before after text (λ d. cc) (λ d. cc) refl (subst (λ (x : Status). IsDueOf held q x before after text) e h)
 
 pub printed : (s : Status) (c : Call) → PrintsAll s c → IsOutcome s c
@@ -262,12 +262,12 @@ verdict_fault_grows (validation.TooLong f) held v before after h = same_grows be
 verdict_fault_grows (validation.BadInput bad) held v before after h = let k = h.0.3 in cause_grows h.0.0 h.0.1 before.refused after.refused k.0 k.2
 verdict_fault_grows validation.Memory held v before after h = same_grows before.refused after.refused h.2
 
-pub verification_grows : (held : Option Contents) (v : VerifiedFiles) (before after : Loads) (r : Result Verdict ValidateFault) → MatchResult r (AreVerified held v before after) (λ fault. StopsVerification fault held v before after) → OnlyGrows before.refused after.refused
+pub verification_grows : (held : Option Contents) (v : VerifiedFiles) (before after : Loads) (r : Result EvidenceVerdict ValidateFault) → MatchResult r (AreVerified held v before after) (λ fault. StopsVerification fault held v before after) → OnlyGrows before.refused after.refused
 verification_grows held v before after (Ok o) h = same_grows before.refused after.refused h.6
 verification_grows held v before after (Err fault) h = verdict_fault_grows fault held v before after h
 
 -- what a verdict gives
-pub verdict_gives : {X : Type 0} (status : X → Status) (text : X → List ℕ) (held : Option Contents) (v : VerifiedFiles) (before after : Loads) (verdict : Verdict) (r : Result X Status) → AreVerified held v before after verdict
+pub verdict_gives : {X : Type 0} (status : X → Status) (text : X → List ℕ) (held : Option Contents) (v : VerifiedFiles) (before after : Loads) (verdict : EvidenceVerdict) (r : Result X Status) → AreVerified held v before after verdict
     → MatchResult r (λ a. IsTold verdict (status a) (text a)) (λ s. TellsNone verdict s)
     → MatchResult r (λ a. Gives held (Verification v) (status a) before after (text a)) (λ s. StopsRequest s held (Verification v) before after)
 verdict_gives status text held v before after verdict (Ok a) is told = (verdict, is, told)
@@ -281,6 +281,6 @@ pub follower_stops : (held : Option Contents) (f : FollowedFiles) (before after 
 follower_stops held f before after text h same = (following.Memory, refl, ((2, h.4.0), h.4.1), same)
 
 -- it was asked for
-pub follower_asked : {X : Type 0} (status : X → Status) (text : X → List ℕ) (held : Option Contents) (q : Request) (f : FollowedFiles) (before after : Loads) (r : Result X Status) → q ≡ Following f
+pub follower_asked : {X : Type 0} (status : X → Status) (text : X → List ℕ) (held : Option Contents) (q : PlainRequest) (f : FollowedFiles) (before after : Loads) (r : Result X Status) → q ≡ Following f
     → MatchResult r (λ a. Gives held (Following f) (status a) before after (text a)) (λ s. StopsRequest s held (Following f) before after) → MatchResult r (λ a. Gives held q (status a) before after (text a)) (λ s. StopsRequest s held q before after)
-follower_asked status text held q f before after r e h = subst (λ (x : Request). MatchResult r (λ a. Gives held x (status a) before after (text a)) (λ s. StopsRequest s held x before after)) (sym e) h
+follower_asked status text held q f before after r e h = subst (λ (x : PlainRequest). MatchResult r (λ a. Gives held x (status a) before after (text a)) (λ s. StopsRequest s held x before after)) (sym e) h

@@ -25,12 +25,12 @@ use Rattle.follow_command.specs.declared.fault.FollowFault.TheVariants as follow
 use Rattle.follow_command.specs.declared.files.FollowedFiles.{FollowedFiles}
 use Rattle.follow_command.specs.Faults as followed
 use Rattle.follow_command.specs.Faults.{StopsFollow}
-use Rattle.file_validation.specs.declared.validating.Verdict.{Verdict}
-use Rattle.file_validation.specs.declared.validating.Verdict.TheVariants.{Verified, Wrong}
+use Rattle.file_validation.specs.declared.validating.EvidenceVerdict.{EvidenceVerdict}
+use Rattle.file_validation.specs.declared.validating.EvidenceVerdict.TheVariants.{Verified, Wrong}
 use Rattle.validate_command.specs.Faults.{IsFirst, StopsValidation}
 use Rattle.validate_command.specs.Verified.{IsFirstOf, StopsVerification}
-use Rattle.shacl_guard.specs.declared.request.Request.{Request}
-use Rattle.shacl_guard.specs.declared.request.Request.TheVariants.{Sessions, Validation, Explanation, Verification, Following, Load}
+use Rattle.shacl_guard.specs.declared.request.PlainRequest.{PlainRequest}
+use Rattle.shacl_guard.specs.declared.request.PlainRequest.TheVariants.{Sessions, Validation, Explanation, Verification, Following, Load}
 use Rattle.shacl_guard.specs.declared.status.Status.{Status}
 use Rattle.shacl_guard.specs.declared.status.Status.TheVariants.{Done, Invalid, Usage, ReadFault, WriteFault, BadSession, Memory, TooLong, TooManyFiles, BadHistory, BadInput, BadLog, LogSpent, LogTooLarge, LogStopped, BadOrder, BadEvidence}
 use Rattle.shacl_guard.specs.Statuses.{error_line, of_following, of_run, of_validation}
@@ -121,11 +121,11 @@ verification_complete validation.Memory held v s before after text there e l h =
 verification_complete (validation.TooLong f) held v s before after text there e l h = absurd (never_first_of held v f there.0 there.1 there.2 h.0)
 verification_complete (validation.BadInput bad) held v s before after text there e l h = inr (inr (inl (bad, e)))
 
-verdict_complete : (verdict : Verdict) (v : VerifiedFiles) (s : Status) (text : List ℕ) → TellsNone verdict s → error_line s ≡ Some text → IsAnswered (Some (Verification v)) s
+verdict_complete : (verdict : EvidenceVerdict) (v : VerifiedFiles) (s : Status) (text : List ℕ) → TellsNone verdict s → error_line s ≡ Some text → IsAnswered (Some (Verification v)) s
 verdict_complete (Verified n) v s text t l = absurd (no_line s Memory text t refl l)
 verdict_complete (Wrong i) v s text t l = inr (inr (inr (i, t)))
 
-told_complete : (verdict : Verdict) (v : VerifiedFiles) (s : Status) (text : List ℕ) → IsTold verdict s text → IsAnswered (Some (Verification v)) s
+told_complete : (verdict : EvidenceVerdict) (v : VerifiedFiles) (s : Status) (text : List ℕ) → IsTold verdict s text → IsAnswered (Some (Verification v)) s
 told_complete (Verified n) v s text t = inl t.0
 told_complete (Wrong i) v s text t = absurd t
 
@@ -146,7 +146,7 @@ load_complete : (held : Option Contents) (n : ℕ) (s : Status) (before after : 
 load_complete held n s before after text (inl g) = inl g.0
 load_complete held n s before after text (inr d) = inr d.0.0
 
-pub complete : (held : Option Contents) (q : Option Request) (s : Status) (before after : Loads) (text : List ℕ) → IsDueOf held q s before after text → HasFiles held q → IsAnswered q s
+pub complete : (held : Option Contents) (q : Option PlainRequest) (s : Status) (before after : Loads) (text : List ℕ) → IsDueOf held q s before after text → HasFiles held q → IsAnswered q s
 complete None None s before after text d there = absurd there
 complete None (Some (Sessions r)) s before after text d there = absurd there
 complete None (Some (Validation v)) s before after text d there = absurd there
@@ -171,7 +171,7 @@ complete (Some held) (Some (Following v)) s before after text (inl g) there = in
 complete (Some held) (Some (Following v)) s before after text (inr d) there = following_complete d.0.0 held v s before after text there d.0.1 d.1 d.0.2
 
 -- memory ran out, without a text
-pub memory_answer : (held : Option Contents) (q : Option Request) → HasFiles held q → IsAnswered q Memory
+pub memory_answer : (held : Option Contents) (q : Option PlainRequest) → HasFiles held q → IsAnswered q Memory
 memory_answer None None there = absurd there
 memory_answer None (Some (Sessions r)) there = absurd there
 memory_answer None (Some (Validation v)) there = absurd there
@@ -228,7 +228,7 @@ verification_failed validation.Memory held v before after same e h = cc
 verification_failed (validation.TooLong f) held v before after same e h = cc
 verification_failed (validation.BadInput bad) held v before after same e h = cc
 
-verdict_failed : (verdict : Verdict) → TellsNone verdict ReadFault → ⊥
+verdict_failed : (verdict : EvidenceVerdict) → TellsNone verdict ReadFault → ⊥
 verdict_failed (Verified n) t = let no : ReadFault ≡ Memory = t in cc
 verdict_failed (Wrong i) t = let no : ReadFault ≡ BadEvidence i = t in cc
 
@@ -243,7 +243,7 @@ following_failed (following.TooLong f) held v before after same e h = cc
 following_failed (following.BadLog n) held v before after same e h = cc
 following_failed (following.BadOrder k) held v before after same e h = cc
 
-load_failed : (held : Option Contents) (q : Option Request) (before after : Loads) → after.failed ≡ before.failed → FailsLoad held q before after → ⊥
+load_failed : (held : Option Contents) (q : Option PlainRequest) (before after : Loads) → after.failed ≡ before.failed → FailsLoad held q before after → ⊥
 load_failed held None before after same h = h
 load_failed held (Some (Sessions r)) before after same h = run_failed h.0 held r before after same h.1 h.2
 load_failed held (Some (Validation v)) before after same h = validation_failed h.0 held v before after same h.1 h.2
@@ -254,7 +254,7 @@ load_failed held (Some (Following v)) before after same h = following_failed h.0
 load_failed held (Some (Load n)) before after same h = let no : ReadFault ≡ Memory = h.0 in cc
 
 -- nothing was due, and no load failed
-pub not_failed : (s : Status) (held : Option Contents) (q : Option Request) (before after : Loads) → Fails s held q before after → HasFiles held q → after.failed ≡ before.failed → IsAnswered q s
+pub not_failed : (s : Status) (held : Option Contents) (q : Option PlainRequest) (before after : Loads) → Fails s held q before after → HasFiles held q → after.failed ≡ before.failed → IsAnswered q s
 not_failed ReadFault held q before after f there same = absurd (load_failed held q before after same f)
 not_failed Memory held q before after f there same = memory_answer held q there
 not_failed Done held q before after f there same = absurd f

@@ -14,9 +14,9 @@ use Rattle.store_model.proofs.Logs.{FaultsStop-holds}
 use Rattle.commit_core.specs.Logged.{IsInStep, Lasts, lost_of, records_of}
 use Rattle.commit_core.specs.Restored.{IsRestored, restored, restored_from, with_record}
 use Rattle.guard_store.specs.Slots.{HadRecords}
-use Rattle.session_model.specs.Print.{history_text, sessions_text}
+use Rattle.session_model.specs.Print.{IsRunText}
 use Rattle.session_model.specs.Sessions.{HasReplies}
-use Rattle.thread_model.specs.Following.{Follow, fault_place}
+use Rattle.session_laws.specs.Following.{Follow, fault_place}
 use Rattle.std.specs.List.{AllByRecursion}
 use Rattle.std.specs.Prelude.{◌≢◌, IfErr, IsErrOf, MatchResult, Result, Ok, Err}
 use Rattle.outside.specs.Faults.{Refusal}
@@ -85,7 +85,7 @@ logged_run tells bytes history chosen faults held q disk core log later firsts s
       replies = a.prints.replies;
       follow = follow;
       runs = subst (λ (c : RecordedStore). HasReplies a.all c.limits c.start (map (λ e. e.session) last.history) (fault_place last.history) a.prints.replies) k.store runs;
-      printed = a.prints.printed ∙ ap (λ (order : List ℕ). sessions_text 1 a.prints.replies ++ history_text order) ends.order_is;
+      printed = subst (λ (order : List ℕ). IsRunText a.prints.replies order text) ends.order_is a.prints.printed;
       status_is = status ∙ ap of_fault (its.beside.closed ∙ stopped);
       blamed = λ failed. rose_from (faults disk) (faults log.disk) (faults later.disk) le (its.blamed (stopped ∙ failed));
       lasts = λ it. subst (λ (t : State). Lasts (records ++ records_of t.graph (version t) last.history) (lost_of t.graph (version t) last.history) (history later.disk).now) begin (step.lasts it);

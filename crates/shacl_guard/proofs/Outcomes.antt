@@ -5,7 +5,7 @@ use Rattle.outside.specs.Files.{Contents}
 use Rattle.input_files.specs.Loads.{Loads}
 use Rattle.log_command.specs.Devices.{Device}
 use Rattle.shacl_guard.specs.declared.request.LogRequest.{LogRequest}
-use Rattle.shacl_guard.specs.declared.request.Request.{Request}
+use Rattle.shacl_guard.specs.declared.request.PlainRequest.{PlainRequest}
 use Rattle.shacl_guard.specs.declared.status.Status.{Status}
 use Rattle.shacl_guard.specs.declared.status.Status.TheVariants.{Usage, WriteFault, Memory}
 use Rattle.shacl_guard.specs.Due.{Fails, IsDueOf, TellsNothing}
@@ -23,25 +23,25 @@ with_none o A B e a = subst (λ p. MatchOption p A B) (sym e) a
 pub with_some : {X : Type 0} (o : Option X) (x : X) (A : Type 0) (B : X → Type 0) → o ≡ Some x → B x → MatchOption o A B
 with_some o x A B e b = subst (λ p. MatchOption p A B) (sym e) b
 
-module _ {X : Type 0} (of_status : X → Status) (of_text : X → List ℕ) (c : Call) (o : Option Request) (status : Status) (blamed : Type 0) where
+module _ {X : Type 0} (of_status : X → Status) (of_text : X → List ℕ) (c : Call) (o : Option PlainRequest) (status : Status) (blamed : Type 0) where
   pub plain_written : (r : Result X Status) → request_of c.words ≡ o → MatchResult r (λ a. IsDueOf c.held o (of_status a) c.before.loads c.after.loads (of_text a)) (λ s. Fails s c.held o c.before.loads c.after.loads)
       → MatchResult r (λ a. IsWritten (of_status a) (of_text a) status c.before.taken c.after.taken blamed) (λ s. (status ≡ s) × (c.after.taken ≡ c.before.taken)) → IsOutcome status c
-  plain_written (Ok a) e due w = written (of_status a) status c (of_text a) blamed (subst (λ (p : Option Request). IsDueOf c.held p (of_status a) c.before.loads c.after.loads (of_text a)) (sym e) due) w
-  plain_written (Err s) e fails w = subst (λ (x : Status). IsOutcome x c) (sym w.0) (not_printed s c (subst (λ (p : Option Request). Fails s c.held p c.before.loads c.after.loads) (sym e) fails) w.1)
+  plain_written (Ok a) e due w = written (of_status a) status c (of_text a) blamed (subst (λ (p : Option PlainRequest). IsDueOf c.held p (of_status a) c.before.loads c.after.loads (of_text a)) (sym e) due) w
+  plain_written (Err s) e fails w = subst (λ (x : Status). IsOutcome x c) (sym w.0) (not_printed s c (subst (λ (p : Option PlainRequest). Fails s c.held p c.before.loads c.after.loads) (sym e) fails) w.1)
 
   pub plain_blamed : (r : Result X Status) → request_of c.words ≡ o → MatchResult r (λ a. IsDueOf c.held o (of_status a) c.before.loads c.after.loads (of_text a)) (λ s. Fails s c.held o c.before.loads c.after.loads)
       → MatchResult r (λ a. IsWritten (of_status a) (of_text a) status c.before.taken c.after.taken blamed) (λ s. (status ≡ s) × (c.after.taken ≡ c.before.taken)) → status ≡ WriteFault → blamed
-  plain_blamed (Ok a) e due w is = blamed_by (of_status a) status c (of_text a) blamed (subst (λ (p : Option Request). IsDueOf c.held p (of_status a) c.before.loads c.after.loads (of_text a)) (sym e) due) w is
+  plain_blamed (Ok a) e due w is = blamed_by (of_status a) status c (of_text a) blamed (subst (λ (p : Option PlainRequest). IsDueOf c.held p (of_status a) c.before.loads c.after.loads (of_text a)) (sym e) due) w is
   plain_blamed (Err s) e fails w is = absurd (subst (λ (x : Status). Fails x c.held o c.before.loads c.after.loads) (sym w.0 ∙ is) fails)
 
   pub plain_complete : (r : Result X Status) → request_of c.words ≡ o → MatchResult r (λ a. IsDueOf c.held o (of_status a) c.before.loads c.after.loads (of_text a)) (λ s. Fails s c.held o c.before.loads c.after.loads)
       → MatchResult r (λ a. IsWritten (of_status a) (of_text a) status c.before.taken c.after.taken blamed) (λ s. (status ≡ s) × (c.after.taken ≡ c.before.taken))
       → HasFiles c.held (request_of c.words) → c.after.loads.failed ≡ c.before.loads.failed → (blamed → ⊥) → IsAnswered (request_of c.words) status
   plain_complete (Ok a) e due (inl h) there same still =
-      subst (λ (p : Option Request). IsAnswered p status) (sym e) (subst (IsAnswered o) (sym h.0) (complete c.held o (of_status a) c.before.loads c.after.loads (of_text a) due (subst (HasFiles c.held) e there)))
+      subst (λ (p : Option PlainRequest). IsAnswered p status) (sym e) (subst (IsAnswered o) (sym h.0) (complete c.held o (of_status a) c.before.loads c.after.loads (of_text a) due (subst (HasFiles c.held) e there)))
   plain_complete (Ok a) e due (inr h) there same still = absurd (still h.2)
   plain_complete (Err s) e fails w there same still =
-      subst (λ (p : Option Request). IsAnswered p status) (sym e) (subst (IsAnswered o) (sym w.0) (not_failed s c.held o c.before.loads c.after.loads fails (subst (HasFiles c.held) e there) same))
+      subst (λ (p : Option PlainRequest). IsAnswered p status) (sym e) (subst (IsAnswered o) (sym w.0) (not_failed s c.held o c.before.loads c.after.loads fails (subst (HasFiles c.held) e there) same))
 
 -- words that are no call
 pub told_usage : {X : Type 0} (of_status : X → Status) (of_text : X → List ℕ) (held : Option Contents) (loads : Loads) (r : Result X Status) → MatchResult r (λ a. (of_status a ≡ Usage) × (error_line Usage ≡ Some (of_text a))) (TellsNothing Usage)
@@ -65,6 +65,6 @@ none_asked disk tells c device None e = ((nothing (request_of c.words) c.before.
 none_asked disk tells c device (Some q) e = (nothing_of_log (log_files q) c.before.loads c.after.loads (ap (λ (o : Outside). o.loads) e), ap (λ (o : Outside). o.taken) e)
 
 -- no call has files where its request is none
-pub none_there : (held : Option Contents) (o : Option Request) (X : Type 0) → o ≡ None → HasFiles held o → X
+pub none_there : (held : Option Contents) (o : Option PlainRequest) (X : Type 0) → o ≡ None → HasFiles held o → X
 none_there None o X e h = absurd (subst (HasFiles None) e h)
 none_there (Some files) o X e h = absurd (subst (HasFiles (Some files)) e h)

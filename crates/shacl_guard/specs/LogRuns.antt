@@ -14,9 +14,9 @@ use Rattle.commit_core.specs.Logged.{Lasts, lost_of, records_of}
 use Rattle.commit_core.specs.Restored.{restored}
 use Rattle.session_model.specs.declared.command.Command.{Command}
 use Rattle.session_model.specs.declared.reply.SessionReply.{SessionReply}
-use Rattle.session_model.specs.Print.{history_text, sessions_text}
+use Rattle.session_model.specs.Print.{IsRunText}
 use Rattle.session_model.specs.Sessions.{HasReplies}
-use Rattle.thread_model.specs.Following.{Follow, fault_place}
+use Rattle.session_laws.specs.Following.{Follow, fault_place}
 use Rattle.session_files.specs.declared.fault.RunFault.{RunFault}
 use Rattle.session_files.specs.declared.fault.RunFault.TheVariants as runs
 use Rattle.session_files.specs.declared.session_run.SessionRun.{SessionRun}
@@ -62,7 +62,7 @@ pub record IsLoggedRun (tells : Type 0) (held : Option Contents) (q : LoggedRun)
   pub replies : List (List SessionReply)
   pub follow : Follow all q.run.limits (restored records) history replies
   pub runs : HasReplies all q.run.limits (restored records) (map (λ e. e.session) history) (fault_place history) replies
-  pub printed : text ≡ sessions_text 1 replies ++ history_text (map (λ e. e.session) history)
+  pub printed : IsRunText replies (map (λ e. e.session) history) text
   pub status_is : s ≡ of_fault (has_fault history)
   pub blamed : has_fault history ≡ true → Rose was.faults is.faults
   pub lasts : tells → LastsBehind records history is

@@ -9,8 +9,8 @@ use Rattle.validate_command.specs.declared.bad_input.BadInput.{BadInput as Input
 use Rattle.log_command.specs.Devices.{Device}
 use Rattle.shacl_guard.specs.declared.request.LogRequest.{LogRequest}
 use Rattle.shacl_guard.specs.LogRuns.{FailsOfLog, IsDueOfLog}
-use Rattle.shacl_guard.specs.declared.request.Request.{Request}
-use Rattle.shacl_guard.specs.declared.request.Request.TheVariants.{Sessions, Validation, Explanation, Verification, Following, Load}
+use Rattle.shacl_guard.specs.declared.request.PlainRequest.{PlainRequest}
+use Rattle.shacl_guard.specs.declared.request.PlainRequest.TheVariants.{Sessions, Validation, Explanation, Verification, Following, Load}
 use Rattle.shacl_guard.specs.declared.status.Status.{Status}
 use Rattle.shacl_guard.specs.declared.status.Status.TheVariants.{Done, Invalid, ReadFault, WriteFault, Memory, BadHistory, BadInput, BadLog, BadOrder, BadEvidence}
 use Rattle.shacl_guard.specs.Requests.{request_of}
@@ -80,7 +80,7 @@ IsHistoryThere held (Some name) = IsThere held name
 
 -- the request is a run of up to 64 such files, or a replay of them, or a validation of two files, which may be explained, or whose
 -- evidence in a third is verified, or a log that is followed in the order of a second file, or a generated load
-abbrev pub HasFiles : Option Contents → Option Request → Type 0
+abbrev pub HasFiles : Option Contents → Option PlainRequest → Type 0
 HasFiles None None = ⊥
 HasFiles None (Some (Sessions r)) = ⊥
 HasFiles None (Some (Validation v)) = ⊥
@@ -99,7 +99,7 @@ HasFiles (Some held) (Some (Following f)) = IsThere held f.log_file × IsThere h
 -- The sessions were run, or the history that was handed in isn't valid for them; the files were validated, or aren't what
 -- they should be; the evidence is verified, or a block of it is wrong; the log was followed, or is none, or the order is none of its
 -- records; the load was run; or memory ran out.
-abbrev pub IsAnswered : Option Request → Status → Type 0
+abbrev pub IsAnswered : Option PlainRequest → Status → Type 0
 IsAnswered None s = ⊥
 IsAnswered (Some (Sessions r)) s = (s ≡ Done) ⊎ ((s ≡ Memory) ⊎ ((k : ℕ) × (r.history ≢ None) × (s ≡ BadHistory k)))
 IsAnswered (Some (Validation v)) s = (s ≡ Done) ⊎ ((s ≡ Invalid) ⊎ ((s ≡ Memory) ⊎ ((bad : InputFault) × (s ≡ BadInput bad))))

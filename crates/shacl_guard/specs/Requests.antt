@@ -1,12 +1,15 @@
 -- What the words ask of the program.
 use Rattle.std.specs.Prelude.{◌≡◌, ℕ, ◌≤◌, List, [], Option, Some, None}
-use Rattle.store_model.specs.declared.event.BlockMode.TheVariants.{All}
-use Rattle.guard_words.specs.declared.call.Call.{Call}
-use Rattle.guard_words.specs.declared.call.Call.TheVariants.{Run, Replay, CreateLog, Follow, Validate, Explain, Verify, Generate}
-use Rattle.guard_words.specs.declared.call.Limits.{Limits}
-use Rattle.guard_words.specs.declared.call.WordsFault.{WordsFault}
-use Rattle.guard_words.specs.declared.call.WordsFault.TheVariants.{Usage, Memory}
-use Rattle.guard_words.specs.Words.{call_of}
+use Rattle.store_model.specs.declared.event.BlockMode.{BlockMode}
+use Rattle.store_model.specs.declared.event.BlockMode.TheVariants as modes
+use Rattle.command_line.specs.declared.call.Block.{Block}
+use Rattle.command_line.specs.declared.call.Block.TheVariants.{All, Violation}
+use Rattle.command_line.specs.declared.call.Call.{Call}
+use Rattle.command_line.specs.declared.call.Call.TheVariants.{Run, Replay, CreateLog, Follow, Validate, Explain, Verify, Generate}
+use Rattle.command_line.specs.declared.call.LimitOptions.{LimitOptions}
+use Rattle.command_line.specs.declared.call.WordsFault.{WordsFault}
+use Rattle.command_line.specs.declared.call.WordsFault.TheVariants.{Usage, Memory}
+use Rattle.command_line.specs.Words.{call_of}
 use Rattle.follow_command.specs.Followed as followed
 use Rattle.session_files.specs.Runs.{all_files}
 use Rattle.validate_command.specs.Validated.{both_files}
@@ -16,12 +19,17 @@ use Rattle.shacl_guard.specs.declared.request.Asked.{Asked}
 use Rattle.shacl_guard.specs.declared.request.Asked.TheVariants.{Plain, WithLog}
 use Rattle.shacl_guard.specs.declared.request.LogRequest.{LogRequest}
 use Rattle.shacl_guard.specs.declared.request.LogRequest.TheVariants.{Create, Logged}
-use Rattle.shacl_guard.specs.declared.request.Request.{Request}
-use Rattle.shacl_guard.specs.declared.request.Request.TheVariants.{Sessions, Validation, Explanation, Verification, Following, Load}
+use Rattle.shacl_guard.specs.declared.request.PlainRequest.{PlainRequest}
+use Rattle.shacl_guard.specs.declared.request.PlainRequest.TheVariants.{Sessions, Validation, Explanation, Verification, Following, Load}
+
+-- which results block in a store
+abbrev pub mode_of : Block → BlockMode
+mode_of All = modes.All
+mode_of Violation = modes.Violation
 
 -- the run of session files, in the order of a history where one is handed in
-abbrev pub run_of : Limits → Option (List ℕ) → List (List ℕ) → SessionRun
-run_of limits history files = record { limits = record { terms = limits.terms; triples = limits.triples; mode = All }; history = history; files = files }
+abbrev pub run_of : LimitOptions → Option (List ℕ) → List (List ℕ) → SessionRun
+run_of limits history files = record { limits = record { terms = limits.terms; triples = limits.triples; mode = mode_of limits.block }; history = history; files = files }
 
 -- session files without a log, in the order of a history where one is handed in, or two files to be validated, which may be
 -- explained, or whose evidence in a third is verified, or a log that is followed, or a generated load; or, with a log: a log that is to
@@ -37,7 +45,7 @@ asked_in (Explain graph shapes) = Plain (Explanation (record { data_file = graph
 asked_in (Verify graph shapes evidence) = Plain (Verification (record { graphs = record { data_file = graph; shapes_file = shapes }; evidence_file = evidence }))
 asked_in (Generate numbers) = Plain (Load numbers)
 
-abbrev pub plain_of : Asked → Option Request
+abbrev pub plain_of : Asked → Option PlainRequest
 plain_of (Plain q) = Some q
 plain_of (WithLog q) = None
 
@@ -46,7 +54,7 @@ log_of (Plain q) = None
 log_of (WithLog q) = Some q
 
 -- the request of a call without a log, and of one with a log
-abbrev pub request_in : Option Call → Option Request
+abbrev pub request_in : Option Call → Option PlainRequest
 request_in None = None
 request_in (Some call) = plain_of (asked_in call)
 
@@ -54,14 +62,14 @@ abbrev pub log_request_in : Option Call → Option LogRequest
 log_request_in None = None
 log_request_in (Some call) = log_of (asked_in call)
 
-abbrev pub request_of : List (List ℕ) → Option Request
+abbrev pub request_of : List (List ℕ) → Option PlainRequest
 request_of words = request_in (call_of words)
 
 abbrev pub log_request_of : List (List ℕ) → Option LogRequest
 log_request_of words = log_request_in (call_of words)
 
 -- the files of the words, in the order in which they are loaded; none where the words aren't taken
-abbrev pub files_in : Option Request → List (List ℕ)
+abbrev pub files_in : Option PlainRequest → List (List ℕ)
 files_in None = []
 files_in (Some (Sessions r)) = all_files r.history r.files
 files_in (Some (Validation v)) = both_files v
@@ -71,8 +79,8 @@ files_in (Some (Following f)) = followed.both_files f
 files_in (Some (Load n)) = []
 
 -- a store of as many terms can be had, and a load of that size
-abbrev pub IsWithin : Request → Type 0
-IsWithin (Sessions r) = (r.limits.terms ≤ 2000000) × (r.limits.mode ≡ All)
+abbrev pub IsWithin : PlainRequest → Type 0
+IsWithin (Sessions r) = r.limits.terms ≤ 2000000
 IsWithin (Validation v) = Unit {0}
 IsWithin (Explanation v) = Unit {0}
 IsWithin (Verification v) = Unit {0}
@@ -81,10 +89,10 @@ IsWithin (Load n) = (1 ≤ n) × (n ≤ 100000)
 
 abbrev pub IsLogWithin : LogRequest → Type 0
 IsLogWithin (Create name) = Unit {0}
-IsLogWithin (Logged q) = (q.run.limits.terms ≤ 2000000) × (q.run.limits.mode ≡ All) × (q.run.history ≡ None)
+IsLogWithin (Logged q) = (q.run.limits.terms ≤ 2000000) × (q.run.history ≡ None)
 
 -- why words are no request, with a log or without
-abbrev pub Unasked : WordsFault → Option Request → Type 0
+abbrev pub Unasked : WordsFault → Option PlainRequest → Type 0
 Unasked Usage asked = asked ≡ None
 Unasked Memory asked = Unit {0}
 

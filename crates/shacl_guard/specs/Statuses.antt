@@ -3,8 +3,8 @@ use Rattle.std.specs.Prelude.{ℕ, Bool, true, false, List, ◌++◌, Option, So
 use Rattle.std.specs.Fmt.{decimal}
 use Rattle.follow_command.specs.declared.fault.FollowFault.{FollowFault}
 use Rattle.follow_command.specs.declared.fault.FollowFault.TheVariants as following
-use Rattle.guard_words.specs.declared.call.WordsFault.{WordsFault}
-use Rattle.guard_words.specs.declared.call.WordsFault.TheVariants as words
+use Rattle.command_line.specs.declared.call.WordsFault.{WordsFault}
+use Rattle.command_line.specs.declared.call.WordsFault.TheVariants as words
 use Rattle.session_model.specs.Print.{line}
 use Rattle.session_files.specs.declared.fault.RunFault.{RunFault}
 use Rattle.session_files.specs.declared.fault.RunFault.TheVariants as run

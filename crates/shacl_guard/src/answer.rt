@@ -1,10 +1,11 @@
+//! The text and the status that are due for a request.
 ghost use Rattle.std.specs.Prelude.{◌≡◌, ◌≢◌, ◌≤◌, ◌++◌, [], List, None, Some, codes, string_bytes, IfErr, IfOk, MatchResult};
 ghost use Rattle.std.specs.Fmt.{decimal};
 ghost use Rattle.session_model.specs.Print.{line};
 ghost use Rattle.session_reader.specs.Checking.{OnlyGrows};
 ghost use Rattle.outside.specs.Faults.{Refusal};
 ghost use Rattle.input_files.specs.Loads.{Loads};
-ghost use Rattle.load_command.specs.Load.{IsLoad};
+ghost use Rattle.generate_command.specs.Load.{IsLoad};
 ghost use Rattle.validate_command.specs.Lines.{bad_input_text};
 ghost use Rattle.session_files.specs.Faults.{StopsRun};
 ghost use Rattle.session_files.specs.Runs.{AreRun, empty_start};
@@ -13,22 +14,22 @@ ghost use Rattle.shacl_guard.specs.Requests.{IsWithin};
 ghost use Rattle.shacl_guard.specs.Statuses.{error_line};
 
 use crate::Status;
-use crate::request::Request;
+use crate::request::PlainRequest;
 use collections::Sequence;
 use commit_core::Core;
 use commit_log::Log;
 use disk::MemDisk;
 use follow_command::{FollowedFiles, follow_files};
-use load_command::run_load;
+use generate_command::run_load;
 use outside::{Files, Gate, Maker};
 use rdf_text::Text;
 use session_files::{RunFault, SessionRun, Stored, replay_files, run_files};
 use std::alloc::{AllocError, Global};
 use std::sync::Wait;
 use std::thread::Threads;
-use store_model::BlockMode;
 use validate_command::{
-    BadInput, ValidatedFiles, Verdict, VerifiedFiles, explain_files, validate_files, verify_files,
+    BadInput, EvidenceVerdict, ValidatedFiles, VerifiedFiles, explain_files, validate_files,
+    verify_files,
 };
 
 /// A text that is due, and its status.
@@ -48,7 +49,6 @@ fn run_unlogged<R: Threads + Wait + Sync, F: Files, M: Maker, G: Gate>(
     gate: &G,
 ) -> Result<String, RunFault>
     requires terms { run.now.limits.terms ≤ 2000000 }
-    requires mode { run.now.limits.mode ≡ BlockMode.All }
     requires unordered { run.now.history ≡ None }
     ensures answer { let before : Loads = record { loaded = F.loaded files.old; failed = F.failed files.old; refused = M.refused maker.old } in
         let after : Loads = record { loaded = F.loaded files.new; failed = F.failed files.new; refused = M.refused maker.new } in
@@ -75,7 +75,6 @@ fn run_sessions<R: Threads + Wait + Sync, F: Files, M: Maker, G: Gate>(
     gate: &G,
 ) -> Result<String, RunFault>
     requires terms { run.now.limits.terms ≤ 2000000 }
-    requires mode { run.now.limits.mode ≡ BlockMode.All }
     ensures answer { let before : Loads = record { loaded = F.loaded files.old; failed = F.failed files.old; refused = M.refused maker.old } in
         let after : Loads = record { loaded = F.loaded files.new; failed = F.failed files.new; refused = M.refused maker.new } in
         MatchResult result (λ text. AreRun (F.holds files.old) empty_start run.now None before after (string_bytes text)) (λ fault. StopsRun fault (F.holds files.old) [] run.now before after) }
@@ -104,11 +103,10 @@ fn answer_sessions<R: Threads + Wait + Sync, F: Files, M: Maker, G: Gate>(
     gate: &G,
 ) -> Result<Answer, Status>
     requires terms { run.now.limits.terms ≤ 2000000 }
-    requires mode { run.now.limits.mode ≡ BlockMode.All }
     ensures answer { let before : Loads = record { loaded = F.loaded files.old; failed = F.failed files.old; refused = M.refused maker.old } in
         let after : Loads = record { loaded = F.loaded files.new; failed = F.failed files.new; refused = M.refused maker.new } in
-        MatchResult result (λ a. Gives (F.holds files.old) (Request.Sessions run.now) a.status before after a.text)
-        (λ s. StopsRequest s (F.holds files.old) (Request.Sessions run.now) before after) }
+        MatchResult result (λ a. Gives (F.holds files.old) (PlainRequest.Sessions run.now) a.status before after a.text)
+        (λ s. StopsRequest s (F.holds files.old) (PlainRequest.Sessions run.now) before after) }
     ensures refused { OnlyGrows (M.refused maker.old) (M.refused maker.new) }
 {
     let text = match run_sessions(rt, alloc, run, files, maker, gate) {
@@ -134,8 +132,8 @@ fn answer_validation<R: Threads + Sync, F: Files, M: Maker>(
 ) -> Result<Answer, Status>
     ensures answer { let before : Loads = record { loaded = F.loaded files.old; failed = F.failed files.old; refused = M.refused maker.old } in
         let after : Loads = record { loaded = F.loaded files.new; failed = F.failed files.new; refused = M.refused maker.new } in
-        MatchResult result (λ a. Gives (F.holds files.old) (Request.Validation validated.now) a.status before after a.text)
-        (λ s. StopsRequest s (F.holds files.old) (Request.Validation validated.now) before after) }
+        MatchResult result (λ a. Gives (F.holds files.old) (PlainRequest.Validation validated.now) a.status before after a.text)
+        (λ s. StopsRequest s (F.holds files.old) (PlainRequest.Validation validated.now) before after) }
     ensures refused { OnlyGrows (M.refused maker.old) (M.refused maker.new) }
 {
     match validate_files(rt, alloc, validated, files, maker) {
@@ -156,8 +154,8 @@ fn answer_explanation<F: Files, M: Maker>(
 ) -> Result<Answer, Status>
     ensures answer { let before : Loads = record { loaded = F.loaded files.old; failed = F.failed files.old; refused = M.refused maker.old } in
         let after : Loads = record { loaded = F.loaded files.new; failed = F.failed files.new; refused = M.refused maker.new } in
-        MatchResult result (λ a. Gives (F.holds files.old) (Request.Explanation explained.now) a.status before after a.text)
-        (λ s. StopsRequest s (F.holds files.old) (Request.Explanation explained.now) before after) }
+        MatchResult result (λ a. Gives (F.holds files.old) (PlainRequest.Explanation explained.now) a.status before after a.text)
+        (λ s. StopsRequest s (F.holds files.old) (PlainRequest.Explanation explained.now) before after) }
     ensures refused { OnlyGrows (M.refused maker.old) (M.refused maker.new) }
 {
     match explain_files(alloc, explained, files, maker) {
@@ -177,18 +175,18 @@ fn verified_line(alloc: Global, blocks: u32) -> Result<Text, AllocError>
 }
 
 // The text of a verdict, if it has one.
-fn told_verdict(alloc: Global, verdict: &Verdict) -> Result<Answer, Status>
+fn told_verdict(alloc: Global, verdict: &EvidenceVerdict) -> Result<Answer, Status>
     ensures { MatchResult result (λ a. IsTold verdict.now a.status a.text) (λ s. TellsNone verdict.now s) }
 {
     match verdict {
-        Verdict::Verified { blocks } => match verified_line(alloc, *blocks) {
+        EvidenceVerdict::Verified { blocks } => match verified_line(alloc, *blocks) {
             Ok(text) => Ok(Answer {
                 status: Status::Done,
                 text,
             }),
             Err(_) => Err(Status::Memory),
         },
-        Verdict::Wrong { block } => Err(Status::BadEvidence { block: *block }),
+        EvidenceVerdict::Wrong { block } => Err(Status::BadEvidence { block: *block }),
     }
 }
 
@@ -201,8 +199,8 @@ fn answer_verification<F: Files, M: Maker>(
 ) -> Result<Answer, Status>
     ensures answer { let before : Loads = record { loaded = F.loaded files.old; failed = F.failed files.old; refused = M.refused maker.old } in
         let after : Loads = record { loaded = F.loaded files.new; failed = F.failed files.new; refused = M.refused maker.new } in
-        MatchResult result (λ a. Gives (F.holds files.old) (Request.Verification verified.now) a.status before after a.text)
-        (λ s. StopsRequest s (F.holds files.old) (Request.Verification verified.now) before after) }
+        MatchResult result (λ a. Gives (F.holds files.old) (PlainRequest.Verification verified.now) a.status before after a.text)
+        (λ s. StopsRequest s (F.holds files.old) (PlainRequest.Verification verified.now) before after) }
     ensures refused { OnlyGrows (M.refused maker.old) (M.refused maker.new) }
 {
     match verify_files(alloc, verified, files, maker) {
@@ -219,8 +217,8 @@ fn answer_following<F: Files>(
 ) -> Result<Answer, Status>
     ensures { (refused : List Refusal) → let before : Loads = record { loaded = F.loaded files.old; failed = F.failed files.old; refused = refused } in
         let after : Loads = record { loaded = F.loaded files.new; failed = F.failed files.new; refused = refused } in
-        MatchResult result (λ a. Gives (F.holds files.old) (Request.Following followed.now) a.status before after a.text)
-        (λ s. StopsRequest s (F.holds files.old) (Request.Following followed.now) before after) }
+        MatchResult result (λ a. Gives (F.holds files.old) (PlainRequest.Following followed.now) a.status before after a.text)
+        (λ s. StopsRequest s (F.holds files.old) (PlainRequest.Following followed.now) before after) }
 {
     let text = match follow_files(alloc, followed, files) {
         Ok(text) => text,
@@ -263,7 +261,7 @@ fn answer_load<R: Threads + Wait + Sync, M: Maker, G: Gate>(
 fn answer_request<R: Threads + Wait + Sync, F: Files, M: Maker, G: Gate>(
     rt: &R,
     alloc: Global,
-    request: &Request,
+    request: &PlainRequest,
     files: &mut F,
     maker: &mut M,
     gate: &G,
@@ -276,12 +274,14 @@ fn answer_request<R: Threads + Wait + Sync, F: Files, M: Maker, G: Gate>(
     ensures refused { OnlyGrows (M.refused maker.old) (M.refused maker.new) }
 {
     match request {
-        Request::Sessions(run) => answer_sessions(rt, alloc, run, files, maker, gate),
-        Request::Validation(validated) => answer_validation(rt, alloc, validated, files, maker),
-        Request::Explanation(explained) => answer_explanation(alloc, explained, files, maker),
-        Request::Verification(verified) => answer_verification(alloc, verified, files, maker),
-        Request::Following(followed) => answer_following(alloc, followed, files),
-        Request::Load(n) => answer_load(rt, alloc, *n, maker, gate),
+        PlainRequest::Sessions(run) => answer_sessions(rt, alloc, run, files, maker, gate),
+        PlainRequest::Validation(validated) => answer_validation(
+            rt, alloc, validated, files, maker,
+        ),
+        PlainRequest::Explanation(explained) => answer_explanation(alloc, explained, files, maker),
+        PlainRequest::Verification(verified) => answer_verification(alloc, verified, files, maker),
+        PlainRequest::Following(followed) => answer_following(alloc, followed, files),
+        PlainRequest::Load(n) => answer_load(rt, alloc, *n, maker, gate),
     }
 }
 
@@ -368,7 +368,7 @@ pub(crate) fn told(alloc: Global, status: Status) -> Result<Answer, Status>
 pub fn answer_to<R: Threads + Wait + Sync, F: Files, M: Maker, G: Gate>(
     rt: &R,
     alloc: Global,
-    request: &Request,
+    request: &PlainRequest,
     files: &mut F,
     maker: &mut M,
     gate: &G,

@@ -3,6 +3,8 @@
 //! `run` is the whole of it: from the words and the files to the bytes that the sink takes and the
 //! status, and what the disk of a log has then. Its contract is the promise of the program. `main` makes the real files,
 //! standard output, the disk and the rest, and hands them to `run`.
+//!
+//! Storey: commands.
 #![tactic(auto)]
 
 mod answer;

@@ -1,10 +1,11 @@
+//! What the words ask for, with a log or without.
 ghost use Rattle.std.specs.Prelude.{◌≡◌, MatchResult, map};
 ghost use Rattle.shacl_guard.specs.Requests;
 ghost use Rattle.shacl_guard.specs.Requests.{IsAsked, Unasked, UnaskedOfLog, log_request_of, request_of};
 
 use collections::Sequence;
+use command_line::{Block, Call, LimitOptions, WordsFault, read_call};
 use follow_command::FollowedFiles;
-use guard_words::{Call, Limits as Bounds, WordsFault, read_call};
 use rdf_text::Text;
 use session_files::SessionRun;
 use std::alloc::Global;
@@ -13,7 +14,7 @@ use validate_command::{ValidatedFiles, VerifiedFiles};
 
 /// What the words ask for.
 #[derive(Debug, Drop)]
-pub enum Request {
+pub enum PlainRequest {
     /// Session files are run.
     Sessions(SessionRun),
     /// A data graph is validated by a shapes graph.
@@ -48,23 +49,32 @@ pub struct LoggedRun {
 /// What the words ask for, without a log or with one.
 #[derive(Debug, Drop)]
 pub enum Asked {
-    Plain(Request),
+    Plain(PlainRequest),
     WithLog(LogRequest),
 }
 
-// The limits of the words as those of a store, in which every result blocks.
-fn limits_of(bounds: Bounds) -> Limits
-    ensures { result ≡ record { terms = bounds.terms; triples = bounds.triples; mode = BlockMode.All } }
+fn mode_of(block: Block) -> BlockMode
+    ensures { result ≡ Requests.mode_of block }
+{
+    match block {
+        Block::All => BlockMode::All,
+        Block::Violation => BlockMode::Violation,
+    }
+}
+
+// The limits of the words as those of a store.
+fn limits_of(bounds: LimitOptions) -> Limits
+    ensures { result ≡ record { terms = bounds.terms; triples = bounds.triples; mode = Requests.mode_of bounds.block } }
 {
     Limits {
         terms: bounds.terms as usize,
         triples: bounds.triples as usize,
-        mode: BlockMode::All,
+        mode: mode_of(bounds.block),
     }
 }
 
 // The run of session files, in the order of a history where one is handed in.
-fn run_of(bounds: Bounds, history: Option<Text>, files: Sequence<Text>) -> SessionRun
+fn run_of(bounds: LimitOptions, history: Option<Text>, files: Sequence<Text>) -> SessionRun
     ensures { result ≡ Requests.run_of bounds history files }
 {
     SessionRun {
@@ -75,7 +85,7 @@ fn run_of(bounds: Bounds, history: Option<Text>, files: Sequence<Text>) -> Sessi
 }
 
 // What a run of session files asks for, over the store of a log if one is named.
-fn asked_run(bounds: Bounds, log: Option<Text>, files: Sequence<Text>) -> Asked
+fn asked_run(bounds: LimitOptions, log: Option<Text>, files: Sequence<Text>) -> Asked
     ensures { result ≡ Requests.asked_in (Call.Run bounds log files) }
 {
     match log {
@@ -83,7 +93,7 @@ fn asked_run(bounds: Bounds, log: Option<Text>, files: Sequence<Text>) -> Asked
             log,
             run: run_of(bounds, None, files),
         })),
-        None => Asked::Plain(Request::Sessions(run_of(bounds, None, files))),
+        None => Asked::Plain(PlainRequest::Sessions(run_of(bounds, None, files))),
     }
 }
 
@@ -97,13 +107,13 @@ fn asked_in(call: Call) -> Asked
             limits,
             history,
             files,
-        } => Asked::Plain(Request::Sessions(run_of(limits, Some(history), files))),
+        } => Asked::Plain(PlainRequest::Sessions(run_of(limits, Some(history), files))),
         Call::CreateLog { name } => Asked::WithLog(LogRequest::Create { name }),
         Call::Follow {
             log: log_file,
             order,
             version,
-        } => Asked::Plain(Request::Following(FollowedFiles {
+        } => Asked::Plain(PlainRequest::Following(FollowedFiles {
             log_file,
             order_file: order,
             version: u64::from(version),
@@ -111,14 +121,14 @@ fn asked_in(call: Call) -> Asked
         Call::Validate {
             data: data_file,
             shapes,
-        } => Asked::Plain(Request::Validation(ValidatedFiles {
+        } => Asked::Plain(PlainRequest::Validation(ValidatedFiles {
             data_file,
             shapes_file: shapes,
         })),
         Call::Explain {
             data: data_file,
             shapes,
-        } => Asked::Plain(Request::Explanation(ValidatedFiles {
+        } => Asked::Plain(PlainRequest::Explanation(ValidatedFiles {
             data_file,
             shapes_file: shapes,
         })),
@@ -126,14 +136,14 @@ fn asked_in(call: Call) -> Asked
             data: data_file,
             shapes,
             evidence,
-        } => Asked::Plain(Request::Verification(VerifiedFiles {
+        } => Asked::Plain(PlainRequest::Verification(VerifiedFiles {
             graphs: ValidatedFiles {
                 data_file,
                 shapes_file: shapes,
             },
             evidence_file: evidence,
         })),
-        Call::Generate { numbers } => Asked::Plain(Request::Load(numbers)),
+        Call::Generate { numbers } => Asked::Plain(PlainRequest::Load(numbers)),
     }
 }
 

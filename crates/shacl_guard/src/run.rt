@@ -1,3 +1,4 @@
+//! The top call: the command of the words.
 ghost use Rattle.std.specs.Prelude.{◌≡◌, ℕ, List, MatchOption, MatchResult, None, Option, Some, map};
 ghost use Rattle.input_files.specs.Loads.{Loads};
 ghost use Rattle.outside.specs.Counts.{Rose};
@@ -10,9 +11,9 @@ ghost use Rattle.shacl_guard.specs.Requests.{IsLogWithin, IsWithin, log_request_
 use crate::Status;
 use crate::answer::{Answer, answer_to, told};
 use crate::logged::answer_with_log;
-use crate::request::{Asked, LogRequest, Request, read_asked};
+use crate::request::{Asked, LogRequest, PlainRequest, read_asked};
+use command_line::WordsFault;
 use disk::Disk;
-use guard_words::WordsFault;
 use outside::{Files, Gate, Maker, Sink, write_all};
 use std::alloc::Global;
 use std::sync::Wait;
@@ -36,7 +37,7 @@ fn finish<K: Sink>(out: &mut K, answer: Result<Answer, Status>) -> Status
 fn run_plain<R: Threads + Wait + Sync, F: Files, K: Sink, M: Maker, G: Gate>(
     rt: &R,
     alloc: Global,
-    request: &Request,
+    request: &PlainRequest,
     files: &mut F,
     out: &mut K,
     maker: &mut M,

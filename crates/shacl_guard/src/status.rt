@@ -1,8 +1,9 @@
+//! How the program ends.
 ghost use Rattle.std.specs.Prelude.{◌≡◌};
 ghost use Rattle.std.specs.Process.{exit_status};
 
+use command_line::WordsFault;
 use follow_command::FollowFault;
-use guard_words::WordsFault;
 use log_command::{CreateLogFault, LogFault};
 use session_files::RunFault;
 use std::process::ExitCode;

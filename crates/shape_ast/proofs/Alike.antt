@@ -9,7 +9,7 @@ use Rattle.regex.specs.declared.string.regex.Regex.{Regex}
 use Rattle.rdf_model.specs.declared.term.Term.{Term}
 use Rattle.rdf_model.specs.Numbers.{term_at}
 use Rattle.shape_model.specs.Patterns.{IsPatternOf}
-use Rattle.shape_ast.specs.declared.pattern.Pattern.{Pattern}
+use Rattle.shape_ast.specs.declared.pattern.CompiledPattern.{CompiledPattern}
 use Rattle.shape_ast.specs.declared.shape.Shape.{Shape}
 use Rattle.shape_ast.specs.Readings.{AreBound, HoldsOfShape, ReadShape, read_optional, read_pattern, read_shape}
 use Rattle.shape_ast.specs.Standing.{AreBuilt, HasFlagsText, IsBuilt}
@@ -45,7 +45,7 @@ module _ (terms : List Term) (n : ℕ) where
   all_same (s ∷ ss) (b ∷ bs) a = λ i. a.0.same i ∷ all_same ss bs a.1 i
 
   -- the pattern was built of the same text under the same flags
-  pattern_built : (f : Option Term) (p : Option (Pattern Term)) (b : Option (Pattern ℕ)) → IsBoundPattern terms p b
+  pattern_built : (f : Option Term) (p : Option (CompiledPattern Term)) (b : Option (CompiledPattern ℕ)) → IsBoundPattern terms p b
       → MatchOption p (Unit {0}) (λ q. (text : List ℕ) × HasFlagsText f text × IsPatternOf q.parameter text (arc_value q.regex))
       → MatchOption b (Unit {0}) (λ q. (text : List ℕ) × HasFlagsText f text × IsPatternOf (term_at terms q.parameter) text (arc_value q.regex))
   pattern_built f None None e h = tt
@@ -75,13 +75,13 @@ are_bound terms ss bs a = subst (λ (k : ℕ). All (HoldsOfShape (λ m. m < leng
 pub ok_of : {A E : Type 0} → (r : Result A E) (x : A) (P : A → Type 0) → r ≡ Ok x → IfOk r P → P x
 ok_of r x P e h = subst (λ q. IfOk q P) e h
 
-pub pattern_range : (terms : List Term) (p : Option (Pattern Term)) (b : Option (Pattern ℕ)) → IsBoundPattern terms p b → MatchOption b (Unit {0}) (λ q. q.parameter < length terms)
+pub pattern_range : (terms : List Term) (p : Option (CompiledPattern Term)) (b : Option (CompiledPattern ℕ)) → IsBoundPattern terms p b → MatchOption b (Unit {0}) (λ q. q.parameter < length terms)
 pattern_range terms None None e = tt
 pattern_range terms None (Some b) e = absurd e
 pattern_range terms (Some p) None e = absurd e
 pattern_range terms (Some p) (Some b) e = e.0
 
-pub pattern_same : (terms : List Term) (p : Option (Pattern Term)) (b : Option (Pattern ℕ)) → IsBoundPattern terms p b → read_pattern (term_at terms) b ≡ read_pattern (λ (t : Term). t) p
+pub pattern_same : (terms : List Term) (p : Option (CompiledPattern Term)) (b : Option (CompiledPattern ℕ)) → IsBoundPattern terms p b → read_pattern (term_at terms) b ≡ read_pattern (λ (t : Term). t) p
 pattern_same terms None None e = refl
 pattern_same terms None (Some b) e = absurd e
 pattern_same terms (Some p) None e = absurd e

@@ -4,7 +4,7 @@ use Rattle.std.specs.Arc.{arc_value}
 use Rattle.std.specs.List.{All}
 use Rattle.rdf_model.specs.declared.term.Term.{Term}
 use Rattle.rdf_model.specs.Numbers.{term_at}
-use Rattle.shape_ast.specs.declared.pattern.Pattern.{Pattern}
+use Rattle.shape_ast.specs.declared.pattern.CompiledPattern.{CompiledPattern}
 use Rattle.shape_ast.specs.declared.shape.Shape.{Shape}
 use Rattle.shape_ast.specs.Readings.{HoldsOfShape, read_shape}
 
@@ -14,7 +14,7 @@ pub record IsBoundList (terms items : List Term) (bound : List ℕ) : Type 0 whe
   pub same : map (term_at terms) bound ≡ map (λ t. t) items
 
 -- the pattern of the same parameter, with the same regex
-abbrev pub IsBoundPattern : List Term → Option (Pattern Term) → Option (Pattern ℕ) → Type 0
+abbrev pub IsBoundPattern : List Term → Option (CompiledPattern Term) → Option (CompiledPattern ℕ) → Type 0
 IsBoundPattern terms None None = Unit {0}
 IsBoundPattern terms None (Some b) = ⊥
 IsBoundPattern terms (Some p) None = ⊥

@@ -6,11 +6,11 @@ use Rattle.rdf_model.specs.declared.term.Term.{Term}
 use Rattle.rdf_model.specs.Numbers.{term_at}
 use Rattle.shape_model.specs.declared.component.Component.{Component}
 use Rattle.shape_model.specs.Paths.{Path as DefinedPath}
-use Rattle.compiled_paths.specs.declared.path.Path.{Path}
-use Rattle.compiled_paths.specs.PathReadings.{HasEach, IsNamed, read_path}
+use Rattle.path_ast.specs.declared.path.Path.{Path}
+use Rattle.path_ast.specs.PathReadings.{HasEach, IsNamed, read_path}
 use Rattle.shape_ast.specs.declared.constraint.Constraint.{Constraint}
 use Rattle.shape_ast.specs.declared.constraint.Constraint.TheVariants.{ByTerm, ByList, ByShape, ByShapes}
-use Rattle.shape_ast.specs.declared.pattern.Pattern.{Pattern}
+use Rattle.shape_ast.specs.declared.pattern.CompiledPattern.{CompiledPattern}
 use Rattle.shape_ast.specs.declared.shape.Shape.{Shape}
 use Rattle.shape_ast.specs.declared.target.Target.{Target}
 use Rattle.shape_ast.specs.declared.target.Target.TheVariants.{Node, Class, ImplicitClass, SubjectsOf, ObjectsOf}
@@ -55,7 +55,7 @@ abbrev pub read_optional_path : {T : Type 0} → (T → Term) → Option (Path T
 read_optional_path read None = None
 read_optional_path read (Some path) = Some (read_path read path)
 
-abbrev pub read_pattern : {T : Type 0} → (T → Term) → Option (Pattern T) → Option Term
+abbrev pub read_pattern : {T : Type 0} → (T → Term) → Option (CompiledPattern T) → Option Term
 read_pattern read None = None
 read_pattern read (Some pattern) = Some (read pattern.parameter)
 

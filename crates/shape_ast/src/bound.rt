@@ -1,5 +1,6 @@
+//! Shapes by the numbers of their terms.
 ghost use Rattle.std.specs.Prelude.{◌≡◌, IfOk};
-ghost use Rattle.compiled_paths.specs.PathReadings.{IsNamed};
+ghost use Rattle.path_ast.specs.PathReadings.{IsNamed};
 ghost use Rattle.shape_ast.specs.Readings.{AreBound, AreNamed, HoldsOfShape, named_shapes, read_shapes};
 ghost use Rattle.shape_ast.specs.Standing.{AreBuilt};
 ghost use Rattle.shape_ast.specs.Binding.{IsBoundShape};

@@ -1,3 +1,4 @@
+//! A component at a value of its parameter.
 use crate::{ListComponent, Members, ShapeComponent, ShapesComponent, TermComponent};
 use collections::Sequence;
 

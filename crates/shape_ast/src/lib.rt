@@ -3,6 +3,8 @@
 //! `specs/Standing.antt` says when `Shapes` stand for a shapes graph: what each says is, for a validation, what the
 //! triples say of its node. `bind` ensures shapes that read the same by the numbers of their terms among the names. The
 //! components of constraints, the rows of results and the paths are named here for the crates above.
+//!
+//! Storey: shapes.
 #![tactic(auto)]
 
 mod bound;
@@ -15,11 +17,11 @@ mod shape;
 mod target;
 
 pub use bound::{Bound, bind};
-pub use compiled_paths::{Path, bind_path};
 pub use component::{ListComponent, ShapeComponent, ShapesComponent, TermComponent};
 pub use constraint::Constraint;
 pub use members::Members;
-pub use pattern::Pattern;
+pub use path_ast::{Path, bind_path};
+pub use pattern::CompiledPattern;
 pub use shape::{Shape, Shapes};
 pub use shape_model::{Component, ResultRow};
 pub use target::Target;

@@ -2,13 +2,13 @@
 ghost use Rattle.std.specs.Prelude.{◌≡◌, ◌<◌, IfOk, MatchOption, length, map};
 ghost use Rattle.std.specs.List.{All};
 ghost use Rattle.rdf_model.specs.Numbers.{term_at};
-ghost use Rattle.compiled_paths.specs.PathReadings.{HasEach, IsNamed};
+ghost use Rattle.path_ast.specs.PathReadings.{HasEach, IsNamed};
 ghost use Rattle.shape_ast.specs.Readings.{HoldsOfConstraint, HoldsOfTarget, read_constraint, read_optional, read_optional_path, read_target};
 ghost use Rattle.shape_ast.specs.Binding.{IsBoundList, IsBoundPattern};
 
-use crate::{Constraint, ListComponent, Members, Pattern, Target};
+use crate::{CompiledPattern, Constraint, ListComponent, Members, Target};
 use collections::Sequence;
-use compiled_paths::{Path, bind_path};
+use path_ast::{Path, bind_path};
 use rdf_model::{Names, Term};
 use std::alloc::{AllocError, Global};
 use std::sync::Arc;
@@ -48,7 +48,7 @@ pub(crate) fn bind_terms<N: Names>(
     Ok(bound)
 }
 
-/// The same places once more.
+/// The places in a list of their own.
 pub(crate) fn copy_places(alloc: Global, places: &[usize]) -> Result<Sequence<usize>, AllocError>
     ensures { IfOk result (λ copy. copy ≡ places.now) }
 {
@@ -74,16 +74,16 @@ pub(crate) fn bind_optional_path<N: Names>(
     }
 }
 
-/// The same pattern, whose regex is shared.
+/// The pattern by the number of its parameter; its regex is shared.
 pub(crate) fn bind_pattern<N: Names>(
     names: &N,
-    pattern: &Option<Pattern<Term>>,
-) -> Result<Option<Pattern<u32>>, AllocError>
+    pattern: &Option<CompiledPattern<Term>>,
+) -> Result<Option<CompiledPattern<u32>>, AllocError>
     requires { MatchOption pattern.now (Unit {0}) (λ p. IsNamed (N.terms names.now) p.parameter) }
     ensures { IfOk result (λ bound. IsBoundPattern (N.terms names.now) pattern.now bound) }
 {
     match pattern {
-        Some(pattern) => Ok(Some(Pattern {
+        Some(pattern) => Ok(Some(CompiledPattern {
             parameter: number_of(names, &pattern.parameter),
             regex: Arc::try_clone(&pattern.regex)?,
         })),

@@ -1,6 +1,7 @@
-use crate::{Constraint, Pattern, Target};
+//! Shapes as they are compiled.
+use crate::{CompiledPattern, Constraint, Target};
 use collections::Sequence;
-use compiled_paths::Path;
+use path_ast::Path;
 use rdf_model::Term;
 
 /// A shape (SHACL section 2), over terms or numbers of terms. Other shapes are named by their places in the list of all
@@ -21,7 +22,7 @@ pub struct Shape<T: Ord> {
     pub targets: Sequence<Target<T>>,
     pub constraints: Sequence<Constraint<T>>,
     /// Its sh:pattern, if it has one (section 4.4.3).
-    pub pattern: Option<Pattern<T>>,
+    pub pattern: Option<CompiledPattern<T>>,
     /// Its sh:flags, if it has some (section 4.4.3).
     pub flags: Option<T>,
     /// The property shapes that are values of its sh:property (section 4.7.2).

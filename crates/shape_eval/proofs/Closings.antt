@@ -3,7 +3,7 @@ use Rattle.std.proofs.Common.{◌≡◌, ◌∙◌, Bool, false, ℕ, suc, ◌<�
 use Rattle.std.specs.Prelude.{◌⊎◌, ◌↔◌, IsTrue, MatchOption, Option, Some, None, slice_get}
 use Rattle.std.specs.List.{Contains}
 use Rattle.std.proofs.lemmas.List.Elements.{All-contains}
-use Rattle.compiled_paths.specs.PathReadings.{HasEach}
+use Rattle.path_ast.specs.PathReadings.{HasEach}
 use Rattle.std.specs.Ordering.{nat_cmp}
 use Rattle.std.proofs.lemmas.Option.{slice_get_within}
 use Rattle.collections.specs.Listings.{IsListing}
@@ -14,7 +14,7 @@ use Rattle.shape_model.specs.declared.result_row.ResultRow.{ResultRow}
 use Rattle.shape_model.specs.Components.{Finding, RowsOf, Surroundings}
 use Rattle.shape_model.specs.Paths as defined
 use Rattle.shape_model.specs.Readings.{Reading}
-use Rattle.compiled_paths.specs.declared.path.Path.{Path, Predicate, Inverse', Sequence', Alternative', ZeroOrMore', OneOrMore', ZeroOrOne'}
+use Rattle.path_ast.specs.declared.path.Path.{Path, Predicate, Inverse', Sequence', Alternative', ZeroOrMore', OneOrMore', ZeroOrOne'}
 use Rattle.component_rows.specs.Listed.{with_allowed}
 use Rattle.component_rows.specs.Nodes.{AreNodes, HasNode}
 use Rattle.component_rows.proofs.Collecting.{mapped_from, mapped_to}

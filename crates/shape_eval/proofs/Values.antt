@@ -10,8 +10,8 @@ use Rattle.rdf_model.specs.Numbers.{term_at, graph_of}
 use Rattle.shape_model.specs.Paths.{Path as DefinedPath}
 use Rattle.shape_model.specs.Readings.{Reading, SameReading, ValueNode}
 use Rattle.shape_model.specs.Walks.{Walk}
-use Rattle.compiled_paths.specs.declared.path.Path.{Path}
-use Rattle.compiled_paths.specs.PathReadings.{path_of}
+use Rattle.path_ast.specs.declared.path.Path.{Path}
+use Rattle.path_ast.specs.PathReadings.{path_of}
 use Rattle.path_eval.specs.Naming.{AreValues}
 use Rattle.component_rows.proofs.Collecting.{mapped_from, mapped_to}
 use Rattle.component_rows.specs.Nodes.{HasNode}

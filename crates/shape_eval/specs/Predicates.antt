@@ -1,7 +1,7 @@
 -- The predicates that a closed shape allows (SHACL 4.8.1), by number.
 use Rattle.std.specs.Prelude.{◌≡◌, ℕ, List, Some, slice_get}
 use Rattle.std.specs.List.{Contains}
-use Rattle.compiled_paths.specs.declared.path.Path.{Predicate}
+use Rattle.path_ast.specs.declared.path.Path.{Predicate}
 use Rattle.shape_ast.specs.declared.shape.Shape.{Shape}
 
 -- the predicate is the path of the shape at the place

@@ -7,8 +7,8 @@ use Rattle.rdf_model.specs.Numbers.{term_at, graph_of, IsNumbering, AreNumbered}
 use Rattle.shape_model.specs.Paths.{Path as DefinedPath}
 use Rattle.shape_model.specs.Walks.{Walk}
 use Rattle.component_rows.specs.Nodes.{AreNodes, HasNode}
-use Rattle.compiled_paths.specs.declared.path.Path.{Path}
-use Rattle.compiled_paths.specs.PathReadings.{IsBoundOptional}
+use Rattle.path_ast.specs.declared.path.Path.{Path}
+use Rattle.path_ast.specs.PathReadings.{IsBoundOptional}
 use Rattle.shape_ast.specs.Readings.{read_optional_path}
 
 -- the focus node itself without a path, else the nodes to which it walks along the path

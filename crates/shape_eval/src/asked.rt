@@ -1,3 +1,4 @@
+//! Which shapes the constraints of a shape ask.
 ghost use Rattle.std.specs.Prelude.{◌≡◌, ◌⊎◌, ◌↔◌, IfOk, OnOk};
 ghost use Rattle.std.specs.List.{Contains};
 ghost use Rattle.shape_eval.specs.Told.{Asks, AsksSome, CountAsks, places_in};

@@ -1,3 +1,4 @@
+//! The results of components whose parameter is a shape, or a list of shapes.
 ghost use Rattle.std.specs.Prelude.{◌≡◌, ◌<◌, IfOk, length};
 ghost use Rattle.std.specs.List.{All, Contains};
 ghost use Rattle.rdf_model.specs.Numbers.{term_at};

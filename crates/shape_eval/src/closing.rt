@@ -1,12 +1,13 @@
+//! The predicates that a closed shape allows.
 ghost use Rattle.std.specs.Prelude.{◌≡◌, ◌<◌, ◌⊎◌, ◌↔◌, IfOk, OnOk, Some, length};
 ghost use Rattle.std.specs.List.{All, Contains};
 ghost use Rattle.std.specs.Ordering.{nat_cmp};
 ghost use Rattle.collections.specs.Listings.{IsListing};
-ghost use Rattle.compiled_paths.specs.declared.path.Path.{Predicate};
+ghost use Rattle.path_ast.specs.declared.path.Path.{Predicate};
 ghost use Rattle.shape_eval.specs.Predicates.{IsPathAtSome};
 
 use collections::sorted_once;
-use compiled_paths::Path;
+use path_ast::Path;
 use shape_ast::Shape;
 use std::alloc::{AllocError, Global};
 

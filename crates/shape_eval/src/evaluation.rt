@@ -52,7 +52,7 @@ fn answers_at<R: Triples, N: Names>(
     Ok(answers)
 }
 
-// The same for each of the shapes at the places.
+// Of each of the shapes at the places, whether each value node conforms to it.
 #[cycle(evaluation)]
 fn told_of_each<R: Triples, N: Names>(
     evaluation: &Evaluation<'_, R, N>,

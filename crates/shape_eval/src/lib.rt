@@ -6,6 +6,8 @@
 //! value nodes conform to another shape is found by the results of that shape at each of them. The footprint takes exactly the
 //! looks of the shape at the focus node. A `Permit` allows one evaluation, and `permit` counts it among the `Steps`, which
 //! take no memory.
+//!
+//! Storey: validation.
 #![tactic(auto)]
 
 mod asked;

@@ -12,9 +12,10 @@ ghost use Rattle.shape_ast.specs.Components.{term_component};
 ghost use Rattle.shape_eval.specs.Looks.{AreInstanceAnswers, ComponentReads, ReadsAtEach};
 
 use crate::context::Evaluation;
-use component_rows::{Site, is_true};
+use component_rows::Site;
 use rdf_model::{Footprint, Look, Names, Triples};
 use shape_ast::TermComponent;
+use shape_model::is_true;
 use std::alloc::AllocError;
 
 // Whether each node is an instance of the class that has the number. The looks of the class path are added to the footprint.

@@ -1,3 +1,4 @@
+//! Evaluations counted.
 ghost use Rattle.std.specs.Prelude.{◌≡◌, ◌+◌, ◌<◌};
 
 use crate::rights;

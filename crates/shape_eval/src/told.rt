@@ -1,3 +1,4 @@
+//! Whether value nodes conform to shapes, as it was told.
 ghost use Rattle.std.specs.Prelude.{◌≡◌, ◌<◌, ◌∷◌, [], IfOk, map, length};
 ghost use Rattle.std.specs.List.{All};
 ghost use Rattle.shape_eval.specs.Told.{answers_of, node_at};

@@ -1,3 +1,4 @@
+//! The value nodes of a shape at a focus node.
 ghost use Rattle.std.specs.Prelude.{◌≡◌, IfOk, OnOk};
 ghost use Rattle.std.specs.Ordering.{nat_cmp};
 ghost use Rattle.collections.specs.Listings.{IsListing, Keeps};
@@ -7,7 +8,7 @@ ghost use Rattle.shape_ast.specs.Readings.{read_optional_path};
 ghost use Rattle.shape_eval.specs.Looks.{OptionalReads};
 ghost use Rattle.shape_eval.specs.ValueNodes.{AreValueNodes, AtNumbers};
 
-use compiled_paths::Path;
+use path_ast::Path;
 use path_eval::values;
 use rdf_model::{Footprint, Triples};
 use std::alloc::{AllocError, Global};

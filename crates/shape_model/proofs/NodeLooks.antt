@@ -6,7 +6,7 @@ use Rattle.rdf_model.specs.declared.triple.Triple.{Triple}
 use Rattle.rdf_model.specs.declared.look.Look.{Look}
 use Rattle.shape_model.specs.Instances.{class_path}
 use Rattle.shape_model.specs.Laws.{ReadsLaw}
-use Rattle.shape_model.specs.Looks.{ByIn, ByOut, ByOutAny, LookRow, PathLook, SomeLook, ThroughLook, look_at, turn, turn_all}
+use Rattle.shape_model.specs.Looks.{ByIn, ByOut, ByOutAny, LookRow, PathLook, SomeLook, ThroughLook, look_at, directed, directed_all}
 use Rattle.shape_model.specs.Paths.{Also, Alternative, Inverse, Last, OneOrMore, Path, Paths, Predicate, Sequence, ZeroOrMore, ZeroOrOne}
 use Rattle.shape_model.specs.Readings.{Reading, ValueNode, reading}
 use Rattle.shape_model.specs.NodeLooks.{IsLook, PathReads, ShapeReads, SomeReads, ThroughReads}
@@ -28,33 +28,33 @@ module _ (g : List Triple) (f : Term) (look : Look Term) where
   weaker P Q k i = (i.0, k i.0 i.1, i.2)
 
   mutual
-    pub path_row : (p : Path) (turned : Bool) (q : List Path) (x : Term) → Walks g q f x → PathReads g turned p x look → IsLook g (PathLook turned p q) f look
+    pub path_row : (p : Path) (reversed : Bool) (q : List Path) (x : Term) → Walks g q f x → PathReads g reversed p x look → IsLook g (PathLook reversed p q) f look
     path_row (Predicate p) false q x w i = (record { way = q; kind = ByOut p }, refl, (x, w, i))
     path_row (Predicate p) true q x w i = (record { way = q; kind = ByIn p }, refl, (x, w, i))
     path_row (Inverse p) false q x w i = path_row p true q x w i
     path_row (Inverse p) true q x w i = path_row p false q x w i
-    path_row (Sequence ps) turned q x w i = through_row ps turned q x w i
-    path_row (Alternative ps) turned q x w i = some_row ps turned q x w i
-    path_row (ZeroOrMore p) turned q x w i = path_row p turned (q ++ ZeroOrMore (turn turned p) ∷ []) i.0 (way_more g q (ZeroOrMore (turn turned p)) f x i.0 w i.1) i.2
-    path_row (OneOrMore p) turned q x w i = path_row p turned (q ++ ZeroOrMore (turn turned p) ∷ []) i.0 (way_more g q (ZeroOrMore (turn turned p)) f x i.0 w i.1) i.2
-    path_row (ZeroOrOne p) turned q x w i = path_row p turned q x w i
+    path_row (Sequence ps) reversed q x w i = through_row ps reversed q x w i
+    path_row (Alternative ps) reversed q x w i = some_row ps reversed q x w i
+    path_row (ZeroOrMore p) reversed q x w i = path_row p reversed (q ++ ZeroOrMore (directed reversed p) ∷ []) i.0 (way_more g q (ZeroOrMore (directed reversed p)) f x i.0 w i.1) i.2
+    path_row (OneOrMore p) reversed q x w i = path_row p reversed (q ++ ZeroOrMore (directed reversed p) ∷ []) i.0 (way_more g q (ZeroOrMore (directed reversed p)) f x i.0 w i.1) i.2
+    path_row (ZeroOrOne p) reversed q x w i = path_row p reversed q x w i
 
-    pub through_row : (ps : Paths) (turned : Bool) (q : List Path) (x : Term) → Walks g q f x → ThroughReads g turned ps x look → IsLook g (ThroughLook turned ps q) f look
-    through_row (Last p) turned q x w i = path_row p turned q x w i
+    pub through_row : (ps : Paths) (reversed : Bool) (q : List Path) (x : Term) → Walks g q f x → ThroughReads g reversed ps x look → IsLook g (ThroughLook reversed ps q) f look
+    through_row (Last p) reversed q x w i = path_row p reversed q x w i
     through_row (Also p ps) false q x w i = elim i [
       | inl j ↦ weaker (PathLook false p q) (ThroughLook false (Also p ps) q) (λ row k. inl k) (path_row p false q x w j)
       | inr j ↦ weaker (ThroughLook false ps (q ++ p ∷ [])) (ThroughLook false (Also p ps) q) (λ row k. inr k) (through_row ps false (q ++ p ∷ []) j.0 (way_more g q p f x j.0 w j.1) j.2)
     ]
     through_row (Also p ps) true q x w i = elim i [
       | inl j ↦ weaker (ThroughLook true ps q) (ThroughLook true (Also p ps) q) (λ row k. inl k) (through_row ps true q x w j)
-      | inr j ↦ weaker (PathLook true p (q ++ turn_all true ps ∷ [])) (ThroughLook true (Also p ps) q) (λ row k. inr k) (path_row p true (q ++ turn_all true ps ∷ []) j.0 (way_more g q (turn_all true ps) f x j.0 w j.1) j.2)
+      | inr j ↦ weaker (PathLook true p (q ++ directed_all true ps ∷ [])) (ThroughLook true (Also p ps) q) (λ row k. inr k) (path_row p true (q ++ directed_all true ps ∷ []) j.0 (way_more g q (directed_all true ps) f x j.0 w j.1) j.2)
     ]
 
-    pub some_row : (ps : Paths) (turned : Bool) (q : List Path) (x : Term) → Walks g q f x → SomeReads g turned ps x look → IsLook g (SomeLook turned ps q) f look
-    some_row (Last p) turned q x w i = path_row p turned q x w i
-    some_row (Also p ps) turned q x w i = elim i [
-      | inl j ↦ weaker (PathLook turned p q) (SomeLook turned (Also p ps) q) (λ row k. inl k) (path_row p turned q x w j)
-      | inr j ↦ weaker (SomeLook turned ps q) (SomeLook turned (Also p ps) q) (λ row k. inr k) (some_row ps turned q x w j)
+    pub some_row : (ps : Paths) (reversed : Bool) (q : List Path) (x : Term) → Walks g q f x → SomeReads g reversed ps x look → IsLook g (SomeLook reversed ps q) f look
+    some_row (Last p) reversed q x w i = path_row p reversed q x w i
+    some_row (Also p ps) reversed q x w i = elim i [
+      | inl j ↦ weaker (PathLook reversed p q) (SomeLook reversed (Also p ps) q) (λ row k. inl k) (path_row p reversed q x w j)
+      | inr j ↦ weaker (SomeLook reversed ps q) (SomeLook reversed (Also p ps) q) (λ row k. inr k) (some_row ps reversed q x w j)
     ]
 
   -- and back
@@ -62,33 +62,33 @@ module _ (g : List Triple) (f : Term) (look : Look Term) where
   step q p P Q k i = let l = way_last g q p f i.0 i.1 in (l.0, l.1, k l.0 i.0 l.2 i.2)
 
   mutual
-    pub row_path : (p : Path) (turned : Bool) (q : List Path) → IsLook g (PathLook turned p q) f look → (x : Term) × Walks g q f x × PathReads g turned p x look
+    pub row_path : (p : Path) (reversed : Bool) (q : List Path) → IsLook g (PathLook reversed p q) f look → (x : Term) × Walks g q f x × PathReads g reversed p x look
     row_path (Predicate p) false q i = one_row (record { way = q; kind = ByOut p }) i
     row_path (Predicate p) true q i = one_row (record { way = q; kind = ByIn p }) i
     row_path (Inverse p) false q i = row_path p true q i
     row_path (Inverse p) true q i = row_path p false q i
-    row_path (Sequence ps) turned q i = row_through ps turned q i
-    row_path (Alternative ps) turned q i = row_some ps turned q i
-    row_path (ZeroOrMore p) turned q i = step q (ZeroOrMore (turn turned p)) (λ z. PathReads g turned p z look) (λ x. PathReads g turned (ZeroOrMore p) x look) (λ x z w j. (z, w, j)) (row_path p turned (q ++ ZeroOrMore (turn turned p) ∷ []) i)
-    row_path (OneOrMore p) turned q i = step q (ZeroOrMore (turn turned p)) (λ z. PathReads g turned p z look) (λ x. PathReads g turned (OneOrMore p) x look) (λ x z w j. (z, w, j)) (row_path p turned (q ++ ZeroOrMore (turn turned p) ∷ []) i)
-    row_path (ZeroOrOne p) turned q i = row_path p turned q i
+    row_path (Sequence ps) reversed q i = row_through ps reversed q i
+    row_path (Alternative ps) reversed q i = row_some ps reversed q i
+    row_path (ZeroOrMore p) reversed q i = step q (ZeroOrMore (directed reversed p)) (λ z. PathReads g reversed p z look) (λ x. PathReads g reversed (ZeroOrMore p) x look) (λ x z w j. (z, w, j)) (row_path p reversed (q ++ ZeroOrMore (directed reversed p) ∷ []) i)
+    row_path (OneOrMore p) reversed q i = step q (ZeroOrMore (directed reversed p)) (λ z. PathReads g reversed p z look) (λ x. PathReads g reversed (OneOrMore p) x look) (λ x z w j. (z, w, j)) (row_path p reversed (q ++ ZeroOrMore (directed reversed p) ∷ []) i)
+    row_path (ZeroOrOne p) reversed q i = row_path p reversed q i
 
-    pub row_through : (ps : Paths) (turned : Bool) (q : List Path) → IsLook g (ThroughLook turned ps q) f look → (x : Term) × Walks g q f x × ThroughReads g turned ps x look
-    row_through (Last p) turned q i = row_path p turned q i
+    pub row_through : (ps : Paths) (reversed : Bool) (q : List Path) → IsLook g (ThroughLook reversed ps q) f look → (x : Term) × Walks g q f x × ThroughReads g reversed ps x look
+    row_through (Last p) reversed q i = row_path p reversed q i
     row_through (Also p ps) false q i = elim i.1 [
       | inl j ↦ let k = row_path p false q (i.0, j, i.2) in (k.0, k.1, inl k.2)
       | inr j ↦ step q p (λ z. ThroughReads g false ps z look) (λ x. ThroughReads g false (Also p ps) x look) (λ x z w k. inr (z, w, k)) (row_through ps false (q ++ p ∷ []) (i.0, j, i.2))
     ]
     row_through (Also p ps) true q i = elim i.1 [
       | inl j ↦ let k = row_through ps true q (i.0, j, i.2) in (k.0, k.1, inl k.2)
-      | inr j ↦ step q (turn_all true ps) (λ z. PathReads g true p z look) (λ x. ThroughReads g true (Also p ps) x look) (λ x z w k. inr (z, w, k)) (row_path p true (q ++ turn_all true ps ∷ []) (i.0, j, i.2))
+      | inr j ↦ step q (directed_all true ps) (λ z. PathReads g true p z look) (λ x. ThroughReads g true (Also p ps) x look) (λ x z w k. inr (z, w, k)) (row_path p true (q ++ directed_all true ps ∷ []) (i.0, j, i.2))
     ]
 
-    pub row_some : (ps : Paths) (turned : Bool) (q : List Path) → IsLook g (SomeLook turned ps q) f look → (x : Term) × Walks g q f x × SomeReads g turned ps x look
-    row_some (Last p) turned q i = row_path p turned q i
-    row_some (Also p ps) turned q i = elim i.1 [
-      | inl j ↦ let k = row_path p turned q (i.0, j, i.2) in (k.0, k.1, inl k.2)
-      | inr j ↦ let k = row_some ps turned q (i.0, j, i.2) in (k.0, k.1, inr k.2)
+    pub row_some : (ps : Paths) (reversed : Bool) (q : List Path) → IsLook g (SomeLook reversed ps q) f look → (x : Term) × Walks g q f x × SomeReads g reversed ps x look
+    row_some (Last p) reversed q i = row_path p reversed q i
+    row_some (Also p ps) reversed q i = elim i.1 [
+      | inl j ↦ let k = row_path p reversed q (i.0, j, i.2) in (k.0, k.1, inl k.2)
+      | inr j ↦ let k = row_some ps reversed q (i.0, j, i.2) in (k.0, k.1, inr k.2)
     ]
 
   -- the end of the way to a value node is one

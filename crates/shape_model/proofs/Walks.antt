@@ -5,7 +5,7 @@ use Rattle.rdf_model.specs.declared.term.Term.{Term}
 use Rattle.rdf_model.specs.declared.triple.Triple.{Triple}
 use Rattle.shape_model.specs.Agreement.{AgreesAt}
 use Rattle.shape_model.specs.Laws.{WalkLaw}
-use Rattle.shape_model.specs.Looks.{ByIn, ByOut, LookRow, PathLook, SomeLook, ThroughLook, turn, turn_all}
+use Rattle.shape_model.specs.Looks.{ByIn, ByOut, LookRow, PathLook, SomeLook, ThroughLook, directed, directed_all}
 use Rattle.shape_model.specs.Paths.{Also, Alternative, Inverse, Last, OneOrMore, Path, Paths, Predicate, Sequence, ZeroOrMore, ZeroOrOne}
 use Rattle.shape_model.specs.Walks.{Chain, Walk, WalkThrough, Walks}
 
@@ -22,11 +22,11 @@ not_empty : (zs : List Term) (w : Term) → (zs ++ w ∷ []) ≢ []
 not_empty [] w e = cc
 not_empty (z ∷ zs) w e = cc
 
--- a chain turned round
-turn_chain : (R : Term → Term → Type 0) (zs : List Term) (x y : Term) → Chain R x zs y → (ws : List Term) × (zs ≢ [] → ws ≢ []) × Chain (λ a b. R b a) y ws x
-turn_chain R [] x y c = ([], λ e. e, sym c)
-turn_chain R (z ∷ zs) x y c =
-    let t : (ws : List Term) × (zs ≢ [] → ws ≢ []) × Chain (λ a b. R b a) y ws z = turn_chain R zs z y c.1 in
+-- a chain reversed
+reversed_chain : (R : Term → Term → Type 0) (zs : List Term) (x y : Term) → Chain R x zs y → (ws : List Term) × (zs ≢ [] → ws ≢ []) × Chain (λ a b. R b a) y ws x
+reversed_chain R [] x y c = ([], λ e. e, sym c)
+reversed_chain R (z ∷ zs) x y c =
+    let t : (ws : List Term) × (zs ≢ [] → ws ≢ []) × Chain (λ a b. R b a) y ws z = reversed_chain R zs z y c.1 in
     (t.0 ++ x ∷ [], λ _. not_empty t.0 x, chain_more (λ a b. R b a) t.0 y z x t.2 c.0)
 
 -- a repetition whose inner walks are the same at each node that it comes to
@@ -41,7 +41,7 @@ chain_same g h p x same (a ∷ zs) z y w =
 
 module _ (g h : List Triple) (f : Term) where
   mutual
-    pub walk_same : (p : Path) (turned : Bool) (q : List Path) (x : Term) → Walks g q f x → ((row : LookRow) → PathLook turned p q row → AgreesAt g h f row) → (y : Term) → Walk g (turn turned p) x y ↔ Walk h (turn turned p) x y
+    pub walk_same : (p : Path) (reversed : Bool) (q : List Path) (x : Term) → Walks g q f x → ((row : LookRow) → PathLook reversed p q row → AgreesAt g h f row) → (y : Term) → Walk g (directed reversed p) x y ↔ Walk h (directed reversed p) x y
     walk_same (Predicate p) false q x w a y = a (record { way = q; kind = ByOut p }) refl x w (record { subject = x; predicate = p; object = y }) (refl, refl)
     walk_same (Predicate p) true q x w a y = a (record { way = q; kind = ByIn p }) refl x w (record { subject = y; predicate = p; object = x }) (refl, refl)
     walk_same (Inverse p) false q x w a y = walk_same p true q x w a y
@@ -55,16 +55,16 @@ module _ (g h : List Triple) (f : Term) where
         (λ c. (c.0, (same c.0).0 c.1), λ c. (c.0, (same c.0).1 c.1))
     walk_same (ZeroOrMore p) true q x w a y =
         let same = λ (zs : List Term). chain_same g h (Inverse p) x (λ z s. walk_same p true (q ++ ZeroOrMore (Inverse p) ∷ []) z (way_more g q (ZeroOrMore (Inverse p)) f x z w s) a) zs x y ([], refl) in (
-          λ c. let t = turn_chain (Walk g p) c.0 y x c.1 in let u = turn_chain (Walk h (Inverse p)) t.0 x y ((same t.0).0 t.2) in (u.0, u.2),
-          λ c. let t = turn_chain (Walk h p) c.0 y x c.1 in let u = turn_chain (Walk g (Inverse p)) t.0 x y ((same t.0).1 t.2) in (u.0, u.2),
+          λ c. let t = reversed_chain (Walk g p) c.0 y x c.1 in let u = reversed_chain (Walk h (Inverse p)) t.0 x y ((same t.0).0 t.2) in (u.0, u.2),
+          λ c. let t = reversed_chain (Walk h p) c.0 y x c.1 in let u = reversed_chain (Walk g (Inverse p)) t.0 x y ((same t.0).1 t.2) in (u.0, u.2),
         )
     walk_same (OneOrMore p) false q x w a y =
         let same = λ (zs : List Term). chain_same g h p x (λ z s. walk_same p false (q ++ ZeroOrMore p ∷ []) z (way_more g q (ZeroOrMore p) f x z w s) a) zs x y ([], refl) in
         (λ c. (c.0, c.1, (same c.0).0 c.2), λ c. (c.0, c.1, (same c.0).1 c.2))
     walk_same (OneOrMore p) true q x w a y =
         let same = λ (zs : List Term). chain_same g h (Inverse p) x (λ z s. walk_same p true (q ++ ZeroOrMore (Inverse p) ∷ []) z (way_more g q (ZeroOrMore (Inverse p)) f x z w s) a) zs x y ([], refl) in (
-          λ c. let t = turn_chain (Walk g p) c.0 y x c.2 in let u = turn_chain (Walk h (Inverse p)) t.0 x y ((same t.0).0 t.2) in (u.0, u.1 (t.1 c.1), u.2),
-          λ c. let t = turn_chain (Walk h p) c.0 y x c.2 in let u = turn_chain (Walk g (Inverse p)) t.0 x y ((same t.0).1 t.2) in (u.0, u.1 (t.1 c.1), u.2),
+          λ c. let t = reversed_chain (Walk g p) c.0 y x c.2 in let u = reversed_chain (Walk h (Inverse p)) t.0 x y ((same t.0).0 t.2) in (u.0, u.1 (t.1 c.1), u.2),
+          λ c. let t = reversed_chain (Walk h p) c.0 y x c.2 in let u = reversed_chain (Walk g (Inverse p)) t.0 x y ((same t.0).1 t.2) in (u.0, u.1 (t.1 c.1), u.2),
         )
     walk_same (ZeroOrOne p) false q x w a y =
         let s = walk_same p false q x w a y in
@@ -73,7 +73,7 @@ module _ (g h : List Triple) (f : Term) where
         let s = walk_same p true q x w a y in
         (elim [ inl e ↦ inl e | inr c ↦ inr (s.0 c) ], elim [ inl e ↦ inl e | inr c ↦ inr (s.1 c) ])
 
-    pub through_same : (ps : Paths) (turned : Bool) (q : List Path) (x : Term) → Walks g q f x → ((row : LookRow) → ThroughLook turned ps q row → AgreesAt g h f row) → (y : Term) → Walk g (turn_all turned ps) x y ↔ Walk h (turn_all turned ps) x y
+    pub through_same : (ps : Paths) (reversed : Bool) (q : List Path) (x : Term) → Walks g q f x → ((row : LookRow) → ThroughLook reversed ps q row → AgreesAt g h f row) → (y : Term) → Walk g (directed_all reversed ps) x y ↔ Walk h (directed_all reversed ps) x y
     through_same (Last p) false q x w a y = walk_same p false q x w a y
     through_same (Last p) true q x w a y = walk_same p true q x w a y
     through_same (Also p ps) false q x w a y =
@@ -89,7 +89,7 @@ module _ (g h : List Triple) (f : Term) where
           λ c. let s : WalkThrough g ps c.0 x = (head c.0).1 c.2 in (c.0, (tail c.0 s).1 c.1, s),
         )
 
-    pub some_same : (ps : Paths) (turned : Bool) (q : List Path) (x : Term) → Walks g q f x → ((row : LookRow) → SomeLook turned ps q row → AgreesAt g h f row) → (y : Term) → Walk g (turn turned (Alternative ps)) x y ↔ Walk h (turn turned (Alternative ps)) x y
+    pub some_same : (ps : Paths) (reversed : Bool) (q : List Path) (x : Term) → Walks g q f x → ((row : LookRow) → SomeLook reversed ps q row → AgreesAt g h f row) → (y : Term) → Walk g (directed reversed (Alternative ps)) x y ↔ Walk h (directed reversed (Alternative ps)) x y
     some_same (Last p) false q x w a y = walk_same p false q x w a y
     some_same (Last p) true q x w a y = walk_same p true q x w a y
     some_same (Also p ps) false q x w a y =

@@ -30,37 +30,37 @@ pub record LookRow : Type 0 where
   pub kind : LookKind
 
 -- a path, or the way back along it
-abbrev pub turn : Bool → Path → Path
-turn false p = p
-turn true p = Inverse p
+abbrev pub directed : Bool → Path → Path
+directed false p = p
+directed true p = Inverse p
 
-abbrev pub turn_all : Bool → Paths → Path
-turn_all false ps = Sequence ps
-turn_all true ps = Inverse (Sequence ps)
+abbrev pub directed_all : Bool → Paths → Path
+directed_all false ps = Sequence ps
+directed_all true ps = Inverse (Sequence ps)
 
--- The rows of a path that is walked (backwards, where turned) after the way q. A predicate has one row, Out, or In
+-- The rows of a path that is walked (backwards, where reversed) after the way q. A predicate has one row, Out, or In
 -- backwards; a later member of a sequence stands after those before it, a repeated path after any number of turns.
 abbrev mutual
   pub PathLook : Bool → Path → List Path → LookRow → Type 0
   PathLook false (Predicate p) q row = row ≡ record { way = q; kind = ByOut p }
   PathLook true (Predicate p) q row = row ≡ record { way = q; kind = ByIn p }
-  PathLook turned (Inverse p) q row = PathLook (not turned) p q row
-  PathLook turned (Sequence ps) q row = ThroughLook turned ps q row
-  PathLook turned (Alternative ps) q row = SomeLook turned ps q row
-  PathLook turned (ZeroOrMore p) q row = PathLook turned p (q ++ ZeroOrMore (turn turned p) ∷ []) row
-  PathLook turned (OneOrMore p) q row = PathLook turned p (q ++ ZeroOrMore (turn turned p) ∷ []) row
-  PathLook turned (ZeroOrOne p) q row = PathLook turned p q row
+  PathLook reversed (Inverse p) q row = PathLook (not reversed) p q row
+  PathLook reversed (Sequence ps) q row = ThroughLook reversed ps q row
+  PathLook reversed (Alternative ps) q row = SomeLook reversed ps q row
+  PathLook reversed (ZeroOrMore p) q row = PathLook reversed p (q ++ ZeroOrMore (directed reversed p) ∷ []) row
+  PathLook reversed (OneOrMore p) q row = PathLook reversed p (q ++ ZeroOrMore (directed reversed p) ∷ []) row
+  PathLook reversed (ZeroOrOne p) q row = PathLook reversed p q row
 
   -- one member after another; backwards from the last to the first
   pub ThroughLook : Bool → Paths → List Path → LookRow → Type 0
-  ThroughLook turned (Last p) q row = PathLook turned p q row
+  ThroughLook reversed (Last p) q row = PathLook reversed p q row
   ThroughLook false (Also p ps) q row = PathLook false p q row ⊎ ThroughLook false ps (q ++ p ∷ []) row
-  ThroughLook true (Also p ps) q row = ThroughLook true ps q row ⊎ PathLook true p (q ++ turn_all true ps ∷ []) row
+  ThroughLook true (Also p ps) q row = ThroughLook true ps q row ⊎ PathLook true p (q ++ directed_all true ps ∷ []) row
 
   -- each member
   pub SomeLook : Bool → Paths → List Path → LookRow → Type 0
-  SomeLook turned (Last p) q row = PathLook turned p q row
-  SomeLook turned (Also p ps) q row = PathLook turned p q row ⊎ SomeLook turned ps q row
+  SomeLook reversed (Last p) q row = PathLook reversed p q row
+  SomeLook reversed (Also p ps) q row = PathLook reversed p q row ⊎ SomeLook reversed ps q row
 
 -- the way back along a way, and the rows of walking it
 abbrev pub back : List Path → List Path

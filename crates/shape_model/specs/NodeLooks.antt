@@ -9,30 +9,30 @@ use Rattle.shape_model.specs.Paths.{Path, Predicate, Inverse, Sequence, Alternat
 use Rattle.shape_model.specs.Walks.{Walk, Walks}
 use Rattle.shape_model.specs.Instances.{class_path}
 use Rattle.shape_model.specs.Readings.{Reading, ValueNode, IsDeactivated, IsCompared, IsClosed, Refers}
-use Rattle.shape_model.specs.Looks.{LookRow, look_at, turn, turn_all}
+use Rattle.shape_model.specs.Looks.{LookRow, look_at, directed, directed_all}
 
--- the look is made in walking the path from x, backwards where turned
+-- the look is made in walking the path from x, backwards where reversed
 abbrev mutual
   pub PathReads : List Triple → Bool → Path → Term → Look Term → Type 0
   PathReads g false (Predicate p) x look = look ≡ Out x p
   PathReads g true (Predicate p) x look = look ≡ In p x
-  PathReads g turned (Inverse p) x look = PathReads g (not turned) p x look
-  PathReads g turned (Sequence ps) x look = ThroughReads g turned ps x look
-  PathReads g turned (Alternative ps) x look = SomeReads g turned ps x look
-  PathReads g turned (ZeroOrMore p) x look = (z : Term) × Walk g (ZeroOrMore (turn turned p)) x z × PathReads g turned p z look
-  PathReads g turned (OneOrMore p) x look = (z : Term) × Walk g (ZeroOrMore (turn turned p)) x z × PathReads g turned p z look
-  PathReads g turned (ZeroOrOne p) x look = PathReads g turned p x look
+  PathReads g reversed (Inverse p) x look = PathReads g (not reversed) p x look
+  PathReads g reversed (Sequence ps) x look = ThroughReads g reversed ps x look
+  PathReads g reversed (Alternative ps) x look = SomeReads g reversed ps x look
+  PathReads g reversed (ZeroOrMore p) x look = (z : Term) × Walk g (ZeroOrMore (directed reversed p)) x z × PathReads g reversed p z look
+  PathReads g reversed (OneOrMore p) x look = (z : Term) × Walk g (ZeroOrMore (directed reversed p)) x z × PathReads g reversed p z look
+  PathReads g reversed (ZeroOrOne p) x look = PathReads g reversed p x look
 
   -- one member after another; backwards from the last to the first
   pub ThroughReads : List Triple → Bool → Paths → Term → Look Term → Type 0
-  ThroughReads g turned (Last p) x look = PathReads g turned p x look
+  ThroughReads g reversed (Last p) x look = PathReads g reversed p x look
   ThroughReads g false (Also p ps) x look = PathReads g false p x look ⊎ ((z : Term) × Walk g p x z × ThroughReads g false ps z look)
-  ThroughReads g true (Also p ps) x look = ThroughReads g true ps x look ⊎ ((z : Term) × Walk g (turn_all true ps) x z × PathReads g true p z look)
+  ThroughReads g true (Also p ps) x look = ThroughReads g true ps x look ⊎ ((z : Term) × Walk g (directed_all true ps) x z × PathReads g true p z look)
 
   -- each member
   pub SomeReads : List Triple → Bool → Paths → Term → Look Term → Type 0
-  SomeReads g turned (Last p) x look = PathReads g turned p x look
-  SomeReads g turned (Also p ps) x look = PathReads g turned p x look ⊎ SomeReads g turned ps x look
+  SomeReads g reversed (Last p) x look = PathReads g reversed p x look
+  SomeReads g reversed (Also p ps) x look = PathReads g reversed p x look ⊎ SomeReads g reversed ps x look
 
 -- the look is made in evaluating a shape at x; `reads` gives those of the shapes that it refers to
 abbrev pub ShapeReadsWith : (Term → Term → Look Term → Type 0) → List Triple → Reading → Term → Look Term → Type 0

@@ -1,3 +1,4 @@
+//! The constraint components of SHACL Core.
 ghost use Rattle.std.specs.Prelude.{◌≡◌};
 ghost use Rattle.shape_model.specs.Rows.{component_number};
 

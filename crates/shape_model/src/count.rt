@@ -1,10 +1,10 @@
+//! Counts that literals say.
 ghost use Rattle.std.specs.Prelude.{◌≡◌, pos, int_lt};
 ghost use Rattle.shape_model.specs.TermTests;
 
 use literal_order::{Lexical, LiteralValue};
 use rdf_model::Term;
-
-const XSD_INTEGER: &str = "http://www.w3.org/2001/XMLSchema#integer";
+use vocabulary::XSD_INTEGER;
 
 // How literal values count: in units of 10^-18.
 const UNIT: i128 = 1_000_000_000_000_000_000;

@@ -5,6 +5,8 @@
 //! and which triples such an answer reads. `Component` and `ResultRow` are the data of the answers, each
 //! with exactly the order of `specs/Rows.antt`. Each function of `laws` promises a theorem about those
 //! definitions.
+//!
+//! Storey: shapes.
 #![tactic(auto)]
 
 mod component;
@@ -12,7 +14,9 @@ mod count;
 pub mod laws;
 mod optional_term;
 mod result_row;
+mod truth;
 
 pub use component::Component;
 pub use count::{count_of, is_fewer, is_more};
 pub use result_row::ResultRow;
+pub use truth::is_true;

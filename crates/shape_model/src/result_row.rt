@@ -1,3 +1,4 @@
+//! Validation results and their order.
 ghost use Rattle.std.specs.Prelude.{◌≡◌};
 
 use crate::Component;

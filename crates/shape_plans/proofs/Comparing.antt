@@ -4,9 +4,9 @@ use Rattle.std.proofs.lemmas.List.{map-append, take_more}
 use Rattle.rdf_model.specs.declared.term.Term.{Term}
 use Rattle.rdf_model.specs.Numbers.{term_at}
 use Rattle.shape_model.specs.Paths as defined
-use Rattle.compiled_paths.specs.declared.path.Path.{Path, Sequence, Alternative}
-use Rattle.compiled_paths.specs.PathReadings.{members, path_of}
-use Rattle.compiled_paths.proofs.Rows.{alternative_read, sequence_read}
+use Rattle.path_ast.specs.declared.path.Path.{Path, Sequence, Alternative}
+use Rattle.path_ast.specs.PathReadings.{members, path_of}
+use Rattle.path_ast.proofs.Rows.{alternative_read, sequence_read}
 
 -- both read as one path, whatever the terms
 abbrev pub ReadSame : Path ℕ → Path ℕ → Type 0

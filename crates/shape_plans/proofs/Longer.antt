@@ -16,13 +16,13 @@ use Rattle.shape_model.specs.Patterns.{IsPatternOf}
 use Rattle.shape_model.specs.Readings.{IsAcyclic, IsShallow, reading}
 use Rattle.shape_model.specs.ShapeLooks.{Looks}
 use Rattle.shape_model.specs.Targets.{HasTarget}
-use Rattle.compiled_paths.specs.declared.path.Path.{Path, Predicate, Inverse', Sequence', Alternative', ZeroOrMore', OneOrMore', ZeroOrOne', Row_of-Path, end_of-Path, more_of-Path}
-use Rattle.compiled_paths.specs.PathReadings.{HasEach, IsBoundOptional, IsBoundPath, RowHasEach, members, path_of, read_path, read_row}
+use Rattle.path_ast.specs.declared.path.Path.{Path, Predicate, Inverse', Sequence', Alternative', ZeroOrMore', OneOrMore', ZeroOrOne', Row_of-Path, end_of-Path, more_of-Path}
+use Rattle.path_ast.specs.PathReadings.{HasEach, IsBoundOptional, IsBoundPath, RowHasEach, members, path_of, read_path, read_row}
 use Rattle.path_eval.specs.declared.instances.ClassWords.{ClassWords}
 use Rattle.path_eval.specs.Instances.{AreClassWords}
 use Rattle.shape_ast.specs.declared.constraint.Constraint.{Constraint}
 use Rattle.shape_ast.specs.declared.constraint.Constraint.TheVariants.{ByList, ByShape, ByShapes, ByTerm}
-use Rattle.shape_ast.specs.declared.pattern.Pattern.{Pattern}
+use Rattle.shape_ast.specs.declared.pattern.CompiledPattern.{CompiledPattern}
 use Rattle.shape_ast.specs.declared.shape.Shape.{Shape}
 use Rattle.shape_ast.specs.declared.target.Target.{Target}
 use Rattle.shape_ast.specs.declared.target.Target.TheVariants.{Node, Class, ImplicitClass, SubjectsOf, ObjectsOf}
@@ -85,7 +85,7 @@ module _ (P Q : ℕ → Type 0) (more : (n : ℕ) → P n → Q n) where
     messages = all_more P Q s.messages h.messages more;
     targets = all_more (HoldsOfTarget P) (HoldsOfTarget Q) s.targets h.targets target_more;
     constraints = all_more (HoldsOfConstraint P count) (HoldsOfConstraint Q count) s.constraints h.constraints (constraint_more count);
-    pattern = option_more (λ (p : Pattern ℕ). P p.parameter) (λ p. Q p.parameter) s.pattern h.pattern (λ p. more p.parameter);
+    pattern = option_more (λ (p : CompiledPattern ℕ). P p.parameter) (λ p. Q p.parameter) s.pattern h.pattern (λ p. more p.parameter);
     flags = option_more P Q s.flags h.flags more;
     properties = h.properties;
     qualified = h.qualified;
@@ -130,7 +130,7 @@ module _ (P : ℕ → Type 0) (read other : ℕ → Term) (same : (n : ℕ) → 
   optional_path_same None h = refl
   optional_path_same (Some p) h = ap Some (path_same p h)
 
-  pattern_same : (o : Option (Pattern ℕ)) → MatchOption o (Unit {0}) (λ p. P p.parameter) → read_pattern read o ≡ read_pattern other o
+  pattern_same : (o : Option (CompiledPattern ℕ)) → MatchOption o (Unit {0}) (λ p. P p.parameter) → read_pattern read o ≡ read_pattern other o
   pattern_same None h = refl
   pattern_same (Some p) h = ap Some (same p.parameter h)
 
@@ -151,7 +151,7 @@ module _ (P : ℕ → Type 0) (read other : ℕ → Term) (same : (n : ℕ) → 
     ignored = all_same P read other s.ignored h.ignored same i;
   }
 
-  built_same : (f g : Option Term) → f ≡ g → (o : Option (Pattern ℕ)) → MatchOption o (Unit {0}) (λ p. P p.parameter)
+  built_same : (f g : Option Term) → f ≡ g → (o : Option (CompiledPattern ℕ)) → MatchOption o (Unit {0}) (λ p. P p.parameter)
       → MatchOption o (Unit {0}) (λ p. (text : List ℕ) × HasFlagsText f text × IsPatternOf (read p.parameter) text (arc_value p.regex))
       → MatchOption o (Unit {0}) (λ p. (text : List ℕ) × HasFlagsText g text × IsPatternOf (other p.parameter) text (arc_value p.regex))
   built_same f g e None h b = tt

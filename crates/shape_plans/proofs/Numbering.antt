@@ -8,10 +8,10 @@ use Rattle.rdf_model.specs.declared.term.Term.{Term}
 use Rattle.rdf_model.specs.Numbers.{term_at}
 use Rattle.shape_model.specs.Looks.{LookKind, LookRow}
 use Rattle.shape_model.specs.Paths as defined
-use Rattle.compiled_paths.specs.declared.path.Path.{Path, Sequence, Predicate, Inverse', Sequence', Alternative', ZeroOrMore', OneOrMore', ZeroOrOne'}
-use Rattle.compiled_paths.specs.PathReadings.{HasEach, HoldsOfEach, IsBoundOptional, IsBoundPath, defined_path, members, path_of, read_row}
-use Rattle.compiled_paths.proofs.Names.{each_named}
-use Rattle.compiled_paths.proofs.Rows.{sequence_each, sequence_read}
+use Rattle.path_ast.specs.declared.path.Path.{Path, Sequence, Predicate, Inverse', Sequence', Alternative', ZeroOrMore', OneOrMore', ZeroOrOne'}
+use Rattle.path_ast.specs.PathReadings.{HasEach, HoldsOfEach, IsBoundOptional, IsBoundPath, defined_path, members, path_of, read_row}
+use Rattle.path_ast.proofs.Names.{each_named}
+use Rattle.path_ast.proofs.Rows.{sequence_each, sequence_read}
 use Rattle.read_plans.specs.declared.look.PlannedLook.{PlannedLook}
 use Rattle.read_plans.specs.Rows.{read_kind, read_look, read_looks}
 use Rattle.focus_affected.specs.declared.plan.NumberedKind.{NumberedKind}

@@ -15,7 +15,7 @@ use Rattle.shape_model.specs.ShapeLooks.{Looks}
 use Rattle.shape_model.specs.Targets.{HasTarget}
 use Rattle.shape_model.specs.Vocabulary.{ShTargetClass, ShTargetNode, ShTargetObjectsOf, ShTargetSubjectsOf}
 use Rattle.shape_model.proofs.Bridges.{makes_shape}
-use Rattle.compiled_paths.specs.PathReadings.{IsNamed}
+use Rattle.path_ast.specs.PathReadings.{IsNamed}
 use Rattle.shape_ast.specs.declared.shape.Shape.{Shape}
 use Rattle.shape_ast.specs.declared.target.Target.{Target}
 use Rattle.shape_ast.specs.declared.target.Target.TheVariants.{Node, Class, ImplicitClass, SubjectsOf, ObjectsOf}

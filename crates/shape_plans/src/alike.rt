@@ -2,11 +2,11 @@
 ghost use Rattle.std.specs.Prelude.{◌≡◌, IsTrue, List, map};
 ghost use Rattle.std.specs.List.{Contains};
 ghost use Rattle.rdf_model.specs.declared.term.Term.{Term as TermData};
-ghost use Rattle.compiled_paths.specs.PathReadings.{path_of};
+ghost use Rattle.path_ast.specs.PathReadings.{path_of};
 ghost use Rattle.focus_affected.specs.Plans.{kind_of, row_of, way_of};
 
-use compiled_paths::Path;
 use focus_affected::{NumberedKind, NumberedLook};
+use path_ast::Path;
 
 // Whether the paths are one, predicate by predicate.
 #[cycle(comparing)]

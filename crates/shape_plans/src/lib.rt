@@ -3,6 +3,8 @@
 //! `plan_shapes` makes them once for the shapes of a shapes graph: nothing in them depends on a data graph. Its result says
 //! what the shapes say, and its plans have exactly the rows of looks by which changes of a data graph are found to touch a
 //! focus node.
+//!
+//! Storey: validation.
 #![tactic(auto)]
 
 mod alike;

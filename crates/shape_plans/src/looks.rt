@@ -3,15 +3,15 @@ ghost use Rattle.std.specs.Prelude.{◌≡◌, ◌↔◌, ◌⊎◌, ◌<◌, If
 ghost use Rattle.std.specs.List.{All, AllByRecursion, Contains};
 ghost use Rattle.rdf_model.specs.Numbers.{term_at};
 ghost use Rattle.rdf_model.specs.declared.term.Term.{Term as TermData};
-ghost use Rattle.compiled_paths.specs.PathReadings.{IsBoundOptional, IsBoundPath, IsNamed, IsNamedPath, defined_path, path_of};
+ghost use Rattle.path_ast.specs.PathReadings.{IsBoundOptional, IsBoundPath, IsNamed, IsNamedPath, defined_path, path_of};
 ghost use Rattle.read_plans.specs.NamedRows.{HoldsOfKind, HoldsOfRow};
 ghost use Rattle.read_plans.specs.Rows.{read_kind, read_look, read_looks};
 ghost use Rattle.focus_affected.specs.Plans.{AreBoundRows, IsBoundKind, IsBoundLookRow, kind_of, row_of, way_of};
 
 use crate::alike::has_look;
 use collections::Sequence;
-use compiled_paths::{Path, bind_path};
 use focus_affected::{NumberedKind, NumberedLook};
+use path_ast::{Path, bind_path};
 use rdf_model::{Names, Term};
 use read_plans::{LookKind, PlannedLook};
 use std::alloc::{AllocError, Global};

@@ -3,7 +3,7 @@ ghost use Rattle.std.specs.Prelude.{◌≡◌, ◌↔◌, ◌+◌, ◌<◌, ◌�
 ghost use Rattle.rdf_model.specs.Numbers.{term_at};
 ghost use Rattle.shape_model.specs.Limits.{looks_limit};
 ghost use Rattle.shape_model.specs.Vocabulary.{rdf_type, sub_class_of};
-ghost use Rattle.compiled_paths.specs.PathReadings.{IsNamed};
+ghost use Rattle.path_ast.specs.PathReadings.{IsNamed};
 ghost use Rattle.shape_ast.specs.Readings.{AreNamed, read_shapes};
 ghost use Rattle.read_plans.specs.NamedRows.{AreNamedWith};
 ghost use Rattle.read_plans.specs.Rows.{read_looks};

@@ -6,7 +6,7 @@ use Rattle.shape_properties.specs.declared.table.Role.{Role}
 use Rattle.shape_properties.specs.declared.table.Role.TheVariants as roles
 use Rattle.shape_properties.specs.declared.table.Test.{Test}
 use Rattle.shape_properties.specs.declared.table.Test.TheVariants as tests
-use Rattle.shape_properties.specs.declared.table.Demand.{Demand}
+use Rattle.shape_properties.specs.declared.table.RuleTest.{RuleTest}
 
 -- Parameters (SHACL 2.1, sections 4 and 2.1.3): which properties make their subject a shape, and what their values are.
 abbrev pub role : ShapeProperty → Role
@@ -98,14 +98,14 @@ is_forbidden properties.Entailment = true
 is_forbidden p = false
 
 -- by the rule of this number it must pass the test
-abbrev pub must : ℕ → Test → Demand
+abbrev pub must : ℕ → Test → RuleTest
 must rule test = record { rule = rule; test = test }
 
-abbrev pub nothing : Demand
+abbrev pub nothing : RuleTest
 nothing = must 0 tests.Anything
 
 -- rules 2 to 37: what each value of the property must be
-abbrev pub of_value : ShapeProperty → Demand
+abbrev pub of_value : ShapeProperty → RuleTest
 of_value properties.TargetNode = must 2 tests.NoBlank
 of_value properties.TargetClass = must 3 tests.Iri
 of_value properties.TargetSubjectsOf = must 5 tests.Iri
@@ -149,7 +149,7 @@ of_value properties.IgnoredProperties = must 37 tests.ListOfIris
 of_value p = nothing
 
 -- rules 24 and 30: what each member of a list that is a value of the property must be
-abbrev pub of_member : ShapeProperty → Demand
+abbrev pub of_member : ShapeProperty → RuleTest
 of_member properties.LanguageIn = must 24 tests.Text
 of_member properties.And = must 30 tests.NoLiteral
 of_member properties.Or = must 30 tests.NoLiteral

@@ -3,6 +3,8 @@
 //! The shapes syntax is one table over `ShapeProperty`: the role of a property, and the rule and the test of its values,
 //! with the tests that a term passes by itself. `shapes` has exactly the nodes that are shapes, in order, found by binary
 //! search in a graph that ascends; `is_shape` and `params` ask for one node.
+//!
+//! Storey: shapes.
 #![tactic(auto)]
 
 pub mod laws;
@@ -15,4 +17,4 @@ pub mod values;
 
 pub use nodes::{is_shape, params};
 pub use property::{ShapeProperty, property_of};
-pub use table::{Demand, Role, Test};
+pub use table::{Role, RuleTest, Test};

@@ -1,3 +1,4 @@
+//! The properties of the SHACL vocabulary.
 ghost use Rattle.std.specs.Prelude.{◌≡◌, ◌≢◌, ◌↔◌, IsTrue, MatchOption};
 ghost use Rattle.rdf_model.specs.declared.term.Term.TheVariants.{Iri};
 ghost use Rattle.shape_properties.specs.Properties.{property_iri};

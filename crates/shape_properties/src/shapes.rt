@@ -22,6 +22,7 @@ use shape_syntax::list::list_members;
 use shape_syntax::lookup::triples_of;
 use shape_syntax::subjects::subjects;
 use std::alloc::{AllocError, Global};
+use vocabulary::{SH_NODE_SHAPE, SH_PROPERTY_SHAPE};
 
 fn push_each(members: &[Term], nodes: &mut Sequence<Term>) -> Result<(), AllocError>
     ensures { OnOk result ((n : TermData) → Contains nodes.new n ↔ (Contains nodes.old n ⊎ IsMember members.now n)) }
@@ -138,8 +139,7 @@ fn has_making(own: &[Triple]) -> bool
 fn is_typed(classes: &[Term]) -> bool
     ensures { IsTrue result ↔ (IsMember classes.now (sh (codes "NodeShape")) ⊎ IsMember classes.now (sh (codes "PropertyShape"))) }
 {
-    has_class(classes, "http://www.w3.org/ns/shacl#NodeShape")
-        || has_class(classes, "http://www.w3.org/ns/shacl#PropertyShape")
+    has_class(classes, SH_NODE_SHAPE) || has_class(classes, SH_PROPERTY_SHAPE)
 }
 
 // Whether the node says itself that it is a shape.

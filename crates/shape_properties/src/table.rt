@@ -51,15 +51,15 @@ pub enum Test {
 
 /// A test, and the rule that is broken where it fails.
 #[derive(Clone, Copy, Debug)]
-pub struct Demand {
+pub struct RuleTest {
     pub rule: u8,
     pub test: Test,
 }
 
-fn must(rule: u8, test: Test) -> Demand
+fn must(rule: u8, test: Test) -> RuleTest
     ensures { result ≡ Table.must rule test }
 {
-    Demand { rule, test }
+    RuleTest { rule, test }
 }
 
 impl ShapeProperty {
@@ -152,7 +152,7 @@ impl ShapeProperty {
     }
 
     /// What each value of the property must be.
-    pub fn of_value(self) -> Demand
+    pub fn of_value(self) -> RuleTest
         ensures { result ≡ Table.of_value self }
     {
         match self {
@@ -195,7 +195,7 @@ impl ShapeProperty {
     }
 
     /// What each member of a list that is a value of the property must be.
-    pub fn of_member(self) -> Demand
+    pub fn of_member(self) -> RuleTest
         ensures { result ≡ Table.of_member self }
     {
         match self {

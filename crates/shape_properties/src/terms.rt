@@ -3,7 +3,6 @@ ghost use Rattle.std.specs.Prelude.{◌≡◌, ◌⊎◌, ◌↔◌, IsTrue, Non
 ghost use Rattle.std.specs.List.{list_all};
 ghost use Rattle.rdf_model.specs.declared.term.Term.TheVariants as data_terms;
 ghost use Rattle.shape_model.specs.Triples.{IsMember};
-ghost use Rattle.shape_model.specs.Vocabulary.{true_literal};
 ghost use Rattle.shape_properties.specs.Tests.{IsNodeKind};
 ghost use Rattle.shape_properties.specs.Tests;
 ghost use Rattle.shape_properties.specs.Tests.{xsd_boolean, xsd_integer, xsd_string};
@@ -11,18 +10,22 @@ ghost use Rattle.shape_properties.specs.Tests.{xsd_boolean, xsd_integer, xsd_str
 use literal_order::Lexical;
 use rdf_model::Term;
 use shape_syntax::terms::is_named;
+use vocabulary::{
+    SH_BLANK_NODE, SH_BLANK_NODE_OR_IRI, SH_BLANK_NODE_OR_LITERAL, SH_IRI, SH_IRI_OR_LITERAL,
+    SH_LITERAL, XSD_BOOLEAN, XSD_INTEGER, XSD_STRING,
+};
 
 /// Whether the term is one of the six node kinds (SHACL section 4.1.3).
 #[tactic(auto, unfolding(shape_model::specs::Vocabulary::sh))]
 pub fn is_node_kind(term: &Term) -> bool
     ensures { IsTrue result ↔ IsNodeKind term.now }
 {
-    is_named(term, "http://www.w3.org/ns/shacl#BlankNode")
-        || is_named(term, "http://www.w3.org/ns/shacl#IRI")
-        || is_named(term, "http://www.w3.org/ns/shacl#Literal")
-        || is_named(term, "http://www.w3.org/ns/shacl#BlankNodeOrIRI")
-        || is_named(term, "http://www.w3.org/ns/shacl#BlankNodeOrLiteral")
-        || is_named(term, "http://www.w3.org/ns/shacl#IRIOrLiteral")
+    is_named(term, SH_BLANK_NODE)
+        || is_named(term, SH_IRI)
+        || is_named(term, SH_LITERAL)
+        || is_named(term, SH_BLANK_NODE_OR_IRI)
+        || is_named(term, SH_BLANK_NODE_OR_LITERAL)
+        || is_named(term, SH_IRI_OR_LITERAL)
 }
 
 fn has_datatype(term: &Term, iri: &str) -> bool
@@ -52,7 +55,7 @@ fn is_well_typed(term: &Term) -> bool
 pub fn is_integer(term: &Term) -> bool
     ensures { IsTrue result ↔ (IsTrue (Tests.has_datatype xsd_integer term.now) × IsTrue (Tests.is_well_typed term.now)) }
 {
-    has_datatype(term, "http://www.w3.org/2001/XMLSchema#integer") && is_well_typed(term)
+    has_datatype(term, XSD_INTEGER) && is_well_typed(term)
 }
 
 /// Whether the term is a well-typed xsd:boolean.
@@ -60,7 +63,7 @@ pub fn is_integer(term: &Term) -> bool
 pub fn is_boolean(term: &Term) -> bool
     ensures { IsTrue result ↔ (IsTrue (Tests.has_datatype xsd_boolean term.now) × IsTrue (Tests.is_well_typed term.now)) }
 {
-    has_datatype(term, "http://www.w3.org/2001/XMLSchema#boolean") && is_well_typed(term)
+    has_datatype(term, XSD_BOOLEAN) && is_well_typed(term)
 }
 
 /// Whether the term is an xsd:string.
@@ -68,7 +71,7 @@ pub fn is_boolean(term: &Term) -> bool
 pub fn is_text(term: &Term) -> bool
     ensures { result ≡ Tests.has_datatype xsd_string term.now }
 {
-    has_datatype(term, "http://www.w3.org/2001/XMLSchema#string")
+    has_datatype(term, XSD_STRING)
 }
 
 // The lexical form of a literal, and nothing of any other term.
@@ -136,10 +139,7 @@ fn is_boolean_term(term: &Term, form: &str) -> bool
             lexical,
             datatype,
             language: None,
-        } => {
-            lexical.as_str() == form
-                && datatype.as_str() == "http://www.w3.org/2001/XMLSchema#boolean"
-        }
+        } => { lexical.as_str() == form && datatype.as_str() == XSD_BOOLEAN }
         _ => false,
     }
 }
@@ -149,14 +149,6 @@ pub fn is_true_or_false(term: &Term) -> bool
     ensures { IsTrue result ↔ ((term.now ≡ data_terms.Literal (codes "true") xsd_boolean None) ⊎ (term.now ≡ data_terms.Literal (codes "false") xsd_boolean None)) }
 {
     is_boolean_term(term, "true") || is_boolean_term(term, "false")
-}
-
-/// Whether the term is `true` as xsd:boolean.
-#[tactic(auto, unfolding(shape_model::specs::Vocabulary::true_literal, crate::specs::Tests::xsd_boolean))]
-pub fn is_true(term: &Term) -> bool
-    ensures { IsTrue result ↔ (term.now ≡ true_literal) }
-{
-    is_boolean_term(term, "true")
 }
 
 /// Whether the class with this IRI is in the list.

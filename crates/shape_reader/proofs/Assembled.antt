@@ -5,12 +5,12 @@ use Rattle.collections.specs.Ordered.{IsAscending}
 use Rattle.rdf_model.specs.declared.term.Term.{Term}
 use Rattle.rdf_model.specs.declared.triple.Triple.{Triple}
 use Rattle.rdf_model.specs.Terms.{triple_cmp}
-use Rattle.compiled_paths.specs.declared.path.Path.{Path}
+use Rattle.path_ast.specs.declared.path.Path.{Path}
 use Rattle.shape_properties.specs.declared.property.ShapeProperty.TheVariants as vocabulary
 use Rattle.shape_rules.specs.Broken.{IsWellFormed}
 use Rattle.shape_properties.specs.Syntax.{IsShape}
 use Rattle.shape_ast.specs.declared.constraint.Constraint.{Constraint}
-use Rattle.shape_ast.specs.declared.pattern.Pattern.{Pattern}
+use Rattle.shape_ast.specs.declared.pattern.CompiledPattern.{CompiledPattern}
 use Rattle.shape_ast.specs.declared.shape.Shape.{Shape}
 use Rattle.shape_ast.specs.declared.target.Target.{Target}
 use Rattle.shape_ast.specs.Readings.{read_optional_path, read_shape}
@@ -21,7 +21,7 @@ use Rattle.shape_reader.proofs.Naming.{constraints_named, constraints_same, igno
 use Rattle.shape_reader.proofs.WellFormed.{one_value}
 
 module _ (s : List Triple) (well : IsWellFormed s) (nodes : List Term) (n : Term) (shape : IsShape s n) where
-  abbrev made : Option (Path Term) → Option (Pattern Term) → Term → List (Target Term) → List (Constraint Term) → List ℕ → List ℕ → Option Term → Option Term → List Term → List Term → Bool → Option ℕ → Shape Term
+  abbrev made : Option (Path Term) → Option (CompiledPattern Term) → Term → List (Target Term) → List (Constraint Term) → List ℕ → List ℕ → Option Term → Option Term → List Term → List Term → Bool → Option ℕ → Shape Term
   made path pattern own targets constraints properties siblings severity flags messages ignored off qualified = record {
     node = own;
     path = path;
@@ -38,7 +38,7 @@ module _ (s : List Triple) (well : IsWellFormed s) (nodes : List Term) (n : Term
     ignored = ignored;
   }
 
-  pub assembles : (path : Option (Path Term)) (pattern : Option (Pattern Term)) (own : Term) (targets : List (Target Term)) (constraints : List (Constraint Term)) (properties siblings : List ℕ) (severity flags : Option Term) (messages ignored : List Term) (off : Bool) (qualified : Option ℕ)
+  pub assembles : (path : Option (Path Term)) (pattern : Option (CompiledPattern Term)) (own : Term) (targets : List (Target Term)) (constraints : List (Constraint Term)) (properties siblings : List ℕ) (severity flags : Option Term) (messages ignored : List Term) (off : Bool) (qualified : Option ℕ)
       → IsKeptPath s n (read_optional_path (λ t. t) path)
       → IsOptionalPattern s n pattern
       → ArePartsOf s nodes n own targets constraints properties siblings severity flags messages ignored

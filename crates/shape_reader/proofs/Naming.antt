@@ -14,9 +14,9 @@ use Rattle.shape_model.specs.Patterns.{IsPatternOf}
 use Rattle.shape_model.specs.ShapeSyntax.{ListOf, PathOf, PathsOf}
 use Rattle.shape_model.specs.Triples.{Has, IsMember}
 use Rattle.shape_model.specs.Vocabulary.{rdf_first, rdf_type}
-use Rattle.compiled_paths.specs.declared.path.Path.{Path}
-use Rattle.compiled_paths.specs.PathReadings.{HasEach, HoldsOfAll, HoldsOfEach, defined_path}
-use Rattle.compiled_paths.proofs.Names.{each_named}
+use Rattle.path_ast.specs.declared.path.Path.{Path}
+use Rattle.path_ast.specs.PathReadings.{HasEach, HoldsOfAll, HoldsOfEach, defined_path}
+use Rattle.path_ast.proofs.Names.{each_named}
 use Rattle.shape_syntax.proofs.Items.{get_within}
 use Rattle.shape_syntax.proofs.Scans.{contains_member, has_cases}
 use Rattle.shape_properties.specs.declared.property.ShapeProperty.{ShapeProperty}
@@ -28,7 +28,7 @@ use Rattle.shape_properties.specs.declared.table.Role.{Role}
 use Rattle.shape_properties.specs.declared.table.Role.TheVariants as roles
 use Rattle.shape_ast.specs.declared.constraint.Constraint.{Constraint}
 use Rattle.shape_ast.specs.declared.constraint.Constraint.TheVariants.{ByTerm, ByList, ByShape, ByShapes}
-use Rattle.shape_ast.specs.declared.pattern.Pattern.{Pattern}
+use Rattle.shape_ast.specs.declared.pattern.CompiledPattern.{CompiledPattern}
 use Rattle.shape_ast.specs.declared.target.Target.{Target}
 use Rattle.shape_ast.specs.declared.target.Target.TheVariants.{Node, Class, ImplicitClass, SubjectsOf, ObjectsOf}
 use Rattle.shape_ast.specs.Readings.{HoldsOfConstraint, HoldsOfTarget, read_constraint, read_optional, read_optional_path, read_pattern, read_target}
@@ -179,11 +179,11 @@ module _ (s : List Triple) (nodes : List Term) where
     pub constraints_named : (ks : List (Constraint Term)) → ((k : Constraint Term) → Contains ks k → (p : ShapeProperty) × (v : Term) × HasProperty s n p v × SaysConstraint s nodes p v k) → All (HoldsOfConstraint Stands (length nodes)) ks
     constraints_named ks all = all_of (HoldsOfConstraint Stands (length nodes)) ks (λ k c. let h = all k c in constraint_named (kind h.0) h.1 k (value_stands n h.0 h.1 h.2) h.3)
 
-    pub pattern_named : (found : Option (Pattern Term)) → IsOptionalPattern s n found → MatchOption found (Unit {0}) (λ p. Stands p.parameter)
+    pub pattern_named : (found : Option (CompiledPattern Term)) → IsOptionalPattern s n found → MatchOption found (Unit {0}) (λ p. Stands p.parameter)
     pattern_named None h = tt
     pattern_named (Some p) h = value_stands n properties.Pattern p.parameter h.0
 
-    pub pattern_value : (found : Option (Pattern Term)) → IsOptionalPattern s n found → IsValue s n properties.Pattern (read_pattern same found)
+    pub pattern_value : (found : Option (CompiledPattern Term)) → IsOptionalPattern s n found → IsValue s n properties.Pattern (read_pattern same found)
     pattern_value None h = h
     pattern_value (Some p) h = h.0
 
@@ -208,10 +208,10 @@ module _ (s : List Triple) (nodes : List Term) where
       | inr none ↦ absurd (none.0 v h)
     ]
 
-    built_at : (p : Pattern Term) (flags : Option Term) → IsPatternAt s n p → IsValue s n properties.Flags flags → HasOne s n properties.Flags → (text : List ℕ) × HasFlagsText (read_optional same flags) text × IsPatternOf p.parameter text (arc_value p.regex)
+    built_at : (p : CompiledPattern Term) (flags : Option Term) → IsPatternAt s n p → IsValue s n properties.Flags flags → HasOne s n properties.Flags → (text : List ℕ) × HasFlagsText (read_optional same flags) text × IsPatternOf p.parameter text (arc_value p.regex)
     built_at p flags h value one = (h.1.0, flags_same flags value one h.1.0 h.1.1, h.1.2)
 
-    pub pattern_built : (found : Option (Pattern Term)) (flags : Option Term) → IsOptionalPattern s n found → IsValue s n properties.Flags flags → HasOne s n properties.Flags
+    pub pattern_built : (found : Option (CompiledPattern Term)) (flags : Option Term) → IsOptionalPattern s n found → IsValue s n properties.Flags flags → HasOne s n properties.Flags
         → MatchOption found (Unit {0}) (λ p. (text : List ℕ) × HasFlagsText (read_optional same flags) text × IsPatternOf (same p.parameter) text (arc_value p.regex))
     pattern_built None flags h value one = tt
     pattern_built (Some p) flags h value one = built_at p flags h value one

@@ -18,7 +18,7 @@ use Rattle.shape_properties.specs.declared.property.ShapeProperty.TheVariants as
 use Rattle.shape_properties.specs.Syntax.{HasProperty, IsListed, SomeValue}
 use Rattle.shape_ast.specs.declared.constraint.Constraint.{Constraint}
 use Rattle.shape_ast.specs.declared.constraint.Constraint.TheVariants.{ByTerm, ByList, ByShape, ByShapes}
-use Rattle.shape_ast.specs.declared.pattern.Pattern.{Pattern}
+use Rattle.shape_ast.specs.declared.pattern.CompiledPattern.{CompiledPattern}
 use Rattle.shape_ast.specs.declared.target.Target.{Target}
 use Rattle.shape_ast.specs.declared.target.Target.TheVariants.{Node, Class, ImplicitClass, SubjectsOf, ObjectsOf}
 use Rattle.shape_ast.specs.declared.shape.Shape.{Shape}
@@ -145,12 +145,12 @@ abbrev pub HasTexts : List Triple → Term → ShapeProperty → Type 0
 HasTexts s n p = (v : Term) → HasProperty s n p v → string_value v ≡ None → ⊥
 
 -- its pattern, built under its flags
-abbrev pub IsPatternAt : List Triple → Term → Pattern Term → Type 0
+abbrev pub IsPatternAt : List Triple → Term → CompiledPattern Term → Type 0
 IsPatternAt s n p =
     HasProperty s n vocabulary.Pattern p.parameter
     × ((text : List ℕ) × IsFlagsText s n text × IsPatternOf p.parameter text (arc_value p.regex))
 
-abbrev pub IsOptionalPattern : List Triple → Term → Option (Pattern Term) → Type 0
+abbrev pub IsOptionalPattern : List Triple → Term → Option (CompiledPattern Term) → Type 0
 IsOptionalPattern s n found = MatchOption found ((v : Term) → HasProperty s n vocabulary.Pattern v → ⊥) (IsPatternAt s n)
 
 -- its pattern joined those that were refused, with its flags

@@ -1,3 +1,4 @@
+//! Why no shapes were compiled or read.
 use rdf_model::Term;
 use shape_rules::RuleRow;
 use std::alloc::AllocError;

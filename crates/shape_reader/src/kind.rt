@@ -1,3 +1,4 @@
+//! What constraints keep of the values of their parameter.
 ghost use Rattle.std.specs.Prelude.{◌≡◌};
 ghost use Rattle.shape_reader.specs.Kinds;
 

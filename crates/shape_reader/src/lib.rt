@@ -4,6 +4,8 @@
 //! least row of its broken rules, or whose pattern was refused. `compile` does so of a graph that is known to be
 //! well-formed. Each part of a shape is read from the triples of its node, which are found by binary search. Shapes are
 //! named by their places in the ascending list of the nodes that are shapes.
+//!
+//! Storey: shapes.
 #![tactic(auto)]
 
 mod constraint;

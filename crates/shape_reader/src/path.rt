@@ -11,7 +11,7 @@ ghost use Rattle.shape_properties.specs.declared.property.ShapeProperty.TheVaria
 ghost use Rattle.shape_reader.specs.Parts.{HasOne, IsKeptPath, IsOff, IsOptionalPath, IsOptionalPredicate};
 
 use crate::values::value_of;
-use compiled_paths::Path;
+use path_ast::Path;
 use rdf_model::{Term, Triple};
 use shape_properties::ShapeProperty;
 use shape_syntax::terms::is_iri;

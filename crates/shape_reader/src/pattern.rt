@@ -12,7 +12,7 @@ use crate::values::value_of;
 use outside::{MakeFault, Maker};
 use rdf_model::{Term, Triple};
 use regex::Regex;
-use shape_ast::Pattern;
+use shape_ast::CompiledPattern;
 use shape_properties::ShapeProperty;
 use std::alloc::{AllocError, Global};
 use std::sync::Arc;
@@ -51,7 +51,7 @@ pub(crate) fn pattern_of<M: Maker>(
     maker: &mut M,
     graph: &[Triple],
     node: &Term,
-) -> Result<Option<Pattern<Term>>, MakeFault>
+) -> Result<Option<CompiledPattern<Term>>, MakeFault>
     requires graph { IsAscending triple_cmp graph.now }
     requires patterns { HasTexts graph.now node.now properties.Pattern }
     requires flags { HasTexts graph.now node.now properties.Flags }
@@ -64,7 +64,7 @@ pub(crate) fn pattern_of<M: Maker>(
         return Ok(None);
     };
     let regex = maker.build(alloc, text_of(value), flags_text(graph, node))?;
-    Ok(Some(Pattern {
+    Ok(Some(CompiledPattern {
         parameter: value.clone()?,
         regex: shared(alloc, regex)?,
     }))

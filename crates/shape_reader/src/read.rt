@@ -1,3 +1,4 @@
+//! The shapes of a shapes graph, if it is well-formed.
 ghost use Rattle.std.specs.Prelude.{◌≡◌, IfOk, MatchResult};
 ghost use Rattle.collections.specs.Ordered.{IsAscending};
 ghost use Rattle.rdf_model.specs.Terms.{triple_cmp};

@@ -5,7 +5,7 @@ ghost use Rattle.collections.specs.Listings.{IsListing};
 ghost use Rattle.collections.specs.Ordered.{IsAscending};
 ghost use Rattle.rdf_model.specs.declared.term.Term.{Term as TermData};
 ghost use Rattle.rdf_model.specs.Terms.{term_cmp, triple_cmp};
-ghost use Rattle.shape_references.specs.Siblings.{IsTurned};
+ghost use Rattle.shape_references.specs.Siblings.{IsReversed};
 ghost use Rattle.shape_properties.specs.declared.property.ShapeProperty.TheVariants as properties;
 ghost use Rattle.shape_rules.specs.Broken.{IsWellFormed};
 ghost use Rattle.shape_properties.specs.Syntax.{HasProperty, IsShape};
@@ -24,10 +24,10 @@ use crate::values::{
     copied_value, ignored_of, is_deactivated, messages_of, properties_of, qualified_of, siblings_of,
 };
 use collections::{Sequence, both};
-use compiled_paths::Path;
 use outside::{MakeFault, Maker};
+use path_ast::Path;
 use rdf_model::{Term, Triple};
-use shape_ast::{Constraint, Pattern, Shape, Target};
+use shape_ast::{CompiledPattern, Constraint, Shape, Target};
 use shape_properties::ShapeProperty;
 use std::alloc::{AllocError, Global};
 use std::collections::BTreeSet;
@@ -47,12 +47,12 @@ type Words = (
 fn lists_of(
     alloc: Global,
     graph: &[Triple],
-    turned: &[Triple],
+    reversed: &[Triple],
     nodes: &[Term],
     node: &Term,
 ) -> Result<Lists, AllocError>
     requires graph { IsAscending triple_cmp graph.now }
-    requires turned { IsListing triple_cmp (IsTurned graph.now) turned.now }
+    requires reversed { IsListing triple_cmp (IsReversed graph.now) reversed.now }
     requires nodes { IsAscending term_cmp nodes.now }
     ensures targets { IfOk result (λ lists. AreTargetsOf graph.now nodes.now node.now lists.0.0) }
     ensures constraints { IfOk result (λ lists. AreConstraints graph.now nodes.now node.now lists.0.1) }
@@ -65,7 +65,7 @@ fn lists_of(
     );
     let places = both(
         properties_of(alloc, graph, nodes, node),
-        siblings_of(alloc, graph, turned, nodes, node),
+        siblings_of(alloc, graph, reversed, nodes, node),
     );
     both(parts, places)
 }
@@ -105,7 +105,7 @@ fn pattern_at<M: Maker>(
     maker: &mut M,
     graph: &[Triple],
     node: &Term,
-) -> Result<Option<Pattern<Term>>, CompileFault>
+) -> Result<Option<CompiledPattern<Term>>, CompileFault>
     requires graph { IsAscending triple_cmp graph.now }
     requires patterns { HasTexts graph.now node.now properties.Pattern }
     requires flags { HasTexts graph.now node.now properties.Flags }
@@ -129,7 +129,7 @@ fn made_of<M: Maker>(
     paths: &BTreeSet<Term>,
     node: &Term,
     is_deactivated: bool,
-) -> Result<(Option<Path<Term>>, Option<Pattern<Term>>), CompileFault>
+) -> Result<(Option<Path<Term>>, Option<CompiledPattern<Term>>), CompileFault>
     requires graph { IsAscending triple_cmp graph.now }
     requires well_formed { IsWellFormed graph.now }
     requires paths { ArePathNodes graph.now paths.now.keys }
@@ -154,18 +154,18 @@ type Parts = ((Term, Lists), Words);
 fn parts_at(
     alloc: Global,
     graph: &[Triple],
-    turned: &[Triple],
+    reversed: &[Triple],
     nodes: &[Term],
     node: &Term,
 ) -> Result<Parts, AllocError>
     requires graph { IsAscending triple_cmp graph.now }
-    requires turned { IsListing triple_cmp (IsTurned graph.now) turned.now }
+    requires reversed { IsListing triple_cmp (IsReversed graph.now) reversed.now }
     requires nodes { IsAscending term_cmp nodes.now }
     requires one { HasOne graph.now node.now properties.IgnoredProperties }
     ensures { IfOk result (λ parts. ArePartsOf graph.now nodes.now node.now parts.0.0 parts.0.1.0.0 parts.0.1.0.1
         parts.0.1.1.0 parts.0.1.1.1 parts.1.0.0 parts.1.0.1 parts.1.1.0 parts.1.1.1) }
 {
-    let lists = lists_of(alloc, graph, turned, nodes, node);
+    let lists = lists_of(alloc, graph, reversed, nodes, node);
     let words = words_of(alloc, graph, node);
     both(both(node.clone(), lists), words)
 }
@@ -177,7 +177,7 @@ fn assembled(
     node: &Term,
     is_deactivated: bool,
     path: Option<Path<Term>>,
-    pattern: Option<Pattern<Term>>,
+    pattern: Option<CompiledPattern<Term>>,
     parts: Parts,
 ) -> Shape<Term>
     requires graph { IsAscending triple_cmp graph.now }
@@ -211,20 +211,20 @@ fn assembled(
     }
 }
 
-/// The shape at the node. The graph's `path_nodes` and `turned_properties` are given, and the nodes that are shapes.
+/// The shape at the node. The graph's `path_nodes` and `reversed_properties` are given, and the nodes that are shapes.
 pub(crate) fn compile_shape<M: Maker>(
     alloc: Global,
     maker: &mut M,
     graph: &[Triple],
     paths: &BTreeSet<Term>,
-    turned: &[Triple],
+    reversed: &[Triple],
     nodes: &[Term],
     node: &Term,
 ) -> Result<Shape<Term>, CompileFault>
     requires graph { IsAscending triple_cmp graph.now }
     requires well_formed { IsWellFormed graph.now }
     requires paths { ArePathNodes graph.now paths.now.keys }
-    requires turned { IsListing triple_cmp (IsTurned graph.now) turned.now }
+    requires reversed { IsListing triple_cmp (IsReversed graph.now) reversed.now }
     requires nodes { IsAscending term_cmp nodes.now }
     requires shape { IsShape graph.now node.now }
     ensures answer { MatchResult result
@@ -235,6 +235,6 @@ pub(crate) fn compile_shape<M: Maker>(
 {
     let off = is_deactivated(graph, node);
     let (path, pattern) = made_of(alloc, maker, graph, paths, node, off)?;
-    let parts = parts_at(alloc, graph, turned, nodes, node)?;
+    let parts = parts_at(alloc, graph, reversed, nodes, node)?;
     Ok(assembled(graph, nodes, node, off, path, pattern, parts))
 }

@@ -1,9 +1,10 @@
+//! The shapes of a well-formed shapes graph, compiled one after another.
 ghost use Rattle.std.specs.Prelude.{◌≡◌, IfOk, MatchResult};
 ghost use Rattle.collections.specs.Listings.{IsListing};
 ghost use Rattle.collections.specs.Ordered.{IsAscending};
 ghost use Rattle.rdf_model.specs.Terms.{term_cmp, triple_cmp};
 ghost use Rattle.shape_model.specs.ShapeSyntax.{IsShape};
-ghost use Rattle.shape_references.specs.Siblings.{IsTurned};
+ghost use Rattle.shape_references.specs.Siblings.{IsReversed};
 ghost use Rattle.shape_rules.specs.Broken.{IsWellFormed};
 ghost use Rattle.shape_sizes.specs.Surveys.{IsSurvey};
 ghost use Rattle.shape_syntax.specs.PathNodes.{ArePathNodes};
@@ -19,7 +20,7 @@ use collections::Sequence;
 use outside::Maker;
 use rdf_model::{Term, Triple};
 use shape_ast::{Shape, Shapes};
-use shape_references::turned_properties;
+use shape_references::reversed_properties;
 use shape_sizes::{Survey, survey_of};
 use std::alloc::Global;
 use std::collections::BTreeSet;
@@ -30,13 +31,13 @@ fn compile_nodes<M: Maker>(
     maker: &mut M,
     graph: &[Triple],
     paths: &BTreeSet<Term>,
-    turned: &[Triple],
+    reversed: &[Triple],
     nodes: &[Term],
 ) -> Result<Sequence<Shape<Term>>, CompileFault>
     requires graph { IsAscending triple_cmp graph.now }
     requires well_formed { IsWellFormed graph.now }
     requires paths { ArePathNodes graph.now paths.now.keys }
-    requires turned { IsListing triple_cmp (IsTurned graph.now) turned.now }
+    requires reversed { IsListing triple_cmp (IsReversed graph.now) reversed.now }
     requires nodes { IsListing term_cmp (IsShape graph.now) nodes.now }
     ensures answer { MatchResult result
         (λ shapes. AreShapes graph.now nodes.now nodes.now shapes × (M.refused maker.new ≡ M.refused maker.old))
@@ -46,7 +47,7 @@ fn compile_nodes<M: Maker>(
 {
     let mut shapes = Sequence::new(alloc);
     for node in nodes {
-        let shape = compile_shape(alloc, maker, graph, paths, turned, nodes, node)?;
+        let shape = compile_shape(alloc, maker, graph, paths, reversed, nodes, node)?;
         shapes.push(shape)?;
     }
     Ok(shapes)
@@ -70,13 +71,13 @@ pub(crate) fn compile_of<M: Maker>(
     ensures asked { MatchResult result (λ _. AsksAll graph.now (M.asked maker.old) (M.asked maker.new))
         (λ fault. AsksBefore graph.now fault (M.asked maker.old) (M.asked maker.new)) }
 {
-    let turned = turned_properties(alloc, graph)?;
+    let reversed = reversed_properties(alloc, graph)?;
     let shapes = compile_nodes(
         alloc,
         maker,
         graph,
         &survey.paths,
-        turned.as_slice(),
+        reversed.as_slice(),
         survey.shapes.as_slice(),
     )?;
     Ok(Shapes { shapes })

@@ -19,6 +19,7 @@ use shape_properties::ShapeProperty;
 use shape_syntax::instance::classes_of;
 use shape_syntax::terms::is_named;
 use std::alloc::{AllocError, Global};
+use vocabulary::RDFS_CLASS;
 
 // The target that the value declares, if the property declares targets.
 fn declared(property: ShapeProperty, value: &Term) -> Result<Option<Target<Term>>, AllocError>
@@ -54,7 +55,7 @@ impl Part for Target<Term> {
 fn is_rdfs_class(term: &Term) -> bool
     ensures { IsTrue result ↔ (term.now ≡ rdfs_class) }
 {
-    is_named(term, "http://www.w3.org/2000/01/rdf-schema#Class")
+    is_named(term, RDFS_CLASS)
 }
 
 fn has_rdfs_class(classes: &[Term]) -> bool

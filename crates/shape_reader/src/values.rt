@@ -5,8 +5,7 @@ ghost use Rattle.collections.specs.Listings.{IsListing};
 ghost use Rattle.collections.specs.Ordered.{IsAscending};
 ghost use Rattle.rdf_model.specs.declared.term.Term.{Term as TermData};
 ghost use Rattle.rdf_model.specs.Terms.{term_cmp, triple_cmp};
-ghost use Rattle.shape_model.specs.Vocabulary.{true_literal};
-ghost use Rattle.shape_references.specs.Siblings.{IsTurned};
+ghost use Rattle.shape_references.specs.Siblings.{IsReversed};
 ghost use Rattle.shape_properties.specs.declared.property.ShapeProperty.TheVariants as properties;
 ghost use Rattle.shape_properties.specs.Syntax.{HasProperty};
 ghost use Rattle.shape_syntax.specs.Gathering.{Gives};
@@ -15,6 +14,7 @@ ghost use Rattle.shape_reader.specs.Parts.{AreProperties, HasOne, HasPlace, HasS
 use crate::place::{place_of, places_among};
 use collections::{Sequence, sorted_once};
 use rdf_model::{Term, Triple};
+use shape_model::is_true;
 use shape_properties::ShapeProperty;
 use shape_references::push_siblings;
 use shape_syntax::list::list_members;
@@ -37,7 +37,7 @@ pub(crate) fn value_of<'a>(
     }
 }
 
-/// The same as a term of its own.
+/// A value of the property at the node, as a term of its own.
 pub(crate) fn copied_value(
     graph: &[Triple],
     node: &Term,
@@ -77,7 +77,7 @@ fn all_values(
     Ok(found)
 }
 
-// The same, each once and in the order of terms.
+// The values of the property at the node, each once and in the order of terms.
 fn values_once(
     alloc: Global,
     graph: &[Triple],
@@ -125,17 +125,17 @@ pub(crate) fn properties_of(
 pub(crate) fn siblings_of(
     alloc: Global,
     graph: &[Triple],
-    turned: &[Triple],
+    reversed: &[Triple],
     nodes: &[Term],
     node: &Term,
 ) -> Result<Sequence<usize>, AllocError>
     requires graph { IsAscending triple_cmp graph.now }
-    requires turned { IsListing triple_cmp (IsTurned graph.now) turned.now }
+    requires reversed { IsListing triple_cmp (IsReversed graph.now) reversed.now }
     requires nodes { IsAscending term_cmp nodes.now }
     ensures { IfOk result (λ places. (k : ℕ) → Contains places k ↔ HasSibling graph.now nodes.now node.now k) }
 {
     let mut found = Sequence::new(alloc);
-    push_siblings(graph, turned, node, &mut found)?;
+    push_siblings(graph, reversed, node, &mut found)?;
     let places = places_among(alloc, nodes, found.as_slice())?;
     Ok(places)
 }
@@ -169,23 +169,6 @@ pub(crate) fn ignored_of(
     match list_members(alloc, graph, head)? {
         Some(members) => Ok(members),
         None => Ok(Sequence::new(alloc)),
-    }
-}
-
-#[tactic(auto, unfolding(shape_model::specs::Vocabulary::true_literal))]
-fn is_true(term: &Term) -> bool
-    ensures { IsTrue result ↔ (term.now ≡ true_literal) }
-{
-    match term {
-        Term::Literal {
-            lexical,
-            datatype,
-            language: None,
-        } => {
-            lexical.as_str() == "true"
-                && datatype.as_str() == "http://www.w3.org/2001/XMLSchema#boolean"
-        }
-        _ => false,
     }
 }
 

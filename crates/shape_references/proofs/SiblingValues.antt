@@ -11,7 +11,7 @@ use Rattle.shape_model.specs.ShapeSyntax.{HasProperty}
 use Rattle.shape_model.specs.Readings.{Sibling}
 use Rattle.shape_syntax.proofs.Values.{value_of}
 use Rattle.shape_syntax.specs.Gathering.{Gives}
-use Rattle.shape_references.specs.Siblings.{AreValues, IsBeside, IsTurned, IsTurnOf, IsUnder, MayHaveSiblings}
+use Rattle.shape_references.specs.Siblings.{AreValues, IsBeside, IsReversed, IsReverseOf, IsUnder, MayHaveSiblings}
 
 pub value_in : (s own : List Triple) (n : Term) (p : ShapeProperty) → AreValues s n p own → (t : Triple) → Contains own t → HasProperty s n p t.object
 value_in s own n p all t c = let k = (all t).0 c in value_of s n (property_iri p) t (k.0, k.1.0, k.1.1)
@@ -34,16 +34,16 @@ one_value s own n p v all = (
   λ h. (record { subject = n; predicate = property_iri p; object = v }, in_values s own n p all v h, refl),
 )
 
--- the shapes that have it as a sh:property, by the turned triples
-pub turned_value : (s turned : List Triple) → IsListing triple_cmp (IsTurned s) turned → (shape parent : Term) → HasProperty turned shape ShProperty parent ↔ HasProperty s parent ShProperty shape
-turned_value s turned list shape parent =
+-- the shapes that have it as a sh:property, by the reversed triples
+pub reversed_value : (s reversed : List Triple) → IsListing triple_cmp (IsReversed s) reversed → (shape parent : Term) → HasProperty reversed shape ShProperty parent ↔ HasProperty s parent ShProperty shape
+reversed_value s reversed list shape parent =
     let k = list.members (record { subject = shape; predicate = property_iri ShProperty; object = parent }) in
     (λ h. (k.0 h).1, λ h. k.1 (refl, h))
 
-pub beside_by : (s turned : List Triple) (shape : Term) → IsListing triple_cmp (IsTurned s) turned → (t : Term) → ((parent : Term) × HasProperty turned shape ShProperty parent × IsUnder s shape parent t) ↔ IsBeside s shape t
-beside_by s turned shape list t = (
-  λ h. (h.0, (turned_value s turned list shape h.0).0 h.1, h.2),
-  λ h. (h.0, (turned_value s turned list shape h.0).1 h.1, h.2),
+pub beside_by : (s reversed : List Triple) (shape : Term) → IsListing triple_cmp (IsReversed s) reversed → (t : Term) → ((parent : Term) × HasProperty reversed shape ShProperty parent × IsUnder s shape parent t) ↔ IsBeside s shape t
+beside_by s reversed shape list t = (
+  λ h. (h.0, (reversed_value s reversed list shape h.0).0 h.1, h.2),
+  λ h. (h.0, (reversed_value s reversed list shape h.0).1 h.1, h.2),
 )
 
 pub sibling_by : (s : List Triple) (shape t : Term) → (MayHaveSiblings s shape × IsBeside s shape t) ↔ Sibling s shape t
@@ -52,18 +52,18 @@ sibling_by s shape t = (
   λ h. let q = h.3 in ((h.0, h.1), (q.0, q.2, (q.1, q.3, (q.4, h.2)))),
 )
 
-pub turned_by : (s : List Triple) (t : Triple) → Gives IsTurnOf s t ↔ IsTurned s t
-turned_by s t = (
-  λ g. let u = g.0 in subst (λ (x : Triple). IsTurned s x) (sym g.2.1) (g.2.0, g.1),
+pub reversed_by : (s : List Triple) (t : Triple) → Gives IsReverseOf s t ↔ IsReversed s t
+reversed_by s t = (
+  λ g. let u = g.0 in subst (λ (x : Triple). IsReversed s x) (sym g.2.1) (g.2.0, g.1),
   λ h. (record { subject = t.object; predicate = t.predicate; object = t.subject }, h.1, (h.0, refl)),
 )
 
--- the only one of the turned triples leads to the only parent
-pub only_one : (s turned own : List Triple) (shape : Term) (t : Triple) → IsListing triple_cmp (IsTurned s) turned → AreValues turned shape ShProperty own → length own ≡ 1 → Contains own t
+-- the only one of the reversed triples leads to the only parent
+pub only_one : (s reversed own : List Triple) (shape : Term) (t : Triple) → IsListing triple_cmp (IsReversed s) reversed → AreValues reversed shape ShProperty own → length own ≡ 1 → Contains own t
     → HasProperty s t.object ShProperty shape × ((q : Term) → HasProperty s q ShProperty shape → q ≡ t.object)
-only_one s turned own shape t list all one here = (
-  (turned_value s turned list shape t.object).0 (value_in turned own shape ShProperty all t here),
-  λ q h. ap (λ (x : Triple). x.object) (alone own _ t one (in_values turned own shape ShProperty all q ((turned_value s turned list shape q).1 h)) here),
+only_one s reversed own shape t list all one here = (
+  (reversed_value s reversed list shape t.object).0 (value_in reversed own shape ShProperty all t here),
+  λ q h. ap (λ (x : Triple). x.object) (alone own _ t one (in_values reversed own shape ShProperty all q ((reversed_value s reversed list shape q).1 h)) here),
 )
   where
     alone : (xs : List Triple) (x y : Triple) → length xs ≡ 1 → Contains xs x → Contains xs y → x ≡ y

@@ -11,12 +11,12 @@ use Rattle.shape_model.specs.ShapeSyntax.{HasProperty}
 abbrev pub AreValues : List Triple → Term → ShapeProperty → List Triple → Type 0
 AreValues s n p own = (t : Triple) → Contains own t ↔ (Contains s t × ((t.subject ≡ n) × (t.predicate ≡ property_iri p)))
 
--- a triple with sh:property, turned round: from the value to the shape that has it
-abbrev pub IsTurned : List Triple → Triple → Type 0
-IsTurned s t = (t.predicate ≡ property_iri ShProperty) × Has s t.object t.predicate t.subject
+-- a triple with sh:property, reversed: from the value to the shape that has it
+abbrev pub IsReversed : List Triple → Triple → Type 0
+IsReversed s t = (t.predicate ≡ property_iri ShProperty) × Has s t.object t.predicate t.subject
 
-abbrev pub IsTurnOf : Triple → Triple → Type 0
-IsTurnOf u t = (u.predicate ≡ property_iri ShProperty) × (t ≡ record { subject = u.object; predicate = u.predicate; object = u.subject })
+abbrev pub IsReverseOf : Triple → Triple → Type 0
+IsReverseOf u t = (u.predicate ≡ property_iri ShProperty) × (t ≡ record { subject = u.object; predicate = u.predicate; object = u.subject })
 
 -- it may have siblings: a property shape whose sh:qualifiedValueShapesDisjoint is true
 abbrev pub MayHaveSiblings : List Triple → Term → Type 0

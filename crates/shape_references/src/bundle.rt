@@ -1,3 +1,4 @@
+//! References that stand together.
 use collections::Sequence;
 use rdf_model::Term;
 

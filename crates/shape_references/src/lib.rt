@@ -9,6 +9,8 @@
 //! References may stand in bundles, so that those of many siblings to each other aren't listed pair by pair:
 //! `least_bound_on_loop` and `least_bound_with_chain` ensure the same of those. `push_sibling_bundle` gives the references of
 //! all that may have siblings under a parent.
+//!
+//! Storey: shapes.
 #![tactic(auto)]
 
 mod below;
@@ -32,5 +34,6 @@ pub use chains::{least_with_chain, nodes_with_chain};
 pub use loops::least_on_loop;
 pub use names::{name_at, name_in};
 pub use siblings::{
-    may_share, only_parent, push_sibling_bundle, push_siblings, qualified_under, turned_properties,
+    may_share, only_parent, push_sibling_bundle, push_siblings, qualified_under,
+    reversed_properties,
 };

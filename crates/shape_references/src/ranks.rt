@@ -9,7 +9,7 @@ use crate::steps::{Step, mark};
 use collections::Sequence;
 use std::alloc::{AllocError, Global};
 
-fn push_turn(step: Step, before: &mut [Sequence<usize>]) -> Result<(), AllocError> {
+fn push_reversed(step: Step, before: &mut [Sequence<usize>]) -> Result<(), AllocError> {
     let Some(from) = step.from else {
         return Ok(());
     };
@@ -23,13 +23,13 @@ fn push_turn(step: Step, before: &mut [Sequence<usize>]) -> Result<(), AllocErro
 }
 
 // The numbers of the nodes that refer to each.
-fn turned_steps(alloc: Global, steps: &[Step]) -> Result<Vec<Sequence<usize>>, AllocError> {
+fn reversed_steps(alloc: Global, steps: &[Step]) -> Result<Vec<Sequence<usize>>, AllocError> {
     let mut before = Vec::new(alloc);
     for _ in 0..steps.len() {
         before.push(Sequence::new(alloc))?;
     }
     for step in steps {
-        push_turn(*step, before.as_mut_slice())?;
+        push_reversed(*step, before.as_mut_slice())?;
     }
     Ok(before)
 }
@@ -82,7 +82,7 @@ pub(crate) fn ranks_of(
     steps: &[Step],
     below: &[usize],
 ) -> Result<Vec<usize>, AllocError> {
-    let before = turned_steps(alloc, steps)?;
+    let before = reversed_steps(alloc, steps)?;
     let mut ranked = vec![in alloc; false; steps.len()]?;
     let mut ranks = vec![in alloc; 0; steps.len()]?;
     for rank in 0..below.len() {

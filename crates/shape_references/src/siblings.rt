@@ -11,21 +11,25 @@ ghost use Rattle.shape_model.specs.ShapeSyntax.{HasProperty};
 ghost use Rattle.shape_model.specs.Readings.{Sibling};
 ghost use Rattle.shape_syntax.specs.Gathering.{Gives};
 ghost use Rattle.shape_references.specs.Bundles.{IsBound};
-ghost use Rattle.shape_references.specs.Siblings.{AreUnder, AreValues, HasOneParent, IsBeside, IsDisjointUnder, IsForeign, IsOfOther, IsOnlyParent, IsQualifiedUnder, IsTurned, IsTurnOf, IsUnder, MayHaveSiblings};
+ghost use Rattle.shape_references.specs.Siblings.{AreUnder, AreValues, HasOneParent, IsBeside, IsDisjointUnder, IsForeign, IsOfOther, IsOnlyParent, IsQualifiedUnder, IsReversed, IsReverseOf, IsUnder, MayHaveSiblings};
 
 use crate::Bundle;
 use collections::{Sequence, sorted_once};
 use rdf_model::{Term, Triple};
+use shape_model::is_true;
 use shape_syntax::lookup::values;
 use shape_syntax::terms::{is_named, is_same};
 use std::alloc::{AllocError, Global};
+use vocabulary::{
+    SH_PATH, SH_PROPERTY, SH_QUALIFIED_VALUE_SHAPE, SH_QUALIFIED_VALUE_SHAPES_DISJOINT,
+};
 
 #[tactic(auto, unfolding(shape_model::specs::Vocabulary::sh))]
 fn properties<'a>(graph: &'a [Triple], node: &Term) -> &'a [Triple]
     requires { IsAscending triple_cmp graph.now }
     ensures { AreValues graph.now node.now ShProperty result.now }
 {
-    values(graph, node, "http://www.w3.org/ns/shacl#property")
+    values(graph, node, SH_PROPERTY)
 }
 
 #[tactic(auto, unfolding(shape_model::specs::Vocabulary::sh))]
@@ -33,11 +37,7 @@ fn qualified_shapes<'a>(graph: &'a [Triple], node: &Term) -> &'a [Triple]
     requires { IsAscending triple_cmp graph.now }
     ensures { AreValues graph.now node.now ShQualifiedValueShape result.now }
 {
-    values(
-        graph,
-        node,
-        "http://www.w3.org/ns/shacl#qualifiedValueShape",
-    )
+    values(graph, node, SH_QUALIFIED_VALUE_SHAPE)
 }
 
 #[tactic(auto, unfolding(shape_model::specs::Vocabulary::sh))]
@@ -45,11 +45,7 @@ fn disjointness<'a>(graph: &'a [Triple], node: &Term) -> &'a [Triple]
     requires { IsAscending triple_cmp graph.now }
     ensures { AreValues graph.now node.now ShQualifiedValueShapesDisjoint result.now }
 {
-    values(
-        graph,
-        node,
-        "http://www.w3.org/ns/shacl#qualifiedValueShapesDisjoint",
-    )
+    values(graph, node, SH_QUALIFIED_VALUE_SHAPES_DISJOINT)
 }
 
 #[tactic(auto, unfolding(shape_model::specs::Vocabulary::sh))]
@@ -57,24 +53,7 @@ fn paths<'a>(graph: &'a [Triple], node: &Term) -> &'a [Triple]
     requires { IsAscending triple_cmp graph.now }
     ensures { AreValues graph.now node.now ShPath result.now }
 {
-    values(graph, node, "http://www.w3.org/ns/shacl#path")
-}
-
-#[tactic(auto, unfolding(shape_model::specs::Vocabulary::true_literal))]
-fn is_true(term: &Term) -> bool
-    ensures { IsTrue result ↔ (term.now ≡ true_literal) }
-{
-    match term {
-        Term::Literal {
-            lexical,
-            datatype,
-            language: None,
-        } => {
-            lexical.as_str() == "true"
-                && datatype.as_str() == "http://www.w3.org/2001/XMLSchema#boolean"
-        }
-        _ => false,
-    }
+    values(graph, node, SH_PATH)
 }
 
 // Whether the object of one of the triples is `true`.
@@ -181,33 +160,33 @@ fn push_under(
 // Adds those under all the shapes that have the shape as a sh:property.
 fn push_beside(
     graph: &[Triple],
-    turned: &[Triple],
+    reversed: &[Triple],
     shape: &Term,
     nodes: &mut Sequence<Term>,
 ) -> Result<(), AllocError>
     requires graph { IsAscending triple_cmp graph.now }
-    requires turned { IsListing triple_cmp (IsTurned graph.now) turned.now }
+    requires reversed { IsListing triple_cmp (IsReversed graph.now) reversed.now }
     ensures { OnOk result ((t : TermData) → Contains nodes.new t ↔ (Contains nodes.old t ⊎ IsBeside graph.now shape.now t)) }
 {
-    for triple in properties(turned, shape) {
+    for triple in properties(reversed, shape) {
         push_under(graph, shape, &triple.object, nodes)?;
     }
     Ok(())
 }
 
-/// Adds the siblings of the shape. The graph's `turned_properties` are given.
+/// Adds the siblings of the shape. The graph's `reversed_properties` are given.
 pub fn push_siblings(
     graph: &[Triple],
-    turned: &[Triple],
+    reversed: &[Triple],
     shape: &Term,
     nodes: &mut Sequence<Term>,
 ) -> Result<(), AllocError>
     requires graph { IsAscending triple_cmp graph.now }
-    requires turned { IsListing triple_cmp (IsTurned graph.now) turned.now }
+    requires reversed { IsListing triple_cmp (IsReversed graph.now) reversed.now }
     ensures { OnOk result ((t : TermData) → Contains nodes.new t ↔ (Contains nodes.old t ⊎ Sibling graph.now shape.now t)) }
 {
     if may_have_siblings(graph, shape) {
-        push_beside(graph, turned, shape, nodes)?;
+        push_beside(graph, reversed, shape, nodes)?;
         return Ok(());
     }
     Ok(())
@@ -334,25 +313,25 @@ fn only_of(found: &[Triple]) -> Option<&Triple>
 }
 
 // The only shape that has the shape as a sh:property, if there is just one.
-fn parent_of<'a>(graph: &[Triple], turned: &'a [Triple], shape: &Term) -> Option<&'a Term>
+fn parent_of<'a>(graph: &[Triple], reversed: &'a [Triple], shape: &Term) -> Option<&'a Term>
     requires graph { IsAscending triple_cmp graph.now }
-    requires turned { IsListing triple_cmp (IsTurned graph.now) turned.now }
+    requires reversed { IsListing triple_cmp (IsReversed graph.now) reversed.now }
     ensures { MatchOption result (Unit {0}) (λ parent. HasOneParent graph.now shape.now parent.now) }
 {
-    match only_of(properties(turned, shape)) {
+    match only_of(properties(reversed, shape)) {
         Some(triple) => Some(&triple.object),
         None => None,
     }
 }
 
-/// The only shape that has the shape as a sh:property, where the shape may have siblings. The graph's `turned_properties` are given.
-pub fn only_parent<'a>(graph: &[Triple], turned: &'a [Triple], shape: &Term) -> Option<&'a Term>
+/// The only shape that has the shape as a sh:property, where the shape may have siblings. The graph's `reversed_properties` are given.
+pub fn only_parent<'a>(graph: &[Triple], reversed: &'a [Triple], shape: &Term) -> Option<&'a Term>
     requires graph { IsAscending triple_cmp graph.now }
-    requires turned { IsListing triple_cmp (IsTurned graph.now) turned.now }
+    requires reversed { IsListing triple_cmp (IsReversed graph.now) reversed.now }
     ensures { MatchOption result (Unit {0}) (λ parent. IsOnlyParent graph.now shape.now parent.now) }
 {
     if may_have_siblings(graph, shape) {
-        return parent_of(graph, turned, shape);
+        return parent_of(graph, reversed, shape);
     }
     None
 }
@@ -361,12 +340,12 @@ pub fn only_parent<'a>(graph: &[Triple], turned: &'a [Triple], shape: &Term) -> 
 fn is_property(term: &Term) -> bool
     ensures { IsTrue result ↔ (term.now ≡ property_iri ShProperty) }
 {
-    is_named(term, "http://www.w3.org/ns/shacl#property")
+    is_named(term, SH_PROPERTY)
 }
 
-// The triple turned round.
-fn turn_of(triple: &Triple) -> Result<Triple, AllocError>
-    ensures { IfOk result (λ turn. turn ≡ record { subject = triple.now.object; predicate = triple.now.predicate; object = triple.now.subject }) }
+// The triple reversed.
+fn reverse_of(triple: &Triple) -> Result<Triple, AllocError>
+    ensures { IfOk result (λ reverse. reverse ≡ record { subject = triple.now.object; predicate = triple.now.predicate; object = triple.now.subject }) }
 {
     Ok(Triple {
         subject: triple.object.clone()?,
@@ -375,31 +354,31 @@ fn turn_of(triple: &Triple) -> Result<Triple, AllocError>
     })
 }
 
-fn push_turn(triple: &Triple, turned: &mut Sequence<Triple>) -> Result<(), AllocError>
-    ensures { OnOk result ((t : TripleData) → Contains turned.new t ↔ (Contains turned.old t ⊎ IsTurnOf triple.now t)) }
+fn push_reversed(triple: &Triple, reversed: &mut Sequence<Triple>) -> Result<(), AllocError>
+    ensures { OnOk result ((t : TripleData) → Contains reversed.new t ↔ (Contains reversed.old t ⊎ IsReverseOf triple.now t)) }
 {
     if is_property(&triple.predicate) {
-        turned.push(turn_of(triple)?)?;
+        reversed.push(reverse_of(triple)?)?;
         return Ok(());
     }
     Ok(())
 }
 
-fn all_turns(alloc: Global, graph: &[Triple]) -> Result<Sequence<Triple>, AllocError>
-    ensures { IfOk result (λ turned. (t : TripleData) → Contains turned t ↔ Gives IsTurnOf graph.now t) }
+fn all_reversed(alloc: Global, graph: &[Triple]) -> Result<Sequence<Triple>, AllocError>
+    ensures { IfOk result (λ reversed. (t : TripleData) → Contains reversed t ↔ Gives IsReverseOf graph.now t) }
 {
-    let mut turned = Sequence::new(alloc);
+    let mut reversed = Sequence::new(alloc);
     for triple in graph {
-        push_turn(triple, &mut turned)?;
+        push_reversed(triple, &mut reversed)?;
     }
-    Ok(turned)
+    Ok(reversed)
 }
 
-/// The triples with sh:property, turned round and in order, so that the shapes that have a sh:property are found.
-pub fn turned_properties(alloc: Global, graph: &[Triple]) -> Result<Vec<Triple>, AllocError>
-    ensures { IfOk result (λ turned. IsListing triple_cmp (IsTurned graph.now) turned.items) }
+/// The triples with sh:property, reversed and in order, so that the shapes that have a sh:property are found.
+pub fn reversed_properties(alloc: Global, graph: &[Triple]) -> Result<Vec<Triple>, AllocError>
+    ensures { IfOk result (λ reversed. IsListing triple_cmp (IsReversed graph.now) reversed.items) }
 {
-    let turns = all_turns(alloc, graph)?;
-    let sorted = sorted_once(turns.into_vec())?;
+    let unsorted = all_reversed(alloc, graph)?;
+    let sorted = sorted_once(unsorted.into_vec())?;
     Ok(sorted)
 }

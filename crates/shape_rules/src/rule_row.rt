@@ -1,3 +1,4 @@
+//! A broken rule.
 ghost use Rattle.std.specs.Prelude.{◌≡◌, IfOk};
 ghost use Rattle.shape_rules.specs.Rows.{optional_cmp, row_cmp};
 
@@ -6,7 +7,7 @@ use std::alloc::AllocError;
 use std::cmp::Ordering;
 
 /// A rule that a node of a shapes graph breaks.
-#[derive(Debug)]
+#[derive(Debug, PartialEq, Eq)]
 pub struct RuleRow {
     pub node: Term,
     /// The rule's number in the table of rules.

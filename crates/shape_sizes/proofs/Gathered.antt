@@ -12,7 +12,7 @@ use Rattle.rdf_model.specs.Orders.{term_total}
 use Rattle.shape_model.specs.Readings.{Sibling}
 use Rattle.shape_model.proofs.Declarations.{values_law}
 use Rattle.shape_model.proofs.Listings.{listing_same, one_listing}
-use Rattle.reference_totals.specs.declared.place.Place.{Place}
+use Rattle.reference_totals.specs.declared.place.WeightedPlace.{WeightedPlace}
 use Rattle.shape_syntax.specs.Gathering.{Gives}
 use Rattle.shape_syntax.proofs.Scans.{cases_more}
 use Rattle.shape_properties.specs.declared.property.ShapeProperty.{ShapeProperty}
@@ -65,9 +65,9 @@ members_next s heads i head old now next l e before step = (
 )
 
 -- the places of so many nodes
-pub record HavePlaces (s : List Triple) (W : Term → ℕ → Type 0) (parents nodes : List Term) (places : List Place) : Type 0 where
-  pub each : (p : Place) → Contains places p → IsPlaceOf s W parents p
-  pub all : (n : Term) → Contains nodes n → (p : Place) × Contains places p × (p.node ≡ n)
+pub record HavePlaces (s : List Triple) (W : Term → ℕ → Type 0) (parents nodes : List Term) (places : List WeightedPlace) : Type 0 where
+  pub each : (p : WeightedPlace) → Contains places p → IsPlaceOf s W parents p
+  pub all : (n : Term) → Contains nodes n → (p : WeightedPlace) × Contains places p × (p.node ≡ n)
 
 pub places_none : (s : List Triple) (W : Term → ℕ → Type 0) (parents nodes : List Term) → HavePlaces s W parents (take 0 nodes) []
 places_none s W parents nodes = record {
@@ -75,12 +75,12 @@ places_none s W parents nodes = record {
   all = λ n c. absurd (let k = c.1 in omega arith);
 }
 
-pub places_next : (s : List Triple) (W : Term → ℕ → Type 0) (parents nodes : List Term) (i : ℕ) (n : Term) (places next : List Place) (p : Place) → i < length nodes → n ≡ get_or nodes i n
+pub places_next : (s : List Triple) (W : Term → ℕ → Type 0) (parents nodes : List Term) (i : ℕ) (n : Term) (places next : List WeightedPlace) (p : WeightedPlace) → i < length nodes → n ≡ get_or nodes i n
     → HavePlaces s W parents (take i nodes) places → IsPlaceOf s W parents p → p.node ≡ n → next ≡ places ++ p ∷ [] → HavePlaces s W parents (take (i + 1) nodes) next
-places_next s W parents nodes i n places next p l e before of same f = subst (λ (ps : List Place). HavePlaces s W parents (take (i + 1) nodes) ps) (sym f) (record {
+places_next s W parents nodes i n places next p l e before of same f = subst (λ (ps : List WeightedPlace). HavePlaces s W parents (take (i + 1) nodes) ps) (sym f) (record {
   each = λ q c. elim (Contains-push_cases places p q c) [
     | inl old ↦ before.each q old
-    | inr g ↦ subst (λ (x : Place). IsPlaceOf s W parents x) g of
+    | inr g ↦ subst (λ (x : WeightedPlace). IsPlaceOf s W parents x) g of
   ];
   all = λ m c. elim (cases_more nodes i n l e m c) [
     | inl old ↦ let k = before.all m old in (k.0, Contains-append_left places (p ∷ []) k.0 k.1, k.2)
@@ -88,5 +88,5 @@ places_next s W parents nodes i n places next p l e before of same f = subst (λ
   ];
 })
 
-pub places_all : (s : List Triple) (W : Term → ℕ → Type 0) (parents nodes : List Term) (places : List Place) → ((n : Term) → Contains nodes n ↔ IsShape s n) → HavePlaces s W parents nodes places → AreShapePlaces s W parents places
+pub places_all : (s : List Triple) (W : Term → ℕ → Type 0) (parents nodes : List Term) (places : List WeightedPlace) → ((n : Term) → Contains nodes n ↔ IsShape s n) → HavePlaces s W parents nodes places → AreShapePlaces s W parents places
 places_all s W parents nodes places all have = record { each = have.each; all = λ n may. have.all n ((all n).1 may) }

@@ -11,7 +11,7 @@ use Rattle.shape_model.specs.ShapeSyntax.{ListOf, PathOf, PathsOf}
 use Rattle.shape_syntax.specs.PathDepth.{IsDeep, deepest_of, depth_of}
 use Rattle.shape_syntax.proofs.Lists.{one_list}
 use Rattle.shape_syntax.proofs.PathWays.{no_blank_iri}
-use Rattle.reference_totals.specs.declared.place.Place.{Place}
+use Rattle.reference_totals.specs.declared.place.WeightedPlace.{WeightedPlace}
 use Rattle.reference_totals.proofs.TotalSums.{sum_has}
 use Rattle.shape_references.specs.Chains.{AreWithChain, HasChain, IsJoined}
 use Rattle.shape_sizes.specs.PathLooks.{AreDeepPaths, ArePathPlaces, ArePlaceSteps, MayBePath}
@@ -71,19 +71,19 @@ iri_depth s n iri (ZeroOrOne r) h = absurd (no_blank_iri n h.1.0 iri)
 no_member : (ms : List Term) (m : Term) → ms ≡ [] → Contains ms m → ⊥
 no_member ms m e c = let none = subst (λ (xs : List Term). Contains xs m) e c in let within = none.1 in omega arith
 
-module _ (s : List Triple) (places : List Place) (are : ArePathPlaces s places) (steps : List Triple) (all : ArePlaceSteps places steps) where
+module _ (s : List Triple) (places : List WeightedPlace) (are : ArePathPlaces s places) (steps : List Triple) (all : ArePlaceSteps places steps) where
   -- a step leads from the node of a place to one of those to which it refers
-  step_place : (n m : Term) → IsJoined steps n m → (p : Place) × Contains places p × (p.node ≡ n) × Contains p.to m
+  step_place : (n m : Term) → IsJoined steps n m → (p : WeightedPlace) × Contains places p × (p.node ≡ n) × Contains p.to m
   step_place n m h =
       let t : Triple = record { subject = n; predicate = h.0; object = m } in
       let g = (all t).0 h.1 in
       let e = g.2.2 in
       (g.0, g.1, sym (ap (λ (u : Triple). u.subject) e), subst (λ (x : Term). Contains g.0.to x) (sym (ap (λ (u : Triple). u.object) e)) g.2.1)
 
-  place_step : (p : Place) (m : Term) → Contains places p → Contains p.to m → IsJoined steps p.node m
+  place_step : (p : WeightedPlace) (m : Term) → Contains places p → Contains p.to m → IsJoined steps p.node m
   place_step p m c d = (p.node, (all (record { subject = p.node; predicate = p.node; object = m })).1 (p, c, (m, d, refl)))
 
-  shallower : (p : Place) (m : Term) (q : Path) → Contains places p → Contains p.to m → PathOf s p.node q → (r : Path) × PathOf s m r × (depth_of r < depth_of q)
+  shallower : (p : WeightedPlace) (m : Term) (q : Path) → Contains places p → Contains p.to m → PathOf s p.node q → (r : Path) × PathOf s m r × (depth_of r < depth_of q)
   shallower p m q c d path = elim (are.each p c).1 [
     | inl iri ↦ absurd (no_member p.to m iri.2 d)
     | inr other ↦

@@ -8,7 +8,7 @@ use Rattle.shape_model.specs.Vocabulary.{sh, rdf, rdf_first, rdf_nil, rdf_rest}
 use Rattle.shape_model.specs.Triples.{Has, IsBlank, IsIri}
 use Rattle.shape_model.specs.Paths.{Path, Predicate, Inverse, Sequence, Alternative, ZeroOrMore, OneOrMore, ZeroOrOne, Paths, Last, Also}
 use Rattle.shape_model.specs.ShapeSyntax.{HasAlone, ListOf, PathOf, PathsOf}
-use Rattle.shape_syntax.specs.PathSteps.{TurnsPath}
+use Rattle.shape_syntax.specs.PathSteps.{ModifiesPath}
 use Rattle.shape_syntax.proofs.PathWays.{sh_exact}
 use Rattle.shape_sizes.specs.PathLooks.{IsMadeOf, MayBePath}
 
@@ -52,7 +52,7 @@ no_list_at s n name v alone (m ∷ ms) l = sh_not_rest name (sym (alone.2 rdf_re
 pub member_may_be : (s : List Triple) (n m : Term) → Has s n rdf_first m → MayBePath s m
 member_may_be s n m h = (record { subject = n; predicate = rdf_first; object = m }, h, inr (inl refl), refl)
 
--- the path that is turned or repeated, at the one node
+-- the path that is reversed or repeated, at the one node
 abbrev pub IsPart : List Triple → Path → List Term → Type 0
 IsPart s r to = (v : Term) × PathOf s v r × MayBePath s v × (to ≡ v ∷ [])
 
@@ -78,15 +78,15 @@ list_of s n (Last p) h = (h.0 ∷ [], (h.1, h.2, h.3))
 list_of s n (Also p ps) h = let rest = list_of s h.1 ps h.4 in (h.0 ∷ rest.0, (h.1, h.2, rest.1))
 
 module _ (s : List Triple) (n : Term) (to : List Term) (made : IsMadeOf s n to) where
-  turned_part : (name : List ℕ) → TurnsPath (sh name) → codes "alternativePath" ≢ name → (v : Term) → HasAlone s n name v → (r : Path) → PathOf s v r → IsPart s r to
-  turned_part name turns other v alone r path = elim made [
+  modified_part : (name : List ℕ) → ModifiesPath (sh name) → codes "alternativePath" ≢ name → (v : Term) → HasAlone s n name v → (r : Path) → PathOf s v r → IsPart s r to
+  modified_part name modifies other v alone r path = elim made [
     | inl list ↦ absurd (no_list_at s n name v alone to list)
     | inr (inl h) ↦
         let same = alone.2 h.1.0 h.1.1 h.1.2 in
         elim h.1.3 [
           | inl k ↦ absurd (other (sh_exact (codes "alternativePath") name (sym k.0 ∙ same.0)))
           | inr k ↦
-              let may : MayBePath s v = (record { subject = n; predicate = sh name; object = v }, alone.1, inr (inr turns), refl) in
+              let may : MayBePath s v = (record { subject = n; predicate = sh name; object = v }, alone.1, inr (inr modifies), refl) in
               (v, path, may, k.1 ∙ ap (λ (x : Term). x ∷ []) same.1)
         ]
     | inr (inr h) ↦ absurd (h.0 (sh name) v alone.1)
@@ -119,9 +119,9 @@ module _ (s : List Triple) (n : Term) (to : List Term) (made : IsMadeOf s n to) 
 -- a blank node that stands for a path is made of those of which the path is made
 pub made_as : (s : List Triple) (n : Term) (to : List Term) → IsMadeOf s n to → (IsIri n → ⊥) → (q : Path) → PathOf s n q → IsMadeAs s q to
 made_as s n to made blank (Predicate p) h = absurd (blank h.1)
-made_as s n to made blank (Inverse r) h = turned_part s n to made (codes "inversePath") (inl refl) (inverse_differs) h.0 h.1 r h.2
+made_as s n to made blank (Inverse r) h = modified_part s n to made (codes "inversePath") (inl refl) (inverse_differs) h.0 h.1 r h.2
 made_as s n to made blank (Sequence ps) h = sequence_parts s n to made ps h.2
 made_as s n to made blank (Alternative ps) h = offered_parts s n to made h.0 h.1 ps h.3
-made_as s n to made blank (ZeroOrMore r) h = turned_part s n to made (codes "zeroOrMorePath") (inr (inl refl)) (zeroOrMore_differs) h.0 h.1 r h.2
-made_as s n to made blank (OneOrMore r) h = turned_part s n to made (codes "oneOrMorePath") (inr (inr (inl refl))) (oneOrMore_differs) h.0 h.1 r h.2
-made_as s n to made blank (ZeroOrOne r) h = turned_part s n to made (codes "zeroOrOnePath") (inr (inr (inr refl))) (zeroOrOne_differs) h.0 h.1 r h.2
+made_as s n to made blank (ZeroOrMore r) h = modified_part s n to made (codes "zeroOrMorePath") (inr (inl refl)) (zeroOrMore_differs) h.0 h.1 r h.2
+made_as s n to made blank (OneOrMore r) h = modified_part s n to made (codes "oneOrMorePath") (inr (inr (inl refl))) (oneOrMore_differs) h.0 h.1 r h.2
+made_as s n to made blank (ZeroOrOne r) h = modified_part s n to made (codes "zeroOrOnePath") (inr (inr (inr refl))) (zeroOrOne_differs) h.0 h.1 r h.2

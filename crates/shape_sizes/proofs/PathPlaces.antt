@@ -10,13 +10,13 @@ use Rattle.rdf_model.specs.Terms.{term_cmp}
 use Rattle.shape_syntax.specs.Gathering.{Gives}
 use Rattle.shape_syntax.specs.PathNodes.{IsPath}
 use Rattle.shape_syntax.proofs.Scans.{cases_more}
-use Rattle.reference_totals.specs.declared.place.Place.{Place}
+use Rattle.reference_totals.specs.declared.place.WeightedPlace.{WeightedPlace}
 use Rattle.shape_sizes.specs.PathLooks.{ArePathPlaces, IsPathPlace, LeadsToPath, MayBePath}
 
 -- the places of so many nodes, as far as they stand for paths
-pub record HavePathPlaces (s : List Triple) (nodes : List Term) (places : List Place) : Type 0 where
-  pub each : (p : Place) → Contains places p → IsPathPlace s p
-  pub all : (n : Term) → Contains nodes n → IsPath s n → (p : Place) × Contains places p × (p.node ≡ n)
+pub record HavePathPlaces (s : List Triple) (nodes : List Term) (places : List WeightedPlace) : Type 0 where
+  pub each : (p : WeightedPlace) → Contains places p → IsPathPlace s p
+  pub all : (n : Term) → Contains nodes n → IsPath s n → (p : WeightedPlace) × Contains places p × (p.node ≡ n)
 
 pub places_none : (s : List Triple) (nodes : List Term) → HavePathPlaces s (take 0 nodes) []
 places_none s nodes = record {
@@ -24,12 +24,12 @@ places_none s nodes = record {
   all = λ n c. absurd (let k = c.1 in omega arith);
 }
 
-places_more : (s : List Triple) (nodes : List Term) (i : ℕ) (n : Term) (places : List Place) (p : Place) → i < length nodes → n ≡ get_or nodes i n
+places_more : (s : List Triple) (nodes : List Term) (i : ℕ) (n : Term) (places : List WeightedPlace) (p : WeightedPlace) → i < length nodes → n ≡ get_or nodes i n
     → HavePathPlaces s (take i nodes) places → IsPathPlace s p → p.node ≡ n → HavePathPlaces s (take (i + 1) nodes) (places ++ p ∷ [])
 places_more s nodes i n places p l e before of same = record {
   each = λ q c. elim (Contains-push_cases places p q c) [
     | inl old ↦ before.each q old
-    | inr g ↦ subst (λ (x : Place). IsPathPlace s x) g of
+    | inr g ↦ subst (λ (x : WeightedPlace). IsPathPlace s x) g of
   ];
   all = λ m c path. elim (cases_more nodes i n l e m c) [
     | inl old ↦ let k = before.all m old path in (k.0, Contains-append_left places (p ∷ []) k.0 k.1, k.2)
@@ -37,7 +37,7 @@ places_more s nodes i n places p l e before of same = record {
   ];
 }
 
-places_same : (s : List Triple) (nodes : List Term) (i : ℕ) (n : Term) (places : List Place) → i < length nodes → n ≡ get_or nodes i n
+places_same : (s : List Triple) (nodes : List Term) (i : ℕ) (n : Term) (places : List WeightedPlace) → i < length nodes → n ≡ get_or nodes i n
     → HavePathPlaces s (take i nodes) places → (IsPath s n → ⊥) → HavePathPlaces s (take (i + 1) nodes) places
 places_same s nodes i n places l e before never = record {
   each = before.each;
@@ -47,12 +47,12 @@ places_same s nodes i n places l e before never = record {
   ];
 }
 
-pub places_next : (s : List Triple) (nodes : List Term) (i : ℕ) (n : Term) (places next : List Place) → i < length nodes → n ≡ get_or nodes i n → HavePathPlaces s (take i nodes) places
-    → ((p : Place) × IsPathPlace s p × (p.node ≡ n) × (next ≡ places ++ p ∷ [])) ⊎ ((IsPath s n → ⊥) × (next ≡ places)) → HavePathPlaces s (take (i + 1) nodes) next
-places_next s nodes i n places next l e before (inl h) = subst (λ (ps : List Place). HavePathPlaces s (take (i + 1) nodes) ps) (sym h.3) (places_more s nodes i n places h.0 l e before h.1 h.2)
-places_next s nodes i n places next l e before (inr h) = subst (λ (ps : List Place). HavePathPlaces s (take (i + 1) nodes) ps) (sym h.1) (places_same s nodes i n places l e before h.0)
+pub places_next : (s : List Triple) (nodes : List Term) (i : ℕ) (n : Term) (places next : List WeightedPlace) → i < length nodes → n ≡ get_or nodes i n → HavePathPlaces s (take i nodes) places
+    → ((p : WeightedPlace) × IsPathPlace s p × (p.node ≡ n) × (next ≡ places ++ p ∷ [])) ⊎ ((IsPath s n → ⊥) × (next ≡ places)) → HavePathPlaces s (take (i + 1) nodes) next
+places_next s nodes i n places next l e before (inl h) = subst (λ (ps : List WeightedPlace). HavePathPlaces s (take (i + 1) nodes) ps) (sym h.3) (places_more s nodes i n places h.0 l e before h.1 h.2)
+places_next s nodes i n places next l e before (inr h) = subst (λ (ps : List WeightedPlace). HavePathPlaces s (take (i + 1) nodes) ps) (sym h.1) (places_same s nodes i n places l e before h.0)
 
-pub places_all : (s : List Triple) (nodes : List Term) (places : List Place) → ((n : Term) → Contains nodes n ↔ MayBePath s n) → HavePathPlaces s nodes places → ArePathPlaces s places
+pub places_all : (s : List Triple) (nodes : List Term) (places : List WeightedPlace) → ((n : Term) → Contains nodes n ↔ MayBePath s n) → HavePathPlaces s nodes places → ArePathPlaces s places
 places_all s nodes places all have = record { each = have.each; all = λ n object path. have.all n ((all n).1 object) path }
 
 -- what a triple gives

@@ -9,7 +9,7 @@ use Rattle.shape_model.specs.ShapeSyntax.{ListOf, PathOf, PathsOf}
 use Rattle.shape_syntax.specs.PathDepth.{deepest_of, depth_of}
 use Rattle.shape_syntax.proofs.Lists.{one_list}
 use Rattle.shape_syntax.proofs.PathWays.{no_blank_iri}
-use Rattle.reference_totals.specs.declared.place.Place.{Place}
+use Rattle.reference_totals.specs.declared.place.WeightedPlace.{WeightedPlace}
 use Rattle.reference_totals.specs.Totals.{AreTotals, HasTotal, SumBy, TotalBy, capped}
 use Rattle.reference_totals.proofs.TotalSums.{one_sum, total_from}
 use Rattle.shape_sizes.specs.PathLooks.{ArePathLooks, ArePathPlaces, IsMadeOf, MayBePath}
@@ -63,7 +63,7 @@ iri_looks s n iri (ZeroOrMore r) h = absurd (no_blank_iri n h.1.0 iri)
 iri_looks s n iri (OneOrMore r) h = absurd (no_blank_iri n h.1.0 iri)
 iri_looks s n iri (ZeroOrOne r) h = absurd (no_blank_iri n h.1.0 iri)
 
-module _ (s : List Triple) (places : List Place) (are : ArePathPlaces s places) where
+module _ (s : List Triple) (places : List WeightedPlace) (are : ArePathPlaces s places) where
   total_looks : (d : ℕ) (n : Term) (k : ℕ) (q : Path) → TotalBy places d n k → PathOf s n q → k ≡ looks_of q
   total_looks zero n k q h path = absurd h
   total_looks (suc d) n k q h path =

@@ -11,7 +11,7 @@ use Rattle.rdf_model.specs.declared.triple.Triple.{Triple}
 use Rattle.rdf_model.specs.Terms.{term_cmp}
 use Rattle.shape_model.specs.Readings.{Sibling}
 use Rattle.shape_model.proofs.Declarations.{values_law}
-use Rattle.reference_totals.specs.declared.place.Place.{Place}
+use Rattle.reference_totals.specs.declared.place.WeightedPlace.{WeightedPlace}
 use Rattle.shape_syntax.proofs.Items.{get_within}
 use Rattle.shape_references.specs.Bundles.{IsName, IsPlace}
 use Rattle.shape_references.specs.Siblings.{IsOnlyParent, IsQualifiedUnder}
@@ -25,19 +25,19 @@ use Rattle.shape_sizes.proofs.SiblingSums.{out_ascending, out_members, without_a
 
 -- ---- the places
 
-pub stand_ins_none : (s : List Triple) (parents : List Term) (places : List Place) → HaveStandIns s parents 0 places places
+pub stand_ins_none : (s : List Triple) (parents : List Term) (places : List WeightedPlace) → HaveStandIns s parents 0 places places
 stand_ins_none s parents places = record {
   each = λ q c. inl c;
   kept = λ q c. c;
   all = λ i p l e. absurd (omega arith);
 }
 
-pub stand_ins_next : (s : List Triple) (parents : List Term) (k : ℕ) (p : Term) (old now next : List Place) (q : Place) → slice_get parents k ≡ Some p → HaveStandIns s parents k old now
+pub stand_ins_next : (s : List Triple) (parents : List Term) (k : ℕ) (p : Term) (old now next : List WeightedPlace) (q : WeightedPlace) → slice_get parents k ≡ Some p → HaveStandIns s parents k old now
     → (q.node ≡ Blank 0 k) × (q.own ≡ 0) × IsListing term_cmp (IsQualifiedUnder s p) q.to → next ≡ now ++ q ∷ [] → HaveStandIns s parents (k + 1) old next
-stand_ins_next s parents k p old now next q got before made e = subst (λ (ps : List Place). HaveStandIns s parents (k + 1) old ps) (sym e) (record {
+stand_ins_next s parents k p old now next q got before made e = subst (λ (ps : List WeightedPlace). HaveStandIns s parents (k + 1) old ps) (sym e) (record {
   each = λ r c. elim (Contains-push_cases now q r c) [
     | inl d ↦ before.each r d
-    | inr f ↦ inr (subst (λ (x : Place). IsStandInPlace s parents x) f (p, (k, got, made.0), made.1, made.2))
+    | inr f ↦ inr (subst (λ (x : WeightedPlace). IsStandInPlace s parents x) f (p, (k, got, made.0), made.1, made.2))
   ];
   kept = λ r c. Contains-append_left now (q ∷ []) r (before.kept r c);
   all = λ i m l f. elim (cases_eq i k) [
@@ -46,7 +46,7 @@ stand_ins_next s parents k p old now next q got before made e = subst (λ (ps : 
   ];
 })
 
-pub with_stand_ins : (s : List Triple) (W : Term → ℕ → Type 0) (parents : List Term) (old now : List Place) → HaveNames s parents → AreShapePlaces s W parents old → HaveStandIns s parents (length parents) old now → ArePlaces s W parents now
+pub with_stand_ins : (s : List Triple) (W : Term → ℕ → Type 0) (parents : List Term) (old now : List WeightedPlace) → HaveNames s parents → AreShapePlaces s W parents old → HaveStandIns s parents (length parents) old now → ArePlaces s W parents now
 with_stand_ins s W parents old now names shapes have = record {
   names = names;
   each = λ p c. elim (have.each p c) [ inl d ↦ inl (shapes.each p d) | inr h ↦ inr h ];

@@ -9,7 +9,7 @@ use Rattle.collections.proofs.Members.{has_head, has_tail}
 use Rattle.rdf_model.specs.declared.term.Term.{Term}
 use Rattle.rdf_model.specs.declared.triple.Triple.{Triple}
 use Rattle.rdf_model.specs.Terms.{term_cmp}
-use Rattle.reference_totals.specs.declared.place.Place.{Place}
+use Rattle.reference_totals.specs.declared.place.WeightedPlace.{WeightedPlace}
 use Rattle.reference_totals.specs.Totals.{AreTotals, SumBy, TotalBy, capped, entry}
 use Rattle.reference_totals.proofs.TotalSums.{deeper, one_sum, sum_map}
 use Rattle.shape_model.proofs.Declarations.{values_law}
@@ -52,9 +52,9 @@ module _ (s : List Triple) (W : Term → ℕ → Type 0) (one : OneWeight W) whe
   pub one_weight : (n : Term) (j k : ℕ) → Weighs W s n j → Weighs W s n k → j ≡ k
   one_weight n j k h i = one_by h.0 i.0 n j k h.1 i.1
 
-  module _ (parents : List Term) (places : List Place) (are : ArePlaces s W parents places) where
+  module _ (parents : List Term) (places : List WeightedPlace) (are : ArePlaces s W parents places) where
     -- the place that has the name of a parent stands in for what is under it
-    stands_in : (p x : Term) (q : Place) → IsName parents p x → Contains places q → q.node ≡ x → (q.own ≡ 0) × IsListing term_cmp (IsQualifiedUnder s p) q.to
+    stands_in : (p x : Term) (q : WeightedPlace) → IsName parents p x → Contains places q → q.node ≡ x → (q.own ≡ 0) × IsListing term_cmp (IsQualifiedUnder s p) q.to
     stands_in p x q name c e = elim (are.each q c) [
       | inl shape ↦ absurd (are.names.1 q.node p x shape.0 name e)
       | inr made ↦

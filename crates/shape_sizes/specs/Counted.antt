@@ -9,7 +9,7 @@ use Rattle.rdf_model.specs.declared.term.Term.{Term}
 use Rattle.rdf_model.specs.declared.term.Term.TheVariants.{Blank}
 use Rattle.rdf_model.specs.declared.triple.Triple.{Triple}
 use Rattle.rdf_model.specs.Terms.{term_cmp}
-use Rattle.reference_totals.specs.declared.place.Place.{Place}
+use Rattle.reference_totals.specs.declared.place.WeightedPlace.{WeightedPlace}
 use Rattle.reference_totals.specs.Totals.{capped, entry}
 use Rattle.shape_references.specs.Bundles.{IsName, IsPlace}
 use Rattle.shape_references.specs.Siblings.{IsOnlyParent, IsQualifiedUnder}
@@ -44,30 +44,30 @@ abbrev pub IsReferredTo : List Triple → List Term → Term → List Term → T
 IsReferredTo s parents n to = (IsDeactivated s n × (to ≡ [])) ⊎ ((IsDeactivated s n → ⊥) × (AreCounted s n to ⊎ AreCountedBy s parents n to))
 
 -- the place of a shape: its own weight, and to what it refers
-abbrev pub IsPlaceOf : List Triple → (Term → ℕ → Type 0) → List Term → Place → Type 0
+abbrev pub IsPlaceOf : List Triple → (Term → ℕ → Type 0) → List Term → WeightedPlace → Type 0
 IsPlaceOf s W parents p = IsShape s p.node × W p.node p.own × IsReferredTo s parents p.node p.to
 
 -- the place that stands in for the qualified value shapes under a parent
-abbrev pub IsStandInPlace : List Triple → List Term → Place → Type 0
+abbrev pub IsStandInPlace : List Triple → List Term → WeightedPlace → Type 0
 IsStandInPlace s parents q = (p : Term) × IsName parents p q.node × (q.own ≡ 0) × IsListing term_cmp (IsQualifiedUnder s p) q.to
 
 -- the places that were there, and with them those for the parents before the end
-pub record HaveStandIns (s : List Triple) (parents : List Term) (end : ℕ) (old now : List Place) : Type 0 where
-  pub each : (q : Place) → Contains now q → Contains old q ⊎ IsStandInPlace s parents q
-  pub kept : (q : Place) → Contains old q → Contains now q
-  pub all : (i : ℕ) (p : Term) → i < end → IsPlace parents i p → (q : Place) × Contains now q × (q.node ≡ Blank 0 i)
+pub record HaveStandIns (s : List Triple) (parents : List Term) (end : ℕ) (old now : List WeightedPlace) : Type 0 where
+  pub each : (q : WeightedPlace) → Contains now q → Contains old q ⊎ IsStandInPlace s parents q
+  pub kept : (q : WeightedPlace) → Contains old q → Contains now q
+  pub all : (i : ℕ) (p : Term) → i < end → IsPlace parents i p → (q : WeightedPlace) × Contains now q × (q.node ≡ Blank 0 i)
 
 -- places of all shapes
-pub record AreShapePlaces (s : List Triple) (W : Term → ℕ → Type 0) (parents : List Term) (places : List Place) : Type 0 where
-  pub each : (p : Place) → Contains places p → IsPlaceOf s W parents p
-  pub all : (n : Term) → IsShape s n → (p : Place) × Contains places p × (p.node ≡ n)
+pub record AreShapePlaces (s : List Triple) (W : Term → ℕ → Type 0) (parents : List Term) (places : List WeightedPlace) : Type 0 where
+  pub each : (p : WeightedPlace) → Contains places p → IsPlaceOf s W parents p
+  pub all : (n : Term) → IsShape s n → (p : WeightedPlace) × Contains places p × (p.node ≡ n)
 
 -- with those that stand in
-pub record ArePlaces (s : List Triple) (W : Term → ℕ → Type 0) (parents : List Term) (places : List Place) : Type 0 where
+pub record ArePlaces (s : List Triple) (W : Term → ℕ → Type 0) (parents : List Term) (places : List WeightedPlace) : Type 0 where
   pub names : HaveNames s parents
-  pub each : (p : Place) → Contains places p → IsPlaceOf s W parents p ⊎ IsStandInPlace s parents p
-  pub all : (n : Term) → IsShape s n → (p : Place) × Contains places p × (p.node ≡ n)
-  pub named : (p x : Term) → IsName parents p x → (q : Place) × Contains places q × (q.node ≡ x)
+  pub each : (p : WeightedPlace) → Contains places p → IsPlaceOf s W parents p ⊎ IsStandInPlace s parents p
+  pub all : (n : Term) → IsShape s n → (p : WeightedPlace) × Contains places p × (p.node ≡ n)
+  pub named : (p x : Term) → IsName parents p x → (q : WeightedPlace) × Contains places q × (q.node ≡ x)
 
 -- The table has the weights of the shapes, as far as they are counted.
 pub record AreWeights (s : List Triple) (W : Term → ℕ → Type 0) (most : ℕ) (table : BTreeMap Term ℕ) : Type 0 where

@@ -11,17 +11,17 @@ use Rattle.shape_model.specs.ShapeSyntax.{ListOf, PathOf}
 use Rattle.shape_syntax.specs.Gathering.{Gives}
 use Rattle.shape_syntax.specs.PathDepth.{IsDeep}
 use Rattle.shape_syntax.specs.PathNodes.{IsPath}
-use Rattle.shape_syntax.specs.PathSteps.{TurnsPath}
-use Rattle.reference_totals.specs.declared.place.Place.{Place}
+use Rattle.shape_syntax.specs.PathSteps.{ModifiesPath}
+use Rattle.reference_totals.specs.declared.place.WeightedPlace.{WeightedPlace}
 use Rattle.reference_totals.specs.Totals.{capped, entry}
 use Rattle.shape_properties.specs.declared.property.ShapeProperty.TheVariants as properties
 use Rattle.shape_properties.specs.Properties.{property_iri}
 use Rattle.shape_model.specs.Limits.{looks_limit}
 use Rattle.shape_sizes.specs.Sizes.{AreMembersAt, IsLookWeight, looks_of}
 
--- values of sh:path, members of lists, and what a property turns into another path may stand for paths
+-- values of sh:path, members of lists, and what a property makes another path of may stand for paths
 abbrev pub LeadsToPath : Term → Type 0
-LeadsToPath p = (p ≡ property_iri properties.Path) ⊎ ((p ≡ rdf_first) ⊎ TurnsPath p)
+LeadsToPath p = (p ≡ property_iri properties.Path) ⊎ ((p ≡ rdf_first) ⊎ ModifiesPath p)
 
 -- the node is a value of such a property
 abbrev pub MayBePath : List Triple → Term → Type 0
@@ -40,13 +40,13 @@ IsMadeOf s n to =
     ⊎ (((p m : Term) → Has s n p m → ⊥) × (to ≡ [])))
 
 -- the place of a node that stands for a path: an IRI has one look
-abbrev pub IsPathPlace : List Triple → Place → Type 0
+abbrev pub IsPathPlace : List Triple → WeightedPlace → Type 0
 IsPathPlace s p = IsPath s p.node × ((IsIri p.node × (p.own ≡ 1) × (p.to ≡ [])) ⊎ ((IsIri p.node → ⊥) × (p.own ≡ 0) × IsMadeOf s p.node p.to))
 
 -- places of all those that do
-pub record ArePathPlaces (s : List Triple) (places : List Place) : Type 0 where
-  pub each : (p : Place) → Contains places p → IsPathPlace s p
-  pub all : (n : Term) → MayBePath s n → IsPath s n → (p : Place) × Contains places p × (p.node ≡ n)
+pub record ArePathPlaces (s : List Triple) (places : List WeightedPlace) : Type 0 where
+  pub each : (p : WeightedPlace) → Contains places p → IsPathPlace s p
+  pub all : (n : Term) → MayBePath s n → IsPath s n → (p : WeightedPlace) × Contains places p × (p.node ≡ n)
 
 -- The table has the looks of the paths for which they stand, as far as they are counted.
 pub record ArePathLooks (s : List Triple) (most : ℕ) (table : BTreeMap Term ℕ) : Type 0 where
@@ -61,11 +61,11 @@ AreDeepPaths s levels nodes = (n : Term) → MayBePath s n → Contains nodes n 
 abbrev pub IsStep : Term → Term → Triple → Type 0
 IsStep from to t = t ≡ record { subject = from; predicate = from; object = to }
 
-abbrev pub IsStepOf : Place → Triple → Type 0
+abbrev pub IsStepOf : WeightedPlace → Triple → Type 0
 IsStepOf p t = Gives (IsStep p.node) p.to t
 
 -- the steps of all the places
-abbrev pub ArePlaceSteps : List Place → List Triple → Type 0
+abbrev pub ArePlaceSteps : List WeightedPlace → List Triple → Type 0
 ArePlaceSteps places steps = (t : Triple) → Contains steps t ↔ Gives IsStepOf places t
 
 -- the own looks of a shape, as far as they are counted

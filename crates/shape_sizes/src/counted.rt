@@ -9,7 +9,7 @@ ghost use Rattle.rdf_model.specs.Terms.{term_cmp, triple_cmp};
 ghost use Rattle.shape_model.specs.Readings.{Sibling};
 ghost use Rattle.shape_syntax.specs.Gathering.{HasGathered};
 ghost use Rattle.shape_references.specs.Bundles.{IsName};
-ghost use Rattle.shape_references.specs.Siblings.{IsOnlyParent, IsTurned};
+ghost use Rattle.shape_references.specs.Siblings.{IsOnlyParent, IsReversed};
 ghost use Rattle.shape_properties.specs.declared.property.ShapeProperty.TheVariants as property_data;
 ghost use Rattle.shape_sizes.specs.Counted.{AreCountedBy, HasAdded, HaveNames, IsReferredTo, IsStandIn, IsUnqualified};
 ghost use Rattle.shape_properties.specs.Syntax.{HasProperty};
@@ -19,8 +19,8 @@ ghost use Rattle.shape_sizes.specs.Sizes as sizes;
 
 use collections::{Sequence, sorted_once};
 use rdf_model::{Term, Triple};
+use shape_model::is_true;
 use shape_properties::ShapeProperty;
-use shape_properties::terms::is_true;
 use shape_properties::values::property_values;
 use shape_references::{name_in, only_parent, push_siblings};
 use shape_syntax::list::list_members;
@@ -154,15 +154,15 @@ fn has_qualified_count(graph: &[Triple], node: &Term) -> bool
 fn siblings_of(
     alloc: Global,
     graph: &[Triple],
-    turned: &[Triple],
+    reversed: &[Triple],
     node: &Term,
 ) -> Result<Vec<Term>, AllocError>
     requires graph { IsAscending triple_cmp graph.now }
-    requires turned { IsListing triple_cmp (IsTurned graph.now) turned.now }
+    requires reversed { IsListing triple_cmp (IsReversed graph.now) reversed.now }
     ensures { IfOk result (λ siblings. IsListing term_cmp (Sibling graph.now node.now) siblings.items) }
 {
     let mut found = Sequence::new(alloc);
-    push_siblings(graph, turned, node, &mut found)?;
+    push_siblings(graph, reversed, node, &mut found)?;
     let sorted = sorted_once(found.into_vec())?;
     Ok(sorted)
 }
@@ -171,19 +171,19 @@ fn siblings_of(
 fn push_qualified(
     alloc: Global,
     graph: &[Triple],
-    turned: &[Triple],
+    reversed: &[Triple],
     own: &[Triple],
     node: &Term,
     nodes: &mut Sequence<Term>,
 ) -> Result<(), AllocError>
     requires graph { IsAscending triple_cmp graph.now }
-    requires turned { IsListing triple_cmp (IsTurned graph.now) turned.now }
+    requires reversed { IsListing triple_cmp (IsReversed graph.now) reversed.now }
     requires own { IsAscending triple_cmp own.now }
     requires members { (t : TripleData) → Contains own.now t ↔ (Contains graph.now t × (t.subject ≡ node.now)) }
     ensures { OnOk result (HasAdded (AreQualified graph.now node.now) nodes.old nodes.new) }
 {
     if has_qualified_count(own, node) {
-        let siblings = siblings_of(alloc, graph, turned, node)?;
+        let siblings = siblings_of(alloc, graph, reversed, node)?;
         push_values(alloc, own, node, ShapeProperty::QualifiedValueShape, nodes)?;
         push_copies(siblings.as_slice(), nodes)?;
         return Ok(());
@@ -226,22 +226,22 @@ fn unqualified_shapes(
 fn counted_shapes(
     alloc: Global,
     graph: &[Triple],
-    turned: &[Triple],
+    reversed: &[Triple],
     own: &[Triple],
     node: &Term,
 ) -> Result<Sequence<Term>, AllocError>
     requires graph { IsAscending triple_cmp graph.now }
-    requires turned { IsListing triple_cmp (IsTurned graph.now) turned.now }
+    requires reversed { IsListing triple_cmp (IsReversed graph.now) reversed.now }
     requires own { IsAscending triple_cmp own.now }
     requires members { (t : TripleData) → Contains own.now t ↔ (Contains graph.now t × (t.subject ≡ node.now)) }
     ensures { IfOk result (λ nodes. sizes.AreCounted graph.now node.now nodes) }
 {
     let mut nodes = unqualified_shapes(alloc, graph, own, node)?;
-    push_qualified(alloc, graph, turned, own, node, &mut nodes)?;
+    push_qualified(alloc, graph, reversed, own, node, &mut nodes)?;
     Ok(nodes)
 }
 
-// The same by the name that stands for the qualified value shape and the siblings.
+// The shapes that count at the node, with the name that stands for the qualified value shape and the siblings.
 fn counted_by(
     alloc: Global,
     graph: &[Triple],
@@ -262,16 +262,16 @@ fn counted_by(
 // The name of the only parent of the node, where it may have siblings and is one of the parents.
 fn parent_name(
     graph: &[Triple],
-    turned: &[Triple],
+    reversed: &[Triple],
     parents: &[Term],
     node: &Term,
 ) -> Result<Option<Term>, AllocError>
     requires graph { IsAscending triple_cmp graph.now }
-    requires turned { IsListing triple_cmp (IsTurned graph.now) turned.now }
+    requires reversed { IsListing triple_cmp (IsReversed graph.now) reversed.now }
     requires parents { HaveNames graph.now parents.now }
     ensures { IfOk result (λ found. MatchOption found (Unit {0}) (λ x. (p : TermData) × IsName parents.now p x × IsOnlyParent graph.now node.now p)) }
 {
-    match only_parent(graph, turned, node) {
+    match only_parent(graph, reversed, node) {
         Some(parent) => {
             let name = name_in(parents, parent)?;
             Ok(name)
@@ -283,20 +283,20 @@ fn parent_name(
 // The name that stands for the qualified value shape and the siblings of the node, whose triples are given.
 fn stand_in_of(
     graph: &[Triple],
-    turned: &[Triple],
+    reversed: &[Triple],
     parents: &[Term],
     own: &[Triple],
     node: &Term,
 ) -> Result<Option<Term>, AllocError>
     requires graph { IsAscending triple_cmp graph.now }
-    requires turned { IsListing triple_cmp (IsTurned graph.now) turned.now }
+    requires reversed { IsListing triple_cmp (IsReversed graph.now) reversed.now }
     requires parents { HaveNames graph.now parents.now }
     requires own { IsAscending triple_cmp own.now }
     requires members { (t : TripleData) → Contains own.now t ↔ (Contains graph.now t × (t.subject ≡ node.now)) }
     ensures { IfOk result (λ found. MatchOption found (Unit {0}) (λ x. IsStandIn graph.now parents.now node.now x)) }
 {
     if has_qualified_count(own, node) {
-        let name = parent_name(graph, turned, parents, node)?;
+        let name = parent_name(graph, reversed, parents, node)?;
         return Ok(name);
     }
     Ok(None)
@@ -306,25 +306,25 @@ fn stand_in_of(
 fn shapes_or_name(
     alloc: Global,
     graph: &[Triple],
-    turned: &[Triple],
+    reversed: &[Triple],
     parents: &[Term],
     own: &[Triple],
     node: &Term,
 ) -> Result<Sequence<Term>, AllocError>
     requires graph { IsAscending triple_cmp graph.now }
-    requires turned { IsListing triple_cmp (IsTurned graph.now) turned.now }
+    requires reversed { IsListing triple_cmp (IsReversed graph.now) reversed.now }
     requires parents { HaveNames graph.now parents.now }
     requires own { IsAscending triple_cmp own.now }
     requires members { (t : TripleData) → Contains own.now t ↔ (Contains graph.now t × (t.subject ≡ node.now)) }
     ensures { IfOk result (λ nodes. sizes.AreCounted graph.now node.now nodes ⊎ AreCountedBy graph.now parents.now node.now nodes) }
 {
-    match stand_in_of(graph, turned, parents, own, node)? {
+    match stand_in_of(graph, reversed, parents, own, node)? {
         Some(name) => {
             let nodes = counted_by(alloc, graph, own, node, name)?;
             Ok(nodes)
         }
         None => {
-            let shapes = counted_shapes(alloc, graph, turned, own, node)?;
+            let shapes = counted_shapes(alloc, graph, reversed, own, node)?;
             Ok(shapes)
         }
     }
@@ -356,12 +356,12 @@ pub(crate) fn is_deactivated(graph: &[Triple], node: &Term) -> bool
 pub(crate) fn referred_shapes(
     alloc: Global,
     graph: &[Triple],
-    turned: &[Triple],
+    reversed: &[Triple],
     parents: &[Term],
     node: &Term,
 ) -> Result<Sequence<Term>, AllocError>
     requires graph { IsAscending triple_cmp graph.now }
-    requires turned { IsListing triple_cmp (IsTurned graph.now) turned.now }
+    requires reversed { IsListing triple_cmp (IsReversed graph.now) reversed.now }
     requires parents { HaveNames graph.now parents.now }
     ensures { IfOk result (λ nodes. IsReferredTo graph.now parents.now node.now nodes) }
 {
@@ -369,6 +369,6 @@ pub(crate) fn referred_shapes(
     if is_deactivated(own, node) {
         return Ok(Sequence::new(alloc));
     }
-    let nodes = shapes_or_name(alloc, graph, turned, parents, own, node)?;
+    let nodes = shapes_or_name(alloc, graph, reversed, parents, own, node)?;
     Ok(nodes)
 }

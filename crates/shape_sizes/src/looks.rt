@@ -8,7 +8,7 @@ ghost use Rattle.rdf_model.specs.Terms.{term_cmp, triple_cmp};
 ghost use Rattle.shape_model.specs.Instances.{Instance};
 ghost use Rattle.shape_model.specs.Triples.{IsMember};
 ghost use Rattle.shape_model.specs.Vocabulary.{rdfs_class, true_literal};
-ghost use Rattle.shape_references.specs.Siblings.{IsTurned};
+ghost use Rattle.shape_references.specs.Siblings.{IsReversed};
 ghost use Rattle.reference_totals.specs.Totals.{SumBy, capped};
 ghost use Rattle.shape_properties.specs.declared.property.ShapeProperty.TheVariants as property_data;
 ghost use Rattle.shape_sizes.specs.Counted.{ArePlaces, AreShapePlaces, AreWeights, HaveNames, IsPlaceOf};
@@ -25,14 +25,15 @@ use crate::path_looks::{most_looks, path_looks, path_looks_at};
 use crate::stand_ins::{named_parents, push_stand_ins};
 use collections::Sequence;
 use rdf_model::{Term, Triple};
-use reference_totals::{Place, capped_sum, total_of, totals};
+use reference_totals::{WeightedPlace, capped_sum, total_of, totals};
 use shape_properties::ShapeProperty;
 use shape_properties::terms::has_class;
-use shape_references::turned_properties;
+use shape_references::reversed_properties;
 use shape_syntax::instance::classes_of;
 use shape_syntax::lookup::triples_of;
 use std::alloc::{AllocError, Global};
 use std::collections::BTreeMap;
+use vocabulary::RDFS_CLASS;
 
 fn count_at(
     alloc: Global,
@@ -167,21 +168,21 @@ fn look_weight(
 fn look_place(
     alloc: Global,
     graph: &[Triple],
-    turned: &[Triple],
+    reversed: &[Triple],
     parents: &[Term],
     paths: &BTreeMap<Term, u64>,
     node: &Term,
-) -> Result<Place, AllocError>
+) -> Result<WeightedPlace, AllocError>
     requires graph { IsAscending triple_cmp graph.now }
-    requires turned { IsListing triple_cmp (IsTurned graph.now) turned.now }
+    requires reversed { IsListing triple_cmp (IsReversed graph.now) reversed.now }
     requires parents { HaveNames graph.now parents.now }
     requires paths { ArePathLooks graph.now looks_limit paths.now }
     requires node { IsShape graph.now node.now }
     ensures { IfOk result (λ place. IsPlaceOf graph.now (IsCappedLook graph.now) parents.now place × (place.node ≡ node.now)) }
 {
-    let to = referred_shapes(alloc, graph, turned, parents, node)?;
+    let to = referred_shapes(alloc, graph, reversed, parents, node)?;
     let own = look_weight(alloc, graph, paths, node)?;
-    Ok(Place {
+    Ok(WeightedPlace {
         node: node.clone()?,
         own,
         to,
@@ -192,13 +193,13 @@ fn look_place(
 fn look_places(
     alloc: Global,
     graph: &[Triple],
-    turned: &[Triple],
+    reversed: &[Triple],
     parents: &[Term],
     paths: &BTreeMap<Term, u64>,
     nodes: &[Term],
-) -> Result<Sequence<Place>, AllocError>
+) -> Result<Sequence<WeightedPlace>, AllocError>
     requires graph { IsAscending triple_cmp graph.now }
-    requires turned { IsListing triple_cmp (IsTurned graph.now) turned.now }
+    requires reversed { IsListing triple_cmp (IsReversed graph.now) reversed.now }
     requires parents { HaveNames graph.now parents.now }
     requires paths { ArePathLooks graph.now looks_limit paths.now }
     requires nodes { IsListing term_cmp (IsShape graph.now) nodes.now }
@@ -206,7 +207,7 @@ fn look_places(
 {
     let mut places = Sequence::new(alloc);
     for node in nodes {
-        places.push(look_place(alloc, graph, turned, parents, paths, node)?)?;
+        places.push(look_place(alloc, graph, reversed, parents, paths, node)?)?;
     }
     Ok(places)
 }
@@ -217,18 +218,18 @@ fn all_look_places(
     graph: &[Triple],
     parents: &[Term],
     survey: &Survey,
-) -> Result<Sequence<Place>, AllocError>
+) -> Result<Sequence<WeightedPlace>, AllocError>
     requires graph { IsAscending triple_cmp graph.now }
     requires parents { HaveNames graph.now parents.now }
     requires survey { IsSurvey graph.now survey.now }
     ensures { IfOk result (λ places. AreShapePlaces graph.now (IsCappedLook graph.now) parents.now places) }
 {
-    let turned = turned_properties(alloc, graph)?;
+    let reversed = reversed_properties(alloc, graph)?;
     let paths = path_looks(alloc, graph, survey.places.as_slice(), most_looks())?;
     let places = look_places(
         alloc,
         graph,
-        turned.as_slice(),
+        reversed.as_slice(),
         parents,
         &paths,
         survey.shapes.as_slice(),
@@ -236,13 +237,13 @@ fn all_look_places(
     Ok(places)
 }
 
-// The same with those that stand in for what is under the parents.
+// The places of looks with those that stand in for what is under the parents.
 fn with_stand_ins(
     alloc: Global,
     graph: &[Triple],
     parents: &[Term],
     survey: &Survey,
-) -> Result<Sequence<Place>, AllocError>
+) -> Result<Sequence<WeightedPlace>, AllocError>
     requires graph { IsAscending triple_cmp graph.now }
     requires parents { HaveNames graph.now parents.now }
     requires survey { IsSurvey graph.now survey.now }
@@ -273,7 +274,7 @@ pub fn looks_of_results(
 fn is_class(classes: &[Term]) -> bool
     ensures { IsTrue result ↔ IsMember classes.now rdfs_class }
 {
-    has_class(classes, "http://www.w3.org/2000/01/rdf-schema#Class")
+    has_class(classes, RDFS_CLASS)
 }
 
 fn implicit_looks(alloc: Global, graph: &[Triple], node: &Term) -> Result<u64, AllocError>

@@ -8,7 +8,7 @@ ghost use Rattle.rdf_model.specs.Terms.{triple_cmp};
 ghost use Rattle.shape_model.specs.Triples.{Has};
 ghost use Rattle.shape_model.specs.Vocabulary.{rdf_first, sh};
 ghost use Rattle.shape_syntax.specs.PathNodes.{ArePathNodes, IsPath};
-ghost use Rattle.reference_totals.specs.declared.place.Place.{Place as PlaceData};
+ghost use Rattle.reference_totals.specs.declared.place.WeightedPlace.{WeightedPlace as PlaceData};
 ghost use Rattle.reference_totals.specs.Totals.{capped};
 ghost use Rattle.shape_properties.specs.declared.property.ShapeProperty.TheVariants as property_data;
 ghost use Rattle.shape_properties.specs.Properties.{property_iri};
@@ -19,31 +19,29 @@ ghost use Rattle.shape_sizes.specs.Sizes.{HasPathLooks};
 use crate::counted::members_at;
 use collections::{Sequence, sorted_once};
 use rdf_model::{Term, Triple};
-use reference_totals::{Place, total_of, totals};
+use reference_totals::{WeightedPlace, total_of, totals};
 use shape_properties::ShapeProperty;
 use shape_syntax::list::list_members;
 use shape_syntax::lookup::triples_of;
+use shape_syntax::modifies_path;
 use shape_syntax::paths::is_path;
 use shape_syntax::terms::{is_iri, is_named};
-use shape_syntax::turns_path;
 use std::alloc::{AllocError, Global};
 use std::collections::{BTreeMap, BTreeSet};
+use vocabulary::{RDF_FIRST, SH_ALTERNATIVE_PATH};
 
 #[tactic(auto, unfolding(shape_model::specs::Vocabulary::sh))]
 fn is_alternative(predicate: &Term) -> bool
     ensures { IsTrue result ↔ (predicate.now ≡ sh (codes "alternativePath")) }
 {
-    is_named(predicate, "http://www.w3.org/ns/shacl#alternativePath")
+    is_named(predicate, SH_ALTERNATIVE_PATH)
 }
 
 #[tactic(auto, unfolding(shape_model::specs::Vocabulary::rdf, shape_model::specs::Vocabulary::rdf_first))]
 fn is_first(predicate: &Term) -> bool
     ensures { IsTrue result ↔ (predicate.now ≡ rdf_first) }
 {
-    is_named(
-        predicate,
-        "http://www.w3.org/1999/02/22-rdf-syntax-ns#first",
-    )
+    is_named(predicate, RDF_FIRST)
 }
 
 fn is_sh_path(predicate: &Term) -> bool
@@ -55,7 +53,7 @@ fn is_sh_path(predicate: &Term) -> bool
 fn leads_to_path(predicate: &Term) -> bool
     ensures { IsTrue result ↔ LeadsToPath predicate.now }
 {
-    is_sh_path(predicate) || is_first(predicate) || turns_path(predicate)
+    is_sh_path(predicate) || is_first(predicate) || modifies_path(predicate)
 }
 
 fn only(alloc: Global, node: &Term) -> Result<Sequence<Term>, AllocError>
@@ -111,29 +109,29 @@ fn made_of(alloc: Global, graph: &[Triple], node: &Term) -> Result<Sequence<Term
     }
 }
 
-fn blank_place(alloc: Global, graph: &[Triple], node: &Term) -> Result<Place, AllocError>
+fn blank_place(alloc: Global, graph: &[Triple], node: &Term) -> Result<WeightedPlace, AllocError>
     requires { IsAscending triple_cmp graph.now }
     ensures { IfOk result (λ place. (place.node ≡ node.now) × (place.own ≡ 0) × IsMadeOf graph.now node.now place.to) }
 {
     let to = made_of(alloc, graph, node)?;
-    Ok(Place {
+    Ok(WeightedPlace {
         node: node.clone()?,
         own: 0,
         to,
     })
 }
 
-fn iri_place(alloc: Global, node: &Term) -> Result<Place, AllocError>
+fn iri_place(alloc: Global, node: &Term) -> Result<WeightedPlace, AllocError>
     ensures { IfOk result (λ place. (place.node ≡ node.now) × (place.own ≡ 1) × (place.to ≡ [])) }
 {
-    Ok(Place {
+    Ok(WeightedPlace {
         node: node.clone()?,
         own: 1,
         to: Sequence::new(alloc),
     })
 }
 
-fn path_place(alloc: Global, graph: &[Triple], node: &Term) -> Result<Place, AllocError>
+fn path_place(alloc: Global, graph: &[Triple], node: &Term) -> Result<WeightedPlace, AllocError>
     requires graph { IsAscending triple_cmp graph.now }
     requires path { IsPath graph.now node.now }
     ensures { IfOk result (λ place. IsPathPlace graph.now place × (place.node ≡ node.now)) }
@@ -152,7 +150,7 @@ fn push_path_place(
     graph: &[Triple],
     paths: &BTreeSet<Term>,
     node: &Term,
-    places: &mut Sequence<Place>,
+    places: &mut Sequence<WeightedPlace>,
 ) -> Result<(), AllocError>
     requires graph { IsAscending triple_cmp graph.now }
     requires paths { ArePathNodes graph.now paths.now.keys }
@@ -171,7 +169,7 @@ fn places_of(
     graph: &[Triple],
     paths: &BTreeSet<Term>,
     nodes: &[Term],
-) -> Result<Sequence<Place>, AllocError>
+) -> Result<Sequence<WeightedPlace>, AllocError>
     requires graph { IsAscending triple_cmp graph.now }
     requires paths { ArePathNodes graph.now paths.now.keys }
     requires nodes { (n : TermData) → Contains nodes.now n ↔ MayBePath graph.now n }
@@ -221,7 +219,7 @@ pub(crate) fn path_places(
     alloc: Global,
     graph: &[Triple],
     paths: &BTreeSet<Term>,
-) -> Result<Sequence<Place>, AllocError>
+) -> Result<Sequence<WeightedPlace>, AllocError>
     requires graph { IsAscending triple_cmp graph.now }
     requires paths { ArePathNodes graph.now paths.now.keys }
     ensures { IfOk result (λ places. ArePathPlaces graph.now places) }
@@ -236,7 +234,7 @@ pub(crate) fn path_places(
 pub fn path_looks(
     alloc: Global,
     graph: &[Triple],
-    places: &[Place],
+    places: &[WeightedPlace],
     most: u64,
 ) -> Result<BTreeMap<Term, u64>, AllocError>
     requires places { ArePathPlaces graph.now places.now }

@@ -6,7 +6,7 @@ ghost use Rattle.shape_sizes.specs.PathLooks.{AreDeepPaths, ArePathPlaces, ArePl
 
 use collections::Sequence;
 use rdf_model::{Term, Triple};
-use reference_totals::Place;
+use reference_totals::WeightedPlace;
 use shape_references::nodes_with_chain;
 use std::alloc::{AllocError, Global};
 use std::collections::BTreeSet;
@@ -31,7 +31,7 @@ fn push_steps(from: &Term, nodes: &[Term], steps: &mut Sequence<Triple>) -> Resu
     Ok(())
 }
 
-fn path_steps(alloc: Global, places: &[Place]) -> Result<Sequence<Triple>, AllocError>
+fn path_steps(alloc: Global, places: &[WeightedPlace]) -> Result<Sequence<Triple>, AllocError>
     ensures { IfOk result (λ steps. ArePlaceSteps places.now steps) }
 {
     let mut steps = Sequence::new(alloc);
@@ -47,7 +47,7 @@ fn path_steps(alloc: Global, places: &[Place]) -> Result<Sequence<Triple>, Alloc
 pub fn deep_paths(
     alloc: Global,
     graph: &[Triple],
-    places: &[Place],
+    places: &[WeightedPlace],
     levels: usize,
 ) -> Result<BTreeSet<Term>, AllocError>
     requires places { ArePathPlaces graph.now places.now }

@@ -3,7 +3,7 @@ ghost use Rattle.std.specs.Prelude.{◌≡◌, ◌↔◌, ◌<◌, ◌+◌, ◌^
 ghost use Rattle.collections.specs.Listings.{IsListing};
 ghost use Rattle.collections.specs.Ordered.{IsAscending};
 ghost use Rattle.rdf_model.specs.Terms.{term_cmp, triple_cmp};
-ghost use Rattle.shape_references.specs.Siblings.{IsTurned};
+ghost use Rattle.shape_references.specs.Siblings.{IsReversed};
 ghost use Rattle.shape_sizes.specs.Counted.{ArePlaces, AreShapePlaces, AreWeights, HaveNames, IsPlaceOf};
 ghost use Rattle.shape_sizes.specs.Sizes.{IsTooLarge, size_limit};
 ghost use Rattle.shape_properties.specs.Syntax.{IsShape};
@@ -12,26 +12,26 @@ use crate::counted::referred_shapes;
 use crate::stand_ins::{named_parents, push_stand_ins};
 use collections::Sequence;
 use rdf_model::{Term, Triple};
-use reference_totals::{Place, total_of, totals};
-use shape_references::turned_properties;
+use reference_totals::{WeightedPlace, total_of, totals};
+use shape_references::reversed_properties;
 use std::alloc::{AllocError, Global};
 use std::collections::BTreeMap;
 
 fn place_of(
     alloc: Global,
     graph: &[Triple],
-    turned: &[Triple],
+    reversed: &[Triple],
     parents: &[Term],
     node: &Term,
-) -> Result<Place, AllocError>
+) -> Result<WeightedPlace, AllocError>
     requires graph { IsAscending triple_cmp graph.now }
-    requires turned { IsListing triple_cmp (IsTurned graph.now) turned.now }
+    requires reversed { IsListing triple_cmp (IsReversed graph.now) reversed.now }
     requires parents { HaveNames graph.now parents.now }
     requires node { IsShape graph.now node.now }
     ensures { IfOk result (λ place. IsPlaceOf graph.now (λ m w. w ≡ 1) parents.now place × (place.node ≡ node.now)) }
 {
-    let to = referred_shapes(alloc, graph, turned, parents, node)?;
-    Ok(Place {
+    let to = referred_shapes(alloc, graph, reversed, parents, node)?;
+    Ok(WeightedPlace {
         node: node.clone()?,
         own: 1,
         to,
@@ -42,19 +42,19 @@ fn place_of(
 fn places_of(
     alloc: Global,
     graph: &[Triple],
-    turned: &[Triple],
+    reversed: &[Triple],
     parents: &[Term],
     nodes: &[Term],
-) -> Result<Sequence<Place>, AllocError>
+) -> Result<Sequence<WeightedPlace>, AllocError>
     requires graph { IsAscending triple_cmp graph.now }
-    requires turned { IsListing triple_cmp (IsTurned graph.now) turned.now }
+    requires reversed { IsListing triple_cmp (IsReversed graph.now) reversed.now }
     requires parents { HaveNames graph.now parents.now }
     requires nodes { IsListing term_cmp (IsShape graph.now) nodes.now }
     ensures { IfOk result (λ places. AreShapePlaces graph.now (λ m w. w ≡ 1) parents.now places) }
 {
     let mut places = Sequence::new(alloc);
     for node in nodes {
-        places.push(place_of(alloc, graph, turned, parents, node)?)?;
+        places.push(place_of(alloc, graph, reversed, parents, node)?)?;
     }
     Ok(places)
 }
@@ -65,14 +65,14 @@ fn all_places(
     graph: &[Triple],
     parents: &[Term],
     nodes: &[Term],
-) -> Result<Sequence<Place>, AllocError>
+) -> Result<Sequence<WeightedPlace>, AllocError>
     requires graph { IsAscending triple_cmp graph.now }
     requires parents { HaveNames graph.now parents.now }
     requires nodes { IsListing term_cmp (IsShape graph.now) nodes.now }
     ensures { IfOk result (λ places. ArePlaces graph.now (λ m w. w ≡ 1) parents.now places) }
 {
-    let turned = turned_properties(alloc, graph)?;
-    let mut places = places_of(alloc, graph, turned.as_slice(), parents, nodes)?;
+    let reversed = reversed_properties(alloc, graph)?;
+    let mut places = places_of(alloc, graph, reversed.as_slice(), parents, nodes)?;
     push_stand_ins(alloc, graph, parents, &mut places)?;
     Ok(places)
 }

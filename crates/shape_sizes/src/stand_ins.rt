@@ -13,7 +13,7 @@ ghost use Rattle.shape_sizes.specs.Counted.{HaveNames, HaveStandIns};
 
 use collections::{Sequence, sorted_once};
 use rdf_model::{Term, Triple};
-use reference_totals::Place;
+use reference_totals::WeightedPlace;
 use shape_references::{may_share, name_at, qualified_under};
 use shape_syntax::subjects::subjects;
 use std::alloc::{AllocError, Global};
@@ -90,12 +90,12 @@ fn stand_in(
     graph: &[Triple],
     number: usize,
     parent: &Term,
-) -> Result<Place, AllocError>
+) -> Result<WeightedPlace, AllocError>
     requires { IsAscending triple_cmp graph.now }
     ensures { IfOk result (λ made. (made.node ≡ Blank 0 number) × (made.own ≡ 0) × IsListing term_cmp (IsQualifiedUnder graph.now parent.now) made.to) }
 {
     let to = qualified_under(alloc, graph, parent)?;
-    Ok(Place {
+    Ok(WeightedPlace {
         node: name_at(0, number)?,
         own: 0,
         to: Sequence::from_vec(to),
@@ -107,7 +107,7 @@ pub(crate) fn push_stand_ins(
     alloc: Global,
     graph: &[Triple],
     parents: &[Term],
-    places: &mut Sequence<Place>,
+    places: &mut Sequence<WeightedPlace>,
 ) -> Result<(), AllocError>
     requires { IsAscending triple_cmp graph.now }
     ensures { OnOk result (HaveStandIns graph.now parents.now (length parents.now) places.old places.new) }

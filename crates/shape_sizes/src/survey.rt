@@ -8,7 +8,7 @@ use crate::path_looks::path_places;
 use crate::referring::references;
 use collections::Sequence;
 use rdf_model::{Term, Triple};
-use reference_totals::Place;
+use reference_totals::WeightedPlace;
 use shape_properties::shapes::shape_nodes;
 use shape_references::Bundle;
 use shape_syntax::paths::path_nodes;
@@ -21,7 +21,7 @@ pub struct Survey {
     /// The blank nodes that stand for paths.
     pub paths: BTreeSet<Term>,
     /// The values that stand for paths, each with those of whose paths its path is made.
-    pub places: Sequence<Place>,
+    pub places: Sequence<WeightedPlace>,
     /// The nodes that are shapes, in order.
     pub shapes: Vec<Term>,
     /// The references between shapes.

@@ -8,56 +8,56 @@ use Rattle.shape_model.specs.Triples.{IsBlank, IsIri}
 use Rattle.shape_model.specs.Paths.{Path, Predicate, Inverse, Sequence, Alternative, ZeroOrMore, OneOrMore, ZeroOrOne, Paths, Last, Also}
 use Rattle.shape_model.specs.ShapeSyntax.{IsListEnd, HasAlone, PathOf, PathsOf}
 use Rattle.shape_syntax.proofs.Lists.{end_no_cell}
-use Rattle.shape_syntax.specs.declared.way.Turn.{Turn}
-use Rattle.shape_syntax.specs.declared.way.Turn.TheVariants as turns
+use Rattle.shape_syntax.specs.declared.way.PathModifier.{PathModifier}
+use Rattle.shape_syntax.specs.declared.way.PathModifier.TheVariants as modifiers
 use Rattle.shape_syntax.specs.PathSteps.{IsAlone}
 use Rattle.shape_syntax.specs.PathDepth.{IsDeep, IsTooDeep, depth_of}
-use Rattle.shape_syntax.specs.PathWays.{turn_name, turned}
-use Rattle.shape_syntax.proofs.PathWays.{sh_exact, turns_no_alternative, no_blank_iri, no_paths_alone}
+use Rattle.shape_syntax.specs.PathWays.{modifier_name, modified}
+use Rattle.shape_syntax.proofs.PathWays.{sh_exact, modifiers_no_alternative, no_blank_iri, no_paths_alone}
 
 -- each of the four properties has a name of its own
-turn_from : List ℕ → Option Turn
-turn_from name = cond (bytes_eq (codes "inversePath") name) (Some turns.Inverse) (cond (bytes_eq (codes "zeroOrMorePath") name) (Some turns.ZeroOrMore) (cond (bytes_eq (codes "oneOrMorePath") name) (Some turns.OneOrMore) (cond (bytes_eq (codes "zeroOrOnePath") name) (Some turns.ZeroOrOne) None)))
+modifier_from : List ℕ → Option PathModifier
+modifier_from name = cond (bytes_eq (codes "inversePath") name) (Some modifiers.Inverse) (cond (bytes_eq (codes "zeroOrMorePath") name) (Some modifiers.ZeroOrMore) (cond (bytes_eq (codes "oneOrMorePath") name) (Some modifiers.OneOrMore) (cond (bytes_eq (codes "zeroOrOnePath") name) (Some modifiers.ZeroOrOne) None)))
 
-by_name : (turn : Turn) → turn_from (turn_name turn) ≡ Some turn
-unfolding turn_from
-by_name turns.Inverse = refl
-by_name turns.ZeroOrMore = refl
-by_name turns.OneOrMore = refl
-by_name turns.ZeroOrOne = refl
+by_name : (modifier : PathModifier) → modifier_from (modifier_name modifier) ≡ Some modifier
+unfolding modifier_from
+by_name modifiers.Inverse = refl
+by_name modifiers.ZeroOrMore = refl
+by_name modifiers.OneOrMore = refl
+by_name modifiers.ZeroOrOne = refl
 
-one_turn : (t u : Turn) → sh (turn_name t) ≡ sh (turn_name u) → t ≡ u
-one_turn t u e =
-    let d : Some t ≡ Some u = sym (by_name t) ∙ ap turn_from (sh_exact (turn_name t) (turn_name u) e) ∙ by_name u in
+one_modifier : (t u : PathModifier) → sh (modifier_name t) ≡ sh (modifier_name u) → t ≡ u
+one_modifier t u e =
+    let d : Some t ≡ Some u = sym (by_name t) ∙ ap modifier_from (sh_exact (modifier_name t) (modifier_name u) e) ∙ by_name u in
     cc
 
 module _ (s : List Triple) (n m : Term) where
   -- a path of a node whose one triple has this property is what the property makes of the path of its value
-  turned_as : (t u : Turn) → IsAlone s n (sh (turn_name t)) m → (v : Term) → HasAlone s n (turn_name u) v → (q : Path) → PathOf s v q → (r : Path) × (turned u q ≡ turned t r) × PathOf s m r
-  turned_as t u alone v h q k =
-      let same = alone.1 (sh (turn_name u)) v h.1 in
-      (q, ap (λ (x : Turn). turned x q) (one_turn u t same.0), subst (λ (x : Term). PathOf s x q) same.1 k)
+  modified_as : (t u : PathModifier) → IsAlone s n (sh (modifier_name t)) m → (v : Term) → HasAlone s n (modifier_name u) v → (q : Path) → PathOf s v q → (r : Path) × (modified u q ≡ modified t r) × PathOf s m r
+  modified_as t u alone v h q k =
+      let same = alone.1 (sh (modifier_name u)) v h.1 in
+      (q, ap (λ (x : PathModifier). modified x q) (one_modifier u t same.0), subst (λ (x : Term). PathOf s x q) same.1 k)
 
-  turned_only : (t : Turn) → IsBlank n → IsAlone s n (sh (turn_name t)) m → (q : Path) → PathOf s n q → (r : Path) × (q ≡ turned t r) × PathOf s m r
-  turned_only t blank alone (Predicate p) h = absurd (no_blank_iri n blank h.1)
-  turned_only t blank alone (Inverse q) h = turned_as t turns.Inverse alone h.0 h.1 q h.2
-  turned_only t blank alone (Sequence qs) h = absurd (no_paths_alone s n (sh (turn_name t)) m alone qs h.2)
-  turned_only t blank alone (Alternative qs) h = absurd (turns_no_alternative t (sh_exact (codes "alternativePath") (turn_name t) (alone.1 (sh (codes "alternativePath")) h.0 h.1.1).0))
-  turned_only t blank alone (ZeroOrMore q) h = turned_as t turns.ZeroOrMore alone h.0 h.1 q h.2
-  turned_only t blank alone (OneOrMore q) h = turned_as t turns.OneOrMore alone h.0 h.1 q h.2
-  turned_only t blank alone (ZeroOrOne q) h = turned_as t turns.ZeroOrOne alone h.0 h.1 q h.2
+  modified_only : (t : PathModifier) → IsBlank n → IsAlone s n (sh (modifier_name t)) m → (q : Path) → PathOf s n q → (r : Path) × (q ≡ modified t r) × PathOf s m r
+  modified_only t blank alone (Predicate p) h = absurd (no_blank_iri n blank h.1)
+  modified_only t blank alone (Inverse q) h = modified_as t modifiers.Inverse alone h.0 h.1 q h.2
+  modified_only t blank alone (Sequence qs) h = absurd (no_paths_alone s n (sh (modifier_name t)) m alone qs h.2)
+  modified_only t blank alone (Alternative qs) h = absurd (modifiers_no_alternative t (sh_exact (codes "alternativePath") (modifier_name t) (alone.1 (sh (codes "alternativePath")) h.0 h.1.1).0))
+  modified_only t blank alone (ZeroOrMore q) h = modified_as t modifiers.ZeroOrMore alone h.0 h.1 q h.2
+  modified_only t blank alone (OneOrMore q) h = modified_as t modifiers.OneOrMore alone h.0 h.1 q h.2
+  modified_only t blank alone (ZeroOrOne q) h = modified_as t modifiers.ZeroOrOne alone h.0 h.1 q h.2
 
-  no_turn : (t : Turn) → IsAlone s n (sh (codes "alternativePath")) m → (v : Term) → HasAlone s n (turn_name t) v → ⊥
-  no_turn t alone v h = turns_no_alternative t (sym (sh_exact (turn_name t) (codes "alternativePath") (alone.1 (sh (turn_name t)) v h.1).0))
+  no_modifier : (t : PathModifier) → IsAlone s n (sh (codes "alternativePath")) m → (v : Term) → HasAlone s n (modifier_name t) v → ⊥
+  no_modifier t alone v h = modifiers_no_alternative t (sym (sh_exact (modifier_name t) (codes "alternativePath") (alone.1 (sh (modifier_name t)) v h.1).0))
 
   offered_only : IsBlank n → IsAlone s n (sh (codes "alternativePath")) m → (q : Path) → PathOf s n q → (qs : Paths) × (q ≡ Alternative qs) × PathsOf s m qs
   offered_only blank alone (Predicate p) h = absurd (no_blank_iri n blank h.1)
-  offered_only blank alone (Inverse q) h = absurd (no_turn turns.Inverse alone h.0 h.1)
+  offered_only blank alone (Inverse q) h = absurd (no_modifier modifiers.Inverse alone h.0 h.1)
   offered_only blank alone (Sequence qs) h = absurd (no_paths_alone s n (sh (codes "alternativePath")) m alone qs h.2)
   offered_only blank alone (Alternative qs) h = (qs, refl, subst (λ (x : Term). PathsOf s x qs) (alone.1 (sh (codes "alternativePath")) h.0 h.1.1).1 h.3)
-  offered_only blank alone (ZeroOrMore q) h = absurd (no_turn turns.ZeroOrMore alone h.0 h.1)
-  offered_only blank alone (OneOrMore q) h = absurd (no_turn turns.OneOrMore alone h.0 h.1)
-  offered_only blank alone (ZeroOrOne q) h = absurd (no_turn turns.ZeroOrOne alone h.0 h.1)
+  offered_only blank alone (ZeroOrMore q) h = absurd (no_modifier modifiers.ZeroOrMore alone h.0 h.1)
+  offered_only blank alone (OneOrMore q) h = absurd (no_modifier modifiers.OneOrMore alone h.0 h.1)
+  offered_only blank alone (ZeroOrOne q) h = absurd (no_modifier modifiers.ZeroOrOne alone h.0 h.1)
 
 alone_of : (s : List Triple) (n : Term) (name : List ℕ) (m : Term) → HasAlone s n name m → IsAlone s n (sh name) m
 alone_of s n name m h = (h.1, h.2)
@@ -87,12 +87,12 @@ end_no_paths s k e (Also p ps) h = end_no_cell s k h.0 h.1 e h.2
 mutual
   pub one_path : (s : List Triple) (n : Term) (p q : Path) → PathOf s n p → PathOf s n q → q ≡ p
   one_path s n (Predicate p) q h k = iri_only s n p h.0 h.1 q k
-  one_path s n (Inverse p) q h k = let r = turned_only s n h.0 turns.Inverse h.1.0 (h.1.1, h.1.2) q k in r.1 ∙ ap Inverse (one_path s h.0 p r.0 h.2 r.2)
+  one_path s n (Inverse p) q h k = let r = modified_only s n h.0 modifiers.Inverse h.1.0 (h.1.1, h.1.2) q k in r.1 ∙ ap Inverse (one_path s h.0 p r.0 h.2 r.2)
   one_path s n (Sequence ps) q h k = let r = listed_only s n ps h.0 h.2 q k in r.1 ∙ ap Sequence (one_paths s n ps r.0 h.2 r.2)
   one_path s n (Alternative ps) q h k = let r = offered_only s n h.0 h.1.0 (h.1.1, h.1.2) q k in r.1 ∙ ap Alternative (one_paths s h.0 ps r.0 h.3 r.2)
-  one_path s n (ZeroOrMore p) q h k = let r = turned_only s n h.0 turns.ZeroOrMore h.1.0 (h.1.1, h.1.2) q k in r.1 ∙ ap ZeroOrMore (one_path s h.0 p r.0 h.2 r.2)
-  one_path s n (OneOrMore p) q h k = let r = turned_only s n h.0 turns.OneOrMore h.1.0 (h.1.1, h.1.2) q k in r.1 ∙ ap OneOrMore (one_path s h.0 p r.0 h.2 r.2)
-  one_path s n (ZeroOrOne p) q h k = let r = turned_only s n h.0 turns.ZeroOrOne h.1.0 (h.1.1, h.1.2) q k in r.1 ∙ ap ZeroOrOne (one_path s h.0 p r.0 h.2 r.2)
+  one_path s n (ZeroOrMore p) q h k = let r = modified_only s n h.0 modifiers.ZeroOrMore h.1.0 (h.1.1, h.1.2) q k in r.1 ∙ ap ZeroOrMore (one_path s h.0 p r.0 h.2 r.2)
+  one_path s n (OneOrMore p) q h k = let r = modified_only s n h.0 modifiers.OneOrMore h.1.0 (h.1.1, h.1.2) q k in r.1 ∙ ap OneOrMore (one_path s h.0 p r.0 h.2 r.2)
+  one_path s n (ZeroOrOne p) q h k = let r = modified_only s n h.0 modifiers.ZeroOrOne h.1.0 (h.1.1, h.1.2) q k in r.1 ∙ ap ZeroOrOne (one_path s h.0 p r.0 h.2 r.2)
 
   one_paths : (s : List Triple) (n : Term) (ps qs : Paths) → PathsOf s n ps → PathsOf s n qs → qs ≡ ps
   one_paths s n (Last p) (Last q) h k = ap Last (one_path s h.0 p q h.4 (subst (λ (x : Term). PathOf s x q) (h.2.0.1 k.0 k.2.0.0) k.4))

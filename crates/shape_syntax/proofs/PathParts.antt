@@ -8,17 +8,17 @@ use Rattle.shape_model.specs.Vocabulary.{sh}
 use Rattle.shape_model.specs.Triples.{IsBlank, IsMember}
 use Rattle.shape_model.specs.ShapeSyntax.{ListOf}
 use Rattle.shape_model.specs.Paths as defined
-use Rattle.compiled_paths.specs.declared.path.Path.{Path, Sequence, Alternative}
-use Rattle.compiled_paths.specs.PathReadings.{defined_path, members}
-use Rattle.compiled_paths.proofs.Rows.{sequence_read, alternative_read}
-use Rattle.shape_syntax.specs.declared.way.Turn.{Turn}
+use Rattle.path_ast.specs.declared.path.Path.{Path, Sequence, Alternative}
+use Rattle.path_ast.specs.PathReadings.{defined_path, members}
+use Rattle.path_ast.proofs.Rows.{sequence_read, alternative_read}
+use Rattle.shape_syntax.specs.declared.way.PathModifier.{PathModifier}
 use Rattle.shape_syntax.specs.PathNodes.{IsPath}
 use Rattle.shape_syntax.specs.PathSteps.{IsAlone}
 use Rattle.shape_syntax.specs.PathDepth.{IsRead, IsDeep}
 use Rattle.shape_syntax.specs.declared.way.Join.TheVariants as joins
-use Rattle.shape_syntax.specs.PathWays.{turn_name, turned, joined, AreDeep, AreRead, AreReadPaths, IsPathList}
+use Rattle.shape_syntax.specs.PathWays.{modifier_name, modified, joined, AreDeep, AreRead, AreReadPaths, IsPathList}
 use Rattle.shape_syntax.proofs.Lists.{one_list}
-use Rattle.shape_syntax.proofs.PathWays.{listed_read, offered_read, read_push, path_nodes_of, turned_read, turned_deep, listed_deep, offered_deep}
+use Rattle.shape_syntax.proofs.PathWays.{listed_read, offered_read, read_push, path_nodes_of, modified_read, modified_deep, listed_deep, offered_deep}
 
 pub sequence_made : (box : Box (Path Term) Global) (first : Path Term) (others : Vec (Path Term) Global) → box.value ≡ first → defined_path (Sequence box others) ≡ defined.Sequence (members (defined_path first) (map defined_path others.items))
 sequence_made box first others e = sequence_read box others (λ t. t) ∙ ap (λ (p : Path Term). defined.Sequence (members (defined_path p) (map defined_path others.items))) e
@@ -33,18 +33,18 @@ pub sequence_found : (s : List Triple) (n : Term) (levels : ℕ) → IsBlank n �
 sequence_found s n levels blank None h = listed_deep s n levels blank h
 sequence_found s n levels blank (Some path) h = subst (λ (q : defined.Path). IsRead s n (levels + 1) q) (sym h.2) (listed_read s n levels blank h.0 h.1)
 
-pub alternative_found : (s : List Triple) (n p m : Term) → IsAlone s n p m → IsBlank n → (levels : ℕ) → ((turn : Turn) → p ≡ sh (turn_name turn) → ⊥) → IsPath s n → (found : Option (Path Term))
+pub alternative_found : (s : List Triple) (n p m : Term) → IsAlone s n p m → IsBlank n → (levels : ℕ) → ((modifier : PathModifier) → p ≡ sh (modifier_name modifier) → ⊥) → IsPath s n → (found : Option (Path Term))
     → MatchOption found (AreDeep s m levels) (λ path. (ps : defined.Paths) × AreReadPaths s m levels ps × (defined_path path ≡ joined joins.Alternative ps))
     → MatchOption found (IsDeep s n (levels + 1)) (λ path. IsRead s n (levels + 1) (defined_path path))
 alternative_found s n p m alone blank levels never path None h = offered_deep s n p m alone blank levels never path h
 alternative_found s n p m alone blank levels never path (Some made) h = subst (λ (q : defined.Path). IsRead s n (levels + 1) q) (sym h.2) (offered_read s n p m alone blank levels never path h.0 h.1)
 
--- what is read of a turned path is read of the node
-pub turned_found : (s : List Triple) (n p m : Term) → IsAlone s n p m → IsBlank n → (levels : ℕ) (turn : Turn) → p ≡ sh (turn_name turn) → (found : Option (Path Term))
-    → MatchOption found (IsDeep s m levels) (λ path. (q : defined.Path) × IsRead s m levels q × (defined_path path ≡ turned turn q))
+-- what is read of a modified path is read of the node
+pub modified_found : (s : List Triple) (n p m : Term) → IsAlone s n p m → IsBlank n → (levels : ℕ) (modifier : PathModifier) → p ≡ sh (modifier_name modifier) → (found : Option (Path Term))
+    → MatchOption found (IsDeep s m levels) (λ path. (q : defined.Path) × IsRead s m levels q × (defined_path path ≡ modified modifier q))
     → MatchOption found (IsDeep s n (levels + 1)) (λ path. IsRead s n (levels + 1) (defined_path path))
-turned_found s n p m alone blank levels turn e None h = turned_deep s n p m alone blank levels turn e h
-turned_found s n p m alone blank levels turn e (Some path) h = subst (λ (q : defined.Path). IsRead s n (levels + 1) q) (sym h.2) (turned_read s n p m alone blank levels turn e h.0 h.1)
+modified_found s n p m alone blank levels modifier e None h = modified_deep s n p m alone blank levels modifier e h
+modified_found s n p m alone blank levels modifier e (Some path) h = subst (λ (q : defined.Path). IsRead s n (levels + 1) q) (sym h.2) (modified_read s n p m alone blank levels modifier e h.0 h.1)
 
 pub each_more : (s : List Triple) (ns : List Term) (i : ℕ) (n : Term) (levels : ℕ) (ps : List (Path Term)) (p : Path Term) → i < length ns → n ≡ get_or ns i n → AreRead s (take i ns) levels (map defined_path ps) → IsRead s n levels (defined_path p) → AreRead s (take (i + 1) ns) levels (map defined_path (ps ++ p ∷ []))
 each_more s ns i n levels ps p l e before h =

@@ -13,7 +13,7 @@ use Rattle.shape_syntax.specs.declared.claim.Claim.{Claim}
 use Rattle.shape_syntax.specs.declared.claim.Claim.TheVariants as claims
 use Rattle.shape_syntax.specs.Subjects.{IsSubject}
 use Rattle.shape_syntax.specs.PathNodes.{IsPath, ArePathNodes}
-use Rattle.shape_syntax.specs.PathSteps.{IsKnown, IsSeveral, ShowsList, TurnsPath, LeadsOn, IsAlone, ShowsPath, Stands, Shows, Knows, node_of, AreSound}
+use Rattle.shape_syntax.specs.PathSteps.{IsKnown, IsSeveral, ShowsList, ModifiesPath, LeadsOn, IsAlone, ShowsPath, Stands, Shows, Knows, node_of, AreSound}
 
 known_path : (s : List Triple) (paths lists : List Term) → AreSound s paths lists → (n : Term) → IsKnown paths n → IsPath s n
 known_path s paths lists sound n h = elim h [
@@ -37,9 +37,9 @@ shown_list s paths lists sound n h =
 
 led_path : (s : List Triple) (paths lists : List Term) → AreSound s paths lists → (n p m : Term) → IsBlank n → IsAlone s n p m → LeadsOn s paths lists p m → IsPath s n
 led_path s paths lists sound n p m blank alone h = elim h [
-  | inl turns ↦ (
-      let q = known_path s paths lists sound m turns.1 in
-      elim turns.0 [
+  | inl modifiers ↦ (
+      let q = known_path s paths lists sound m modifiers.1 in
+      elim modifiers.0 [
         | inl e ↦ (let a = subst (λ (x : Term). IsAlone s n x m) e alone in (Inverse q.0, (m, (blank, a.0, a.1), q.1)))
         | inr (inl e) ↦ (let a = subst (λ (x : Term). IsAlone s n x m) e alone in (ZeroOrMore q.0, (m, (blank, a.0, a.1), q.1)))
         | inr (inr (inl e)) ↦ (let a = subst (λ (x : Term). IsAlone s n x m) e alone in (OneOrMore q.0, (m, (blank, a.0, a.1), q.1)))
@@ -104,18 +104,18 @@ abbrev pub IsClosed : List Triple → List Term → List Term → Type 0
 IsClosed s paths lists = (c : Claim) → Shows s paths lists c → Knows paths lists c
 
 module _ (s : List Triple) (paths lists : List Term) (closed : IsClosed s paths lists) where
-  turned : (n p m : Term) → IsBlank n → IsAlone s n p m → TurnsPath p → IsKnown paths m → IsKnown paths n
-  turned n p m blank alone turns known = inr (closed (claims.Path n) (blank, inr (p, m, alone, inl (turns, known))))
+  modified : (n p m : Term) → IsBlank n → IsAlone s n p m → ModifiesPath p → IsKnown paths m → IsKnown paths n
+  modified n p m blank alone modifiers known = inr (closed (claims.Path n) (blank, inr (p, m, alone, inl (modifiers, known))))
 
   mutual
     all_paths : (n : Term) (p : Path) → PathOf s n p → IsKnown paths n
     all_paths n (Predicate p) h = inl h.1
-    all_paths n (Inverse p) h = turned n (sh (codes "inversePath")) h.0 h.1.0 (h.1.1, h.1.2) (inl refl) (all_paths h.0 p h.2)
+    all_paths n (Inverse p) h = modified n (sh (codes "inversePath")) h.0 h.1.0 (h.1.1, h.1.2) (inl refl) (all_paths h.0 p h.2)
     all_paths n (Sequence ps) h = inr (closed (claims.Path n) (h.0, inl (all_several n ps h.1 h.2)))
     all_paths n (Alternative ps) h = inr (closed (claims.Path n) (h.1.0, inr (sh (codes "alternativePath"), h.0, (h.1.1, h.1.2), inr (refl, all_several h.0 ps h.2 h.3))))
-    all_paths n (ZeroOrMore p) h = turned n (sh (codes "zeroOrMorePath")) h.0 h.1.0 (h.1.1, h.1.2) (inr (inl refl)) (all_paths h.0 p h.2)
-    all_paths n (OneOrMore p) h = turned n (sh (codes "oneOrMorePath")) h.0 h.1.0 (h.1.1, h.1.2) (inr (inr (inl refl))) (all_paths h.0 p h.2)
-    all_paths n (ZeroOrOne p) h = turned n (sh (codes "zeroOrOnePath")) h.0 h.1.0 (h.1.1, h.1.2) (inr (inr (inr refl))) (all_paths h.0 p h.2)
+    all_paths n (ZeroOrMore p) h = modified n (sh (codes "zeroOrMorePath")) h.0 h.1.0 (h.1.1, h.1.2) (inr (inl refl)) (all_paths h.0 p h.2)
+    all_paths n (OneOrMore p) h = modified n (sh (codes "oneOrMorePath")) h.0 h.1.0 (h.1.1, h.1.2) (inr (inr (inl refl))) (all_paths h.0 p h.2)
+    all_paths n (ZeroOrOne p) h = modified n (sh (codes "zeroOrOnePath")) h.0 h.1.0 (h.1.1, h.1.2) (inr (inr (inr refl))) (all_paths h.0 p h.2)
 
     all_lists : (n : Term) (ps : Paths) → PathsOf s n ps → Contains lists n
     all_lists n (Last p) h = closed (claims.List n) (h.0, h.1, h.2, all_paths h.0 p h.4, inl h.3)

@@ -8,13 +8,13 @@ use Rattle.shape_model.specs.Vocabulary.{sh, rdf, rdf_first, rdf_rest}
 use Rattle.shape_model.specs.Triples.{IsBlank, IsIri, IsMember}
 use Rattle.shape_model.specs.Paths.{Path, Predicate, Inverse, Sequence, Alternative, ZeroOrMore, OneOrMore, ZeroOrOne, Paths, Last, Also, AreSeveral}
 use Rattle.shape_model.specs.ShapeSyntax.{IsCell, ListOf, HasAlone, PathOf, PathsOf}
-use Rattle.compiled_paths.specs.PathReadings.{members}
-use Rattle.shape_syntax.specs.declared.way.Turn.{Turn}
-use Rattle.shape_syntax.specs.declared.way.Turn.TheVariants as turns
+use Rattle.path_ast.specs.PathReadings.{members}
+use Rattle.shape_syntax.specs.declared.way.PathModifier.{PathModifier}
+use Rattle.shape_syntax.specs.declared.way.PathModifier.TheVariants as modifiers
 use Rattle.shape_syntax.specs.PathNodes.{IsPath}
 use Rattle.shape_syntax.specs.PathSteps.{IsAlone}
 use Rattle.shape_syntax.specs.PathDepth.{IsRead, IsDeep, depth_of, deepest_of}
-use Rattle.shape_syntax.specs.PathWays.{turn_name, turned, IsPathList, AreReadPaths, AreDeep, AreRead}
+use Rattle.shape_syntax.specs.PathWays.{modifier_name, modified, IsPathList, AreReadPaths, AreDeep, AreRead}
 
 -- names that differ
 append_left : (xs ys zs : List ℕ) → xs ++ ys ≡ xs ++ zs → ys ≡ zs
@@ -34,11 +34,11 @@ first_not_rest e =
     let g : true ≡ false = ap (λ (x : List ℕ). bytes_eq (codes "first") x) f in
     cc
 
-pub turns_no_alternative : (turn : Turn) → codes "alternativePath" ≡ turn_name turn → ⊥
-turns_no_alternative turns.Inverse e = let g : true ≡ false = ap (λ (x : List ℕ). bytes_eq (codes "alternativePath") x) e in cc
-turns_no_alternative turns.ZeroOrMore e = let g : true ≡ false = ap (λ (x : List ℕ). bytes_eq (codes "alternativePath") x) e in cc
-turns_no_alternative turns.OneOrMore e = let g : true ≡ false = ap (λ (x : List ℕ). bytes_eq (codes "alternativePath") x) e in cc
-turns_no_alternative turns.ZeroOrOne e = let g : true ≡ false = ap (λ (x : List ℕ). bytes_eq (codes "alternativePath") x) e in cc
+pub modifiers_no_alternative : (modifier : PathModifier) → codes "alternativePath" ≡ modifier_name modifier → ⊥
+modifiers_no_alternative modifiers.Inverse e = let g : true ≡ false = ap (λ (x : List ℕ). bytes_eq (codes "alternativePath") x) e in cc
+modifiers_no_alternative modifiers.ZeroOrMore e = let g : true ≡ false = ap (λ (x : List ℕ). bytes_eq (codes "alternativePath") x) e in cc
+modifiers_no_alternative modifiers.OneOrMore e = let g : true ≡ false = ap (λ (x : List ℕ). bytes_eq (codes "alternativePath") x) e in cc
+modifiers_no_alternative modifiers.ZeroOrOne e = let g : true ≡ false = ap (λ (x : List ℕ). bytes_eq (codes "alternativePath") x) e in cc
 
 pub no_blank_iri : (t : Term) → IsBlank t → IsIri t → ⊥
 no_blank_iri (Blank session number) b i = i
@@ -52,54 +52,54 @@ pub no_paths_alone : (s : List Triple) (n p m : Term) → IsAlone s n p m → (p
 no_paths_alone s n p m alone (Last q) h = no_list_alone s n p m alone h.0 h.1 h.2
 no_paths_alone s n p m alone (Also q qs) h = no_list_alone s n p m alone h.0 h.1 h.2
 
--- What the one triple of a path leads to is the path that it turns, or the list of those that it offers.
+-- What the one triple of a path leads to is the path that it modifies, or the list of those that it offers.
 module _ (s : List Triple) (n p m : Term) (alone : IsAlone s n p m) (blank : IsBlank n) where
   at_name : (name : List ℕ) (v : Term) → HasAlone s n name v → (sh name ≡ p) × (v ≡ m)
   at_name name v h = alone.1 (sh name) v h.1
 
-  turned_at : (turn : Turn) → p ≡ sh (turn_name turn) → (q : Path) → PathOf s n q → IsPath s m
-  turned_at turn e (Predicate q) h = absurd (no_blank_iri n blank h.1)
-  turned_at turn e (Inverse q) h = (q, subst (λ (x : Term). PathOf s x q) (at_name (codes "inversePath") h.0 h.1).1 h.2)
-  turned_at turn e (Sequence qs) h = absurd (no_paths_alone s n p m alone qs h.2)
-  turned_at turn e (Alternative qs) h = absurd (turns_no_alternative turn (sh_exact (codes "alternativePath") (turn_name turn) ((at_name (codes "alternativePath") h.0 h.1).0 ∙ e)))
-  turned_at turn e (ZeroOrMore q) h = (q, subst (λ (x : Term). PathOf s x q) (at_name (codes "zeroOrMorePath") h.0 h.1).1 h.2)
-  turned_at turn e (OneOrMore q) h = (q, subst (λ (x : Term). PathOf s x q) (at_name (codes "oneOrMorePath") h.0 h.1).1 h.2)
-  turned_at turn e (ZeroOrOne q) h = (q, subst (λ (x : Term). PathOf s x q) (at_name (codes "zeroOrOnePath") h.0 h.1).1 h.2)
+  modified_at : (modifier : PathModifier) → p ≡ sh (modifier_name modifier) → (q : Path) → PathOf s n q → IsPath s m
+  modified_at modifier e (Predicate q) h = absurd (no_blank_iri n blank h.1)
+  modified_at modifier e (Inverse q) h = (q, subst (λ (x : Term). PathOf s x q) (at_name (codes "inversePath") h.0 h.1).1 h.2)
+  modified_at modifier e (Sequence qs) h = absurd (no_paths_alone s n p m alone qs h.2)
+  modified_at modifier e (Alternative qs) h = absurd (modifiers_no_alternative modifier (sh_exact (codes "alternativePath") (modifier_name modifier) ((at_name (codes "alternativePath") h.0 h.1).0 ∙ e)))
+  modified_at modifier e (ZeroOrMore q) h = (q, subst (λ (x : Term). PathOf s x q) (at_name (codes "zeroOrMorePath") h.0 h.1).1 h.2)
+  modified_at modifier e (OneOrMore q) h = (q, subst (λ (x : Term). PathOf s x q) (at_name (codes "oneOrMorePath") h.0 h.1).1 h.2)
+  modified_at modifier e (ZeroOrOne q) h = (q, subst (λ (x : Term). PathOf s x q) (at_name (codes "zeroOrOnePath") h.0 h.1).1 h.2)
 
-  pub turned_inner : (turn : Turn) → p ≡ sh (turn_name turn) → IsPath s n → IsPath s m
-  turned_inner turn e h = turned_at turn e h.0 h.1
+  pub modified_inner : (modifier : PathModifier) → p ≡ sh (modifier_name modifier) → IsPath s n → IsPath s m
+  modified_inner modifier e h = modified_at modifier e h.0 h.1
 
-  offered_at : ((turn : Turn) → p ≡ sh (turn_name turn) → ⊥) → (q : Path) → PathOf s n q → (p ≡ sh (codes "alternativePath")) × IsPathList s m
+  offered_at : ((modifier : PathModifier) → p ≡ sh (modifier_name modifier) → ⊥) → (q : Path) → PathOf s n q → (p ≡ sh (codes "alternativePath")) × IsPathList s m
   offered_at never (Predicate q) h = absurd (no_blank_iri n blank h.1)
-  offered_at never (Inverse q) h = absurd (never turns.Inverse (sym (at_name (codes "inversePath") h.0 h.1).0))
+  offered_at never (Inverse q) h = absurd (never modifiers.Inverse (sym (at_name (codes "inversePath") h.0 h.1).0))
   offered_at never (Sequence qs) h = absurd (no_paths_alone s n p m alone qs h.2)
   offered_at never (Alternative qs) h = let same = at_name (codes "alternativePath") h.0 h.1 in (sym same.0, (qs, h.2, subst (λ (x : Term). PathsOf s x qs) same.1 h.3))
-  offered_at never (ZeroOrMore q) h = absurd (never turns.ZeroOrMore (sym (at_name (codes "zeroOrMorePath") h.0 h.1).0))
-  offered_at never (OneOrMore q) h = absurd (never turns.OneOrMore (sym (at_name (codes "oneOrMorePath") h.0 h.1).0))
-  offered_at never (ZeroOrOne q) h = absurd (never turns.ZeroOrOne (sym (at_name (codes "zeroOrOnePath") h.0 h.1).0))
+  offered_at never (ZeroOrMore q) h = absurd (never modifiers.ZeroOrMore (sym (at_name (codes "zeroOrMorePath") h.0 h.1).0))
+  offered_at never (OneOrMore q) h = absurd (never modifiers.OneOrMore (sym (at_name (codes "oneOrMorePath") h.0 h.1).0))
+  offered_at never (ZeroOrOne q) h = absurd (never modifiers.ZeroOrOne (sym (at_name (codes "zeroOrOnePath") h.0 h.1).0))
 
-  pub offered_inner : ((turn : Turn) → p ≡ sh (turn_name turn) → ⊥) → IsPath s n → IsPathList s m
+  pub offered_inner : ((modifier : PathModifier) → p ≡ sh (modifier_name modifier) → ⊥) → IsPath s n → IsPathList s m
   offered_inner never h = (offered_at never h.0 h.1).1
 
   named : (name : List ℕ) → p ≡ sh name → HasAlone s n name m
   named name e = let a = subst (λ (x : Term). IsAlone s n x m) e alone in (blank, a.0, a.1)
 
-  pub turned_read : (levels : ℕ) (turn : Turn) → p ≡ sh (turn_name turn) → (q : Path) → IsRead s m levels q → IsRead s n (levels + 1) (turned turn q)
-  turned_read levels turns.Inverse e q r = let le : depth_of q ≤ levels = r.1 in ((m, named (codes "inversePath") e, r.0), omega arith)
-  turned_read levels turns.ZeroOrMore e q r = let le : depth_of q ≤ levels = r.1 in ((m, named (codes "zeroOrMorePath") e, r.0), omega arith)
-  turned_read levels turns.OneOrMore e q r = let le : depth_of q ≤ levels = r.1 in ((m, named (codes "oneOrMorePath") e, r.0), omega arith)
-  turned_read levels turns.ZeroOrOne e q r = let le : depth_of q ≤ levels = r.1 in ((m, named (codes "zeroOrOnePath") e, r.0), omega arith)
+  pub modified_read : (levels : ℕ) (modifier : PathModifier) → p ≡ sh (modifier_name modifier) → (q : Path) → IsRead s m levels q → IsRead s n (levels + 1) (modified modifier q)
+  modified_read levels modifiers.Inverse e q r = let le : depth_of q ≤ levels = r.1 in ((m, named (codes "inversePath") e, r.0), omega arith)
+  modified_read levels modifiers.ZeroOrMore e q r = let le : depth_of q ≤ levels = r.1 in ((m, named (codes "zeroOrMorePath") e, r.0), omega arith)
+  modified_read levels modifiers.OneOrMore e q r = let le : depth_of q ≤ levels = r.1 in ((m, named (codes "oneOrMorePath") e, r.0), omega arith)
+  modified_read levels modifiers.ZeroOrOne e q r = let le : depth_of q ≤ levels = r.1 in ((m, named (codes "zeroOrOnePath") e, r.0), omega arith)
 
-  pub turned_deep : (levels : ℕ) (turn : Turn) → p ≡ sh (turn_name turn) → IsDeep s m levels → IsDeep s n (levels + 1)
-  turned_deep levels turns.Inverse e r = let lt : levels < depth_of r.0 = r.2 in (Inverse r.0, (m, named (codes "inversePath") e, r.1), omega arith)
-  turned_deep levels turns.ZeroOrMore e r = let lt : levels < depth_of r.0 = r.2 in (ZeroOrMore r.0, (m, named (codes "zeroOrMorePath") e, r.1), omega arith)
-  turned_deep levels turns.OneOrMore e r = let lt : levels < depth_of r.0 = r.2 in (OneOrMore r.0, (m, named (codes "oneOrMorePath") e, r.1), omega arith)
-  turned_deep levels turns.ZeroOrOne e r = let lt : levels < depth_of r.0 = r.2 in (ZeroOrOne r.0, (m, named (codes "zeroOrOnePath") e, r.1), omega arith)
+  pub modified_deep : (levels : ℕ) (modifier : PathModifier) → p ≡ sh (modifier_name modifier) → IsDeep s m levels → IsDeep s n (levels + 1)
+  modified_deep levels modifiers.Inverse e r = let lt : levels < depth_of r.0 = r.2 in (Inverse r.0, (m, named (codes "inversePath") e, r.1), omega arith)
+  modified_deep levels modifiers.ZeroOrMore e r = let lt : levels < depth_of r.0 = r.2 in (ZeroOrMore r.0, (m, named (codes "zeroOrMorePath") e, r.1), omega arith)
+  modified_deep levels modifiers.OneOrMore e r = let lt : levels < depth_of r.0 = r.2 in (OneOrMore r.0, (m, named (codes "oneOrMorePath") e, r.1), omega arith)
+  modified_deep levels modifiers.ZeroOrOne e r = let lt : levels < depth_of r.0 = r.2 in (ZeroOrOne r.0, (m, named (codes "zeroOrOnePath") e, r.1), omega arith)
 
-  pub offered_read : (levels : ℕ) → ((turn : Turn) → p ≡ sh (turn_name turn) → ⊥) → IsPath s n → (qs : Paths) → AreReadPaths s m levels qs → IsRead s n (levels + 1) (Alternative qs)
+  pub offered_read : (levels : ℕ) → ((modifier : PathModifier) → p ≡ sh (modifier_name modifier) → ⊥) → IsPath s n → (qs : Paths) → AreReadPaths s m levels qs → IsRead s n (levels + 1) (Alternative qs)
   offered_read levels never h qs r = let le : deepest_of qs ≤ levels = r.2 in ((m, named (codes "alternativePath") (offered_at never h.0 h.1).0, r.0, r.1), omega arith)
 
-  pub offered_deep : (levels : ℕ) → ((turn : Turn) → p ≡ sh (turn_name turn) → ⊥) → IsPath s n → AreDeep s m levels → IsDeep s n (levels + 1)
+  pub offered_deep : (levels : ℕ) → ((modifier : PathModifier) → p ≡ sh (modifier_name modifier) → ⊥) → IsPath s n → AreDeep s m levels → IsDeep s n (levels + 1)
   offered_deep levels never h r = let lt : levels < deepest_of r.0 = r.3 in (Alternative r.0, (m, named (codes "alternativePath") (offered_at never h.0 h.1).0, r.1, r.2), omega arith)
 
 -- a path whose node isn't the subject of one triple alone is a sequence

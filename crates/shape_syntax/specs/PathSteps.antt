@@ -23,13 +23,13 @@ IsSeveral s paths lists n = (m : Term) × (k : Term) × IsCell s n m k × IsKnow
 abbrev pub ShowsList : List Triple → List Term → List Term → Term → Type 0
 ShowsList s paths lists n = (m : Term) × (k : Term) × IsCell s n m k × IsKnown paths m × (IsListEnd s k ⊎ Contains lists k)
 
--- the property turns its value, a path, into another path (SHACL 2.3.1.4 to 2.3.1.7)
-abbrev pub TurnsPath : Term → Type 0
-TurnsPath p = (p ≡ sh (codes "inversePath")) ⊎ (p ≡ sh (codes "zeroOrMorePath")) ⊎ (p ≡ sh (codes "oneOrMorePath")) ⊎ (p ≡ sh (codes "zeroOrOnePath"))
+-- the property makes another path of its value, a path (SHACL 2.3.1.4 to 2.3.1.7)
+abbrev pub ModifiesPath : Term → Type 0
+ModifiesPath p = (p ≡ sh (codes "inversePath")) ⊎ (p ≡ sh (codes "zeroOrMorePath")) ⊎ (p ≡ sh (codes "oneOrMorePath")) ⊎ (p ≡ sh (codes "zeroOrOnePath"))
 
 -- a triple with this property and this value makes its subject a path, if it is the only one
 abbrev pub LeadsOn : List Triple → List Term → List Term → Term → Term → Type 0
-LeadsOn s paths lists p m = (TurnsPath p × IsKnown paths m) ⊎ ((p ≡ sh (codes "alternativePath")) × IsSeveral s paths lists m)
+LeadsOn s paths lists p m = (ModifiesPath p × IsKnown paths m) ⊎ ((p ≡ sh (codes "alternativePath")) × IsSeveral s paths lists m)
 
 -- the one triple of the node has this property and this value
 abbrev pub IsAlone : List Triple → Term → Term → Term → Type 0

@@ -6,22 +6,22 @@ use Rattle.shape_model.specs.Paths.{Path, Inverse, Sequence, Alternative, ZeroOr
 use Rattle.shape_model.specs.ShapeSyntax.{PathsOf}
 use Rattle.shape_syntax.specs.declared.way.Join.{Join}
 use Rattle.shape_syntax.specs.declared.way.Join.TheVariants as joins
-use Rattle.shape_syntax.specs.declared.way.Turn.{Turn}
-use Rattle.shape_syntax.specs.declared.way.Turn.TheVariants as turns
+use Rattle.shape_syntax.specs.declared.way.PathModifier.{PathModifier}
+use Rattle.shape_syntax.specs.declared.way.PathModifier.TheVariants as modifiers
 use Rattle.shape_syntax.specs.PathDepth.{IsRead, deepest_of}
 
--- the property of SHACL that turns a path (SHACL 2.3.1.4 to 2.3.1.7), and the path that it makes
-abbrev pub turn_name : Turn → List ℕ
-turn_name turns.Inverse = codes "inversePath"
-turn_name turns.ZeroOrMore = codes "zeroOrMorePath"
-turn_name turns.OneOrMore = codes "oneOrMorePath"
-turn_name turns.ZeroOrOne = codes "zeroOrOnePath"
+-- the property of SHACL that modifies a path (SHACL 2.3.1.4 to 2.3.1.7), and the path that it makes
+abbrev pub modifier_name : PathModifier → List ℕ
+modifier_name modifiers.Inverse = codes "inversePath"
+modifier_name modifiers.ZeroOrMore = codes "zeroOrMorePath"
+modifier_name modifiers.OneOrMore = codes "oneOrMorePath"
+modifier_name modifiers.ZeroOrOne = codes "zeroOrOnePath"
 
-abbrev pub turned : Turn → Path → Path
-turned turns.Inverse p = Inverse p
-turned turns.ZeroOrMore p = ZeroOrMore p
-turned turns.OneOrMore p = OneOrMore p
-turned turns.ZeroOrOne p = ZeroOrOne p
+abbrev pub modified : PathModifier → Path → Path
+modified modifiers.Inverse p = Inverse p
+modified modifiers.ZeroOrMore p = ZeroOrMore p
+modified modifiers.OneOrMore p = OneOrMore p
+modified modifiers.ZeroOrOne p = ZeroOrOne p
 
 abbrev pub joined : Join → Paths → Path
 joined joins.Sequence ps = Sequence ps

@@ -1,3 +1,4 @@
+//! What is asked of a node.
 ghost use Rattle.std.specs.Prelude.{◌≡◌, IfOk};
 
 use rdf_model::Term;

@@ -11,7 +11,7 @@ use std::alloc::{AllocError, Global};
 use std::collections::BTreeSet;
 
 #[derive(Drop)]
-pub(crate) struct Known {
+pub(crate) struct KnownClaims {
     pub(crate) paths: BTreeSet<Term>,
     pub(crate) lists: BTreeSet<Term>,
 }
@@ -38,12 +38,12 @@ fn put(nodes: &mut BTreeSet<Term>, node: &Term) -> Result<(), AllocError>
     Ok(())
 }
 
-impl Known {
-    pub(crate) fn new(alloc: Global) -> Known
+impl KnownClaims {
+    pub(crate) fn new(alloc: Global) -> KnownClaims
         ensures paths { result.paths.keys ≡ [] }
         ensures lists { result.lists.keys ≡ [] }
     {
-        Known {
+        KnownClaims {
             paths: BTreeSet::new(alloc),
             lists: BTreeSet::new(alloc),
         }
@@ -52,7 +52,7 @@ impl Known {
     pub(crate) fn into_paths(self) -> BTreeSet<Term>
         ensures { result.keys ≡ self.paths.keys }
     {
-        let Known { paths, lists: _ } = self;
+        let KnownClaims { paths, lists: _ } = self;
         paths
     }
 

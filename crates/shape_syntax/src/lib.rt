@@ -3,6 +3,8 @@
 //! Graphs ascend, so that what a node has is found by binary search. `path_nodes` ensures exactly the blank
 //! nodes that stand for a path; they are gathered from below, so that no call is as deep as a path is nested.
 //! `read_path` ensures the path of a node, unless it is nested deeper than 256.
+//!
+//! Storey: shapes.
 #![tactic(auto)]
 
 mod below;
@@ -19,4 +21,4 @@ pub mod terms;
 mod way;
 
 pub use reading::{PathFault, read_path};
-pub use steps::turns_path;
+pub use steps::modifies_path;

@@ -15,10 +15,7 @@ use crate::terms::{is_named, is_same};
 use collections::Sequence;
 use rdf_model::{Term, Triple};
 use std::alloc::{AllocError, Global};
-
-const RDF_FIRST: &str = "http://www.w3.org/1999/02/22-rdf-syntax-ns#first";
-
-const RDF_REST: &str = "http://www.w3.org/1999/02/22-rdf-syntax-ns#rest";
+use vocabulary::{RDF_FIRST, RDF_NIL, RDF_REST};
 
 // Whether one of the triples has another object.
 fn is_other_there(found: &[Triple], value: &Term) -> bool
@@ -112,7 +109,7 @@ fn has_no_rest(graph: &[Triple], node: &Term) -> bool
 fn is_rdf_nil(term: &Term) -> bool
     ensures { IsTrue result ↔ (term.now ≡ rdf_nil) }
 {
-    is_named(term, "http://www.w3.org/1999/02/22-rdf-syntax-ns#nil")
+    is_named(term, RDF_NIL)
 }
 
 pub(crate) fn is_list_end(graph: &[Triple], node: &Term) -> bool

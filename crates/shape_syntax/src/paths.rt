@@ -13,7 +13,7 @@ ghost use Rattle.shape_syntax.specs.PathSteps.{WasAsked, WereAsked, node_of};
 
 use crate::below::from_below;
 use crate::claim::Claim;
-use crate::known::{Known, is_known};
+use crate::known::{KnownClaims, is_known};
 use crate::steps::is_shown;
 use collections::Sequence;
 use rdf_model::{Term, Triple};
@@ -43,7 +43,7 @@ fn claims_of(alloc: Global, nodes: &[Term]) -> Result<Sequence<Claim>, AllocErro
 fn ask(
     graph: &[Triple],
     claim: &Claim,
-    known: &mut Known,
+    known: &mut KnownClaims,
     left: &mut Sequence<Claim>,
 ) -> Result<(), AllocError>
     requires { IsAscending triple_cmp graph.now }
@@ -63,7 +63,7 @@ fn ask_each(
     alloc: Global,
     graph: &[Triple],
     waiting: &[Claim],
-    known: &mut Known,
+    known: &mut KnownClaims,
 ) -> Result<Sequence<Claim>, AllocError>
     requires { IsAscending triple_cmp graph.now }
     ensures { IfOk result (λ left. WereAsked graph.now (length waiting.now) waiting.now known.old.paths.keys
@@ -86,7 +86,7 @@ fn ask_all(
     requires claims { (c : ClaimData) → IsSubject graph.now (node_of c) → Contains claims c }
     ensures { IfOk result (λ nodes. ArePathNodes graph.now nodes.keys) }
 {
-    let mut known = Known::new(alloc);
+    let mut known = KnownClaims::new(alloc);
     let mut waiting = claims;
     loop {
         let left = ask_each(alloc, graph, waiting.as_slice(), &mut known)?;

@@ -6,17 +6,17 @@ ghost use Rattle.rdf_model.specs.declared.term.Term.{Term as TermData};
 ghost use Rattle.rdf_model.specs.Terms.{triple_cmp};
 ghost use Rattle.shape_model.specs.Paths.{Path as DefinedPath, Paths as DefinedPaths};
 ghost use Rattle.shape_model.specs.Triples.{IsBlank};
-ghost use Rattle.compiled_paths.specs.PathReadings.{defined_path};
+ghost use Rattle.path_ast.specs.PathReadings.{defined_path};
 ghost use Rattle.shape_syntax.specs.PathNodes.{ArePathNodes, IsPath};
 ghost use Rattle.shape_syntax.specs.PathDepth.{IsDeep, IsRead, IsTooDeep};
-ghost use Rattle.shape_syntax.specs.PathWays.{AreDeep, AreRead, AreReadPaths, IsPathList, joined, turned};
+ghost use Rattle.shape_syntax.specs.PathWays.{AreDeep, AreRead, AreReadPaths, IsPathList, joined, modified};
 
 use crate::list::list_members;
 use crate::paths::is_path;
 use crate::steps::only_triple;
 use crate::terms::is_iri;
-use crate::way::{Join, Turn, joined_path, turn_of, turned_path};
-use compiled_paths::Path;
+use crate::way::{Join, PathModifier, joined_path, modified_path, modifier_of};
+use path_ast::Path;
 use rdf_model::{Term, Triple};
 use std::alloc::{AllocError, Global};
 use std::collections::BTreeSet;
@@ -85,28 +85,28 @@ fn read_below(
     let Some(triple) = only_triple(graph, node) else {
         return read_list(alloc, graph, Join::Sequence, node, levels);
     };
-    let Some(turn) = turn_of(&triple.predicate) else {
+    let Some(modifier) = modifier_of(&triple.predicate) else {
         return read_list(alloc, graph, Join::Alternative, &triple.object, levels);
     };
-    read_turned(alloc, graph, turn, &triple.object, levels)
+    read_modified(alloc, graph, modifier, &triple.object, levels)
 }
 
 // What the property makes of the path of its value.
 #[cycle(reading)]
-fn read_turned(
+fn read_modified(
     alloc: Global,
     graph: &[Triple],
-    turn: Turn,
+    modifier: PathModifier,
     inner: &Term,
     levels: usize,
 ) -> Result<Option<Path<Term>>, AllocError>
     requires graph { IsAscending triple_cmp graph.now }
     requires path { IsPath graph.now inner.now }
     ensures { IfOk result (λ found. MatchOption found (IsDeep graph.now inner.now levels)
-        (λ path. (p : DefinedPath) × IsRead graph.now inner.now levels p × (defined_path path ≡ turned turn p))) }
+        (λ path. (p : DefinedPath) × IsRead graph.now inner.now levels p × (defined_path path ≡ modified modifier p))) }
 {
     match read_at(alloc, graph, inner, levels)? {
-        Some(path) => Ok(Some(turned_path(alloc, turn, path)?)),
+        Some(path) => Ok(Some(modified_path(alloc, modifier, path)?)),
         None => Ok(None),
     }
 }

@@ -8,14 +8,18 @@ ghost use Rattle.rdf_model.specs.Terms.{triple_cmp};
 ghost use Rattle.shape_model.specs.Triples.{IsBlank};
 ghost use Rattle.shape_model.specs.ShapeSyntax.{IsListEnd};
 ghost use Rattle.shape_model.specs.Vocabulary.{sh};
-ghost use Rattle.shape_syntax.specs.PathSteps.{IsAlone, IsKnown, IsSeveral, LeadsOn, Shows, ShowsList, ShowsPath, TurnsPath};
+ghost use Rattle.shape_syntax.specs.PathSteps.{IsAlone, IsKnown, IsSeveral, LeadsOn, Shows, ShowsList, ShowsPath, ModifiesPath};
 
 use crate::claim::Claim;
-use crate::known::Known;
+use crate::known::KnownClaims;
 use crate::list::{cell, is_list_end};
 use crate::lookup::triples_of;
 use crate::terms::{is_blank, is_named, is_same};
 use rdf_model::{Term, Triple};
+use vocabulary::{
+    SH_ALTERNATIVE_PATH, SH_INVERSE_PATH, SH_ONE_OR_MORE_PATH, SH_ZERO_OR_MORE_PATH,
+    SH_ZERO_OR_ONE_PATH,
+};
 
 fn says_same(triple: &Triple, other: &Triple) -> bool
     ensures { IsTrue result ↔ ((triple.now.predicate ≡ other.now.predicate) × (triple.now.object ≡ other.now.object)) }
@@ -55,25 +59,25 @@ pub(crate) fn only_triple<'a>(graph: &'a [Triple], node: &Term) -> Option<&'a Tr
     }
 }
 
-/// Whether the property turns its value, a path, into another path (SHACL sections 2.3.1.4 to 2.3.1.7).
+/// Whether the property makes another path of its value, a path (SHACL sections 2.3.1.4 to 2.3.1.7).
 #[tactic(auto, unfolding(shape_model::specs::Vocabulary::sh))]
-pub fn turns_path(predicate: &Term) -> bool
-    ensures { IsTrue result ↔ TurnsPath predicate.now }
+pub fn modifies_path(predicate: &Term) -> bool
+    ensures { IsTrue result ↔ ModifiesPath predicate.now }
 {
-    is_named(predicate, "http://www.w3.org/ns/shacl#inversePath")
-        || is_named(predicate, "http://www.w3.org/ns/shacl#zeroOrMorePath")
-        || is_named(predicate, "http://www.w3.org/ns/shacl#oneOrMorePath")
-        || is_named(predicate, "http://www.w3.org/ns/shacl#zeroOrOnePath")
+    is_named(predicate, SH_INVERSE_PATH)
+        || is_named(predicate, SH_ZERO_OR_MORE_PATH)
+        || is_named(predicate, SH_ONE_OR_MORE_PATH)
+        || is_named(predicate, SH_ZERO_OR_ONE_PATH)
 }
 
 #[tactic(auto, unfolding(shape_model::specs::Vocabulary::sh))]
 fn is_alternative(predicate: &Term) -> bool
     ensures { IsTrue result ↔ (predicate.now ≡ sh (codes "alternativePath")) }
 {
-    is_named(predicate, "http://www.w3.org/ns/shacl#alternativePath")
+    is_named(predicate, SH_ALTERNATIVE_PATH)
 }
 
-fn shows_several(graph: &[Triple], known: &Known, node: &Term) -> bool
+fn shows_several(graph: &[Triple], known: &KnownClaims, node: &Term) -> bool
     requires { IsAscending triple_cmp graph.now }
     ensures { IsTrue result ↔ IsSeveral graph.now known.now.paths.keys known.now.lists.keys node.now }
 {
@@ -83,21 +87,21 @@ fn shows_several(graph: &[Triple], known: &Known, node: &Term) -> bool
     }
 }
 
-fn ends_or_goes_on(graph: &[Triple], known: &Known, rest: &Term) -> bool
+fn ends_or_goes_on(graph: &[Triple], known: &KnownClaims, rest: &Term) -> bool
     requires { IsAscending triple_cmp graph.now }
     ensures { IsTrue result ↔ (IsListEnd graph.now rest.now ⊎ Contains known.now.lists.keys rest.now) }
 {
     is_list_end(graph, rest) || known.has_list(rest)
 }
 
-fn is_path_list(graph: &[Triple], known: &Known, first: &Term, rest: &Term) -> bool
+fn is_path_list(graph: &[Triple], known: &KnownClaims, first: &Term, rest: &Term) -> bool
     requires { IsAscending triple_cmp graph.now }
     ensures { IsTrue result ↔ (IsKnown known.now.paths.keys first.now × (IsListEnd graph.now rest.now ⊎ Contains known.now.lists.keys rest.now)) }
 {
     known.has_path(first) && ends_or_goes_on(graph, known, rest)
 }
 
-fn shows_list(graph: &[Triple], known: &Known, node: &Term) -> bool
+fn shows_list(graph: &[Triple], known: &KnownClaims, node: &Term) -> bool
     requires { IsAscending triple_cmp graph.now }
     ensures { IsTrue result ↔ ShowsList graph.now known.now.paths.keys known.now.lists.keys node.now }
 {
@@ -107,13 +111,13 @@ fn shows_list(graph: &[Triple], known: &Known, node: &Term) -> bool
     }
 }
 
-fn turns_known(known: &Known, triple: &Triple) -> bool
-    ensures { IsTrue result ↔ (TurnsPath triple.now.predicate × IsKnown known.now.paths.keys triple.now.object) }
+fn modifies_known(known: &KnownClaims, triple: &Triple) -> bool
+    ensures { IsTrue result ↔ (ModifiesPath triple.now.predicate × IsKnown known.now.paths.keys triple.now.object) }
 {
-    turns_path(&triple.predicate) && known.has_path(&triple.object)
+    modifies_path(&triple.predicate) && known.has_path(&triple.object)
 }
 
-fn offers_several(graph: &[Triple], known: &Known, triple: &Triple) -> bool
+fn offers_several(graph: &[Triple], known: &KnownClaims, triple: &Triple) -> bool
     requires { IsAscending triple_cmp graph.now }
     ensures { IsTrue result ↔ ((triple.now.predicate ≡ sh (codes "alternativePath"))
         × IsSeveral graph.now known.now.paths.keys known.now.lists.keys triple.now.object) }
@@ -121,14 +125,14 @@ fn offers_several(graph: &[Triple], known: &Known, triple: &Triple) -> bool
     is_alternative(&triple.predicate) && shows_several(graph, known, &triple.object)
 }
 
-fn leads_on(graph: &[Triple], known: &Known, triple: &Triple) -> bool
+fn leads_on(graph: &[Triple], known: &KnownClaims, triple: &Triple) -> bool
     requires { IsAscending triple_cmp graph.now }
     ensures { IsTrue result ↔ LeadsOn graph.now known.now.paths.keys known.now.lists.keys triple.now.predicate triple.now.object }
 {
-    turns_known(known, triple) || offers_several(graph, known, triple)
+    modifies_known(known, triple) || offers_several(graph, known, triple)
 }
 
-fn alone_leads_on(graph: &[Triple], known: &Known, node: &Term) -> bool
+fn alone_leads_on(graph: &[Triple], known: &KnownClaims, node: &Term) -> bool
     requires { IsAscending triple_cmp graph.now }
     ensures { IsTrue result ↔ ((p : TermData) × (m : TermData) × IsAlone graph.now node.now p m
         × LeadsOn graph.now known.now.paths.keys known.now.lists.keys p m) }
@@ -139,14 +143,14 @@ fn alone_leads_on(graph: &[Triple], known: &Known, node: &Term) -> bool
     }
 }
 
-fn shows_path(graph: &[Triple], known: &Known, node: &Term) -> bool
+fn shows_path(graph: &[Triple], known: &KnownClaims, node: &Term) -> bool
     requires { IsAscending triple_cmp graph.now }
     ensures { IsTrue result ↔ ShowsPath graph.now known.now.paths.keys known.now.lists.keys node.now }
 {
     shows_several(graph, known, node) || alone_leads_on(graph, known, node)
 }
 
-fn shows_blank_path(graph: &[Triple], known: &Known, node: &Term) -> bool
+fn shows_blank_path(graph: &[Triple], known: &KnownClaims, node: &Term) -> bool
     requires { IsAscending triple_cmp graph.now }
     ensures { IsTrue result ↔ (IsBlank node.now × ShowsPath graph.now known.now.paths.keys known.now.lists.keys node.now) }
 {
@@ -154,7 +158,7 @@ fn shows_blank_path(graph: &[Triple], known: &Known, node: &Term) -> bool
 }
 
 /// Whether what is known shows what is asked of the node.
-pub(crate) fn is_shown(graph: &[Triple], known: &Known, claim: &Claim) -> bool
+pub(crate) fn is_shown(graph: &[Triple], known: &KnownClaims, claim: &Claim) -> bool
     requires { IsAscending triple_cmp graph.now }
     ensures { IsTrue result ↔ Shows graph.now known.now.paths.keys known.now.lists.keys claim.now }
 {

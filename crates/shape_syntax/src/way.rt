@@ -1,17 +1,19 @@
+//! How a blank node stands for a path.
 ghost use Rattle.std.specs.Prelude.{◌≡◌, IfOk, MatchOption, map};
 ghost use Rattle.shape_model.specs.Vocabulary.{sh};
-ghost use Rattle.compiled_paths.specs.PathReadings.{defined_path, members};
-ghost use Rattle.shape_syntax.specs.declared.way.Turn.{Turn as TurnData};
-ghost use Rattle.shape_syntax.specs.PathWays.{joined, turn_name, turned};
+ghost use Rattle.path_ast.specs.PathReadings.{defined_path, members};
+ghost use Rattle.shape_syntax.specs.declared.way.PathModifier.{PathModifier as ModifierData};
+ghost use Rattle.shape_syntax.specs.PathWays.{joined, modifier_name, modified};
 
 use crate::terms::is_named;
-use compiled_paths::Path;
+use path_ast::Path;
 use rdf_model::Term;
 use std::alloc::{AllocError, Global};
+use vocabulary::{SH_INVERSE_PATH, SH_ONE_OR_MORE_PATH, SH_ZERO_OR_MORE_PATH, SH_ZERO_OR_ONE_PATH};
 
 /// What a property of SHACL makes of the path that is its value.
 #[derive(Debug, Clone, Copy)]
-pub(crate) enum Turn {
+pub(crate) enum PathModifier {
     Inverse,
     ZeroOrMore,
     OneOrMore,
@@ -27,39 +29,39 @@ pub(crate) enum Join {
 
 /// What the predicate makes of a path, if it is one of the four.
 #[tactic(auto, unfolding(shape_model::specs::Vocabulary::sh))]
-pub(crate) fn turn_of(predicate: &Term) -> Option<Turn>
-    ensures { MatchOption result ((turn : TurnData) → predicate.now ≡ sh (turn_name turn) → ⊥)
-        (λ turn. predicate.now ≡ sh (turn_name turn)) }
+pub(crate) fn modifier_of(predicate: &Term) -> Option<PathModifier>
+    ensures { MatchOption result ((modifier : ModifierData) → predicate.now ≡ sh (modifier_name modifier) → ⊥)
+        (λ modifier. predicate.now ≡ sh (modifier_name modifier)) }
 {
-    if is_named(predicate, "http://www.w3.org/ns/shacl#inversePath") {
-        return Some(Turn::Inverse);
+    if is_named(predicate, SH_INVERSE_PATH) {
+        return Some(PathModifier::Inverse);
     }
-    if is_named(predicate, "http://www.w3.org/ns/shacl#zeroOrMorePath") {
-        return Some(Turn::ZeroOrMore);
+    if is_named(predicate, SH_ZERO_OR_MORE_PATH) {
+        return Some(PathModifier::ZeroOrMore);
     }
-    if is_named(predicate, "http://www.w3.org/ns/shacl#oneOrMorePath") {
-        return Some(Turn::OneOrMore);
+    if is_named(predicate, SH_ONE_OR_MORE_PATH) {
+        return Some(PathModifier::OneOrMore);
     }
-    if is_named(predicate, "http://www.w3.org/ns/shacl#zeroOrOnePath") {
-        return Some(Turn::ZeroOrOne);
+    if is_named(predicate, SH_ZERO_OR_ONE_PATH) {
+        return Some(PathModifier::ZeroOrOne);
     }
     None
 }
 
 /// The path that it makes.
-pub(crate) fn turned_path(
+pub(crate) fn modified_path(
     alloc: Global,
-    turn: Turn,
+    modifier: PathModifier,
     path: Path<Term>,
 ) -> Result<Path<Term>, AllocError>
-    ensures { IfOk result (λ made. defined_path made ≡ turned turn (defined_path path)) }
+    ensures { IfOk result (λ made. defined_path made ≡ modified modifier (defined_path path)) }
 {
     let inner = Box::new(alloc, path)?;
-    match turn {
-        Turn::Inverse => Ok(Path::Inverse(inner)),
-        Turn::ZeroOrMore => Ok(Path::ZeroOrMore(inner)),
-        Turn::OneOrMore => Ok(Path::OneOrMore(inner)),
-        Turn::ZeroOrOne => Ok(Path::ZeroOrOne(inner)),
+    match modifier {
+        PathModifier::Inverse => Ok(Path::Inverse(inner)),
+        PathModifier::ZeroOrMore => Ok(Path::ZeroOrMore(inner)),
+        PathModifier::OneOrMore => Ok(Path::OneOrMore(inner)),
+        PathModifier::ZeroOrOne => Ok(Path::ZeroOrOne(inner)),
     }
 }
 

@@ -1,3 +1,4 @@
+//! A well-formed shapes graph with its compiled shapes.
 ghost use Rattle.std.specs.Prelude.{◌≡◌, [], IfOk};
 ghost use Rattle.shape_ast.specs.Once.{AreOnce};
 ghost use Rattle.shape_ast.specs.Standing.{AreCompiled};
@@ -84,7 +85,7 @@ impl ShapesGraph {
         &self.content.shapes
     }
 
-    /// The same graph once more. Nothing is copied.
+    /// This shapes graph once more. Nothing is copied.
     pub fn share(&self) -> Result<ShapesGraph, AllocError>
         ensures { IfOk result (λ graph. graph ≡ self.now) }
     {

@@ -2,6 +2,8 @@
 //!
 //! The functions do nothing: what each ensures is a statement about the definitions alone, for all
 //! graphs, stores, files and orders. They show that the definitions say what they are meant to say.
+//!
+//! Storey: laws.
 #![tactic(auto)]
 
 ghost use Rattle.store_model.specs.Logs.{StepIsDeterministic, FaultsStop, UnloggedRun};

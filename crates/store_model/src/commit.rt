@@ -1,3 +1,4 @@
+//! Transactions, their verdicts and accepted commits.
 use collections::Sequence;
 use rdf_model::{Look, Net, Pattern, Term, Triple};
 use shapes_graph::ShapesGraph;

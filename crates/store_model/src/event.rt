@@ -1,3 +1,4 @@
+//! Limits, actions, replies and events.
 ghost use Rattle.std.specs.Prelude.{◌≡◌, MatchResult};
 ghost use Rattle.store_model.specs.Actions.{IsNoCommit};
 

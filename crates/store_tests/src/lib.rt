@@ -1,4 +1,6 @@
 //! Tests of the store and of what its sessions find.
+//!
+//! Storey: tests.
 #![tactic(auto)]
 
 #[cfg(test)]
@@ -17,3 +19,5 @@ mod refused_patterns;
 mod replay;
 #[cfg(test)]
 mod selects;
+#[cfg(test)]
+mod severities;

@@ -8,7 +8,7 @@ use collections::Sequence;
 use commit_core::{BlockMode, Event, Limits};
 use history_reader::read_history;
 use session_model::Command;
-use session_player::{ReplayFault, replay_all, text_of};
+use session_player::{HistoryFault, replay_all, text_of};
 use std::alloc::{AllocError, Global};
 use std::test::Fail;
 
@@ -206,8 +206,8 @@ fn replayed(
     };
     match replay_all(alloc, LIMITS, files, places.as_slice()) {
         Ok(run) => text_of(alloc, &run),
-        Err(ReplayFault::Place(_)) => Ok(String::new(alloc)),
-        Err(ReplayFault::Memory) => Err(AllocError),
+        Err(HistoryFault::Place(_)) => Ok(String::new(alloc)),
+        Err(HistoryFault::Memory) => Err(AllocError),
     }
 }
 

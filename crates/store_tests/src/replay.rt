@@ -162,7 +162,6 @@ fn replayed<L: Ledger>(
     blank: Blank,
 ) -> Result<usize, AllocError>
     requires limits { limits.terms ≤ 2000000 }
-    requires mode { limits.mode ≡ BlockMode.All }
     requires name { blank.name ≡ L.name }
     requires parts { blank.parts ≡ L.parts }
     requires some { 0 < L.parts }
@@ -180,8 +179,7 @@ fn replayed<L: Ledger>(
 
 /// The first of the events that is no step within these limits, from 1; 0 where all are.
 pub fn first_no_step(alloc: Global, limits: Limits, events: Vec<Event>) -> Result<usize, AllocError>
-    requires limits { limits.terms ≤ 2000000 }
-    requires mode { limits.mode ≡ BlockMode.All }
+    requires { limits.terms ≤ 2000000 }
 {
     replayed::<Brand>(alloc, limits, events, Blank::new(1))
 }

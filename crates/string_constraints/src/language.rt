@@ -1,3 +1,4 @@
+//! The component language-in (SHACL section 4.4.4).
 ghost use Rattle.std.specs.Prelude.{◌≡◌, ◌<◌, IfOk, length, map, option_map};
 ghost use Rattle.std.specs.List.{Contains, list_any};
 ghost use Rattle.rdf_model.specs.Numbers.{term_at};

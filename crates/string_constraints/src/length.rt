@@ -1,3 +1,4 @@
+//! The components min-length and max-length (SHACL sections 4.4.1 and 4.4.2).
 ghost use Rattle.std.specs.Prelude.{IfOk};
 ghost use Rattle.rdf_model.specs.Numbers.{term_at};
 ghost use Rattle.shape_model.specs.declared.component.Component.TheVariants as components;

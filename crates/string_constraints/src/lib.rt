@@ -3,6 +3,8 @@
 //!
 //! Each call lists exactly the results that the definition of its component gives for one value of the
 //! parameter.
+//!
+//! Storey: validation.
 #![tactic(auto)]
 
 mod language;

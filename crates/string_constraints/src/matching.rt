@@ -1,3 +1,4 @@
+//! The component pattern (SHACL section 4.4.3).
 ghost use Rattle.std.specs.Prelude.{◌≡◌, ◌↔◌, IfOk, IsTrue, is_some, length};
 ghost use Rattle.rdf_model.specs.Numbers.{term_at};
 ghost use Rattle.regex.specs.Patterns.{SameCaptures, find_str};

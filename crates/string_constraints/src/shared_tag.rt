@@ -1,6 +1,7 @@
+//! The component unique-lang (SHACL section 4.4.5).
 ghost use Rattle.std.specs.Prelude.{◌≡◌, ◌↔◌, IfOk, IsTrue, OnOk, Some};
 ghost use Rattle.std.specs.List.{Contains};
-ghost use Rattle.shape_model.specs.Vocabulary as vocabulary;
+ghost use Rattle.shape_model.specs.Vocabulary as defined_words;
 ghost use Rattle.shape_model.specs.declared.component.Component.TheVariants as components;
 ghost use Rattle.component_rows.specs.Listed.{Lists, untold};
 ghost use Rattle.component_rows.specs.Sites.{ListsAt, at_values, site_row};
@@ -8,14 +9,13 @@ ghost use Rattle.string_constraints.specs.Languages.{Adds, AreShared, Notes, fou
 
 use crate::language::tag;
 use collections::sorted_once;
-use component_rows::{Site, is_true, row_alone};
+use component_rows::{Site, row_alone};
 use rdf_model::{Names, Term};
 use rdf_text::Text;
-use shape_model::{Component, ResultRow};
+use shape_model::{Component, ResultRow, is_true};
 use std::alloc::{AllocError, Global};
 use std::collections::BTreeSet;
-
-const XSD_STRING: &str = "http://www.w3.org/2001/XMLSchema#string";
+use vocabulary::XSD_STRING;
 
 // Whether the tag is among those kept.
 fn is_kept(tags: &BTreeSet<Text>, tag: &Text) -> bool
@@ -79,7 +79,7 @@ fn shared_tags<N: Names>(site: &Site<'_, N>) -> Result<BTreeSet<Text>, AllocErro
 // The tag as a literal of xsd:string.
 #[tactic(auto, unfolding(shape_model::specs::Vocabulary::string_literal))]
 fn tag_literal(alloc: Global, tag: Text) -> Result<Term, AllocError>
-    ensures { IfOk result (λ term. term ≡ vocabulary.string_literal tag) }
+    ensures { IfOk result (λ term. term ≡ defined_words.string_literal tag) }
 {
     Ok(Term::Literal {
         lexical: tag,

@@ -1,3 +1,4 @@
+//! The targets of declarations.
 ghost use Rattle.std.specs.Prelude.{◌≡◌, ◌↔◌, ◌<◌, IfOk, map};
 ghost use Rattle.std.specs.List.{Contains};
 ghost use Rattle.rdf_model.specs.Numbers.{graph_of, term_at};

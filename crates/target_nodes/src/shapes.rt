@@ -1,3 +1,4 @@
+//! The targets of a compiled shape.
 ghost use Rattle.std.specs.Prelude.{◌<◌, IfOk, OnOk, length};
 ghost use Rattle.std.specs.List.{All};
 ghost use Rattle.collections.specs.Listings.{Keeps};

@@ -1,3 +1,4 @@
+//! Whether a node is a target of declarations.
 ghost use Rattle.std.specs.Prelude.{◌≡◌, ◌↔◌, ◌<◌, ◌⊎◌, [], ◌∷◌, ◌++◌, IfOk, IsTrue, OnOk};
 ghost use Rattle.std.specs.List.{Contains};
 ghost use Rattle.rdf_model.specs.Numbers.{AsksForOne, IsFound};
@@ -72,7 +73,7 @@ fn is_target_by<R: Triples>(
     }
 }
 
-// The same by any of the declarations. All are asked, so that the looks of each are made.
+// Whether the node is a target by any of the declarations. All are asked, so that the looks of each are made.
 fn is_target_by_some<R: Triples>(
     alloc: Global,
     graph: &R,

@@ -1,3 +1,4 @@
+//! Terms and their numbers.
 ghost use Rattle.std.specs.Prelude.{◌≡◌, ◌+◌, ◌<◌, ◌≤◌, ◌^◌, IfErr, IfOk, OnErr, OnOk, length};
 ghost use Rattle.std.specs.List.{AllByRecursion};
 ghost use Rattle.rdf_model.specs.Numbers.{IsNumbering};
@@ -6,14 +7,11 @@ ghost use Rattle.term_dict.specs.Names.{AreNumbersOf, first_terms, named_with, w
 
 use crate::fault::NameFault;
 use crate::met::met_in;
-use crate::table::{Table, table_of, with_all};
+use crate::table::{TermTable, table_of, with_all};
 use rdf_model::{Names, Term, Text};
 use std::alloc::{AllocError, Global};
 use std::marker::Model;
-
-const RDF_TYPE: &str = "http://www.w3.org/1999/02/22-rdf-syntax-ns#type";
-
-const RDFS_SUB_CLASS_OF: &str = "http://www.w3.org/2000/01/rdf-schema#subClassOf";
+use vocabulary::{RDF_TYPE, RDFS_SUB_CLASS_OF};
 
 /// Terms and their numbers.
 ///
@@ -21,7 +19,7 @@ const RDFS_SUB_CLASS_OF: &str = "http://www.w3.org/2000/01/rdf-schema#subClassOf
 pub struct Dict {
     alloc: Global,
     limit: usize,
-    table: Table,
+    table: TermTable,
 }
 
 // Written by hand, so that what owns one calls it in place of having it written out.
@@ -75,7 +73,7 @@ fn table_within(
     limit: usize,
     first: &[Term],
     terms: &[Term],
-) -> Result<(Table, Vec<usize>), NameFault>
+) -> Result<(TermTable, Vec<usize>), NameFault>
     requires { first.now ≡ first_terms }
     ensures table { IfOk result (λ named. (named.0 ≡ with_terms first_terms terms.now) × (length named.0 ≤ limit + 2)) }
     ensures numbers { IfOk result (λ named. AreNumbersOf named.0 terms.now named.1.items) }
@@ -89,8 +87,12 @@ fn table_within(
     Ok((table_of(alloc, met.terms())?, numbers))
 }
 
-// The same after the first two terms.
-fn new_table(alloc: Global, limit: usize, terms: &[Term]) -> Result<(Table, Vec<usize>), NameFault>
+// The table of the first two terms and these, within the limit, and the numbers of these.
+fn new_table(
+    alloc: Global,
+    limit: usize,
+    terms: &[Term],
+) -> Result<(TermTable, Vec<usize>), NameFault>
     ensures table { IfOk result (λ named. (named.0 ≡ with_terms first_terms terms.now) × (length named.0 ≤ limit + 2)) }
     ensures numbers { IfOk result (λ named. AreNumbersOf named.0 terms.now named.1.items) }
     ensures cause { IfErr result (λ fault. IsCause fault (record { terms = first_terms; limit = limit }) terms.now) }
@@ -107,7 +109,7 @@ impl Dict {
         ensures { IfOk result (λ dict. dict ≡ record { terms = first_terms; limit = limit }) }
     {
         let terms = first_two(alloc)?;
-        let (table, _) = with_all(alloc, Table::new(alloc), &terms)?;
+        let (table, _) = with_all(alloc, TermTable::new(alloc), &terms)?;
         Ok(Dict {
             alloc,
             limit,

@@ -1,3 +1,4 @@
+//! Why terms were not named.
 use std::alloc::AllocError;
 
 /// Why terms were not named.

@@ -1,3 +1,4 @@
+//! Named terms by their numbers, and by their order.
 ghost use Rattle.std.specs.Prelude.{◌≡◌, ◌<◌, ◌≤◌, [], ◌∷◌, ◌++◌, IfOk, MatchOption, OnOk, get_or, length, map};
 ghost use Rattle.std.specs.List.{AllByRecursion, Contains, IsDistinct};
 ghost use Rattle.std.specs.Ordering.{eq_by_cmp};
@@ -25,13 +26,13 @@ fn is_of(entry: &ByTerm, term: &Term) -> bool
 
 // Named terms by their numbers, and in the order of terms. Contracts see the list of the terms by their numbers.
 #[derive(Drop)]
-pub(crate) struct Table {
+pub(crate) struct TermTable {
     alloc: Global,
     terms: GrowingList<NamedTerm>,
     by_term: Pages<ByTerm>,
 }
 
-impl Model for Table {
+impl Model for TermTable {
     ghost use Rattle.std.specs.Prelude.{List};
     ghost use Rattle.rdf_model.specs.declared.term.Term.{Term};
     ghost use Rattle.term_dict.specs.Tables.{AreOne};
@@ -43,11 +44,11 @@ impl Model for Table {
     ghost invariant = { λ t. AreOne t.terms t.by_term };
 }
 
-impl Table {
-    pub(crate) fn new(alloc: Global) -> Table
+impl TermTable {
+    pub(crate) fn new(alloc: Global) -> TermTable
         ensures { result ≡ [] }
     {
-        Table {
+        TermTable {
             alloc,
             terms: GrowingList::new(alloc),
             by_term: Pages::new(alloc),
@@ -61,10 +62,10 @@ impl Table {
     }
 
     // Another table with the same terms, of which none is copied.
-    pub(crate) fn share(&self) -> Result<Table, AllocError>
+    pub(crate) fn share(&self) -> Result<TermTable, AllocError>
         ensures { IfOk result (λ share. share ≡ self.now) }
     {
-        Ok(Table {
+        Ok(TermTable {
             alloc: self.alloc,
             terms: self.terms.share()?,
             by_term: self.by_term.share()?,
@@ -104,11 +105,11 @@ impl Table {
     }
 
     // The table with a term that is new to it.
-    fn with_new(self, term: &Term) -> Result<Table, AllocError>
+    fn with_new(self, term: &Term) -> Result<TermTable, AllocError>
         requires { Contains self term.now → ⊥ }
         ensures { IfOk result (λ next. next ≡ self ++ term.now ∷ []) }
     {
-        let Table {
+        let TermTable {
             alloc,
             mut terms,
             mut by_term,
@@ -118,7 +119,7 @@ impl Table {
         let same = Arc::try_clone(&term)?;
         terms.push(NamedTerm { term })?;
         let _ = by_term.insert(ByTerm { number, term: same })?;
-        Ok(Table {
+        Ok(TermTable {
             alloc,
             terms,
             by_term,
@@ -126,7 +127,7 @@ impl Table {
     }
 
     // The table with a term, and the number of that.
-    fn with(self, term: &Term) -> Result<(Table, usize), AllocError>
+    fn with(self, term: &Term) -> Result<(TermTable, usize), AllocError>
         ensures table { IfOk result (λ next. next.0 ≡ with_term self term.now) }
         ensures number { IfOk result (λ next. IsNumberOf next.0 term.now next.1) }
     {
@@ -175,13 +176,13 @@ fn entries_of(
 }
 
 // The table of terms, no two of which are equal.
-pub(crate) fn table_of(alloc: Global, terms: &[MetTerm]) -> Result<Table, AllocError>
+pub(crate) fn table_of(alloc: Global, terms: &[MetTerm]) -> Result<TermTable, AllocError>
     requires { IsDistinct (eq_by_cmp term_cmp) terms.now }
     ensures { IfOk result (λ table. table ≡ terms.now) }
 {
     let (terms, mut by_term) = entries_of(alloc, terms)?;
     by_term.sort()?;
-    Ok(Table {
+    Ok(TermTable {
         alloc,
         terms,
         by_term: Pages::from_sorted(alloc, &by_term)?,
@@ -191,9 +192,9 @@ pub(crate) fn table_of(alloc: Global, terms: &[MetTerm]) -> Result<Table, AllocE
 // The table with each of the terms that were met, and their numbers.
 fn with_met(
     alloc: Global,
-    table: Table,
+    table: TermTable,
     terms: &[MetTerm],
-) -> Result<(Table, Vec<usize>), AllocError>
+) -> Result<(TermTable, Vec<usize>), AllocError>
     ensures table { IfOk result (λ next. next.0 ≡ with_terms table terms.now) }
     ensures numbers { IfOk result (λ next. AreNumbersOf next.0 terms.now next.1.items) }
 {
@@ -223,9 +224,9 @@ fn numbers_at(alloc: Global, numbers: &[usize], places: &[usize]) -> Result<Vec<
 // in the list.
 pub(crate) fn with_all(
     alloc: Global,
-    table: Table,
+    table: TermTable,
     terms: &[Term],
-) -> Result<(Table, Vec<usize>), AllocError>
+) -> Result<(TermTable, Vec<usize>), AllocError>
     ensures table { IfOk result (λ next. next.0 ≡ with_terms table terms.now) }
     ensures numbers { IfOk result (λ next. AreNumbersOf next.0 terms.now next.1.items) }
 {

@@ -11,11 +11,11 @@ use Rattle.rdf_model.specs.declared.triple.Triple.{Triple}
 use Rattle.rdf_model.specs.Numbers.{AreNumbered, IsNumbering, graph_of, term_at}
 use Rattle.triple_index.specs.Patterns.{AreApart}
 use Rattle.bgp_query.specs.declared.pattern.JoinPattern.{JoinPattern}
-use Rattle.bgp_query.specs.declared.fault.SelectFault.{SelectFault}
-use Rattle.bgp_query.specs.declared.fault.SelectFault.TheVariants.{TooMany, Memory}
+use Rattle.bgp_query.specs.declared.fault.JoinFault.{JoinFault}
+use Rattle.bgp_query.specs.declared.fault.JoinFault.TheVariants.{TooMany, Memory}
 use Rattle.bgp_query.specs.AllBindings.{AreBindings}
 use Rattle.bgp_query.specs.Bindings.{HasMore, IsBinding, IsIn, most_bindings}
-use Rattle.bgp_query.specs.Selected.{AreSelected, AreTooMany, IsSelectFault}
+use Rattle.bgp_query.specs.Selected.{AreSelected, AreTooMany, IsJoinFault}
 use Rattle.bgp_query.specs.TermBindings.{bindings}
 use Rattle.bgp_query.proofs.Once.{apart_ascending, no_more}
 use Rattle.term_joins.specs.Laws.{IsThere}
@@ -85,15 +85,15 @@ module _ (terms : List Term) (ids : List Ids) (numbered : AreNumbered terms ids)
         let more = h.more in
         omega (arith, less, size, more)
 
-    fault_of : (fault : SelectFault) → (fault ≡ TooMany → HasMore most_bindings (IsBinding (IsIn ids) qs)) → IsSelectFault fault (graph_of terms ids) ps
+    fault_of : (fault : JoinFault) → (fault ≡ TooMany → HasMore most_bindings (IsBinding (IsIn ids) qs)) → IsJoinFault fault (graph_of terms ids) ps
     fault_of TooMany f = too_many (f refl)
     fault_of Memory f = tt
 
 -- an error that is handed on
-pub stopped : {T : Type 0} (terms : List Term) (ids : List Ids) → IsNumbering terms → AreNumbered terms ids → (qs : List (JoinPattern ℕ)) (r : Result T SelectFault) (e f : SelectFault) → r ≡ Err e → e ≡ f → (f ≡ TooMany → HasMore most_bindings (IsBinding (IsIn ids) qs)) →
-    IfErr r (λ fault. (ps : List (JoinPattern Term)) → ArePatternsAt terms ps qs → IsSelectFault fault (graph_of terms ids) ps)
+pub stopped : {T : Type 0} (terms : List Term) (ids : List Ids) → IsNumbering terms → AreNumbered terms ids → (qs : List (JoinPattern ℕ)) (r : Result T JoinFault) (e f : JoinFault) → r ≡ Err e → e ≡ f → (f ≡ TooMany → HasMore most_bindings (IsBinding (IsIn ids) qs)) →
+    IfErr r (λ fault. (ps : List (JoinPattern Term)) → ArePatternsAt terms ps qs → IsJoinFault fault (graph_of terms ids) ps)
 stopped {T} terms ids numbering numbered qs r e f is same over =
-    subst (λ (q : Result T SelectFault). IfErr q (λ fault. (ps : List (JoinPattern Term)) → ArePatternsAt terms ps qs → IsSelectFault fault (graph_of terms ids) ps)) (sym is)
+    subst (λ (q : Result T JoinFault). IfErr q (λ fault. (ps : List (JoinPattern Term)) → ArePatternsAt terms ps qs → IsJoinFault fault (graph_of terms ids) ps)) (sym is)
     (λ ps at. fault_of terms ids numbered ps numbering qs at e (λ many. over (sym same ∙ many)))
 
 -- what is answered for one graph is for each with the same triples
@@ -101,6 +101,6 @@ module _ (g h : List Triple) (ps : List (JoinPattern Term)) (same : (t : Triple)
   pub selected_as : (rows : List (List Term)) → AreSelected g ps rows → AreSelected h ps rows
   selected_as rows s = record { all = s.all ∙ same_bindings g h ps same; few = s.few }
 
-  pub fault_as : (fault : SelectFault) → IsSelectFault fault g ps → IsSelectFault fault h ps
+  pub fault_as : (fault : JoinFault) → IsJoinFault fault g ps → IsJoinFault fault h ps
   fault_as TooMany f = subst (λ (rows : List (List Term)). most_bindings < length rows) (same_bindings g h ps same) f
   fault_as Memory f = tt

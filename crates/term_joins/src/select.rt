@@ -1,14 +1,14 @@
 //! The bindings of patterns of terms.
 ghost use Rattle.std.specs.Prelude.{IfErr, IfOk, List};
 ghost use Rattle.bgp_query.specs.declared.pattern.JoinPattern.{JoinPattern as PatternData};
-ghost use Rattle.bgp_query.specs.Selected.{AreSelected, IsSelectFault};
+ghost use Rattle.bgp_query.specs.Selected.{AreSelected, IsJoinFault};
 ghost use Rattle.rdf_model.specs.declared.term.Term.{Term as TermData};
 ghost use Rattle.rdf_model.specs.Numbers.{AreNumbered, IsNumbering, graph_of};
 ghost use Rattle.term_joins.specs.Numbered.{ArePatternsAt};
 
 use crate::numbered::numbered_patterns;
 use crate::row::{TermRow, read_rows, terms_of};
-use bgp_query::{JoinPattern, Matcher, SelectFault, select};
+use bgp_query::{JoinFault, JoinPattern, Matcher, select};
 use collections::{Sequence, sorted_once};
 use rdf_model::{Names, Term};
 use std::alloc::Global;
@@ -19,11 +19,11 @@ fn selected_rows<N: Names, R: Matcher>(
     names: &N,
     set: &R,
     numbered: &[JoinPattern<u32>],
-) -> Result<Vec<TermRow>, SelectFault>
+) -> Result<Vec<TermRow>, JoinFault>
     requires numbering { IsNumbering (N.terms names.now) }
     requires numbered { AreNumbered (N.terms names.now) (R.triples set.now) }
     ensures rows { IfOk result (λ rows. (ps : List (PatternData TermData)) → ArePatternsAt (N.terms names.now) ps numbered.now → AreSelected (graph_of (N.terms names.now) (R.triples set.now)) ps rows.items) }
-    ensures fault { IfErr result (λ fault. (ps : List (PatternData TermData)) → ArePatternsAt (N.terms names.now) ps numbered.now → IsSelectFault fault (graph_of (N.terms names.now) (R.triples set.now)) ps) }
+    ensures fault { IfErr result (λ fault. (ps : List (PatternData TermData)) → ArePatternsAt (N.terms names.now) ps numbered.now → IsJoinFault fault (graph_of (N.terms names.now) (R.triples set.now)) ps) }
 {
     let rows = select(alloc, set, numbered)?;
     let named = read_rows(alloc, names, &rows)?;
@@ -38,11 +38,11 @@ pub fn select_terms<N: Names, R: Matcher>(
     names: &N,
     set: &R,
     patterns: &[JoinPattern<Term>],
-) -> Result<Vec<Sequence<Term>>, SelectFault>
+) -> Result<Vec<Sequence<Term>>, JoinFault>
     requires numbering { IsNumbering (N.terms names.now) }
     requires numbered { AreNumbered (N.terms names.now) (R.triples set.now) }
     ensures rows { IfOk result (λ rows. AreSelected (graph_of (N.terms names.now) (R.triples set.now)) patterns.now rows.items) }
-    ensures fault { IfErr result (λ fault. IsSelectFault fault (graph_of (N.terms names.now) (R.triples set.now)) patterns.now) }
+    ensures fault { IfErr result (λ fault. IsJoinFault fault (graph_of (N.terms names.now) (R.triples set.now)) patterns.now) }
 {
     match numbered_patterns(alloc, names, patterns)? {
         None => Ok(Vec::new(alloc)),

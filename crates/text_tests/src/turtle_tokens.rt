@@ -5,7 +5,7 @@ use std::alloc::Global;
 use std::process::Abort;
 use std::test::Fail;
 use turtle_lex::{
-    Place, Quotes, TokenKind, iri_text, local_name, next_token, plain_text, split_name,
+    Quotes, TextPlace, TokenKind, iri_text, local_name, next_token, plain_text, split_name,
     string_value, token_text,
 };
 
@@ -13,7 +13,7 @@ use turtle_lex::{
 fn listing(alloc: Global, text: &str) -> Result<String, Fail> {
     let characters: Vec<char> = text.chars().collect(alloc)?;
     let mut found = String::new(alloc);
-    let mut place = Place::start();
+    let mut place = TextPlace::start();
     let mut after_string = false;
     let mut left = characters.len();
     while left > 0 {

@@ -7,8 +7,8 @@ use crate::held::{self, STAGES, block_of, commands_of};
 use commit_core::{Again, BlockMode, Core, Limits};
 use disk::MemDisk;
 use guard_store::{
-    BeginFault, CheckFault, CommitFault, Committed, HeadFault, Keeper, OpenFault, Session,
-    StageFault, Store,
+    BeginFault, CheckFault, CommitFault, Committed, HeadFault, Keeper, OpenFault, ReportFault,
+    Session, StageFault, Store,
 };
 use rdf_model::{Pattern, Term, Text, Triple};
 use session_model::{Block, Command};
@@ -98,12 +98,12 @@ fn is_done(answer: &Result<Committed, CommitFault>, wanted: u64) -> bool {
     matches!(answer, Ok(Committed::Done { number, again: _ }) if *number == wanted)
 }
 
-// The same of one whose verdict held.
+// Whether the answer is that of an accepted commit with this number, whose verdict held.
 fn has_held(answer: &Result<Committed, CommitFault>, wanted: u64) -> bool {
     matches!(answer, Ok(Committed::Done { number, again: Again::No }) if *number == wanted)
 }
 
-// And of one that was evaluated in its turn under its own shapes.
+// Whether it is that of one which was evaluated in its turn under its own shapes.
 fn has_shapes(answer: &Result<Committed, CommitFault>, wanted: u64) -> bool {
     matches!(answer, Ok(Committed::Done { number, again: Again::OwnShapes }) if *number == wanted)
 }
@@ -257,10 +257,10 @@ fn overtaken<L: Ledger, R: Wait + Abort>(
 }
 
 // The shapes of a file that begins with them.
-fn staged_shapes(alloc: Global) -> Result<ShapesGraph, Fail>
+fn staged_shapes(alloc: Global, file: &str) -> Result<ShapesGraph, Fail>
     ensures { IfOk result IsReadableGraph }
 {
-    let files = commands_of(alloc, &[STAGES])?;
+    let files = commands_of(alloc, &[file])?;
     let Some(commands) = files.first() else {
         return Err(Fail::new("the file is read"));
     };
@@ -288,7 +288,7 @@ fn overtaken_rows<L: Ledger, R: Wait + Abort>(
     let touched = overtaken(
         rt,
         alloc,
-        staged_shapes(alloc)?,
+        staged_shapes(alloc, STAGES)?,
         b"<e:a> <e:p> <e:c> .\n",
         &mut steps,
     )?;
@@ -301,7 +301,7 @@ fn overtaken_rows<L: Ledger, R: Wait + Abort>(
     let left = overtaken(
         rt,
         alloc,
-        staged_shapes(alloc)?,
+        staged_shapes(alloc, STAGES)?,
         b"<e:d> <e:p> <e:c> .\n",
         &mut steps,
     )?;
@@ -312,6 +312,67 @@ fn overtaken_rows<L: Ledger, R: Wait + Abort>(
 #[test]
 fn verdicts_are_overtaken(rt: HostRuntime) -> Result<(), Fail> {
     overtaken_rows::<Brand, HostRuntime>(&rt, rt.alloc(), Blank::new(1))
+}
+
+const WARNINGS_STAND: Limits = Limits {
+    terms: 20,
+    triples: 100,
+    mode: BlockMode::Violation,
+};
+
+const WARNS: &str = "\
+begin
+shapes turtle
+@prefix sh: <http://www.w3.org/ns/shacl#> .
+<e:S> sh:targetNode <e:a> ; sh:property <e:P> .
+<e:P> sh:path <e:p> ; sh:minCount 1 ; sh:severity sh:Warning .
+%%
+commit
+";
+
+// How many results a session reports, and how many triples their shapes graph has.
+fn reported(session: &Session<MemDisk>) -> Result<(usize, usize), ReportFault> {
+    match session.report() {
+        Ok(report) => {
+            let (rows, shapes) = report.into_parts();
+            Ok((rows.len(), shapes.triples().len()))
+        }
+        Err(fault) => Err(fault),
+    }
+}
+
+// What a session reports before, within and after a transaction that stages shapes by which its graph has a warning.
+fn report_around_shapes<L: Ledger, R: Wait + Abort>(
+    rt: &R,
+    alloc: Global,
+    blank: Blank,
+) -> Result<(), Fail>
+    requires name { blank.name ≡ L.name }
+    requires parts { blank.parts ≡ L.parts }
+    requires some { 0 < L.parts }
+{
+    let mut steps = Steps::<L>::begin(blank);
+    let shapes = staged_shapes(alloc, WARNS)?;
+    let (store, keeper) = Store::<MemDisk>::new(alloc, WARNINGS_STAND)?;
+    let Ok((_keeper, session)) = store.open(rt, keeper) else {
+        return Err(Fail::new("a session is opened"));
+    };
+    assert_eq!(rt; reported(&session), Err(ReportFault::NoTransaction));
+    let session = commit_shapes(rt, &store, session, shapes, &mut steps)?;
+    assert_eq!(rt; reported(&session), Err(ReportFault::NoTransaction));
+    let (session, begun) = store.begin(rt, session);
+    assert_eq!(rt; begun, Ok(1));
+    let block = block_of(alloc, b"<e:a> <e:p> <e:b> .\n")?;
+    block.recall_readable();
+    let (session, added) = store.stage_add(rt, session, block.triples());
+    assert_eq!(rt; added, Ok(()));
+    assert_eq!(rt; reported(&session), Ok((1, 5)));
+    Ok(())
+}
+
+#[test]
+fn a_report_has_the_results_at_the_begin(rt: HostRuntime) -> Result<(), Fail> {
+    report_around_shapes::<Brand, HostRuntime>(&rt, rt.alloc(), Blank::new(1))
 }
 
 // Opens a session and meets it again.

@@ -1,4 +1,6 @@
 //! Tests of the store that callers share, and of session files that run beside each other.
+//!
+//! Storey: tests.
 #![tactic(auto)]
 
 #[cfg(test)]

@@ -18,8 +18,8 @@ use Rattle.rayon.proofs.vec.IntoIter.TheSendSync as visits_sent
 use Rattle.rayon.specs.contracts.iter.map.Map as mapped
 use Rattle.rayon.specs.contracts.iter.min_len.MinLen as least
 use Rattle.rayon.specs.contracts.vec.IntoIter as visits
-use Rattle.threaded_listing.proofs.visit.Visit.TheSendSync as visit_sent
-use Rattle.threaded_listing.specs.contracts.visit.Visit as visit
+use Rattle.threaded_listing.proofs.visit.PermittedVisit.TheSendSync as visit_sent
+use Rattle.threaded_listing.specs.contracts.visit.PermittedVisit as visit
 use Rattle.std.specs.Borrow.{u32 as word}
 use Rattle.std.specs.contracts.prelude.U32Ord.TheImpl as word_order
 use Rattle.std.specs.contracts.prelude.U32PartialEq.TheImpl as word_equality
@@ -33,11 +33,11 @@ use Rattle.regex_dfa.proofs.dfa.Dfa.TheSendSync as dfa_sent
 use Rattle.regex_literal.proofs.ladder.Ladder.TheSendSync as ladder_sent
 use Rattle.regex_literal.proofs.prefilter.Prefilter.TheSendSync as prefilter_sent
 use Rattle.collections.proofs.sequence.Sequence.TheSendSync as sequence_sent
-use Rattle.compiled_paths.proofs.path.Path.TheLaws.TheKnot as path_knot
-use Rattle.compiled_paths.specs.contracts.path.Path as path
+use Rattle.path_ast.proofs.path.Path.TheLaws.TheKnot as path_knot
+use Rattle.path_ast.specs.contracts.path.Path as path
 use Rattle.shape_ast.proofs.target.Target.TheSendSync as target_sent
 use Rattle.shape_ast.proofs.constraint.Constraint.TheSendSync as constraint_sent
-use Rattle.shape_ast.specs.contracts.pattern.Pattern as pattern
+use Rattle.shape_ast.specs.contracts.pattern.CompiledPattern as pattern
 use Rattle.shape_ast.specs.contracts.shape.Shape as shape
 use Rattle.shape_ast.specs.contracts.bound.Bound as bound
 use Rattle.rdf_model.specs.declared.names.Names as names

@@ -14,8 +14,8 @@ use Rattle.component_rows.proofs.Collecting.{from_none}
 use Rattle.shape_ast.specs.declared.shape.Shape.{Shape}
 use Rattle.shape_eval.specs.Results.{ListsResults}
 use Rattle.shape_eval.specs.ShapeRows.{FromSome}
-use Rattle.graph_validation.specs.Whole.{CollectsAtNodes}
-use Rattle.threaded_listing.specs.declared.visit.Visit.{Visit}
+use Rattle.parallel_validate.specs.Whole.{CollectsAtNodes}
+use Rattle.threaded_listing.specs.declared.visit.PermittedVisit.{PermittedVisit}
 
 -- where each item gave a result, the results are those of the items
 each_of : {A B E : Type 0} → (P : A → Result B E → Type 0) (Q : A → B → Type 0) → ((a : A) (r : Result B E) → P a r → IfOk r (Q a)) → (xs : List A) (ys : List B) → AllZip P xs (map Ok ys) → AllZip Q xs ys
@@ -52,11 +52,11 @@ first_more {X} Gives x xs first rows h k r = (
 
 -- the results at the nodes of all visits are those at each
 module _ (terms : List Term) (ids : List Ids) (shapes : List (Shape ℕ)) (k : ℕ) where
-  pub collects_at_visits : (visits : List Visit) (found : List (Vec ResultRow Global)) → AllZip (λ v rows. ListsResults terms ids shapes k v.node rows.items) visits found
-      → CollectsAtNodes terms ids shapes k (map (λ (v : Visit). v.node) visits) (flat_map (λ list. list.items) found)
+  pub collects_at_visits : (visits : List PermittedVisit) (found : List (Vec ResultRow Global)) → AllZip (λ v rows. ListsResults terms ids shapes k v.node rows.items) visits found
+      → CollectsAtNodes terms ids shapes k (map (λ (v : PermittedVisit). v.node) visits) (flat_map (λ list. list.items) found)
   collects_at_visits [] [] z s c stand at acyclic shallow = from_none (λ n. At (graph_of terms ids) s c.node (term_at terms n))
   collects_at_visits [] (r ∷ rs) z s c stand at acyclic shallow = absurd z
   collects_at_visits (v ∷ vs) [] z s c stand at acyclic shallow = absurd z
   collects_at_visits (v ∷ vs) (r ∷ rs) z s c stand at acyclic shallow =
-      first_more (λ n. At (graph_of terms ids) s c.node (term_at terms n)) v.node (map (λ (w : Visit). w.node) vs) r.items (flat_map (λ list. list.items) rs)
+      first_more (λ n. At (graph_of terms ids) s c.node (term_at terms n)) v.node (map (λ (w : PermittedVisit). w.node) vs) r.items (flat_map (λ list. list.items) rs)
       (λ row. (z.0 s c stand at acyclic shallow).members row) (collects_at_visits vs rs z.1 s c stand at acyclic shallow)

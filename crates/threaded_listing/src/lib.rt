@@ -1,7 +1,9 @@
 //! The listing of a whole graph, whose evaluations threads share out among each other.
 //!
 //! `listing_by_threads` ensures exactly the listing of a data graph by numbers under a shapes graph, as
-//! `term_validation::listing_over` does: which threads evaluated what makes no difference.
+//! `parallel_validate::listing_over` does: which threads evaluated what makes no difference.
+//!
+//! Storey: validation.
 #![tactic(auto)]
 
 mod listing;

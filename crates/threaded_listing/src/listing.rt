@@ -3,8 +3,8 @@ ghost use Rattle.std.specs.Prelude.{◌≤◌, IfOk, OnOk};
 ghost use Rattle.rdf_model.specs.Numbers.{AreNumbered, IsNumbering, graph_of};
 ghost use Rattle.shape_model.specs.Validation.{Listing};
 ghost use Rattle.path_eval.specs.Instances.{AreClassWords};
-ghost use Rattle.graph_validation.specs.Counting.{GrowsByCount, IsTargetPair};
-ghost use Rattle.term_validation.specs.Named.{AreNamedTriples};
+ghost use Rattle.parallel_validate.specs.Counting.{GrowsByCount, IsTargetPair};
+ghost use Rattle.parallel_validate.specs.Named.{AreNamedTriples};
 
 use crate::shapes::all_rows;
 use collections::sorted_once;

@@ -2,9 +2,9 @@
 ghost use Rattle.std.specs.Prelude.{◌≡◌, ◌+◌, ◌<◌, ◌≤◌, IfOk, OnOk, length, map};
 ghost use Rattle.std.specs.List.{All, AllZip, flat_map};
 ghost use Rattle.shape_eval.specs.Results.{ListsResults};
-ghost use Rattle.graph_validation.specs.Whole.{CollectsAtNodes};
+ghost use Rattle.parallel_validate.specs.Whole.{CollectsAtNodes};
 
-use crate::visit::Visit;
+use crate::visit::PermittedVisit;
 use rayon::prelude::*;
 use rdf_model::{Footprint, Names, Triples};
 use shape_eval::{Evaluation, Steps, eval, permit};
@@ -21,14 +21,14 @@ fn visits_of<L: Ledger>(
     alloc: Global,
     nodes: &[u32],
     steps: &mut Steps<L>,
-) -> Result<Vec<Visit>, AllocError>
+) -> Result<Vec<PermittedVisit>, AllocError>
     ensures nodes { IfOk result (λ visits. map (λ v. v.node) visits.items ≡ nodes.now) }
     ensures steps { OnOk result (steps.new ≡ steps.old + length nodes.now) }
     ensures counted { steps.old ≤ steps.new }
 {
     let mut visits = Vec::with_capacity(alloc, nodes.len())?;
     for node in nodes {
-        visits.push(Visit {
+        visits.push(PermittedVisit {
             node: *node,
             allowed: permit(steps),
         })?;
@@ -40,7 +40,7 @@ fn visits_of<L: Ledger>(
 fn rows_at_visit<R: Triples, N: Names>(
     evaluation: &Evaluation<'_, R, N>,
     shape: usize,
-    visit: Visit,
+    visit: PermittedVisit,
 ) -> Result<Vec<ResultRow>, AllocError>
     requires shape { shape < length evaluation.now.shapes }
     requires node { visit.node < length evaluation.now.terms }
@@ -55,7 +55,7 @@ fn rows_at_visits<R: Triples + Sync, N: Names + Sync, T: Threads + Sync>(
     rt: &T,
     evaluation: &Evaluation<'_, R, N>,
     shape: usize,
-    visits: Vec<Visit>,
+    visits: Vec<PermittedVisit>,
 ) -> Result<Vec<Vec<ResultRow>>, AllocError>
     requires shape { shape < length evaluation.now.shapes }
     requires nodes { All (λ v. v.node < length evaluation.now.terms) visits.items }
@@ -65,7 +65,7 @@ fn rows_at_visits<R: Triples + Sync, N: Names + Sync, T: Threads + Sync>(
         .into_par_iter()
         .with_min_len(LEAST_SHARE)
         .map(
-            |visit: Visit| -> Result<Vec<ResultRow>, AllocError>
+            |visit: PermittedVisit| -> Result<Vec<ResultRow>, AllocError>
                 requires { (shape < length evaluation.now.shapes) × (visit.node < length evaluation.now.terms) }
                 ensures { IfOk result (λ rows. ListsResults evaluation.entry.now.terms evaluation.entry.now.ids evaluation.entry.now.shapes shape visit.node rows.items) }
             { rows_at_visit(evaluation, shape, visit) },

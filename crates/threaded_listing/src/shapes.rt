@@ -2,8 +2,8 @@
 ghost use Rattle.std.specs.Prelude.{◌<◌, ◌≤◌, IfOk, OnOk, length};
 ghost use Rattle.std.specs.List.{All};
 ghost use Rattle.target_nodes.specs.ShapeTargets.{AreTargets, AtShape};
-ghost use Rattle.graph_validation.specs.Counting.{StepsOfFirst, StepsOfShape};
-ghost use Rattle.graph_validation.specs.Whole.{CollectsOfShape, CollectsResults};
+ghost use Rattle.parallel_validate.specs.Counting.{StepsOfFirst, StepsOfShape};
+ghost use Rattle.parallel_validate.specs.Whole.{CollectsOfShape, CollectsResults};
 
 use crate::nodes::rows_at;
 use rdf_model::{Names, Triples};

@@ -3,7 +3,7 @@ use shape_eval::Permit;
 
 /// A focus node with the permit for one evaluation there.
 #[derive(Drop)]
-pub struct Visit {
+pub struct PermittedVisit {
     pub node: u32,
     pub allowed: Permit,
 }

@@ -1,3 +1,4 @@
+//! Changes by the numbers of terms.
 use rdf_model::Ids;
 
 /// A change of one triple, by the numbers of its terms.

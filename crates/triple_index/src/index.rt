@@ -1,3 +1,4 @@
+//! A set of triples by numbers in three orders.
 ghost use Rattle.std.specs.Prelude.{◌≡◌, [], IfOk, OnOk, OnErr, length};
 ghost use Rattle.collections.specs.Ordered.{IsAscending, with_item, without_item};
 ghost use Rattle.triple_index.specs.Keys.{ids_cmp};

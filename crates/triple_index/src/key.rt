@@ -1,3 +1,4 @@
+//! The numbers of a triple in one of the orders.
 ghost use Rattle.std.specs.Prelude.{◌≡◌};
 ghost use Rattle.triple_index.specs.Keys.{by_object, by_predicate, by_subject, from_object, from_predicate, from_subject};
 

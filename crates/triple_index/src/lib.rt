@@ -3,6 +3,8 @@
 //! An `Index` is seen by contracts as the list of its triples, which ascends strictly by subject,
 //! predicate and object. It keeps them in three orders, so that whatever a look or a pattern asks for
 //! stands side by side in one of them; that the three hold the same triples is kept by its type.
+//!
+//! Storey: pages.
 #![tactic(auto)]
 
 mod at_once;

@@ -1,3 +1,4 @@
+//! The triples that match a pattern, by the order that serves it.
 ghost use Rattle.std.specs.Prelude.{◌≡◌, ◌↔◌, IfOk, filter, map, true};
 ghost use Rattle.std.specs.List.{Contains};
 ghost use Rattle.collections.specs.Ordered.{IsAscending};

@@ -1,3 +1,4 @@
+//! The first numbers of keys.
 ghost use Rattle.std.specs.Prelude.{◌≡◌};
 ghost use Rattle.triple_index.specs.Patterns.{begins_with, prefix_cmp};
 

@@ -12,7 +12,7 @@ use Rattle.turn_lock.specs.declared.view.Stage.{Stage}
 use Rattle.turn_lock.specs.declared.view.Stage.TheVariants.{Idle, Waiting, Served, Spent}
 use Rattle.turn_lock.specs.History.{OthersAdded}
 use Rattle.turn_lock.specs.Meaning.{Meaning, ComesFrom}
-use Rattle.turn_lock.specs.Steps.{served_view, EachAdded, Takes, Looks}
+use Rattle.turn_lock.specs.Steps.{served_view, EachAdded, Takes, SeesServed}
 use Rattle.turn_lock.specs.Rule.{tickets_at, seats_at, tickets_of, seats_of, Account, StageOk, SeatOk, Kept}
 use Rattle.turn_lock.proofs.Prefixes.{at_get, total_set}
 use Rattle.turn_lock.proofs.Added.{added_whole}
@@ -84,7 +84,7 @@ module _ {S E D : Type 0} (m : Meaning S E D) (opening : Option D) (seats : ℕ)
   abbrev Told : View E D → ℕ → Me (Option S) (View E D) → ℕ → Type 0
   Told v n me' t = MatchBool (n == t % 2 ^ 64) (Takes m v t me') (me' ≡ (v, []))
 
-  looks : seats < 2 ^ 32 → (slots id : ℕ) (v : View E D) (t : ℕ) → v.stage ≡ Waiting t → v.olds ≡ [] → Allows (Kept m opening seats) slots id (v, []) 0 (λ n. n) (Looks m (step slots 0 0 0 none) (v, []))
+  looks : seats < 2 ^ 32 → (slots id : ℕ) (v : View E D) (t : ℕ) → v.stage ≡ Waiting t → v.olds ≡ [] → Allows (Kept m opening seats) slots id (v, []) 0 (λ n. n) (SeesServed m (step slots 0 0 0 none) (v, []))
   looks few slots id v t is bare s r _ at _ = dite (ℕ_discrete (get_or s.words 0 0) (t % 2 ^ 64))
       (λ found. let q = taken few id v t is bare s r at found in
       let me' : Me (Option S) (View E D) = (served_view t (m.entries q.state) v, (0, Some q.state) ∷ []) in (
@@ -107,10 +107,10 @@ module _ {S E D : Type 0} (m : Meaning S E D) (opening : Option D) (seats : ℕ)
 
   -- a seat that waits may look
   pub looks_at : seats < 2 ^ 32 → (slots id : ℕ) (me : Me (Option S) (View E D)) (t : ℕ) → me.0.stage ≡ Waiting t → me.1 ≡ [] → me.0.olds ≡ []
-      → Allows (Kept m opening seats) slots id me 0 (λ n. n) (Looks m (step slots 0 0 0 none) me)
+      → Allows (Kept m opening seats) slots id me 0 (λ n. n) (SeesServed m (step slots 0 0 0 none) me)
   looks_at few slots id me t is bare none_met =
-      subst (λ (z : List (ℕ × Option S)). Allows (Kept m opening seats) slots id (me.0, z) 0 (λ n. n) (Looks m (step slots 0 0 0 none) (me.0, z))) (sym bare) (looks few slots id me.0 t is none_met)
+      subst (λ (z : List (ℕ × Option S)). Allows (Kept m opening seats) slots id (me.0, z) 0 (λ n. n) (SeesServed m (step slots 0 0 0 none) (me.0, z))) (sym bare) (looks few slots id me.0 t is none_met)
 
 -- what a look tells where the number is the ticket
-pub told_mine : {S E D : Type 0} (m : Meaning S E D) (me me' : Me (Option S) (View E D)) (n k t : ℕ) → me.0.stage ≡ Waiting t → t % 2 ^ 64 ≡ k → n ≡ k → Looks m (step 0 0 0 0 none) me n me' → Takes m me.0 t me'
+pub told_mine : {S E D : Type 0} (m : Meaning S E D) (me me' : Me (Option S) (View E D)) (n k t : ℕ) → me.0.stage ≡ Waiting t → t % 2 ^ 64 ≡ k → n ≡ k → SeesServed m (step 0 0 0 0 none) me n me' → Takes m me.0 t me'
 told_mine m me me' n k t is ticket same told = rw (eq-eqb n (t % 2 ^ 64) (same ∙ sym ticket)) at (told t is)

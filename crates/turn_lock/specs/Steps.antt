@@ -70,8 +70,8 @@ module _ {S E D : Type 0} where
       pub added : OthersAdded m.number m.is_zero_shared v.known (m.entries state)
       pub comes : ComesFrom m.comes v.opening (m.plain state)
 
-    abbrev pub Looks : Step (Option S) → Me (Option S) (View E D) → ℕ → Me (Option S) (View E D) → Type 0
-    Looks _ me found me' = (ticket : ℕ) → me.0.stage ≡ Waiting ticket → MatchBool (found == ticket % 2 ^ 64) (Takes me.0 ticket me') (me' ≡ me)
+    abbrev pub SeesServed : Step (Option S) → Me (Option S) (View E D) → ℕ → Me (Option S) (View E D) → Type 0
+    SeesServed _ me found me' = (ticket : ℕ) → me.0.stage ≡ Waiting ticket → MatchBool (found == ticket % 2 ^ 64) (Takes me.0 ticket me') (me' ≡ me)
 
     abbrev pub Ends : Step (Option S) → Me (Option S) (View E D) → ℕ → Me (Option S) (View E D) → Type 0
     Ends _ me found me' = (state : S) (e : E) → me.1 ≡ (0, Some state) ∷ [] → m.entries state ≡ me.0.known.front ++ e ∷ []

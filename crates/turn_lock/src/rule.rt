@@ -38,4 +38,4 @@ pub type Board<S> = Table<
     Global,
 >;
 
-pub type Place<S> = Seat<Option<S>, View<<S as Entries>::Entry, <S as Entries>::Plain>>;
+pub type TurnPlace<S> = Seat<Option<S>, View<<S as Entries>::Entry, <S as Entries>::Plain>>;

@@ -34,13 +34,13 @@ impl<S: Entries> Play<Option<S>, View<S::Entry, S::Plain>> for Note {
 }
 
 /// A look at the ticket that is served. Where it is the caller's own, the caller takes the state.
-pub struct Look;
+pub struct SeeServed;
 
-impl<S: Entries> Play<Option<S>, View<S::Entry, S::Plain>> for Look {
+impl<S: Entries> Play<Option<S>, View<S::Entry, S::Plain>> for SeeServed {
     ghost use Rattle.turn_lock.specs.Meaning.{meaning};
-    ghost use Rattle.turn_lock.specs.Steps.{Looks};
+    ghost use Rattle.turn_lock.specs.Steps.{SeesServed};
 
-    ghost then = { Looks (meaning S.entries S.number S.is_zero_shared S.plain S.comes) };
+    ghost then = { SeesServed (meaning S.entries S.number S.is_zero_shared S.plain S.comes) };
 }
 
 /// The turn ends, and the state is given back.

@@ -7,8 +7,8 @@ ghost use Rattle.turn_lock.specs.Steps.{HasTicket};
 ghost use Rattle.turn_lock.specs.declared.view.Stage.TheVariants.{Idle};
 
 use crate::entries::Entries;
-use crate::rule::{Board, Place, Terms};
-use crate::steps::{Compare, Draw, DrawThis, End, Giving, Look, Meet, Note, SplitOff};
+use crate::rule::{Board, Terms, TurnPlace};
+use crate::steps::{Compare, Draw, DrawThis, End, Giving, Meet, Note, SeeServed, SplitOff};
 use atomic_table::Table;
 use std::alloc::{AllocError, Global};
 use std::hint::spin_loop;
@@ -46,7 +46,7 @@ impl<S: Entries> Model for Turns<S> {
 /// A caller that has no turn. It can't be copied, and it isn't to be dropped where `close` is to follow.
 #[derive(Drop)]
 pub struct Pass<S: Entries> {
-    place: Place<S>,
+    place: TurnPlace<S>,
     spare: u32,
 }
 
@@ -64,7 +64,7 @@ impl<S: Entries> Model for Pass<S> {
 
 /// A caller whose turn it is.
 pub struct Held<S: Entries> {
-    place: Place<S>,
+    place: TurnPlace<S>,
     spare: u32,
 }
 
@@ -100,7 +100,8 @@ impl<S: Entries> Turns<S> {
         }
     }
 
-    /// The same, but where memory runs out the state is given back.
+    /// A lock for so many callers at a time, and the first caller's pass, which may split off all others. Where memory runs out the
+    /// state is given back.
     pub fn over(alloc: Global, state: S, seats: u32) -> Result<(Turns<S>, Pass<S>), S>
     where
         S: Drop,
@@ -175,7 +176,7 @@ impl<S: Entries> Turns<S> {
     }
 
     // Draws the ticket that is served, if nobody has it.
-    fn draw_served(&self, place: &mut Place<S>, serving: u64) -> bool
+    fn draw_served(&self, place: &mut TurnPlace<S>, serving: u64) -> bool
         requires lock { place.old.table_id ≡ self.now.id }
         requires idle { (place.old.me.0.stage ≡ Idle) × (place.old.me.1 ≡ []) }
         ensures table { place.new.table_id ≡ place.old.table_id }
@@ -189,7 +190,7 @@ impl<S: Entries> Turns<S> {
 
     // Sleeps while this ticket is served, until the end of a turn wakes the caller. Word 2 says so before. It says so again
     // behind, for others that may be asleep, since the turn that woke the caller has set it back.
-    fn sleep<R: Wait>(&self, rt: &R, place: &mut Place<S>, serving: u64)
+    fn sleep<R: Wait>(&self, rt: &R, place: &mut TurnPlace<S>, serving: u64)
         requires { place.old.table_id ≡ self.now.id }
         ensures { (place.new.table_id ≡ place.old.table_id) × (place.new.me ≡ place.old.me) }
     {
@@ -202,7 +203,7 @@ impl<S: Entries> Turns<S> {
 
     // Draws a ticket: where nobody has a turn the one that is served, so that a caller that is awake needn't wait for one that
     // sleeps. A caller that looked very often in vain draws the next one, and then no other comes before it.
-    fn draw<R: Wait>(&self, rt: &R, place: &mut Place<S>) -> u64
+    fn draw<R: Wait>(&self, rt: &R, place: &mut TurnPlace<S>) -> u64
         requires lock { place.old.table_id ≡ self.now.id }
         requires idle { (place.old.me.0.stage ≡ Idle) × (place.old.me.1 ≡ []) }
         ensures table { place.new.table_id ≡ place.old.table_id }
@@ -236,7 +237,7 @@ impl<S: Entries> Turns<S> {
         let ticket = self.draw(rt, &mut place);
         let shared = &self.board.shared;
         for _ in rt.forever() {
-            let serving = shared.load::<Look>(&mut place, 0);
+            let serving = shared.load::<SeeServed>(&mut place, 0);
             if serving == ticket {
                 let state = shared.exchange(&mut place, 0, None).unwrap();
                 return (Held { place, spare }, state);

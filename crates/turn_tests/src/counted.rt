@@ -1,3 +1,4 @@
+//! Workers that count beside each other.
 ghost use Rattle.std.specs.Prelude.{◌^◌, ◌<◌};
 
 use std::alloc::Global;

@@ -1,3 +1,4 @@
+//! Seats that are given and taken back.
 use std::test::*;
 use turn_lock::{Entries, NoSeat, Turns};
 

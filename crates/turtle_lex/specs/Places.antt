@@ -1,6 +1,6 @@
 -- Places in a text, and their lines.
 use Rattle.std.specs.Prelude.{◌≡◌, ℕ, ◌+◌, ◌≤◌, ◌<◌, List, length, take, count_by, ◌==◌}
-use Rattle.turtle_lex.specs.declared.token.Place.{Place}
+use Rattle.turtle_lex.specs.declared.token.TextPlace.{TextPlace}
 use Rattle.turtle_lex.specs.declared.token.Token.{Token}
 
 -- how many LF a text has
@@ -8,11 +8,11 @@ abbrev pub line_feeds : List ℕ → ℕ
 line_feeds cs = count_by (λ c. c == 10) cs
 
 -- The place before which so many characters stand: lines are one more than the number of LF before.
-abbrev pub place_at : List ℕ → ℕ → Place
+abbrev pub place_at : List ℕ → ℕ → TextPlace
 place_at text at = record { at = at; line = 1 + line_feeds (take at text) }
 
 -- a place of this text
-abbrev pub IsPlace : List ℕ → Place → Type 0
+abbrev pub IsPlace : List ℕ → TextPlace → Type 0
 IsPlace text place = (place.at ≤ length text) × (place ≡ place_at text place.at)
 
 -- a token of this text has one character or more, between two places of it

@@ -1,3 +1,4 @@
+//! White space and comments.
 ghost use Rattle.std.specs.Prelude.{◌≡◌, ◌≤◌, false, length};
 ghost use Rattle.turtle_lex.specs.Blanks;
 

@@ -1,3 +1,4 @@
+//! IRIs and strings, by the characters after what opens them.
 ghost use Rattle.std.specs.Prelude.{◌≡◌, ◌<◌, ◌≤◌, suc, IfOk, length};
 ghost use Rattle.turtle_lex.specs.Enclosed as spec;
 

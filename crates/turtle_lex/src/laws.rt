@@ -1,3 +1,4 @@
+//! Laws of tokens.
 ghost use Rattle.turtle_lex.specs.Laws.{FindsLongest, MissesNone, StandsAlone, EndsEarly};
 
 /// What is found at a place is the longest token that stands there, by the productions.

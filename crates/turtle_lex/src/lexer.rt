@@ -1,3 +1,4 @@
+//! The next token at a place.
 ghost use Rattle.std.specs.Prelude.{◌≡◌, ◌↔◌, ◌+◌, ◌<◌, ◌≤◌, ◌^◌, [], Ok, None, IfOk, IfSome, OnErr, length};
 ghost use Rattle.std.specs.Result.{ForOk};
 ghost use Rattle.turtle_lex.specs.Tokens;
@@ -10,7 +11,7 @@ use crate::enclosed::{iri_ref, string_literal};
 use crate::names::{local_length, prefix_length};
 use crate::numbers::number;
 use crate::places::place_after;
-use crate::token::{LexFault, Place, Token, TokenKind};
+use crate::token::{LexFault, TextPlace, Token, TokenKind};
 use crate::words::{at_word, word};
 use rdf_lexical::{Class, RefusalKind, after, begins_with, name_length};
 
@@ -168,7 +169,7 @@ fn token_at(after_string: bool, characters: &[char]) -> Result<(TokenKind, usize
 // The token or the fault by what was found at its start.
 fn placed(
     characters: &[char],
-    start: Place,
+    start: TextPlace,
     found: Result<(TokenKind, usize), RefusalKind>,
 ) -> Result<Token, LexFault>
     requires start { IsPlace characters.now start }
@@ -199,7 +200,7 @@ fn placed(
 // The next token, behind white space and comments.
 fn find_token(
     characters: &[char],
-    place: Place,
+    place: TextPlace,
     after_string: bool,
 ) -> Result<Option<Token>, LexFault>
     requires { IsPlace characters.now place }
@@ -224,7 +225,7 @@ fn find_token(
 /// fault has the line of the token's start, or of the text's end where that came within a token.
 pub fn next_token(
     characters: &[char],
-    place: Place,
+    place: TextPlace,
     after_string: bool,
 ) -> Result<Option<Token>, LexFault>
     requires { IsPlace characters.now place }

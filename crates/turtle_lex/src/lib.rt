@@ -5,6 +5,8 @@
 //! `specs/Tokens.antt` says by a token's first characters. It takes no memory: `token_text` has the
 //! characters of a token, and `iri_text`, `string_value`, `split_name` and `local_name` what those
 //! stand for. Characters are counted, not bytes.
+//!
+//! Storey: texts.
 #![tactic(auto)]
 
 mod blanks;
@@ -21,4 +23,4 @@ mod words;
 pub use lexer::next_token;
 pub use meanings::{local_name, split_name, token_text};
 pub use rdf_lexical::{Quotes, RefusalKind, iri_text, plain_text, string_value};
-pub use token::{LexFault, Place, Token, TokenKind};
+pub use token::{LexFault, TextPlace, Token, TokenKind};

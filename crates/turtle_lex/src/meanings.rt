@@ -1,3 +1,4 @@
+//! What the characters of tokens stand for.
 ghost use Rattle.std.specs.Prelude.{◌≡◌, ◌≤◌, IfOk, length};
 ghost use Rattle.turtle_lex.specs.Meanings;
 

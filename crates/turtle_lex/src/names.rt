@@ -1,3 +1,4 @@
+//! How far prefixes and local names reach.
 ghost use Rattle.std.specs.Prelude.{◌≡◌, ◌≤◌, length};
 ghost use Rattle.turtle_lex.specs.Names;
 

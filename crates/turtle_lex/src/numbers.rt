@@ -1,3 +1,4 @@
+//! How far a number reaches.
 ghost use Rattle.std.specs.Prelude.{◌≡◌, ◌+◌, ◌^◌, ◌<◌, ◌≤◌, IfSome, length};
 ghost use Rattle.turtle_lex.specs.Numbers;
 

@@ -1,7 +1,8 @@
+//! Places in a text, with their lines.
 ghost use Rattle.std.specs.Prelude.{◌≡◌, ◌+◌, ◌<◌, ◌≤◌, ◌^◌, [], length};
 ghost use Rattle.turtle_lex.specs.Places.{IsPlace, line_feeds, place_at};
 
-use crate::token::Place;
+use crate::token::TextPlace;
 
 fn line_feeds(characters: &[char]) -> u64
     requires { length characters.now < 2 ^ 63 }
@@ -17,24 +18,24 @@ fn line_feeds(characters: &[char]) -> u64
     count
 }
 
-impl Place {
+impl TextPlace {
     /// The beginning of any text.
-    pub fn start() -> Place
+    pub fn start() -> TextPlace
         ensures { result ≡ place_at [] 0 }
     {
-        Place { at: 0, line: 1 }
+        TextPlace { at: 0, line: 1 }
     }
 }
 
 // The place so many characters further on.
-pub fn place_after(characters: &[char], place: Place, count: usize) -> Place
+pub fn place_after(characters: &[char], place: TextPlace, count: usize) -> TextPlace
     requires place { IsPlace characters.now place }
     requires count { place.at + count ≤ length characters.now }
     ensures { result ≡ place_at characters.now (place.at + count) }
 {
     let (_, rest) = characters.split_at(place.at);
     let (passed, _) = rest.split_at(count);
-    Place {
+    TextPlace {
         at: place.at + count,
         line: place.line + line_feeds(passed),
     }

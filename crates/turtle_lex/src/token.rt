@@ -1,3 +1,4 @@
+//! Tokens, their kinds and their places.
 use rdf_lexical::{Quotes, RefusalKind};
 
 /// The kinds of tokens: the productions for terminals (Turtle section 6.5), the punctuation and
@@ -41,7 +42,7 @@ pub enum TokenKind {
 
 /// A place in a text: how many characters stand before it, and its line, counted from 1 by LF.
 #[derive(Clone, Copy, Debug, PartialEq, Eq)]
-pub struct Place {
+pub struct TextPlace {
     pub at: usize,
     pub line: u64,
 }
@@ -50,8 +51,8 @@ pub struct Place {
 #[derive(Clone, Copy, Debug, PartialEq, Eq)]
 pub struct Token {
     pub kind: TokenKind,
-    pub start: Place,
-    pub end: Place,
+    pub start: TextPlace,
+    pub end: TextPlace,
 }
 
 /// Why no token is read: NoToken, BadEscape or UnexpectedEnd, and the line of the token's start, or

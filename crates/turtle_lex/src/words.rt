@@ -1,3 +1,4 @@
+//! Words, with `@` before them or not.
 ghost use Rattle.std.specs.Prelude.{◌≡◌, ◌<◌, ◌≤◌, suc, IfOk, length};
 ghost use Rattle.turtle_lex.specs.Words;
 

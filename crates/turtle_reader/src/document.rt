@@ -1,3 +1,4 @@
+//! Texts of Turtle 1.1, read.
 ghost use Rattle.std.specs.Prelude.{◌≡◌, ◌+◌, ◌<◌, ◌≤◌, ◌^◌, [], length, Ok, IfOk, OnOk, OnErr, MatchResult};
 ghost use Rattle.std.specs.Str.{chars};
 ghost use Rattle.rdf_lexical.specs.Refusals.{Refuses};
@@ -8,12 +9,12 @@ ghost use Rattle.turtle_reader.specs.Progress.{IsReady, need};
 
 use crate::grammar::read_statements;
 use crate::state::State;
-use crate::table::Table;
+use crate::table::NameTable;
 use collections::{Sequence, sorted_once};
 use rdf_lexical::{ReadFault, RefusalKind};
 use rdf_model::Triple;
 use std::alloc::Global;
-use turtle_lex::{Place, next_token};
+use turtle_lex::{TextPlace, next_token};
 
 // How many brackets may be open within one that is: 256 may be open at once.
 const LEVELS: usize = 255;
@@ -26,10 +27,10 @@ fn opening(alloc: Global, text: &[char], session: u32, first: u32) -> State
     ensures need { need text.now result ≤ first + length text.now }
 {
     State {
-        ahead: next_token(text, Place::start(), false),
-        prefixes: Table::new(alloc),
+        ahead: next_token(text, TextPlace::start(), false),
+        prefixes: NameTable::new(alloc),
         base: None,
-        labels: Table::new(alloc),
+        labels: NameTable::new(alloc),
         session,
         next: first,
         triples: Sequence::new(alloc),

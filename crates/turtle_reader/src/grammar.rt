@@ -1,3 +1,4 @@
+//! The statements of a text.
 ghost use Rattle.std.specs.Prelude.{◌≡◌, suc, ◌+◌, ◌<◌, ◌≤◌, ◌^◌, [], length, Ok, Some, None, IfOk, OnOk};
 ghost use Rattle.turtle_reader.specs.Grammar;
 ghost use Rattle.turtle_reader.specs.Parsers.{left};

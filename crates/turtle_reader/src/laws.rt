@@ -1,3 +1,4 @@
+//! Laws of repeated productions, and of reading back.
 ghost use Rattle.turtle_reader.specs.Laws.{RepeatsStatements, RepeatsObjects, RepeatsVerbs, RepeatsMembers, GivesReadable, ReadsBack};
 
 /// turtleDoc has statements as long as anything is left of the text.

@@ -3,6 +3,8 @@
 //! `read` ensures exactly the triples of a text, or exactly the refusal that counts, as
 //! `specs/Document.antt` says by the productions of the grammar. It goes by tokens and a stack of
 //! open brackets, without recursion.
+//!
+//! Storey: texts.
 #![tactic(auto)]
 
 mod document;

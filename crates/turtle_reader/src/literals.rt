@@ -1,3 +1,4 @@
+//! Literals, by their tokens.
 ghost use Rattle.std.specs.Prelude.{◌≡◌, ◌+◌, ◌<◌, ◌≤◌, ◌^◌, length, IfOk, OnOk, codes};
 ghost use Rattle.turtle_reader.specs.declared.state.State.{State as StateData};
 ghost use Rattle.turtle_reader.specs.Progress.{Gives, IsReady, Moved};
@@ -12,10 +13,7 @@ use rdf_model::Term;
 use rdf_text::Text;
 use std::alloc::{AllocError, Global};
 use turtle_lex::{Quotes, Token, plain_text, string_value, token_text};
-
-const XSD_STRING: &str = "http://www.w3.org/2001/XMLSchema#string";
-
-const RDF_LANG_STRING: &str = "http://www.w3.org/1999/02/22-rdf-syntax-ns#langString";
+use vocabulary::{RDF_LANG_STRING, XSD_STRING};
 
 // A literal is complete; its first token stands in this line.
 #[tactic(auto, unfolding(crate::specs::Terms::kept))]

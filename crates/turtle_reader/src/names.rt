@@ -1,3 +1,4 @@
+//! IRIs, by their tokens and the prefixes.
 ghost use Rattle.std.specs.Prelude.{◌≡◌, ◌+◌, ◌<◌, ◌≤◌, ◌^◌, true, ◌++◌, length, Ok, Some, None, IfOk, IfSome, OnOk};
 ghost use Rattle.iri_ref.specs.Resolution;
 ghost use Rattle.iri_ref.specs.Scheme;

@@ -1,3 +1,4 @@
+//! Objects, collections and property lists, by a stack of brackets.
 ghost use Rattle.std.specs.Prelude.{◌≡◌, ℕ, suc, ◌+◌, ◌<◌, ◌≤◌, ◌^◌, [], ◌∷◌, length, Ok, Some, None, IfOk, OnOk};
 ghost use Rattle.rdf_model.specs.declared.term.Term.{Term as TermData};
 ghost use Rattle.turtle_reader.specs.declared.frame.Frame.TheVariants as frames;
@@ -243,7 +244,7 @@ fn open_round(
     Ok(None)
 }
 
-// The same where the bracket may be one too many.
+// Opens `[` as an object, where the bracket may be one too many.
 fn try_square(
     alloc: Global,
     text: &[char],
@@ -265,7 +266,7 @@ fn try_square(
     open_square(alloc, text, state, brackets)
 }
 
-// The same where the bracket may be one too many.
+// Opens `(` as an object, where the bracket may be one too many.
 fn try_round(
     alloc: Global,
     text: &[char],

@@ -1,6 +1,7 @@
+//! How far the reading of a text has come.
 ghost use Rattle.std.specs.Prelude.{◌≡◌};
 
-use crate::table::Table;
+use crate::table::NameTable;
 use collections::Sequence;
 use rdf_model::Triple;
 use rdf_text::Text;
@@ -12,9 +13,9 @@ use turtle_lex::{LexFault, Token};
 #[derive(Debug, Drop)]
 pub struct State {
     pub ahead: Result<Option<Token>, LexFault>,
-    pub prefixes: Table<Text>,
+    pub prefixes: NameTable<Text>,
     pub base: Option<Text>,
-    pub labels: Table<u32>,
+    pub labels: NameTable<u32>,
     pub session: u32,
     pub next: u32,
     pub triples: Sequence<Triple>,

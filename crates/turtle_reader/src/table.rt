@@ -1,3 +1,4 @@
+//! What the names of a text stand for.
 ghost use Rattle.std.specs.Prelude.{◌≡◌, [], nat_eq, bytes_eq, option_copied, OnOk};
 ghost use Rattle.std.specs.Cmp.{partial_equiv_from_equiv};
 ghost use Rattle.std.specs.Cmp.Lexicographic.{nat_list_eq_equiv};
@@ -54,11 +55,11 @@ impl Hash for Name {
 
 /// What names stand for, in the order in which they were first met.
 #[derive(Debug, Drop)]
-pub struct Table<V> {
+pub struct NameTable<V> {
     entries: IndexMap<Name, V>,
 }
 
-impl<V> Model for Table<V> {
+impl<V> Model for NameTable<V> {
     ghost use Rattle.std.specs.Prelude.{List, ℕ};
 
     ghost Value = { List (List ℕ × V) };
@@ -66,11 +67,11 @@ impl<V> Model for Table<V> {
     ghost view = { λ t. t.entries.entries };
 }
 
-impl<V: Drop> Table<V> {
-    pub fn new(alloc: Global) -> Table<V>
+impl<V: Drop> NameTable<V> {
+    pub fn new(alloc: Global) -> NameTable<V>
         ensures { result ≡ [] }
     {
-        Table {
+        NameTable {
             entries: IndexMap::new(alloc),
         }
     }

@@ -1,3 +1,4 @@
+//! Terms, by their first token.
 ghost use Rattle.std.specs.Prelude.{◌≡◌, ℕ, ◌+◌, ◌<◌, ◌≤◌, ◌^◌, true, List, length, Ok, Some, IfOk, OnOk};
 ghost use Rattle.iri_ref.specs.Scheme;
 ghost use Rattle.turtle_reader.specs.Grammar;
@@ -13,14 +14,9 @@ use rdf_model::{Term, Triple};
 use rdf_text::Text;
 use std::alloc::{AllocError, Global};
 use turtle_lex::{Token, TokenKind};
-
-const XSD_INTEGER: &str = "http://www.w3.org/2001/XMLSchema#integer";
-
-const XSD_DECIMAL: &str = "http://www.w3.org/2001/XMLSchema#decimal";
-
-const XSD_DOUBLE: &str = "http://www.w3.org/2001/XMLSchema#double";
-
-const XSD_BOOLEAN: &str = "http://www.w3.org/2001/XMLSchema#boolean";
+use vocabulary::{
+    RDF_FIRST, RDF_NIL, RDF_REST, RDF_TYPE, XSD_BOOLEAN, XSD_DECIMAL, XSD_DOUBLE, XSD_INTEGER,
+};
 
 /// A new blank node.
 #[tactic(auto, unfolding(crate::specs::Terms::fresh))]
@@ -96,7 +92,7 @@ pub fn read_term(
 fn rdf_type(alloc: Global) -> Result<Term, AllocError>
     ensures { IfOk result (λ term. term ≡ Grammar.rdf_type) }
 {
-    let iri = Text::new(alloc, "http://www.w3.org/1999/02/22-rdf-syntax-ns#type")?;
+    let iri = Text::new(alloc, RDF_TYPE)?;
     Ok(Term::Iri(iri))
 }
 
@@ -134,7 +130,7 @@ pub fn read_verb(alloc: Global, text: &[char], state: &mut State) -> Result<Term
 pub fn rdf_first(alloc: Global) -> Result<Term, AllocError>
     ensures { IfOk result (λ term. term ≡ Grammar.rdf_first) }
 {
-    let iri = Text::new(alloc, "http://www.w3.org/1999/02/22-rdf-syntax-ns#first")?;
+    let iri = Text::new(alloc, RDF_FIRST)?;
     Ok(Term::Iri(iri))
 }
 
@@ -143,7 +139,7 @@ pub fn rdf_first(alloc: Global) -> Result<Term, AllocError>
 pub fn rdf_rest(alloc: Global) -> Result<Term, AllocError>
     ensures { IfOk result (λ term. term ≡ Grammar.rdf_rest) }
 {
-    let iri = Text::new(alloc, "http://www.w3.org/1999/02/22-rdf-syntax-ns#rest")?;
+    let iri = Text::new(alloc, RDF_REST)?;
     Ok(Term::Iri(iri))
 }
 
@@ -152,7 +148,7 @@ pub fn rdf_rest(alloc: Global) -> Result<Term, AllocError>
 pub fn rdf_nil(alloc: Global) -> Result<Term, AllocError>
     ensures { IfOk result (λ term. term ≡ Grammar.rdf_nil) }
 {
-    let iri = Text::new(alloc, "http://www.w3.org/1999/02/22-rdf-syntax-ns#nil")?;
+    let iri = Text::new(alloc, RDF_NIL)?;
     Ok(Term::Iri(iri))
 }
 

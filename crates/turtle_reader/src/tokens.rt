@@ -1,3 +1,4 @@
+//! The token that comes next.
 ghost use Rattle.std.specs.Prelude.{◌≡◌, ◌+◌, ◌<◌, ◌≤◌, ◌^◌, length, Ok, Some, IfOk, OnOk};
 ghost use Rattle.turtle_lex.specs.Places.{line_feeds};
 ghost use Rattle.turtle_reader.specs.Progress.{Gives, IsReady, IsTokenOf, Moved, need, weight};

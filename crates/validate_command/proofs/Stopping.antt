@@ -13,7 +13,7 @@ use Rattle.file_validation.specs.Validations.{IsCause}
 use Rattle.validate_command.specs.declared.fault.ValidateFault.{ValidateFault}
 use Rattle.validate_command.specs.declared.validated_files.ValidatedFiles.{ValidatedFiles}
 use Rattle.validate_command.specs.Validated.{HoldTexts, LoadsBoth}
-use Rattle.validate_command.specs.Faults.{IsFileFault, IsTold, StopsValidation, of_file, of_texts}
+use Rattle.validate_command.specs.Faults.{IsFileFault, StopsValidation, of_file, of_texts}
 
 -- one name after another was loaded
 two : (a b : List ℕ) (old mid new : List (List ℕ)) → mid ≡ old ++ a ∷ [] → new ≡ mid ++ b ∷ [] → new ≡ old ++ a ∷ b ∷ []
@@ -41,12 +41,9 @@ of_cause (texts.Rule row) held v d s before after h loads c = ((d, s, h, (texts.
 of_cause (texts.Pattern node) held v d s before after h loads c = ((d, s, h, (texts.Pattern node, refl, c)), loads)
 of_cause texts.Memory held v d s before after h loads c = ((2, loads.0), loads.1, c)
 
-pub texts_stop : (cause : InputFault) (told : ValidateFault) (held : Option Contents) (v : ValidatedFiles) (data_text shapes_text : List ℕ) (before after : Loads) → IsTold cause told → HoldTexts held v data_text shapes_text → LoadsBoth v before after → IsCause data_text shapes_text before.refused after.refused cause
+pub texts_stop : (cause : InputFault) (told : ValidateFault) (held : Option Contents) (v : ValidatedFiles) (data_text shapes_text : List ℕ) (before after : Loads) → told ≡ of_texts cause → HoldTexts held v data_text shapes_text → LoadsBoth v before after → IsCause data_text shapes_text before.refused after.refused cause
     → StopsValidation told held v before after
-texts_stop cause told held v d s before after (inl e) h loads c = subst (λ (x : ValidateFault). StopsValidation x held v before after) (sym e) (of_cause cause held v d s before after h loads c)
-texts_stop cause told held v d s before after (inr lost) h loads c =
-    let k = subst (λ (x : InputFault). IsCause d s before.refused after.refused x) lost.1 c in
-    subst (λ (x : ValidateFault). StopsValidation x held v before after) (sym lost.2) ((2, loads.0), loads.1, k.4)
+texts_stop cause told held v d s before after e h loads c = subst (λ (x : ValidateFault). StopsValidation x held v before after) (sym e) (of_cause cause held v d s before after h loads c)
 
 -- the fault is one of a file
 pub of_a_file : (f : FileFault) (k : ℕ) (told : ValidateFault) → told ≡ of_file f k → IsFileFault told

@@ -13,7 +13,7 @@ use Rattle.validate_command.specs.declared.fault.ValidateFault.{ValidateFault}
 use Rattle.validate_command.specs.declared.fault.ValidateFault.TheVariants as fault
 use Rattle.validate_command.specs.declared.validated_files.VerifiedFiles.{VerifiedFiles}
 use Rattle.validate_command.specs.Validated.{HoldTexts, LoadsBoth, both_files}
-use Rattle.validate_command.specs.Faults.{IsFileFault, IsFirst, IsTold, StopsValidation, of_file, of_texts}
+use Rattle.validate_command.specs.Faults.{IsFileFault, IsFirst, StopsValidation, of_file, of_texts}
 use Rattle.validate_command.specs.Verified.{HoldAll, LoadsAll, StopsVerification, three_files}
 
 module _ (held : Option Contents) (v : VerifiedFiles) (before after : Loads) where
@@ -42,11 +42,8 @@ module _ (held : Option Contents) (v : VerifiedFiles) (before after : Loads) whe
   of_cause (texts.Pattern node) d s h loads c = ((d, s, h, (texts.Pattern node, refl, c)), loads)
   of_cause texts.Memory d s h loads c = ((3, loads.0), loads.1, c)
 
-  pub texts_stop : (cause : InputFault) (told : ValidateFault) (data_text shapes_text : List ℕ) → IsTold cause told → HoldTexts held v.graphs data_text shapes_text → LoadsAll v before after → IsCause data_text shapes_text before.refused after.refused cause → StopsVerification told held v before after
-  texts_stop cause told d s (inl e) h loads c = subst (λ (x : ValidateFault). StopsVerification x held v before after) (sym e) (of_cause cause d s h loads c)
-  texts_stop cause told d s (inr lost) h loads c =
-      let k = subst (λ (x : InputFault). IsCause d s before.refused after.refused x) lost.1 c in
-      subst (λ (x : ValidateFault). StopsVerification x held v before after) (sym lost.2) ((3, loads.0), loads.1, k.4)
+  pub texts_stop : (cause : InputFault) (told : ValidateFault) (data_text shapes_text : List ℕ) → told ≡ of_texts cause → HoldTexts held v.graphs data_text shapes_text → LoadsAll v before after → IsCause data_text shapes_text before.refused after.refused cause → StopsVerification told held v before after
+  texts_stop cause told d s e h loads c = subst (λ (x : ValidateFault). StopsVerification x held v before after) (sym e) (of_cause cause d s h loads c)
 
 -- the third file, behind the other two
 module _ (held now : Option Contents) (v : VerifiedFiles) (data_text shapes_text name : List ℕ) (before mid after : Loads) (still : now ≡ held) (named : name ≡ v.evidence_file) (texts_held : HoldTexts held v.graphs data_text shapes_text) (loads : LoadsBoth v.graphs before mid) where

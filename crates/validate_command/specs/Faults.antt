@@ -5,7 +5,6 @@ use Rattle.input_files.specs.declared.file.FileFault.{FileFault}
 use Rattle.input_files.specs.declared.file.FileFault.TheVariants as file
 use Rattle.input_files.specs.Lengths.{HoldsText, IsTooLong}
 use Rattle.input_files.specs.Loads.{Loads, LoadsFirst, LoadsSome, NoneFailed, NoneRefused, OnlyFailed}
-use Rattle.shape_rules.specs.declared.rule_row.RuleRow.{RuleRow}
 use Rattle.file_validation.specs.declared.fault.InputFault.{InputFault}
 use Rattle.file_validation.specs.declared.fault.InputFault.TheVariants as texts
 use Rattle.file_validation.specs.Validations.{IsCause}
@@ -15,17 +14,13 @@ use Rattle.validate_command.specs.declared.fault.ValidateFault.TheVariants as fa
 use Rattle.validate_command.specs.declared.validated_files.ValidatedFiles.{ValidatedFiles}
 use Rattle.validate_command.specs.Validated.{HoldTexts, LoadsBoth, both_files}
 
--- a fault of two texts, as it is told of their files: of a broken rule its number and the node
+-- a fault of two texts, as it is told of their files
 abbrev pub of_texts : InputFault → ValidateFault
 of_texts (texts.Data line kind) = fault.BadInput (Data line kind)
 of_texts (texts.Shapes line kind) = fault.BadInput (Shapes line kind)
-of_texts (texts.Rule row) = fault.BadInput (Rule row.rule row.node)
+of_texts (texts.Rule row) = fault.BadInput (Rule row)
 of_texts (texts.Pattern node) = fault.BadInput (Pattern node)
 of_texts texts.Memory = fault.Memory
-
--- so the fault is told, or memory ran out where the node of a broken rule was copied
-abbrev pub IsTold : InputFault → ValidateFault → Type 0
-IsTold cause told = (told ≡ of_texts cause) ⊎ ((row : RuleRow) × (cause ≡ texts.Rule row) × (told ≡ fault.Memory))
 
 -- why file f gave no text
 abbrev pub of_file : FileFault → ℕ → ValidateFault

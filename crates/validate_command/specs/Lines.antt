@@ -10,5 +10,5 @@ use Rattle.validate_command.specs.declared.bad_input.BadInput.TheVariants.{Data,
 abbrev pub bad_input_text : BadInput → List ℕ
 bad_input_text (Data line kind) = codes "data line " ++ decimal line ++ codes " kind " ++ decimal (number_of kind)
 bad_input_text (Shapes line kind) = codes "shapes line " ++ decimal line ++ codes " kind " ++ decimal (number_of kind)
-bad_input_text (Rule rule node) = codes "shapes rule " ++ decimal rule ++ codes " " ++ term_text node
+bad_input_text (Rule row) = codes "shapes rule " ++ decimal row.rule ++ codes " " ++ term_text row.node
 bad_input_text (Pattern node) = codes "shapes pattern " ++ term_text node

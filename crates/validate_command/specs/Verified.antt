@@ -3,7 +3,7 @@ use Rattle.std.specs.Prelude.{◌≡◌, ◌⊎◌, ℕ, List, [], ◌∷◌, Op
 use Rattle.outside.specs.Files.{Contents}
 use Rattle.input_files.specs.Lengths.{HoldsText, IsTooLong}
 use Rattle.input_files.specs.Loads.{Loads, LoadsFirst, LoadsSome, NoneFailed, NoneRefused, OnlyFailed}
-use Rattle.file_validation.specs.declared.validating.Verdict.{Verdict}
+use Rattle.file_validation.specs.declared.validating.EvidenceVerdict.{EvidenceVerdict}
 use Rattle.file_validation.specs.Validations.{IsVerdictOn}
 use Rattle.validate_command.specs.declared.fault.ValidateFault.{ValidateFault}
 use Rattle.validate_command.specs.declared.fault.ValidateFault.TheVariants as fault
@@ -25,7 +25,7 @@ HoldAll held v data_text shapes_text evidence_text = HoldTexts held v.graphs dat
 
 -- It is the verdict on the third file's text as evidence of results of validating the first file's graph by the second's; no
 -- pattern was refused.
-abbrev pub AreVerified : Option Contents → VerifiedFiles → Loads → Loads → Verdict → Type 0
+abbrev pub AreVerified : Option Contents → VerifiedFiles → Loads → Loads → EvidenceVerdict → Type 0
 AreVerified held v before after verdict =
     (data_text : List ℕ) × (shapes_text : List ℕ) × (evidence_text : List ℕ) × HoldAll held v data_text shapes_text evidence_text × IsVerdictOn data_text shapes_text evidence_text verdict × LoadsAll v before after × NoneRefused before after
 

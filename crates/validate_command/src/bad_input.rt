@@ -1,5 +1,7 @@
+//! What is wrong with the files of a validation, and its line.
 use file_validation::RefusalKind;
 use rdf_model::Term;
+use shape_rules::RuleRow;
 use std::fmt;
 
 /// What is wrong with the files of a validation, as the line of the error tells it.
@@ -9,9 +11,8 @@ pub enum BadInput {
     Data { line: u64, kind: RefusalKind },
     /// The data is read, and the shapes are no Turtle text.
     Shapes { line: u64, kind: RefusalKind },
-    /// Both are read, and the shapes graph isn't well-formed (SHACL section 3.4.2): the least of its broken rules, and
-    /// the node that breaks it.
-    Rule { rule: u8, node: Term },
+    /// Both are read, and the shapes graph isn't well-formed (SHACL section 3.4.2): the least of its broken rules.
+    Rule(RuleRow),
     /// Both are read and the shapes graph is well-formed, and the pattern of this shape was refused.
     Pattern { node: Term },
 }
@@ -22,7 +23,7 @@ impl Drop for BadInput {
         match self {
             BadInput::Data { line: _, kind: _ } => {}
             BadInput::Shapes { line: _, kind: _ } => {}
-            BadInput::Rule { rule: _, node: _ } => {}
+            BadInput::Rule(_) => {}
             BadInput::Pattern { node: _ } => {}
         }
     }
@@ -42,7 +43,7 @@ impl fmt::Display for BadInput {
             BadInput::Shapes { line, kind } => {
                 write!(f, "shapes line {line} kind {}", kind.number())
             }
-            BadInput::Rule { rule, node } => write!(f, "shapes rule {rule} {node}"),
+            BadInput::Rule(row) => write!(f, "shapes rule {} {}", row.rule, row.node),
             BadInput::Pattern { node } => write!(f, "shapes pattern {node}"),
         }
     }

@@ -1,3 +1,4 @@
+//! Why two files were not validated.
 use crate::BadInput;
 
 /// Why two files were not validated.

@@ -1,3 +1,4 @@
+//! The names of the files.
 use rdf_text::Text;
 
 /// The names of the two files of a validation.

@@ -1,15 +1,15 @@
-ghost use Rattle.std.specs.Prelude.{◌≡◌, List, IfErr, IfOk, MatchResult};
+//! Two files loaded, and validated or explained.
+ghost use Rattle.std.specs.Prelude.{◌≡◌, List, IfErr, MatchResult};
 ghost use Rattle.outside.specs.Faults.{Refusal};
 ghost use Rattle.input_files.specs.Loads.{Loads};
-ghost use Rattle.validate_command.specs.Faults.{IsFileFault, IsTold, StopsValidation, of_file};
+ghost use Rattle.validate_command.specs.Faults.{IsFileFault, StopsValidation, of_file, of_texts};
 ghost use Rattle.validate_command.specs.Validated.{AreExplained, AreValidated, HoldTexts, LoadsBoth};
 
 use crate::{BadInput, ValidateFault, ValidatedFiles};
 use file_validation::{Explanation, InputFault, Validation, explain, validate};
 use input_files::{FileFault, load_file};
 use outside::{Files, Maker};
-use shape_rules::RuleRow;
-use std::alloc::{AllocError, Global};
+use std::alloc::Global;
 use std::thread::Threads;
 
 // The numbers of the files.
@@ -28,29 +28,16 @@ pub(crate) fn file_fault(fault: FileFault, file: u32) -> ValidateFault
     }
 }
 
-// A broken rule, as its line tells it.
-fn rule_fault(row: &RuleRow) -> Result<BadInput, AllocError>
-    ensures { IfOk result (λ bad. bad ≡ BadInput.Rule row.now.rule row.now.node) }
-{
-    Ok(BadInput::Rule {
-        rule: row.rule,
-        node: row.node.clone()?,
-    })
-}
-
 // Why the texts were not validated.
 pub(crate) fn text_fault(fault: InputFault) -> ValidateFault
-    ensures { IsTold fault result }
+    ensures { result ≡ of_texts fault }
 {
     match fault {
         InputFault::Data { line, kind } => ValidateFault::BadInput(BadInput::Data { line, kind }),
         InputFault::Shapes { line, kind } => {
             ValidateFault::BadInput(BadInput::Shapes { line, kind })
         }
-        InputFault::Rule(row) => match rule_fault(&row) {
-            Ok(bad) => ValidateFault::BadInput(bad),
-            Err(_) => ValidateFault::Memory,
-        },
+        InputFault::Rule(row) => ValidateFault::BadInput(BadInput::Rule(row)),
         InputFault::Pattern { node } => ValidateFault::BadInput(BadInput::Pattern { node }),
         InputFault::Memory => ValidateFault::Memory,
     }

@@ -1,3 +1,4 @@
+//! Three files loaded, and their evidence verified.
 ghost use Rattle.std.specs.Prelude.{◌≡◌, List, MatchResult};
 ghost use Rattle.outside.specs.Faults.{Refusal};
 ghost use Rattle.input_files.specs.Loads.{Loads};
@@ -5,7 +6,7 @@ ghost use Rattle.validate_command.specs.Verified.{AreVerified, HoldAll, LoadsAll
 
 use crate::validating::{file_fault, load_texts, text_fault};
 use crate::{ValidateFault, VerifiedFiles};
-use file_validation::{Verdict, verify};
+use file_validation::{EvidenceVerdict, verify};
 use input_files::load_file;
 use outside::{Files, Maker};
 use std::alloc::Global;
@@ -53,7 +54,7 @@ pub fn verify_files<F: Files, M: Maker>(
     verified: &VerifiedFiles,
     files: &mut F,
     maker: &mut M,
-) -> Result<Verdict, ValidateFault>
+) -> Result<EvidenceVerdict, ValidateFault>
     ensures answer { let before : Loads = record { loaded = F.loaded files.old; failed = F.failed files.old; refused = M.refused maker.old } in
         let after : Loads = record { loaded = F.loaded files.new; failed = F.failed files.new; refused = M.refused maker.new } in
         MatchResult result (AreVerified (F.holds files.old) verified.now before after) (λ fault. StopsVerification fault (F.holds files.old) verified.now before after) }

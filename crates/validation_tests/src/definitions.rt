@@ -1,3 +1,4 @@
+//! The definitions, asked for worked rows.
 ghost use Rattle.validation_tests.specs.Components.{BoundExamples, CountExamples, LanguageExamples, LogicExamples, OtherExamples, PairExamples, PropertyExample, QualifiedExamples, TextExamples, TypeExamples};
 ghost use Rattle.validation_tests.specs.Examples.{CountExample, ForbiddenExample, MinCountExample, NodeKindExample};
 

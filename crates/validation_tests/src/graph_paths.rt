@@ -1,3 +1,4 @@
+//! The paths of shapes graphs.
 use crate::short_forms::term;
 use collections::sorted_once;
 use rdf_model::{Term, Triple};

@@ -1,5 +1,7 @@
 //! Tests of validation: the definitions, lists, classes, paths and shapes of shapes graphs, the table of rules, and whole listings in
 //! two ways, each as a table of rows that were worked out by hand.
+//!
+//! Storey: tests.
 #![tactic(auto)]
 
 #[cfg(test)]

@@ -1,9 +1,10 @@
+//! The listings of texts, by both validators.
 use crate::short_forms::{push_optional, text_of_rows};
 use outside::RegexMaker;
+use plain_validation::{BothListings, RowsFault, both_listings};
 use std::alloc::{AllocError, Global};
 use std::process::Abort;
 use std::test::Fail;
-use validation_rows::{BothListings, RowsFault, both_listings};
 
 // Texts of a data graph and a shapes graph with the rows that validation gives, a line for each: the source
 // shape, the focus node, the component and its parameter, the value node that it is about, the value and

@@ -1,3 +1,4 @@
+//! Counts, lists and classes of graphs.
 ghost use Rattle.collections.specs.Ordered.{IsAscending};
 ghost use Rattle.rdf_model.specs.Terms.{triple_cmp};
 

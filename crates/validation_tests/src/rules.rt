@@ -1,3 +1,4 @@
+//! The rules of shapes graphs.
 use crate::short_forms::{graph_and_rule, term, text_of_rule};
 use collections::sorted_once;
 use rdf_model::{Term, Text, Triple};

@@ -56,7 +56,7 @@ pub(crate) fn term(alloc: Global, short: &str) -> Result<Term, AllocError> {
     }
 }
 
-// The same, where an empty text stands for no term.
+// The term of a short form, where an empty text stands for none.
 pub(crate) fn optional_term(alloc: Global, short: &str) -> Result<Option<Term>, AllocError> {
     if short.is_empty() {
         return Ok(None);
@@ -105,7 +105,7 @@ pub(crate) fn text_of_rule(
     Ok(text)
 }
 
-// The same by short forms; nothing, where there are none.
+// Node, rule and value of a broken rule, given by short forms; nothing, where there are none.
 fn rule_of(alloc: Global, shorts: &str) -> Result<String, AllocError> {
     let mut text = String::new(alloc);
     let mut parts = shorts.trim().split(' ');

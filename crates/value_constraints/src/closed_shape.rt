@@ -1,3 +1,4 @@
+//! The component closed (SHACL section 4.8.1).
 ghost use Rattle.std.specs.Prelude.{◌≡◌, ◌<◌, ◌++◌, IfOk, OnOk, length};
 ghost use Rattle.std.specs.List.{Contains};
 ghost use Rattle.rdf_model.specs.Numbers.{AreNumbered};
@@ -8,9 +9,9 @@ ghost use Rattle.component_rows.specs.Sites.{ListsAt, site_row};
 ghost use Rattle.value_constraints.specs.Closing.{in_graph, ForbiddenAt, ForbiddenEdge, ForbiddenOfSome};
 
 use collections::sorted_once;
-use component_rows::{Site, is_among, is_true, row_beside};
+use component_rows::{Site, is_among, row_beside};
 use rdf_model::{Names, Triples};
-use shape_model::{Component, ResultRow};
+use shape_model::{Component, ResultRow, is_true};
 use std::alloc::AllocError;
 
 // Adds the result of an edge of a value node, unless its predicate is allowed.

@@ -1,3 +1,4 @@
+//! The components min-count and max-count (SHACL sections 4.2.1 and 4.2.2).
 ghost use Rattle.std.specs.Prelude.{IfOk};
 ghost use Rattle.shape_model.specs.declared.component.Component.TheVariants as components;
 ghost use Rattle.component_rows.specs.Listed.{untold};

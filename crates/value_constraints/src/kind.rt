@@ -1,3 +1,4 @@
+//! The component node-kind (SHACL section 4.1.3).
 ghost use Rattle.std.specs.Prelude.{◌≡◌, ◌⊎◌, ◌↔◌, IfOk, IsTrue, codes};
 ghost use Rattle.rdf_model.specs.declared.term.Term.TheVariants as data_terms;
 ghost use Rattle.shape_model.specs.TermTests.{IsOfKind};
@@ -10,6 +11,10 @@ use component_rows::{Site, ValueTest, failing};
 use rdf_model::{Names, Term};
 use shape_model::{Component, ResultRow};
 use std::alloc::AllocError;
+use vocabulary::{
+    SH_BLANK_NODE, SH_BLANK_NODE_OR_IRI, SH_BLANK_NODE_OR_LITERAL, SH_IRI, SH_IRI_OR_LITERAL,
+    SH_LITERAL,
+};
 
 // Whether the term is the IRI.
 fn is_named(term: &Term, iri: &str) -> bool
@@ -26,9 +31,9 @@ fn is_named(term: &Term, iri: &str) -> bool
 fn takes_blank(kind: &Term) -> bool
     ensures { IsTrue result ↔ ((kind.now ≡ sh (codes "BlankNode")) ⊎ (kind.now ≡ sh (codes "BlankNodeOrIRI")) ⊎ (kind.now ≡ sh (codes "BlankNodeOrLiteral"))) }
 {
-    is_named(kind, "http://www.w3.org/ns/shacl#BlankNode")
-        || is_named(kind, "http://www.w3.org/ns/shacl#BlankNodeOrIRI")
-        || is_named(kind, "http://www.w3.org/ns/shacl#BlankNodeOrLiteral")
+    is_named(kind, SH_BLANK_NODE)
+        || is_named(kind, SH_BLANK_NODE_OR_IRI)
+        || is_named(kind, SH_BLANK_NODE_OR_LITERAL)
 }
 
 // Whether a node kind takes IRIs.
@@ -36,9 +41,9 @@ fn takes_blank(kind: &Term) -> bool
 fn takes_iri(kind: &Term) -> bool
     ensures { IsTrue result ↔ ((kind.now ≡ sh (codes "IRI")) ⊎ (kind.now ≡ sh (codes "BlankNodeOrIRI")) ⊎ (kind.now ≡ sh (codes "IRIOrLiteral"))) }
 {
-    is_named(kind, "http://www.w3.org/ns/shacl#IRI")
-        || is_named(kind, "http://www.w3.org/ns/shacl#BlankNodeOrIRI")
-        || is_named(kind, "http://www.w3.org/ns/shacl#IRIOrLiteral")
+    is_named(kind, SH_IRI)
+        || is_named(kind, SH_BLANK_NODE_OR_IRI)
+        || is_named(kind, SH_IRI_OR_LITERAL)
 }
 
 // Whether a node kind takes literals.
@@ -46,9 +51,9 @@ fn takes_iri(kind: &Term) -> bool
 fn takes_literal(kind: &Term) -> bool
     ensures { IsTrue result ↔ ((kind.now ≡ sh (codes "Literal")) ⊎ (kind.now ≡ sh (codes "BlankNodeOrLiteral")) ⊎ (kind.now ≡ sh (codes "IRIOrLiteral"))) }
 {
-    is_named(kind, "http://www.w3.org/ns/shacl#Literal")
-        || is_named(kind, "http://www.w3.org/ns/shacl#BlankNodeOrLiteral")
-        || is_named(kind, "http://www.w3.org/ns/shacl#IRIOrLiteral")
+    is_named(kind, SH_LITERAL)
+        || is_named(kind, SH_BLANK_NODE_OR_LITERAL)
+        || is_named(kind, SH_IRI_OR_LITERAL)
 }
 
 // Whether the value is of the node kind that a term names.

@@ -3,6 +3,8 @@
 //!
 //! Each call lists exactly the results that the definition of its component gives for one value of the
 //! parameter; so none is missing, and none is there that shouldn't be.
+//!
+//! Storey: validation.
 #![tactic(auto)]
 
 mod closed_shape;

@@ -1,3 +1,4 @@
+//! The component datatype (SHACL section 4.1.2).
 ghost use Rattle.std.specs.Prelude.{IfOk};
 ghost use Rattle.shape_model.specs.declared.component.Component.TheVariants as components;
 ghost use Rattle.component_rows.specs.Listed.{untold};

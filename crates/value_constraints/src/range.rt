@@ -1,3 +1,4 @@
+//! The four ranges (SHACL section 4.3).
 ghost use Rattle.std.specs.Prelude.{IfOk};
 ghost use Rattle.rdf_model.specs.Numbers.{term_at};
 ghost use Rattle.shape_model.specs.declared.component.Component.TheVariants as components;

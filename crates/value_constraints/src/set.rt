@@ -1,3 +1,4 @@
+//! The components class, has-value and in (SHACL sections 4.1.1, 4.8.2 and 4.8.3).
 ghost use Rattle.std.specs.Prelude.{◌≡◌, IfOk, length, map};
 ghost use Rattle.std.specs.Ordering.{nat_cmp};
 ghost use Rattle.collections.specs.Ordered.{IsAscending};

@@ -297,7 +297,7 @@ made_ok : (row made : LookRow) → row ≡ made → KindOk made.kind → KindOk 
 made_ok row made e k = subst (λ (x : LookRow). KindOk x.kind) (sym e) k
 
 mutual
-  path_look_ok : (turned : Bool) (p : Path) (q : List Path) (row : LookRow) → PathOk p → PathLook turned p q row → KindOk row.kind
+  path_look_ok : (reversed : Bool) (p : Path) (q : List Path) (row : LookRow) → PathOk p → PathLook reversed p q row → KindOk row.kind
   path_look_ok false (Predicate p) q row k h = made_ok row _ h k
   path_look_ok true (Predicate p) q row k h = made_ok row _ h k
   path_look_ok false (Inverse p) q row k h = path_look_ok true p q row k h
@@ -313,13 +313,13 @@ mutual
   path_look_ok false (ZeroOrOne p) q row k h = path_look_ok false p q row k h
   path_look_ok true (ZeroOrOne p) q row k h = path_look_ok true p q row k h
 
-  through_look_ok : (turned : Bool) (ps : Paths) (q : List Path) (row : LookRow) → PathsOk ps → ThroughLook turned ps q row → KindOk row.kind
+  through_look_ok : (reversed : Bool) (ps : Paths) (q : List Path) (row : LookRow) → PathsOk ps → ThroughLook reversed ps q row → KindOk row.kind
   through_look_ok false (Last p) q row k h = path_look_ok false p q row k h
   through_look_ok true (Last p) q row k h = path_look_ok true p q row k h
   through_look_ok false (Also p ps) q row k h = elim h [ inl i ↦ path_look_ok false p q row k.0 i | inr i ↦ through_look_ok false ps _ row k.1 i ]
   through_look_ok true (Also p ps) q row k h = elim h [ inl i ↦ through_look_ok true ps q row k.1 i | inr i ↦ path_look_ok true p _ row k.0 i ]
 
-  some_look_ok : (turned : Bool) (ps : Paths) (q : List Path) (row : LookRow) → PathsOk ps → SomeLook turned ps q row → KindOk row.kind
+  some_look_ok : (reversed : Bool) (ps : Paths) (q : List Path) (row : LookRow) → PathsOk ps → SomeLook reversed ps q row → KindOk row.kind
   some_look_ok false (Last p) q row k h = path_look_ok false p q row k h
   some_look_ok true (Last p) q row k h = path_look_ok true p q row k h
   some_look_ok false (Also p ps) q row k h = elim h [ inl i ↦ path_look_ok false p q row k.0 i | inr i ↦ some_look_ok false ps q row k.1 i ]

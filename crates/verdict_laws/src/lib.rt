@@ -2,6 +2,8 @@
 //!
 //! The functions do nothing: what each ensures is a statement about the definitions alone. A text has its blocks in one way, so that
 //! it is verified or wrong at one block; what is verified are results; and the evidence of results is verified.
+//!
+//! Storey: laws.
 #![tactic(auto)]
 
 ghost use Rattle.verdict_laws.specs.Laws.{BlocksHaveOwnTexts, EvidenceIsVerified, VerdictsStayApart, VerifiedBlocksHold};

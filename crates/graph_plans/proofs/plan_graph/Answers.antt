@@ -2,7 +2,7 @@ use Rattle.std.proofs.Common.{List, subst, sym}
 use Rattle.shape_ast.specs.Readings.{ReadShape}
 use Rattle.shape_ast.specs.Standing.{StandFor}
 use Rattle.plan_laws.proofs.WholePlans.{none_wide}
-use Rattle.term_validation.proofs.Naming.{are_named}
+use Rattle.parallel_validate.proofs.Naming.{are_named}
 use Rattle.graph_plans.proofs.plan_graph.Goals as goal
 
 pub plan_shapes-requires-clause-named : goal.plan_shapes-requires-clause-named

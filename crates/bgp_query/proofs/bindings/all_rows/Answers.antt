@@ -1,6 +1,6 @@
 use Rattle.std.proofs.Common.{List, [], subst, sym}
 use Rattle.std.proofs.lemmas.Result.{err_from_is_err_and}
-use Rattle.bgp_query.specs.declared.trail.Bound.{Bound}
+use Rattle.bgp_query.specs.declared.trail.BoundVariable.{BoundVariable}
 use Rattle.bgp_query.specs.Bindings.{HasMore, most_bindings}
 use Rattle.bgp_query.specs.Trails.{Covers, IsRow}
 use Rattle.bgp_query.proofs.Complete.{all_added, all_over, empty_trail, more_stopped}
@@ -10,7 +10,7 @@ pub join_from-requires-clause-trail : goal.join_from-requires-clause-trail
 join_from-requires-clause-trail g c = empty_trail c.args.search.now.variables c.new-trail.result.items c.new-trail.ensures.items
 
 pub join_from-requires-clause-covered : goal.join_from-requires-clause-covered
-join_from-requires-clause-covered g c = subst (λ (bs : List Bound). Covers c.args.search.now.variables bs c.args.patterns.now) (sym c.new-trail.ensures.items) c.requires.covered
+join_from-requires-clause-covered g c = subst (λ (bs : List BoundVariable). Covers c.args.search.now.variables bs c.args.patterns.now) (sym c.new-trail.ensures.items) c.requires.covered
 
 pub returns-in_err-join_from-clause-many : goal.returns-in_err-join_from-clause-many
 returns-in_err-join_from-clause-many g c =

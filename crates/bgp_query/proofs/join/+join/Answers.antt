@@ -4,7 +4,7 @@ use Rattle.rdf_model.specs.declared.ids.Ids.{Ids}
 use Rattle.triple_index.specs.Patterns.{AreApart}
 use Rattle.bgp_query.specs.declared.pattern.JoinPattern.{JoinPattern}
 use Rattle.bgp_query.specs.declared.pattern.Part.TheVariants.{Variable}
-use Rattle.bgp_query.specs.declared.trail.Bound.{Bound}
+use Rattle.bgp_query.specs.declared.trail.BoundVariable.{BoundVariable}
 use Rattle.bgp_query.specs.Bindings.{most_bindings}
 use Rattle.bgp_query.specs.Trails.{Added, Covers, IsMet, IsRow, IsTrail, IsUnder, Overflows, PatternsBelow}
 use Rattle.bgp_query.proofs.Joining.{can_give, covers_none, end_added, end_over, given_added, given_over, not_given, nothing_left, parted, pattern_added, pattern_over, rows_stopped}
@@ -26,10 +26,10 @@ join_each-join_one-requires g t c κs within =
       (
         within,
         (
-          subst (λ (bs : List Bound). IsTrail c.args.search.now.variables bs) same c.requires.trail,
+          subst (λ (bs : List BoundVariable). IsTrail c.args.search.now.variables bs) same c.requires.trail,
           (
             c.requires.below,
-            (subst (λ (bs : List Bound). Covers c.args.search.now.variables bs (c.args.pattern.now ∷ c.args.rest.now)) same c.requires.covered, c.loop-triple.invariant.rows.few),
+            (subst (λ (bs : List BoundVariable). Covers c.args.search.now.variables bs (c.args.pattern.now ∷ c.args.rest.now)) same c.requires.covered, c.loop-triple.invariant.rows.few),
           ),
         ),
       ),
@@ -45,7 +45,7 @@ join_each-returns-in_err-join_one-clause-rows g t c =
     let k = err_from_is_err_and c.from_residual.result c.from_residual.ensures.1 in
     rows_stopped (IsMet ids n trail c.args.pattern.now c.args.rest.now c.args.found.now) c.args.rows.now.items c.join_one.new.rows.items c.from_residual.result k.0 c.in_err-join_one.field-0.0 k.1 k.2
     (λ many. met_over ids n trail c.args.pattern.now c.args.rest.now c.args.found.now i d c.requires.apart c.loop-triple-test.true most_bindings c.args.rows.now.items c.loop-triple.rows.items c.join_one.new.rows.items c.loop-triple.invariant.rows
-    (subst (λ (bs : List Bound). Overflows most_bindings (IsUnder ids n bs c.args.pattern.now c.args.rest.now (get_or c.args.found.now i d)) c.loop-triple.rows.items c.join_one.new.rows.items) c.loop-triple.invariant.trail (c.in_err-join_one.ensures.rows many)))
+    (subst (λ (bs : List BoundVariable). Overflows most_bindings (IsUnder ids n bs c.args.pattern.now c.args.rest.now (get_or c.args.found.now i d)) c.loop-triple.rows.items c.join_one.new.rows.items) c.loop-triple.invariant.trail (c.in_err-join_one.ensures.rows many)))
 
 pub join_each-loop-triple-preserved : goal.join_each-loop-triple-preserved
 join_each-loop-triple-preserved g t c =
@@ -57,7 +57,7 @@ join_each-loop-triple-preserved g t c =
     record {
       trail = c.in_ok-join_one.ensures.trail ∙ c.loop-triple.invariant.trail;
       rows = met_more ids n trail c.args.pattern.now c.args.rest.now c.args.found.now i d c.requires.apart c.loop-triple-test.true most_bindings c.args.rows.now.items c.loop-triple.rows.items c.join_one.new.rows.items c.loop-triple.invariant.rows
-          (subst (λ (bs : List Bound). Added most_bindings (IsUnder ids n bs c.args.pattern.now c.args.rest.now (get_or c.args.found.now i d)) c.loop-triple.rows.items c.join_one.new.rows.items) c.loop-triple.invariant.trail c.in_ok-join_one.ensures.rows);
+          (subst (λ (bs : List BoundVariable). Added most_bindings (IsUnder ids n bs c.args.pattern.now c.args.rest.now (get_or c.args.found.now i d)) c.loop-triple.rows.items c.join_one.new.rows.items) c.loop-triple.invariant.trail c.in_ok-join_one.ensures.rows);
     }
 
 pub join_from-add_row-requires-clause-covered : goal.join_from-add_row-requires-clause-covered

@@ -1,7 +1,7 @@
 use Rattle.std.proofs.Common.{List, Option, subst, sym}
 use Rattle.rdf_model.specs.declared.triple.Triple.{Triple}
 use Rattle.store_model.specs.Store.{StagedNamed}
-use Rattle.term_validation.specs.Named.{AreNamedTriples}
+use Rattle.parallel_validate.specs.Named.{AreNamedTriples}
 use Rattle.commit_core.proofs.NamedTerms.{staged_named}
 use Rattle.commit_core.proofs.commit.stage_shapes.Goals as goal
 

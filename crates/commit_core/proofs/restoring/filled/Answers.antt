@@ -1,5 +1,5 @@
 use Rattle.std.proofs.Common.{◌∙◌, sym, subst}
-use Rattle.term_validation.specs.Named.{AreNamedTriples}
+use Rattle.parallel_validate.specs.Named.{AreNamedTriples}
 use Rattle.data_graph.specs.DataGraphs.{NamedGraph}
 use Rattle.commit_core.proofs.RestoredParts.{additions_named, filled_is}
 use Rattle.commit_core.proofs.restoring.filled.Goals as goal

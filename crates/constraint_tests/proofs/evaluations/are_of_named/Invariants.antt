@@ -1,6 +1,6 @@
 use Rattle.std.proofs.Common.{take}
 use Rattle.std.specs.List.{All}
-use Rattle.compiled_paths.specs.PathReadings.{IsNamed}
+use Rattle.path_ast.specs.PathReadings.{IsNamed}
 use Rattle.shape_ast.specs.Readings.{HoldsOfConstraint}
 use Rattle.constraint_tests.proofs.evaluations.are_of_named.Given as goal
 

@@ -1,7 +1,7 @@
 use Rattle.std.proofs.Common.{◌≡◌, ◌∙◌, ◌<◌, ℕ, zero, suc, List, [], ◌∷◌, ◌++◌, length, false, ap, arith, subst, sym, None}
 use Rattle.std.specs.List.{All}
 use Rattle.rdf_model.specs.declared.term.Term.{Term}
-use Rattle.compiled_paths.specs.PathReadings.{IsNamed}
+use Rattle.path_ast.specs.PathReadings.{IsNamed}
 use Rattle.shape_ast.specs.declared.shape.Shape.{Shape}
 use Rattle.shape_ast.specs.declared.target.Target.{Target}
 use Rattle.shape_ast.specs.Readings.{AreNamed, HoldsOfShape, HoldsOfTarget}

@@ -1,7 +1,7 @@
 use Rattle.std.proofs.Common.{◌≡◌, List, true, rules, subst}
 use Rattle.std.specs.List.{All}
 use Rattle.rdf_model.specs.declared.term.Term.{Term}
-use Rattle.compiled_paths.specs.PathReadings.{IsNamed}
+use Rattle.path_ast.specs.PathReadings.{IsNamed}
 use Rattle.shape_ast.specs.declared.constraint.Constraint.{Constraint}
 use Rattle.shape_ast.specs.Readings.{HoldsOfConstraint}
 use Rattle.constraint_tests.proofs.evaluations.shapes_of.Goals as goal

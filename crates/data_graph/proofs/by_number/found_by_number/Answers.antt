@@ -2,7 +2,7 @@ use Rattle.std.proofs.Common.{◌≡◌, ◌∙◌, List, ap, subst, sym}
 use Rattle.std.specs.List.{All}
 use Rattle.rdf_model.specs.declared.ids.Ids.{Ids}
 use Rattle.rdf_model.specs.Numbers.{graph_of}
-use Rattle.term_validation.specs.Named.{IsNumbered}
+use Rattle.parallel_validate.specs.Named.{IsNumbered}
 use Rattle.data_graph.proofs.ByNumber.{asked_numbered, asked_triples}
 use Rattle.data_graph.proofs.by_number.found_by_number.Goals as goal
 

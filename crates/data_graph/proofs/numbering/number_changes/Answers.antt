@@ -1,7 +1,7 @@
 use Rattle.std.proofs.Common.{subst, sym}
 use Rattle.rdf_model.specs.declared.change.Change.{Change}
 use Rattle.store_model.specs.Store.{changed_triple}
-use Rattle.term_validation.specs.Named.{IsNamedTriple}
+use Rattle.parallel_validate.specs.Named.{IsNamedTriple}
 use Rattle.data_graph.proofs.numbering.number_changes.Goals as goal
 
 pub number_change-requires : goal.number_change-requires

@@ -4,7 +4,7 @@ use Rattle.std.proofs.lemmas.List.Elements.{All-contains, Contains-append_right}
 use Rattle.collections.proofs.Members.{has_head}
 use Rattle.rdf_model.specs.declared.triple.Triple.{Triple}
 use Rattle.rdf_model.specs.Numbers.{graph_of}
-use Rattle.term_validation.specs.Named.{IsNamedTriple}
+use Rattle.parallel_validate.specs.Named.{IsNamedTriple}
 use Rattle.data_graph.proofs.numbering.number_graph.Goals as goal
 
 pub number_triple-requires : goal.number_triple-requires

@@ -5,8 +5,8 @@ use Rattle.rdf_model.specs.declared.triple.Triple.{Triple}
 use Rattle.rdf_model.specs.Graphs.{after}
 use Rattle.rdf_model.specs.Numbers.{graph_of}
 use Rattle.rdf_model.specs.Terms.{triple_cmp}
-use Rattle.bgp_query.specs.declared.fault.SelectFault.{SelectFault}
-use Rattle.bgp_query.specs.Selected.{AreSelected, IsSelectFault}
+use Rattle.bgp_query.specs.declared.fault.JoinFault.{JoinFault}
+use Rattle.bgp_query.specs.Selected.{AreSelected, IsJoinFault}
 use Rattle.data_graph.specs.DataGraphs.{IsIndexOf}
 use Rattle.data_graph.proofs.Selecting.{err_as, later_fault, later_index, later_selected, ok_as}
 use Rattle.data_graph.proofs.select.select_after.Goals as goal
@@ -38,6 +38,6 @@ returns-clause-fault c =
     let more = c.in-Ok.more.terms in
     let grown = c.in-Ok.ensures.grown in
     let later = c.in_ok-later.later in
-    err_as c.select_terms.result (λ (fault : SelectFault). IsSelectFault fault (graph_of more later) ps)
-    (λ fault. (g : List Triple) → IsAscending triple_cmp g → IsIndexOf terms ids g → IsSelectFault fault (after g net) ps)
+    err_as c.select_terms.result (λ (fault : JoinFault). IsJoinFault fault (graph_of more later) ps)
+    (λ fault. (g : List Triple) → IsAscending triple_cmp g → IsIndexOf terms ids g → IsJoinFault fault (after g net) ps)
     (λ fault s. later_fault terms more grown.0 grown.1 ids later net c.in_ok-later.ensures ps fault s) c.select_terms.ensures.fault

@@ -9,7 +9,7 @@ use Rattle.shape_ast.specs.declared.shape.Shape.{Shape}
 use Rattle.shape_ast.specs.Readings.{read_shape}
 use Rattle.shape_eval.specs.Settings.{Setting}
 use Rattle.shape_eval.proofs.Lookups.{at_place, named_place}
-use Rattle.term_validation.specs.Named.{AreNamedTriples}
+use Rattle.parallel_validate.specs.Named.{AreNamedTriples}
 use Rattle.evidence_blocks.specs.declared.block.ShownLook.{ShownLook}
 use Rattle.evidence_blocks.specs.Shown.{triples_in}
 use Rattle.result_evidence.specs.Standing.{ForEach, ForShape}

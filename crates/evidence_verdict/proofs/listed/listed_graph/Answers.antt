@@ -5,7 +5,7 @@ use Rattle.std.specs.List.{Contains}
 use Rattle.rdf_model.specs.declared.ids.Ids.{Ids}
 use Rattle.rdf_model.specs.declared.triple.Triple.{Triple}
 use Rattle.rdf_model.specs.Numbers.{graph_of}
-use Rattle.term_validation.specs.Named.{AreNamedTriples}
+use Rattle.parallel_validate.specs.Named.{AreNamedTriples}
 use Rattle.evidence_blocks.specs.Shown.{triples_in}
 use Rattle.evidence_verdict.proofs.Gathered.{index_is_numbered, index_lists, more_listed, under_named}
 use Rattle.evidence_verdict.proofs.listed.listed_graph.Goals as goal

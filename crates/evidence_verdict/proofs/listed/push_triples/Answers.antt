@@ -1,6 +1,6 @@
 use Rattle.std.proofs.Common.{subst, sym}
 use Rattle.rdf_model.specs.declared.triple.Triple.{Triple}
-use Rattle.term_validation.specs.Named.{IsNamedTriple}
+use Rattle.parallel_validate.specs.Named.{IsNamedTriple}
 use Rattle.evidence_verdict.proofs.listed.push_triples.Goals as goal
 
 pub number_triple-requires : goal.number_triple-requires

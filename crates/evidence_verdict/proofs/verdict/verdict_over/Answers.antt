@@ -1,8 +1,8 @@
 use Rattle.std.proofs.Common.{List, sym, subst}
 use Rattle.shape_ast.specs.Readings.{ReadShape}
 use Rattle.shape_ast.specs.Standing.{StandFor}
-use Rattle.term_validation.proofs.Bounded.{well_acyclic, well_shallow}
-use Rattle.term_validation.proofs.Naming.{are_named}
+use Rattle.parallel_validate.proofs.Bounded.{well_acyclic, well_shallow}
+use Rattle.parallel_validate.proofs.Naming.{are_named}
 use Rattle.result_evidence.specs.Standing.{AreOf}
 use Rattle.evidence_verdict.proofs.verdict.verdict_over.Goals as goal
 

@@ -3,8 +3,8 @@ use Rattle.rdf_model.specs.declared.triple.Triple.{Triple}
 use Rattle.rdf_model.specs.Numbers.{graph_of}
 use Rattle.shape_model.specs.Validation.{Listing}
 use Rattle.shape_model.specs.declared.result_row.ResultRow.{ResultRow}
-use Rattle.term_validation.proofs.Members.{same_listing}
-use Rattle.term_validation.specs.Named.{AreNamedTriples}
+use Rattle.parallel_validate.proofs.Members.{same_listing}
+use Rattle.parallel_validate.specs.Named.{AreNamedTriples}
 use Rattle.file_validation.proofs.results.listing.Goals as goal
 
 pub listing_in-requires-clause-shapes : goal.listing_in-requires-clause-shapes

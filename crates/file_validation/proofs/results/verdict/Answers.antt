@@ -1,7 +1,7 @@
 use Rattle.std.proofs.Common.{List, subst}
 use Rattle.rdf_model.specs.declared.triple.Triple.{Triple}
 use Rattle.rdf_model.specs.Numbers.{graph_of}
-use Rattle.term_validation.specs.Named.{AreNamedTriples}
+use Rattle.parallel_validate.specs.Named.{AreNamedTriples}
 use Rattle.file_validation.proofs.Verdicts.{same_verdict}
 use Rattle.file_validation.proofs.results.verdict.Goals as goal
 

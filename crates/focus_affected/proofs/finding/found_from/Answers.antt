@@ -1,5 +1,5 @@
 use Rattle.std.proofs.Common.{ℕ, List, Option, Some, None, subst, sym}
-use Rattle.compiled_paths.specs.declared.path.Path.{Path}
+use Rattle.path_ast.specs.declared.path.Path.{Path}
 use Rattle.path_eval.specs.Naming.{NumberedEach}
 use Rattle.reverse_walk.specs.Walkers.{AddsBackReadsOfSome, AreWalkersToSome}
 use Rattle.focus_affected.specs.Finding.{FindsFrom, WhereNodes}

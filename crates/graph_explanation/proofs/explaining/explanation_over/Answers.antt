@@ -4,8 +4,8 @@ use Rattle.std.proofs.lemmas.Result.{IfOk-weaker}
 use Rattle.rdf_model.specs.Numbers.{graph_of}
 use Rattle.shape_ast.specs.Readings.{ReadShape}
 use Rattle.shape_ast.specs.Standing.{StandFor}
-use Rattle.term_validation.proofs.Bounded.{well_acyclic, well_shallow}
-use Rattle.term_validation.proofs.Naming.{are_named}
+use Rattle.parallel_validate.proofs.Bounded.{well_acyclic, well_shallow}
+use Rattle.parallel_validate.proofs.Naming.{are_named}
 use Rattle.result_evidence.specs.declared.aimed_row.AimedRow.{AimedRow}
 use Rattle.result_evidence.specs.AimedRows.{AreAimedRows}
 use Rattle.result_evidence.specs.Standing.{AreOf}

@@ -1,9 +1,9 @@
 use Rattle.std.proofs.Common.{◌≡◌, ◌<◌, ℕ, List, ap, length, arith, subst, sym}
 use Rattle.shape_ast.specs.declared.shape.Shape.{Shape}
-use Rattle.graph_validation.specs.Counting.{StepsOfFirst}
+use Rattle.parallel_validate.specs.Counting.{StepsOfFirst}
 use Rattle.kept_rows.specs.declared.kept_row.KeptRow.{KeptRow}
 use Rattle.kept_validation.specs.Keeping.{KeepsOfFirst}
-use Rattle.graph_validation.proofs.Counting.{more_steps, no_steps}
+use Rattle.parallel_validate.proofs.Counting.{more_steps, no_steps}
 use Rattle.kept_validation.proofs.Keeping.{more_shape, no_shape}
 use Rattle.kept_validation.proofs.whole.all_rows.Goals as goal
 

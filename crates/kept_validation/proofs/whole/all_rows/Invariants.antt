@@ -1,5 +1,5 @@
 use Rattle.std.proofs.Common.{◌≤◌}
-use Rattle.graph_validation.specs.Counting.{StepsOfFirst}
+use Rattle.parallel_validate.specs.Counting.{StepsOfFirst}
 use Rattle.kept_validation.specs.Keeping.{KeepsOfFirst}
 use Rattle.kept_validation.proofs.whole.all_rows.Given as goal
 

@@ -2,7 +2,7 @@ use Rattle.std.proofs.Common.{◌≡◌, ◌∙◌, ◌+◌, ◌<◌, ℕ, List,
 use Rattle.std.specs.List.{All}
 use Rattle.shape_ast.specs.declared.shape.Shape.{Shape}
 use Rattle.shape_eval.specs.Told.{node_at}
-use Rattle.graph_validation.proofs.Counting.{shape_steps}
+use Rattle.parallel_validate.proofs.Counting.{shape_steps}
 use Rattle.kept_validation.specs.Keeping.{KeepsAtNodes}
 use Rattle.kept_validation.proofs.Keeping.{at_targets}
 use Rattle.kept_validation.proofs.whole.rows_of_shape.Goals as goal

@@ -1,7 +1,7 @@
 use Rattle.std.proofs.Common.{length, arith, subst}
 use Rattle.shape_eval.specs.Settings.{Setting}
-use Rattle.graph_validation.specs.Counting.{StepsOfFirst}
-use Rattle.graph_validation.proofs.Counting.{all_steps}
+use Rattle.parallel_validate.specs.Counting.{StepsOfFirst}
+use Rattle.parallel_validate.proofs.Counting.{all_steps}
 use Rattle.kept_validation.specs.Keeping.{KeepsOfFirst}
 use Rattle.kept_validation.proofs.Keeping.{all_shapes}
 use Rattle.kept_validation.proofs.whole.whole_kept.Goals as goal

@@ -6,11 +6,11 @@ use Rattle.rdf_model.specs.Numbers.{graph_of}
 use Rattle.shape_model.specs.Walks.{Walk}
 use Rattle.shape_model.specs.Instances.{class_path}
 use Rattle.shape_model.specs.NodeLooks.{PathReads}
-use Rattle.compiled_paths.specs.declared.path.Path.{Predicate}
+use Rattle.path_ast.specs.declared.path.Path.{Predicate}
 use Rattle.path_eval.specs.Relations.{Repeated}
 use Rattle.path_eval.specs.NumberedWalks.{Reaches}
 use Rattle.path_eval.specs.NumberedLooks.{AtRepeated, Reads}
-use Rattle.path_eval.proofs.ClassPaths.{turned_mirrors, turned_shows}
+use Rattle.path_eval.proofs.ClassPaths.{reversed_mirrors, reversed_shows}
 use Rattle.path_eval.proofs.FromOne.{ends_named, every_end, every_look, looks_named, one_listed, one_read}
 use Rattle.path_eval.proofs.instances.class_instances.Goals as goal
 
@@ -28,12 +28,12 @@ returns g c =
     record {
       instances = λ terms numbering numbered named lt.
           let W = λ (x y : Term). Walk (graph_of terms ids) class_path y x in
-          let m = turned_mirrors terms numbering ids numbered words named in
+          let m = reversed_mirrors terms numbering ids numbered words named in
           let l = one_listed R L x old new nodes c.in_ok-found_instances.ensures.followed in
           record { listed = ends_named terms numbering x lt R W m nodes l; every = every_end terms numbering x lt R W m nodes l };
       looks = λ terms numbering numbered named lt.
           let a = one_read R L x old new nodes c.in_ok-found_instances.ensures.followed in
-          let s = turned_shows terms numbering ids numbered words named in
+          let s = reversed_shows terms numbering ids numbered words named in
           let M = PathReads (graph_of terms ids) true class_path in
           record { added = looks_named terms numbering x lt L M s old new a; every = every_look terms numbering x lt L M s old new a };
       kept = c.found_instances.ensures.kept;

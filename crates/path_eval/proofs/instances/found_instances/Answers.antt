@@ -1,5 +1,5 @@
 use Rattle.std.proofs.Common.{ℕ, List, [], ◌∷◌, true, subst}
-use Rattle.compiled_paths.specs.declared.path.Path.{Predicate}
+use Rattle.path_ast.specs.declared.path.Path.{Predicate}
 use Rattle.path_eval.specs.Relations.{IsFollowed, Repeated}
 use Rattle.path_eval.specs.NumberedWalks.{Reaches}
 use Rattle.path_eval.specs.NumberedLooks.{AtRepeated, Reads}

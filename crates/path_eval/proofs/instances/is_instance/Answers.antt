@@ -6,7 +6,7 @@ use Rattle.rdf_model.specs.Numbers.{graph_of}
 use Rattle.shape_model.specs.Walks.{Walk}
 use Rattle.shape_model.specs.Instances.{class_path}
 use Rattle.shape_model.specs.NodeLooks.{PathReads}
-use Rattle.compiled_paths.specs.declared.path.Path.{Predicate}
+use Rattle.path_ast.specs.declared.path.Path.{Predicate}
 use Rattle.path_eval.specs.Relations.{Repeated}
 use Rattle.path_eval.specs.NumberedWalks.{Reaches}
 use Rattle.path_eval.specs.NumberedLooks.{AtRepeated, Reads}

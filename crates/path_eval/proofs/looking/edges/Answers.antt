@@ -13,8 +13,8 @@ pub loop-start-preserved : goal.loop-start-preserved
 loop-start-preserved g c =
     let xs = c.args.starts.now in
     let i = c.loop-start.start-index in
-    let R = λ (x y : ℕ). IsFound (look_from c.args.turned c.args.predicate x) (g.R.Triples.triples c.args.graph.now) y in
-    let L = λ (x : ℕ) (look : Look ℕ). look ≡ look_from c.args.turned c.args.predicate x in
+    let R = λ (x y : ℕ). IsFound (look_from c.args.reversed c.args.predicate x) (g.R.Triples.triples c.args.graph.now) y in
+    let L = λ (x : ℕ) (look : Look ℕ). look ≡ look_from c.args.reversed c.args.predicate x in
     let more : Adds c.loop-start.found.items c.add_found.new.found.items (R (get_or xs i 0)) =
     subst (λ (look : Look ℕ). Adds c.loop-start.found.items c.add_found.new.found.items (IsFound look (g.R.Triples.triples c.args.graph.now))) c.look_for-look.ensures.look c.in_ok-add_found.ensures.found in
     record {
@@ -29,8 +29,8 @@ loop-start-preserved g c =
 pub returns-clause-followed : goal.returns-clause-followed
 returns-clause-followed g c =
     let xs = c.args.starts.now in
-    let R = λ (x y : ℕ). IsFound (look_from c.args.turned c.args.predicate x) (g.R.Triples.triples c.args.graph.now) y in
-    let L = λ (x : ℕ) (look : Look ℕ). look ≡ look_from c.args.turned c.args.predicate x in
+    let R = λ (x y : ℕ). IsFound (look_from c.args.reversed c.args.predicate x) (g.R.Triples.triples c.args.graph.now) y in
+    let L = λ (x : ℕ) (look : Look ℕ). look ≡ look_from c.args.reversed c.args.predicate x in
     let all = take_all c.loop-start.start-index xs (omega arith) in
     record {
       listed = listing_same nat_cmp (Contains c.loop-start.found.items) (FromSome xs R)

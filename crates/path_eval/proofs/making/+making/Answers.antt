@@ -1,64 +1,64 @@
 use Rattle.std.proofs.Common.{◌∙◌, ◌<◌, ℕ, true, false, ap, length, arith, subst}
 use Rattle.std.specs.Prelude.{not}
 use Rattle.std.proofs.lemmas.Result.{IfOk-weaker}
-use Rattle.compiled_paths.proofs.Sizes.{alternative_more, alternative_size, list_size, path_size, sequence_more, sequence_size}
+use Rattle.path_ast.proofs.Sizes.{alternative_more, alternative_size, list_size, path_size, sequence_more, sequence_size}
 use Rattle.path_eval.specs.declared.walker.Walker.{Here}
 use Rattle.path_eval.specs.NumberedWalks.{Reaches}
 use Rattle.path_eval.specs.NumberedLooks.{Reads}
 use Rattle.path_eval.specs.Walkers.{IsAnyNumber, IsEither, IsMade, IsMore, IsThen}
-use Rattle.path_eval.proofs.Made.{GoesBackward, GoesOnward, GoesSome, IsMadeFor, after_less, backward_parts, before_less, first_less, halves, inner_less, onward_parts, some_parts, alternative_made, inverse_made, many_made, more_made, optional_made, predicate_made, sequence_made, turned_made}
+use Rattle.path_eval.proofs.Made.{GoesBackward, GoesOnward, GoesSome, IsMadeFor, after_less, backward_parts, before_less, first_less, halves, inner_less, onward_parts, some_parts, alternative_made, inverse_made, many_made, more_made, optional_made, predicate_made, sequence_made, reversed_made}
 use Rattle.path_eval.proofs.making.+making.Goals as goal
 
 pub walker_of-returns-in_ok-rest-in-Sequence : goal.walker_of-returns-in_ok-rest-in-Sequence
 walker_of-returns-in_ok-rest-in-Sequence t c =
     let one = c.in_ok-one-in-Sequence.one in
     let rest = c.in_ok-rest-in-Sequence.rest in
-    IfOk-weaker c.then_of.result (IsThen rest one) (IsMadeFor c.args.path.now c.args.turned)
-    (λ w j. turned_made c.args.path.now c.args.turned c.in-Sequence.first c.in-Sequence.others c.deref-in-Sequence.result.now c.deref-then-turned.result.now c.deref-in-Sequence.ensures c.deref-then-turned.ensures.value
-    one rest w c.in-Sequence.is c.if-turned.true c.in_ok-one-in-Sequence.ensures c.in_ok-rest-in-Sequence.ensures j) c.then_of.ensures
+    IfOk-weaker c.then_of.result (IsThen rest one) (IsMadeFor c.args.path.now c.args.reversed)
+    (λ w j. reversed_made c.args.path.now c.args.reversed c.in-Sequence.first c.in-Sequence.others c.deref-in-Sequence.result.now c.deref-then-reversed.result.now c.deref-in-Sequence.ensures c.deref-then-reversed.ensures.value
+    one rest w c.in-Sequence.is c.if-reversed.true c.in_ok-one-in-Sequence.ensures c.in_ok-rest-in-Sequence.ensures j) c.then_of.ensures
 
 pub walker_of-returns-in_ok-rest-in-Sequence-2 : goal.walker_of-returns-in_ok-rest-in-Sequence-2
 walker_of-returns-in_ok-rest-in-Sequence-2 t c =
     let one = c.in_ok-one-in-Sequence.one in
     let rest = c.in_ok-rest-in-Sequence-2.rest in
-    IfOk-weaker c.then_of-else-turned.result (IsThen one rest) (IsMadeFor c.args.path.now c.args.turned)
-    (λ w j. sequence_made c.args.path.now c.args.turned c.in-Sequence.first c.in-Sequence.others c.deref-in-Sequence.result.now c.deref-else-turned.result.now c.deref-in-Sequence.ensures c.deref-else-turned.ensures.value
-    one rest w c.in-Sequence.is c.if-turned.false c.in_ok-one-in-Sequence.ensures c.in_ok-rest-in-Sequence-2.ensures j) c.then_of-else-turned.ensures
+    IfOk-weaker c.then_of-else-reversed.result (IsThen one rest) (IsMadeFor c.args.path.now c.args.reversed)
+    (λ w j. sequence_made c.args.path.now c.args.reversed c.in-Sequence.first c.in-Sequence.others c.deref-in-Sequence.result.now c.deref-else-reversed.result.now c.deref-in-Sequence.ensures c.deref-else-reversed.ensures.value
+    one rest w c.in-Sequence.is c.if-reversed.false c.in_ok-one-in-Sequence.ensures c.in_ok-rest-in-Sequence-2.ensures j) c.then_of-else-reversed.ensures
 
 pub walker_of-returns-in_ok-rest-in-Alternative : goal.walker_of-returns-in_ok-rest-in-Alternative
 walker_of-returns-in_ok-rest-in-Alternative t c =
     let one = c.in_ok-one-in-Alternative.one in
     let rest = c.in_ok-rest-in-Alternative.rest in
-    IfOk-weaker c.either_of.result (IsEither one rest) (IsMadeFor c.args.path.now c.args.turned)
-    (λ w j. alternative_made c.args.path.now c.args.turned c.in-Alternative.first c.in-Alternative.others c.deref-in-Alternative.result.now c.deref-in-Alternative-2.result.now c.deref-in-Alternative.ensures
+    IfOk-weaker c.either_of.result (IsEither one rest) (IsMadeFor c.args.path.now c.args.reversed)
+    (λ w j. alternative_made c.args.path.now c.args.reversed c.in-Alternative.first c.in-Alternative.others c.deref-in-Alternative.result.now c.deref-in-Alternative-2.result.now c.deref-in-Alternative.ensures
     c.deref-in-Alternative-2.ensures.value one rest w c.in-Alternative.is c.in_ok-one-in-Alternative.ensures c.in_ok-rest-in-Alternative.ensures j) c.either_of.ensures
 
 pub walker_of-returns-in_ok-once-in-ZeroOrMore : goal.walker_of-returns-in_ok-once-in-ZeroOrMore
 walker_of-returns-in_ok-once-in-ZeroOrMore t c =
     let once = c.in_ok-once-in-ZeroOrMore.once in
-    IfOk-weaker c.any_number.result (IsAnyNumber once) (IsMadeFor c.args.path.now c.args.turned)
-    (λ w j. many_made c.args.path.now c.args.turned c.in-ZeroOrMore.inner c.deref-in-ZeroOrMore.result.now c.deref-in-ZeroOrMore.ensures once w c.in-ZeroOrMore.is c.in_ok-once-in-ZeroOrMore.ensures j) c.any_number.ensures
+    IfOk-weaker c.any_number.result (IsAnyNumber once) (IsMadeFor c.args.path.now c.args.reversed)
+    (λ w j. many_made c.args.path.now c.args.reversed c.in-ZeroOrMore.inner c.deref-in-ZeroOrMore.result.now c.deref-in-ZeroOrMore.ensures once w c.in-ZeroOrMore.is c.in_ok-once-in-ZeroOrMore.ensures j) c.any_number.ensures
 
 pub walker_of-returns-in_ok-once-in-OneOrMore : goal.walker_of-returns-in_ok-once-in-OneOrMore
 walker_of-returns-in_ok-once-in-OneOrMore t c =
     let once = c.in_ok-once-in-OneOrMore.once in
-    IfOk-weaker c.more_of.result (IsMore once) (IsMadeFor c.args.path.now c.args.turned)
-    (λ w j. more_made c.args.path.now c.args.turned c.in-OneOrMore.inner c.deref-in-OneOrMore.result.now c.deref-in-OneOrMore.ensures once w c.in-OneOrMore.is c.in_ok-once-in-OneOrMore.ensures j) c.more_of.ensures
+    IfOk-weaker c.more_of.result (IsMore once) (IsMadeFor c.args.path.now c.args.reversed)
+    (λ w j. more_made c.args.path.now c.args.reversed c.in-OneOrMore.inner c.deref-in-OneOrMore.result.now c.deref-in-OneOrMore.ensures once w c.in-OneOrMore.is c.in_ok-once-in-OneOrMore.ensures j) c.more_of.ensures
 
 pub walker_of-returns-in-Predicate : goal.walker_of-returns-in-Predicate
-walker_of-returns-in-Predicate t c = predicate_made c.args.path.now c.args.turned c.in-Predicate.predicate c.new.result c.in-Predicate.is c.new.ensures
+walker_of-returns-in-Predicate t c = predicate_made c.args.path.now c.args.reversed c.in-Predicate.predicate c.new.result c.in-Predicate.is c.new.ensures
 
 pub walker_of-returns-in-Inverse : goal.walker_of-returns-in-Inverse
 walker_of-returns-in-Inverse t c =
     let p = c.deref.result.now in
-    IfOk-weaker c.walker_of.result (λ w. IsMade w (λ ids. Reaches ids (not c.args.turned) p) (λ ids. Reads ids (not c.args.turned) p)) (IsMadeFor c.args.path.now c.args.turned)
-    (λ w h. inverse_made c.args.path.now c.args.turned c.in-Inverse.inner p c.deref.ensures w w c.in-Inverse.is h) c.walker_of.ensures
+    IfOk-weaker c.walker_of.result (λ w. IsMade w (λ ids. Reaches ids (not c.args.reversed) p) (λ ids. Reads ids (not c.args.reversed) p)) (IsMadeFor c.args.path.now c.args.reversed)
+    (λ w h. inverse_made c.args.path.now c.args.reversed c.in-Inverse.inner p c.deref.ensures w w c.in-Inverse.is h) c.walker_of.ensures
 
 pub walker_of-returns-in_ok-once-in-ZeroOrOne : goal.walker_of-returns-in_ok-once-in-ZeroOrOne
 walker_of-returns-in_ok-once-in-ZeroOrOne t c =
     let once = c.in_ok-once-in-ZeroOrOne.once in
-    IfOk-weaker c.either_of-in-ZeroOrOne.result (IsEither Here once) (IsMadeFor c.args.path.now c.args.turned)
-    (λ w j. optional_made c.args.path.now c.args.turned c.in-ZeroOrOne.inner c.deref-in-ZeroOrOne.result.now c.deref-in-ZeroOrOne.ensures once w c.in-ZeroOrOne.is c.in_ok-once-in-ZeroOrOne.ensures j) c.either_of-in-ZeroOrOne.ensures
+    IfOk-weaker c.either_of-in-ZeroOrOne.result (IsEither Here once) (IsMadeFor c.args.path.now c.args.reversed)
+    (λ w j. optional_made c.args.path.now c.args.reversed c.in-ZeroOrOne.inner c.deref-in-ZeroOrOne.result.now c.deref-in-ZeroOrOne.ensures once w c.in-ZeroOrOne.is c.in_ok-once-in-ZeroOrOne.ensures j) c.either_of-in-ZeroOrOne.ensures
 
 pub walker_of-walker_of-requires : goal.walker_of-walker_of-requires
 walker_of-walker_of-requires t c =
@@ -102,14 +102,14 @@ walker_of-walker_of-requires-in-Alternative t c =
 
 pub walker_of-backward_of-requires : goal.walker_of-backward_of-requires
 walker_of-backward_of-requires t c =
-    let ps = c.deref-then-turned.result.now in
-    let less = sequence_more c.args.path.now c.in-Sequence.first c.in-Sequence.others c.in-Sequence.is ps c.deref-then-turned.ensures.value in
+    let ps = c.deref-then-reversed.result.now in
+    let less = sequence_more c.args.path.now c.in-Sequence.first c.in-Sequence.others c.in-Sequence.is ps c.deref-then-reversed.ensures.value in
     (subst (λ (n : ℕ). list_size ps < n) c.decreases less, tt)
 
 pub walker_of-onward_of-requires : goal.walker_of-onward_of-requires
 walker_of-onward_of-requires t c =
-    let ps = c.deref-else-turned.result.now in
-    let less = sequence_more c.args.path.now c.in-Sequence.first c.in-Sequence.others c.in-Sequence.is ps c.deref-else-turned.ensures.value in
+    let ps = c.deref-else-reversed.result.now in
+    let less = sequence_more c.args.path.now c.in-Sequence.first c.in-Sequence.others c.in-Sequence.is ps c.deref-else-reversed.ensures.value in
     (subst (λ (n : ℕ). list_size ps < n) c.decreases less, tt)
 
 pub walker_of-any_of-requires : goal.walker_of-any_of-requires
@@ -208,5 +208,5 @@ any_of-returns-then-paths-gt1 t c =
     let one = c.in_ok-one.one in
     let other = c.in_ok-other.other in
     let is = halves paths before after _ c.split_at.ensures.front c.split_at.ensures.back in
-    IfOk-weaker c.either_of.result (IsEither one other) (λ w. GoesSome w c.args.turned paths)
-    (λ w j. some_parts paths before after is one other w c.args.turned c.in_ok-one.ensures c.in_ok-other.ensures j) c.either_of.ensures
+    IfOk-weaker c.either_of.result (IsEither one other) (λ w. GoesSome w c.args.reversed paths)
+    (λ w j. some_parts paths before after is one other w c.args.reversed c.in_ok-one.ensures c.in_ok-other.ensures j) c.either_of.ensures

@@ -1,4 +1,4 @@
-use Rattle.compiled_paths.proofs.Sizes.{list_size, path_size}
+use Rattle.path_ast.proofs.Sizes.{list_size, path_size}
 use Rattle.path_eval.proofs.making.+making.Given as goal
 
 abbrev pub decreases-walker_of : goal.decreases-walker_of

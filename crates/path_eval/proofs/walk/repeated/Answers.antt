@@ -12,10 +12,10 @@ returns-clause-followed g c =
     let ids = g.R.Triples.triples c.args.graph.now in
     let xs = c.args.starts.now in
     let plan = plan_of c.in_ok-walker.walker in
-    let R = Reaches ids c.args.turned c.args.path.now in
-    let L = Reads ids c.args.turned c.args.path.now in
+    let R = Reaches ids c.args.reversed c.args.path.now in
+    let L = Reads ids c.args.reversed c.args.path.now in
     let old = c.args.footprint.now in
     let new = c.follow.new.footprint in
-    let made = made_any_number c.in_ok-once.once c.in_ok-walker.walker (λ ids. Reaches ids c.args.turned c.args.path.now) (λ ids. Reads ids c.args.turned c.args.path.now) c.in_ok-once.ensures c.in_ok-walker.ensures in
+    let made = made_any_number c.in_ok-once.once c.in_ok-walker.walker (λ ids. Reaches ids c.args.reversed c.args.path.now) (λ ids. Reads ids c.args.reversed c.args.path.now) c.in_ok-once.ensures c.in_ok-walker.ensures in
     IfOk-weaker c.follow.result (λ ends. IsFollowed xs (Goes ids plan) (Sees ids plan) old new ends.items) (λ ends. IsFollowed xs (Repeated R) (AtRepeated R L) old new ends.items)
     (λ ends h. followed_same xs (Goes ids plan) (Repeated R) (Sees ids plan) (AtRepeated R L) old new ends.items (made.reaches ids) (made.reads ids) h) c.follow.ensures.followed

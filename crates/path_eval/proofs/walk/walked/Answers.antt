@@ -11,8 +11,8 @@ returns-clause-followed g c =
     let ids = g.R.Triples.triples c.args.graph.now in
     let xs = c.args.starts.now in
     let plan = plan_of c.in_ok-walker.walker in
-    let R = Reaches ids c.args.turned c.args.path.now in
-    let L = Reads ids c.args.turned c.args.path.now in
+    let R = Reaches ids c.args.reversed c.args.path.now in
+    let L = Reads ids c.args.reversed c.args.path.now in
     let old = c.args.footprint.now in
     let new = c.follow.new.footprint in
     IfOk-weaker c.follow.result (λ ends. IsFollowed xs (Goes ids plan) (Sees ids plan) old new ends.items) (λ ends. IsFollowed xs R L old new ends.items)

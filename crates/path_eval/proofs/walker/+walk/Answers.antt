@@ -87,16 +87,16 @@ walk_on-returns-in_ok-enter_all-in-Edges-clause-ends g t c =
     let old = c.args.footprint.now in
     let new = c.edges.new.footprint in
     let p = c.in-Edges.predicate in
-    let turned = c.in-Edges.turned in
+    let reversed = c.in-Edges.reversed in
     let seen = c.in-Edges.seen in
     let seen' = c.enter_all.new.visited in
-    let R = λ (x y : ℕ). IsFound (look_from turned p x) ids y in
-    let L = λ (x : ℕ) (look : Look ℕ). look ≡ look_from turned p x in
+    let R = λ (x y : ℕ). IsFound (look_from reversed p x) ids y in
+    let L = λ (x : ℕ) (look : Look ℕ). look ≡ look_from reversed p x in
     let from = subst (λ (l : List ℕ). IfOk c.edges.result (λ ends. IsFollowed l R L old new ends.items)) c.entered_after.ensures c.edges.ensures.followed in
     let fresh = subst (λ (n : ℕ). IfOk c.edges.result (λ ends. IsFollowed (drop n seen') R L old new ends.items)) c.len-from.ensures.len from in
-    subst (λ (w : Walker). IfOk c.edges.result (λ ends. GoesOn ids w (Edges p turned seen') xs old new ends.items)) (sym c.in-Edges.is)
-    (IfOk-weaker c.edges.result (λ ends. IsFollowed (drop (length seen) seen') R L old new ends.items) (λ ends. GoesOn ids (Edges p turned seen) (Edges p turned seen') xs old new ends.items)
-    (λ ends h. edges_on ids p turned seen seen' xs ends.items old new c.in_ok-enter_all-in-Edges.ensures h) fresh)
+    subst (λ (w : Walker). IfOk c.edges.result (λ ends. GoesOn ids w (Edges p reversed seen') xs old new ends.items)) (sym c.in-Edges.is)
+    (IfOk-weaker c.edges.result (λ ends. IsFollowed (drop (length seen) seen') R L old new ends.items) (λ ends. GoesOn ids (Edges p reversed seen) (Edges p reversed seen') xs old new ends.items)
+    (λ ends h. edges_on ids p reversed seen seen' xs ends.items old new c.in_ok-enter_all-in-Edges.ensures h) fresh)
 
 pub walk_on-returns-in_ok-middle-in-Then-clause-ends : goal.walk_on-returns-in_ok-middle-in-Then-clause-ends
 walk_on-returns-in_ok-middle-in-Then-clause-ends g t c =

@@ -1,5 +1,5 @@
 use Rattle.rdf_model.specs.declared.term.Term.{Term}
-use Rattle.plain_paths.specs.Ways.{LeadsTo}
+use Rattle.plain_terms.specs.Ways.{LeadsTo}
 use Rattle.plain_terms.proofs.FoundItems.{some_all, some_step}
 use Rattle.plain_validation.proofs.values.values_along.Goals as goal
 

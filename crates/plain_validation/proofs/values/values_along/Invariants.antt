@@ -1,6 +1,6 @@
 use Rattle.std.proofs.Common.{take}
 use Rattle.plain_terms.specs.Finds.{Finds, WithSome}
-use Rattle.plain_paths.specs.Ways.{LeadsTo}
+use Rattle.plain_terms.specs.Ways.{LeadsTo}
 use Rattle.plain_validation.proofs.values.values_along.Given as goal
 
 abbrev pub invariant-loop-path : goal.invariant-loop-path

@@ -2,7 +2,7 @@ use Rattle.std.proofs.Common.{List, [], subst, sym}
 use Rattle.rdf_model.specs.declared.triple.Triple.{Triple}
 use Rattle.rdf_model.specs.declared.ids.Ids.{Ids}
 use Rattle.rdf_model.specs.Numbers.{AreNumbered}
-use Rattle.term_validation.specs.Named.{IsNamedTriple}
+use Rattle.parallel_validate.specs.Named.{IsNamedTriple}
 use Rattle.random_tests.proofs.evaluated.added_last.Goals as goal
 
 pub loop-triple-init : goal.loop-triple-init

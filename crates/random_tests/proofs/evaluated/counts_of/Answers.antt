@@ -2,8 +2,8 @@ use Rattle.std.proofs.Common.{◌∙◌, List, sym, subst}
 use Rattle.rdf_model.specs.declared.term.Term.{Term}
 use Rattle.rdf_model.specs.declared.triple.Triple.{Triple}
 use Rattle.shape_model.specs.Vocabulary.{rdf_type, sub_class_of}
-use Rattle.compiled_paths.specs.PathReadings.{IsNamed}
-use Rattle.term_validation.specs.Named.{AreNamedTriples}
+use Rattle.path_ast.specs.PathReadings.{IsNamed}
+use Rattle.parallel_validate.specs.Named.{AreNamedTriples}
 use Rattle.random_tests.proofs.evaluated.counts_of.Goals as goal
 
 pub class_words-requires : goal.class_words-requires

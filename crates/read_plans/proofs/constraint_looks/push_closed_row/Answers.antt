@@ -1,6 +1,6 @@
 use Rattle.std.proofs.Common.{map, sym, subst, arith, List}
 use Rattle.shape_model.specs.Looks.{LookRow}
-use Rattle.compiled_paths.specs.PathReadings.{defined_path}
+use Rattle.path_ast.specs.PathReadings.{defined_path}
 use Rattle.read_plans.specs.Rows.{Adds}
 use Rattle.read_plans.proofs.Growing.{adds_none}
 use Rattle.read_plans.proofs.ShapeSteps.{closed_row, no_closed_row}

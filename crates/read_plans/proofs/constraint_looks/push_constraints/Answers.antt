@@ -1,7 +1,7 @@
 use Rattle.std.proofs.Common.{◌<◌, length, map, arith}
 use Rattle.std.specs.List.{flat_map}
 use Rattle.std.proofs.lemmas.Result.{err_from_is_err_and}
-use Rattle.compiled_paths.specs.PathReadings.{defined_path}
+use Rattle.path_ast.specs.PathReadings.{defined_path}
 use Rattle.shape_ast.specs.Readings.{read_constraint}
 use Rattle.read_plans.specs.ShapeRows.{constraint_rows}
 use Rattle.read_plans.proofs.Growing.{mapped_stopped, stopped_exit}

@@ -1,6 +1,6 @@
 use Rattle.std.proofs.Common.{map, drop}
 use Rattle.std.specs.List.{flat_map}
-use Rattle.compiled_paths.specs.PathReadings.{defined_path}
+use Rattle.path_ast.specs.PathReadings.{defined_path}
 use Rattle.shape_ast.specs.Readings.{read_constraint}
 use Rattle.read_plans.specs.ShapeRows.{constraint_rows}
 use Rattle.read_plans.proofs.Growing.{IsLeft}

@@ -2,8 +2,8 @@ use Rattle.std.proofs.Common.{◌<◌, ◌+◌, ◌*◌, ◌∷◌, ℕ, List, B
 use Rattle.std.proofs.lemmas.Result.{err_from_is_err_and}
 use Rattle.shape_model.specs.Looks.{LookRow}
 use Rattle.shape_model.specs.Paths as defined
-use Rattle.compiled_paths.specs.PathReadings.{defined_path, members}
-use Rattle.compiled_paths.proofs.Sizes.{list_size, member_more, path_size}
+use Rattle.path_ast.specs.PathReadings.{defined_path, members}
+use Rattle.path_ast.proofs.Sizes.{list_size, member_more, path_size}
 use Rattle.read_plans.specs.PathRows.{path_rows, through_rows}
 use Rattle.read_plans.specs.MemberRows.{backward_rows, each_rows, forward_rows}
 use Rattle.read_plans.specs.Rows.{Adds}
@@ -36,11 +36,11 @@ push_each-push_path-requires-in-loop-path t c =
 pub push_each-returns-in_err-push_path-2 : goal.push_each-returns-in_err-push_path-2
 push_each-returns-in_err-push_path-2 t c =
     let lt : c.loop-path.path-index < length c.args.others.now = omega (arith, c.loop-path-test.true) in
-    let all = each_rows c.args.turned (defined_path c.args.first.now ∷ map defined_path c.args.others.now) (map defined_path c.args.way.now) in
+    let all = each_rows c.args.reversed (defined_path c.args.first.now ∷ map defined_path c.args.others.now) (map defined_path c.args.way.now) in
     let f = c.in_err-push_path-2.field-0.0 in
     let k = err_from_is_err_and c.from_residual-in_err-push_path-2.result c.from_residual-in_err-push_path-2.ensures.1 in
     stopped_exit all c.args.rows.now c.push_path-in-loop-path.new.rows c.from_residual-in_err-push_path-2.result f k.0 k.1 k.2
-    (each_stopped c.args.others.now c.loop-path.path-index c.path-item.result lt c.path-item.is c.args.rows.now c.loop-path.rows all f c.args.turned c.args.way.now c.loop-path.invariant c.in_err-push_path-2.ensures)
+    (each_stopped c.args.others.now c.loop-path.path-index c.path-item.result lt c.path-item.is c.args.rows.now c.loop-path.rows all f c.args.reversed c.args.way.now c.loop-path.invariant c.in_err-push_path-2.ensures)
 
 pub push_forward-push_path-requires-in-loop-path : goal.push_forward-push_path-requires-in-loop-path
 push_forward-push_path-requires-in-loop-path t c =
@@ -74,7 +74,7 @@ push_path-push_each-requires t c =
 pub push_path-returns-in-Sequence : goal.push_path-returns-in-Sequence
 push_path-returns-in-Sequence t c =
     let parts = sequence_parts c.args.path.now c.in-Sequence.first c.in-Sequence.others c.deref-in-Sequence.result.now c.deref-in-Sequence-2.result.now c.deref-in-Sequence.ensures c.deref-in-Sequence-2.ensures.value c.in-Sequence.is in
-    subst (λ (p : defined.Path). Adds (path_rows c.args.turned p (map defined_path c.args.way.now)) c.args.rows.now c.push_through.new.rows c.push_through.result) (sym parts) c.push_through.ensures
+    subst (λ (p : defined.Path). Adds (path_rows c.args.reversed p (map defined_path c.args.way.now)) c.args.rows.now c.push_through.new.rows c.push_through.result) (sym parts) c.push_through.ensures
 
 pub push_path-returns-in-Alternative : goal.push_path-returns-in-Alternative
 push_path-returns-in-Alternative t c =
@@ -82,21 +82,21 @@ push_path-returns-in-Alternative t c =
     let ps = c.deref-in-Alternative-2.result.now in
     let q = map defined_path c.args.way.now in
     let parts = alternative_parts c.args.path.now c.in-Alternative.first c.in-Alternative.others f ps c.deref-in-Alternative.ensures c.deref-in-Alternative-2.ensures.value c.in-Alternative.is in
-    subst (λ (p : defined.Path). Adds (path_rows c.args.turned p q) c.args.rows.now c.push_each.new.rows c.push_each.result) (sym parts)
-    (subst (λ (rows : List LookRow). Adds rows c.args.rows.now c.push_each.new.rows c.push_each.result) (sym (each_members c.args.turned (defined_path f) (map defined_path ps) q)) c.push_each.ensures)
+    subst (λ (p : defined.Path). Adds (path_rows c.args.reversed p q) c.args.rows.now c.push_each.new.rows c.push_each.result) (sym parts)
+    (subst (λ (rows : List LookRow). Adds rows c.args.rows.now c.push_each.new.rows c.push_each.result) (sym (each_members c.args.reversed (defined_path f) (map defined_path ps) q)) c.push_each.ensures)
 
-pub push_through-returns-then-turned : goal.push_through-returns-then-turned
-push_through-returns-then-turned t c =
+pub push_through-returns-then-reversed : goal.push_through-returns-then-reversed
+push_through-returns-then-reversed t c =
     let p = defined_path c.args.first.now in
     let ps = map defined_path c.args.others.now in
     let q = map defined_path c.args.way.now in
-    subst (λ (b : Bool). Adds (through_rows b (members p ps) q) c.args.rows.now c.push_backward.new.rows c.push_backward.result) (sym c.if-turned.true)
+    subst (λ (b : Bool). Adds (through_rows b (members p ps) q) c.args.rows.now c.push_backward.new.rows c.push_backward.result) (sym c.if-reversed.true)
     (subst (λ (rows : List LookRow). Adds rows c.args.rows.now c.push_backward.new.rows c.push_backward.result) (sym (backward_members p ps q)) c.push_backward.ensures)
 
-pub push_through-returns-else-turned : goal.push_through-returns-else-turned
-push_through-returns-else-turned t c =
+pub push_through-returns-else-reversed : goal.push_through-returns-else-reversed
+push_through-returns-else-reversed t c =
     let p = defined_path c.args.first.now in
     let ps = map defined_path c.args.others.now in
     let q = map defined_path c.args.way.now in
-    subst (λ (b : Bool). Adds (through_rows b (members p ps) q) c.args.rows.now c.push_forward.new.rows c.push_forward.result) (sym c.if-turned.false)
+    subst (λ (b : Bool). Adds (through_rows b (members p ps) q) c.args.rows.now c.push_forward.new.rows c.push_forward.result) (sym c.if-reversed.false)
     (subst (λ (rows : List LookRow). Adds rows c.args.rows.now c.push_forward.new.rows c.push_forward.result) (sym (forward_members p ps q)) c.push_forward.ensures)

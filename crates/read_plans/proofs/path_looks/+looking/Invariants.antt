@@ -1,6 +1,6 @@
 use Rattle.std.proofs.Common.{◌+◌, ◌*◌, ◌∷◌, map, drop}
-use Rattle.compiled_paths.specs.PathReadings.{defined_path}
-use Rattle.compiled_paths.proofs.Sizes.{list_size, path_size}
+use Rattle.path_ast.specs.PathReadings.{defined_path}
+use Rattle.path_ast.proofs.Sizes.{list_size, path_size}
 use Rattle.read_plans.specs.MemberRows.{backward_rows, each_rows, forward_rows}
 use Rattle.read_plans.proofs.Growing.{IsLeft}
 use Rattle.read_plans.proofs.path_looks.+looking.Given as goal
@@ -16,7 +16,7 @@ invariant-push_backward-loop-index l =
 
 abbrev pub invariant-push_each-loop-path : goal.invariant-push_each-loop-path
 invariant-push_each-loop-path l =
-    IsLeft l.fn.rows l.rows (each_rows l.turned (defined_path l.first ∷ map defined_path l.others) (map defined_path l.way)) (each_rows l.turned (map defined_path (drop l.path-index l.others)) (map defined_path l.way))
+    IsLeft l.fn.rows l.rows (each_rows l.reversed (defined_path l.first ∷ map defined_path l.others) (map defined_path l.way)) (each_rows l.reversed (map defined_path (drop l.path-index l.others)) (map defined_path l.way))
 
 abbrev pub decreases-push_path : goal.decreases-push_path
 decreases-push_path a = 4 * path_size a.path.now

@@ -2,7 +2,7 @@ use Rattle.std.proofs.Common.{◌≡◌, ◌∙◌, ◌-◌, ℕ, List, map, ap,
 use Rattle.std.specs.List.{flat_map}
 use Rattle.std.proofs.lemmas.Result.{err_from_is_err_and}
 use Rattle.shape_model.specs.Looks.{LookRow}
-use Rattle.compiled_paths.specs.PathReadings.{defined_path}
+use Rattle.path_ast.specs.PathReadings.{defined_path}
 use Rattle.shape_ast.specs.Readings.{read_shape, read_shapes}
 use Rattle.read_plans.specs.ShapeRows.{own_rows, referred_places, shape_rows, value_way}
 use Rattle.read_plans.specs.Rows.{Adds}

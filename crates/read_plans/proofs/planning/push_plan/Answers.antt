@@ -2,7 +2,7 @@ use Rattle.std.proofs.Common.{◌≡◌, ◌∙◌, ◌++◌, List, [], map, get
 use Rattle.std.specs.List.{flat_map}
 use Rattle.std.specs.Prelude.{slice_get}
 use Rattle.rdf_model.specs.declared.term.Term.{Term}
-use Rattle.compiled_paths.specs.PathReadings.{defined_path}
+use Rattle.path_ast.specs.PathReadings.{defined_path}
 use Rattle.shape_ast.specs.declared.target.Target.{Target}
 use Rattle.shape_ast.specs.Readings.{read_shapes, read_target}
 use Rattle.read_plans.specs.ShapeRows.{all_target_rows, plan_rows, shape_rows, target_rows}

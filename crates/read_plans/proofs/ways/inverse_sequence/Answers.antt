@@ -1,7 +1,7 @@
 use Rattle.std.proofs.Common.{◌∙◌, ap}
 use Rattle.shape_model.specs.Paths as defined
-use Rattle.compiled_paths.specs.PathReadings.{defined_path, members}
-use Rattle.compiled_paths.proofs.Rows.{sequence_read}
+use Rattle.path_ast.specs.PathReadings.{defined_path, members}
+use Rattle.path_ast.proofs.Rows.{sequence_read}
 use Rattle.read_plans.proofs.ways.inverse_sequence.Goals as goal
 
 pub returns : goal.returns

@@ -1,6 +1,6 @@
 use Rattle.std.proofs.Common.{string_bytes}
 use Rattle.std.proofs.lemmas.Result.{on_ok_weaker}
-use Rattle.compiled_paths.specs.PathReadings.{defined_path}
+use Rattle.path_ast.specs.PathReadings.{defined_path}
 use Rattle.report_writer.specs.PathTexts.{path_text}
 use Rattle.report_writer.specs.Report.{result_label}
 use Rattle.report_writer.proofs.Joins.{path_line}

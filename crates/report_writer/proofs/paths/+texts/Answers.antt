@@ -3,9 +3,9 @@ use Rattle.std.specs.List.{flat_map}
 use Rattle.std.proofs.lemmas.List.{take_all}
 use Rattle.std.proofs.lemmas.Result.{on_ok_weaker}
 use Rattle.rdf_model.specs.declared.term.Term.{Term}
-use Rattle.compiled_paths.specs.declared.path.Path.{Path}
-use Rattle.compiled_paths.specs.PathReadings.{defined_path}
-use Rattle.compiled_paths.proofs.Sizes.{list_size, member_more, path_size}
+use Rattle.path_ast.specs.declared.path.Path.{Path}
+use Rattle.path_ast.specs.PathReadings.{defined_path}
+use Rattle.path_ast.proofs.Sizes.{list_size, member_more, path_size}
 use Rattle.report_writer.specs.PathTexts.{node_text, path_text}
 use Rattle.report_writer.proofs.PathLists.{alternative_less, alternative_text, begun_list, bracketed, ended, further, one_further, sequence_less, sequence_text}
 use Rattle.report_writer.proofs.paths.+texts.Goals as goal

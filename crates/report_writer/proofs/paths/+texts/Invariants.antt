@@ -1,7 +1,7 @@
 use Rattle.std.proofs.Common.{◌≡◌, ◌++◌, ◌+◌, codes, string_bytes, take}
 use Rattle.std.specs.List.{flat_map}
-use Rattle.compiled_paths.specs.PathReadings.{defined_path}
-use Rattle.compiled_paths.proofs.Sizes.{list_size, path_size}
+use Rattle.path_ast.specs.PathReadings.{defined_path}
+use Rattle.path_ast.proofs.Sizes.{list_size, path_size}
 use Rattle.report_writer.specs.PathTexts.{path_text}
 use Rattle.report_writer.proofs.PathLists.{further}
 use Rattle.report_writer.proofs.paths.+texts.Given as goal

@@ -39,4 +39,4 @@ returns g c =
     let some : HasChange x.net x.staged = subst (λ (b : Bool). MatchBool b ((x.net ≡ []) × (x.staged ≡ None)) (HasChange x.net x.staged)) c.if-only_reads.false c.only_reads.ensures in
     let same : c.take_head.new.open.transaction ≡ x = ap (λ w. w.transaction) c.in_ok-take_head.ensures.same in
     let reply : CommitsWith c.args.session c.take_head.new.core c.commit_reply.new.core x c.in_ok-reply.reply = subst (λ (y : Transaction). CommitsWith c.args.session c.take_head.new.core c.commit_reply.new.core y c.in_ok-reply.reply) same c.in_ok-reply.ensures in
-    rw c.in-Some.is (performs_commit _ _ _ _ (plain c.in-Some.open) _ _ _ reply.verdict _ c.in_ok-reply.reply ready some c.in_ok-take_head.ensures.head.step reply.step (λ cs. reply.told c.in-Some.open.snap.graph cs _) reply.sound c.in_ok-push.ensures.ok)
+    rw c.in-Some.is (performs_commit _ _ _ _ (plain c.in-Some.open) _ _ _ reply.verdict _ c.in_ok-reply.reply ready some c.in_ok-take_head.ensures.head.step reply.step (λ cs. reply.told c.in-Some.open.snap.graph c.in-Some.open.snap.shapes cs _) reply.sound c.in_ok-push.ensures.ok)

@@ -1,5 +1,5 @@
 use Rattle.session_transaction.specs.Checks.{verdict_of}
-use Rattle.session_transaction.proofs.Checking.{committable_kept, rows_kept}
+use Rattle.session_transaction.proofs.Checking.{committable_kept, pairs_kept}
 use Rattle.session_transaction.proofs.Listed.{listed_answer}
 use Rattle.session_player.proofs.Playing.{commits_with}
 use Rattle.session_player.proofs.perform.commit_reply.Goals as goal
@@ -12,7 +12,7 @@ commit-requires-clause-committable g c =
 pub commit-requires-clause-verdict : goal.commit-requires-clause-verdict
 commit-requires-clause-verdict g c =
     let s = c.args.core.now in
-    rw c.into_parts-handed.ensures (rows_kept s.limits s.start s.history c.args.open.transaction.net c.args.open.checked c.requires.kept)
+    rw c.into_parts-handed.ensures (pairs_kept s.limits s.start s.history c.args.open.transaction.net c.args.open.checked c.requires.kept)
 
 pub reply_of_commit-requires : goal.reply_of_commit-requires
 reply_of_commit-requires g c = listed_answer c.args.core.now.state c.into_parts-handed.result.0.transaction c.in-Ok.ensures.answer.reply c.in-Ok.committed c.in-Ok.ensures.answer.told

@@ -12,7 +12,7 @@ returns-clause-head g c = record { number = _; step = c.in_ok-head.ensures.step 
 pub returns-clause-same : goal.returns-clause-same
 returns-clause-same g c =
     let p = check_same _ _ _ _ c.in_ok-check.ensures.checks in
-    λ i. record { transaction = p.0 i; graph = (p.1 i).graph; head_taken = false }
+    λ i. record { transaction = p.0 i; graph = (p.1 i).graph; shapes = (p.1 i).shapes; head_taken = false }
 
 pub returns-clause-kept : goal.returns-clause-kept
 returns-clause-kept g c = head_keeps _ _ _ _ _ _ _ c.recall_consistent.ensures.replays c.in_ok-head.ensures.step c.in_ok-head.ensures.snapshot c.in_ok-check.ensures.checks

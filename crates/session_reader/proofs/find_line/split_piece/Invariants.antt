@@ -1,5 +1,5 @@
 use Rattle.std.proofs.Common.{◌≡◌}
-use Rattle.session_reader.specs.declared.find_line.Place.TheVariants.{Outside}
+use Rattle.session_reader.specs.declared.find_line.LinePlace.TheVariants.{Outside}
 use Rattle.session_reader.specs.FindLine.{pieces}
 use Rattle.session_reader.proofs.Pieces.{pieces_at}
 use Rattle.session_reader.proofs.find_line.split_piece.Given as goal

@@ -14,6 +14,12 @@ returns-in-CommitCommand-clause-item c = λ more. rw c.in-CommitCommand.is (c.pu
 pub returns-in-CommitCommand-clause-next : goal.returns-in-CommitCommand-clause-next
 returns-in-CommitCommand-clause-next c = single_next c.push_command-in-CommitCommand.result c.args.next.now (length c.args.after.now) (map (λ l. l.now) c.args.after.now) _ _ (c.push_command-in-CommitCommand.ensures (Ok []))
 
+pub returns-in-ReportCommand-clause-item : goal.returns-in-ReportCommand-clause-item
+returns-in-ReportCommand-clause-item c = λ more. rw c.in-ReportCommand.is (c.push_command-in-ReportCommand.ensures (more c.args.next.now))
+
+pub returns-in-ReportCommand-clause-next : goal.returns-in-ReportCommand-clause-next
+returns-in-ReportCommand-clause-next c = single_next c.push_command-in-ReportCommand.result c.args.next.now (length c.args.after.now) (map (λ l. l.now) c.args.after.now) _ _ (c.push_command-in-ReportCommand.ensures (Ok []))
+
 pub returns-in-AbortCommand-clause-item : goal.returns-in-AbortCommand-clause-item
 returns-in-AbortCommand-clause-item c = λ more. rw c.in-AbortCommand.is (c.push_command-in-AbortCommand.ensures (more c.args.next.now))
 

@@ -1,6 +1,6 @@
 use Rattle.std.proofs.Common.{◌≡◌, drop}
 use Rattle.session_model.specs.Sessions.{up_to_event}
-use Rattle.thread_model.specs.Following.{first_state}
+use Rattle.session_laws.specs.Following.{first_state}
 use Rattle.guard_store.specs.Callers.{IsSession}
 use Rattle.session_transaction.specs.Transactions.{plain_in}
 use Rattle.session_threads.specs.Playing.{HasPlayed}

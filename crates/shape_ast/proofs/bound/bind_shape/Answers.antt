@@ -3,10 +3,10 @@ use Rattle.std.specs.List.{All}
 use Rattle.std.specs.Prelude.{MatchOption, Option}
 use Rattle.rdf_model.specs.declared.term.Term.{Term}
 use Rattle.rdf_model.specs.Numbers.{term_at}
-use Rattle.compiled_paths.specs.declared.path.Path.{Path}
-use Rattle.compiled_paths.specs.PathReadings.{HasEach}
+use Rattle.path_ast.specs.declared.path.Path.{Path}
+use Rattle.path_ast.specs.PathReadings.{HasEach}
 use Rattle.shape_ast.specs.declared.constraint.Constraint.{Constraint}
-use Rattle.shape_ast.specs.declared.pattern.Pattern.{Pattern}
+use Rattle.shape_ast.specs.declared.pattern.CompiledPattern.{CompiledPattern}
 use Rattle.shape_ast.specs.declared.target.Target.{Target}
 use Rattle.shape_ast.specs.Binding.{IsBoundList, IsBoundPattern}
 use Rattle.shape_ast.specs.Readings.{HoldsOfConstraint, HoldsOfTarget, read_constraint, read_optional_path, read_target}
@@ -20,7 +20,7 @@ returns g c =
     let s = c.args.shape.now in
     let path_range = ok_of c.bind_optional_path.result c.in_ok-path.path (λ (b : Option (Path ℕ)). MatchOption b (Unit {0}) (HasEach (λ k. k < n))) c.in_ok-path.ensures.0 c.bind_optional_path.ensures.bound in
     let path = ok_of c.bind_optional_path.result c.in_ok-path.path (λ (b : Option (Path ℕ)). read_optional_path (term_at terms) b ≡ read_optional_path (λ (t : Term). t) s.path) c.in_ok-path.ensures.0 c.bind_optional_path.ensures.path in
-    let pattern = ok_of c.bind_pattern.result c.in_ok-path.pattern (λ (b : Option (Pattern ℕ)). IsBoundPattern terms s.pattern b) c.in_ok-path.ensures.1 c.bind_pattern.ensures in
+    let pattern = ok_of c.bind_pattern.result c.in_ok-path.pattern (λ (b : Option (CompiledPattern ℕ)). IsBoundPattern terms s.pattern b) c.in_ok-path.ensures.1 c.bind_pattern.ensures in
     let targets = ok_of c.bind_targets.result c.in_ok-targets.targets (λ (b : List (Target ℕ)). All (HoldsOfTarget (λ k. k < n)) b × (map (read_target (term_at terms)) b ≡ map (read_target (λ (t : Term). t)) c.as_slice.result.now)) c.in_ok-targets.ensures.0 c.bind_targets.ensures in
     let constraints = ok_of c.bind_constraints.result c.in_ok-targets.constraints (λ (b : List (Constraint ℕ)). All (HoldsOfConstraint (λ k. k < n) c.args.shapes) b × (map (read_constraint (term_at terms)) b ≡ map (read_constraint (λ (t : Term). t)) c.as_slice-2.result.now)) c.in_ok-targets.ensures.1 c.bind_constraints.ensures in
     let messages = ok_of c.bind_terms.result c.in_ok-messages.messages (λ (b : List ℕ). IsBoundList terms c.as_slice-3.result.now b) c.in_ok-messages.ensures.0 c.bind_terms.ensures in

@@ -3,8 +3,8 @@ use Rattle.std.proofs.lemmas.List.{length-map}
 use Rattle.std.proofs.lemmas.List.Elements.{All-push}
 use Rattle.rdf_model.specs.declared.term.Term.{Term}
 use Rattle.rdf_model.specs.Numbers.{term_at}
-use Rattle.compiled_paths.specs.PathReadings.{IsNamed}
-use Rattle.compiled_paths.proofs.ReadItems.{map_more, read_at}
+use Rattle.path_ast.specs.PathReadings.{IsNamed}
+use Rattle.path_ast.proofs.ReadItems.{map_more, read_at}
 use Rattle.shape_ast.specs.declared.constraint.Constraint.{Constraint}
 use Rattle.shape_ast.specs.Readings.{HoldsOfConstraint, read_constraint}
 use Rattle.shape_ast.proofs.parts.bind_constraints.Goals as goal

@@ -1,6 +1,6 @@
 use Rattle.std.proofs.Common.{◌≡◌, get_or}
 use Rattle.std.specs.Prelude.{Some}
-use Rattle.compiled_paths.specs.declared.path.Path.{Predicate}
+use Rattle.path_ast.specs.declared.path.Path.{Predicate}
 use Rattle.shape_eval.specs.Predicates.{IsPathAt}
 use Rattle.shape_eval.proofs.Closings.{path_got}
 use Rattle.shape_eval.proofs.Growing.{right_same, some_all, some_more}

@@ -13,7 +13,7 @@ use Rattle.component_rows.specs.Sites.{ListsAt, Spot, at_values}
 use Rattle.component_rows.specs.Nodes.{HasNode}
 use Rattle.component_rows.proofs.Collecting.{collects_none, collects_same}
 use Rattle.shape_ast.specs.Readings.{ReadShape, read_optional, read_pattern, read_shape}
-use Rattle.shape_ast.specs.declared.pattern.Pattern.{Pattern}
+use Rattle.shape_ast.specs.declared.pattern.CompiledPattern.{CompiledPattern}
 use Rattle.shape_model.specs.Patterns.{IsPatternOf}
 use Rattle.string_constraints.specs.Matches.{with_flags}
 use Rattle.shape_ast.specs.Standing.{HasFlagsText, shape_reading}
@@ -39,7 +39,7 @@ returns-in-Some g c =
     let read = read_shape (term_at terms) shape in
     let q = term_at terms c.in-Some.built.parameter in
     let is : read.pattern ≡ Some q = ap (read_pattern (term_at terms)) c.in-Some.is in
-    let b = subst (λ (o : Option (Pattern ℕ)). MatchOption o (Unit {0}) (λ p. (text : List ℕ) × HasFlagsText (read_optional (term_at terms) shape.flags) text × IsPatternOf (term_at terms p.parameter) text (arc_value p.regex))) c.in-Some.is c.requires.built in
+    let b = subst (λ (o : Option (CompiledPattern ℕ)). MatchOption o (Unit {0}) (λ p. (text : List ℕ) × HasFlagsText (read_optional (term_at terms) shape.flags) text × IsPatternOf (term_at terms p.parameter) text (arc_value p.regex))) c.in-Some.is c.requires.built in
     IfOk-weaker c.pattern.result
     (λ rows. ListsRows components.Pattern (at_nodes (HasNode terms values)) (with_flags b.0) read.node f q rows.items)
     (λ rows. (ids : List Ids) (s : List Triple) (n : ℕ) (shapes : List ReadShape) → Collects (PatternRow (around terms ids s n values c.args.focus) shapes read f) rows.items)

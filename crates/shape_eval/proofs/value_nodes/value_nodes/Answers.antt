@@ -2,7 +2,7 @@ use Rattle.std.proofs.Common.{◌≡◌, ℕ, IfOk, OnOk, Option, Some, None, fa
 use Rattle.std.proofs.lemmas.Result.{IfOk-weaker}
 use Rattle.std.specs.Ordering.{nat_cmp}
 use Rattle.collections.specs.Listings.{IsListing}
-use Rattle.compiled_paths.specs.declared.path.Path.{Path}
+use Rattle.path_ast.specs.declared.path.Path.{Path}
 use Rattle.path_eval.specs.Naming.{AddsLooks, AreValues, Numbered}
 use Rattle.shape_eval.specs.ValueNodes.{AreValueNodes, AtNumbers}
 use Rattle.rdf_model.specs.Numbers.{graph_of, term_at}

@@ -1,7 +1,7 @@
 use Rattle.std.proofs.Common.{◌≡◌, ◌+◌, ◌<◌, ℕ, List, length, take, arith, ap, subst}
 use Rattle.std.proofs.lemmas.List.{take_all}
-use Rattle.compiled_paths.specs.declared.path.Path.{Path}
-use Rattle.compiled_paths.proofs.Sizes.{alternative_more, alternative_size, list_size, member_more, path_size, sequence_more, sequence_size}
+use Rattle.path_ast.specs.declared.path.Path.{Path}
+use Rattle.path_ast.proofs.Sizes.{alternative_more, alternative_size, list_size, member_more, path_size, sequence_more, sequence_size}
 use Rattle.shape_plans.proofs.Comparing.{ReadAllSame, alternatives_same, next_same, sequences_same}
 use Rattle.shape_plans.proofs.alike.+comparing.Goals as goal
 

@@ -1,5 +1,5 @@
 use Rattle.std.proofs.Common.{take}
-use Rattle.compiled_paths.proofs.Sizes.{list_size, path_size}
+use Rattle.path_ast.proofs.Sizes.{list_size, path_size}
 use Rattle.shape_plans.proofs.Comparing.{ReadAllSame}
 use Rattle.shape_plans.proofs.alike.+comparing.Given as goal
 

@@ -1,8 +1,8 @@
 use Rattle.std.proofs.Common.{List, subst, sym}
 use Rattle.std.specs.List.{All}
 use Rattle.rdf_model.specs.declared.term.Term.{Term}
-use Rattle.compiled_paths.specs.declared.path.Path.{Path}
-use Rattle.compiled_paths.specs.PathReadings.{IsNamed, IsNamedPath}
+use Rattle.path_ast.specs.declared.path.Path.{Path}
+use Rattle.path_ast.specs.PathReadings.{IsNamed, IsNamedPath}
 use Rattle.shape_plans.proofs.Numbering.{ways_named}
 use Rattle.shape_plans.proofs.looks.number_look.Goals as goal
 

@@ -1,6 +1,6 @@
 use Rattle.std.proofs.Common.{◌<◌, List, [], length, arith, subst, sym}
 use Rattle.std.proofs.lemmas.List.Elements.{All-nil}
-use Rattle.compiled_paths.specs.PathReadings.{IsNamed}
+use Rattle.path_ast.specs.PathReadings.{IsNamed}
 use Rattle.read_plans.specs.NamedRows.{HoldsOfRow}
 use Rattle.read_plans.specs.Rows.{read_look}
 use Rattle.focus_affected.specs.declared.plan.NumberedLook.{NumberedLook}

@@ -1,6 +1,6 @@
 use Rattle.std.proofs.Common.{◌≡◌, length, map, take}
 use Rattle.std.specs.List.{All}
-use Rattle.compiled_paths.specs.PathReadings.{IsBoundPath, defined_path, path_of}
+use Rattle.path_ast.specs.PathReadings.{IsBoundPath, defined_path, path_of}
 use Rattle.shape_plans.proofs.looks.number_paths.Given as goal
 
 -- the paths so far are bound

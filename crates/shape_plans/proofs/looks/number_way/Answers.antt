@@ -1,5 +1,5 @@
 use Rattle.std.proofs.Common.{◌∙◌, length, map, ap, subst, sym}
-use Rattle.compiled_paths.specs.PathReadings.{IsBoundPath, defined_path, path_of}
+use Rattle.path_ast.specs.PathReadings.{IsBoundPath, defined_path, path_of}
 use Rattle.shape_plans.proofs.Numbering.{way_bound, way_same}
 use Rattle.shape_plans.proofs.looks.number_way.Goals as goal
 

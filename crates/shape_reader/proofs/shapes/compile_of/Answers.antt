@@ -29,6 +29,6 @@ returns-clause-answer g c =
 pub returns-clause-once : goal.returns-clause-once
 returns-clause-once g c = c.in_ok-shapes.ensures.answer.0.once
 
-pub returns-in_err-turned-clause-asked : goal.returns-in_err-turned-clause-asked
-returns-in_err-turned-clause-asked g c =
+pub returns-in_err-reversed-clause-asked : goal.returns-in_err-reversed-clause-asked
+returns-in_err-reversed-clause-asked g c =
     let p = err_from_is_err_and c.from_residual.result c.from_residual.ensures.1 in rw (p.1, p.2) (asks_nothing c.args.graph.now (g.M.Maker.asked c.args.maker.now))

@@ -17,7 +17,7 @@ loop-triple-preserved c = gathered_next (λ (v : Triple) (t : Term). IsUnder c.a
 pub returns : goal.returns
 returns c = gave_as (Gives (λ (v : Triple) (t : Term). IsUnder c.args.graph.now c.args.shape.now v.object t) c.properties-triple-items.result.now) (IsBeside c.args.graph.now c.args.shape.now) c.args.nodes.now c.loop-triple.nodes
     (λ t.
-    let all = values_give c.args.turned.now c.properties-triple-items.result.now c.args.shape.now ShProperty (IsUnder c.args.graph.now c.args.shape.now) c.properties-triple-items.ensures t in
-    let same = beside_by c.args.graph.now c.args.turned.now c.args.shape.now c.requires.turned t in
+    let all = values_give c.args.reversed.now c.properties-triple-items.result.now c.args.shape.now ShProperty (IsUnder c.args.graph.now c.args.shape.now) c.properties-triple-items.ensures t in
+    let same = beside_by c.args.graph.now c.args.reversed.now c.args.shape.now c.requires.reversed t in
     (λ g. same.0 (all.0 g), λ h. all.1 (same.1 h)))
     (gathered_all (λ (v : Triple) (t : Term). IsUnder c.args.graph.now c.args.shape.now v.object t) c.properties-triple-items.result.now c.loop-triple.triple-index c.args.nodes.now c.loop-triple.nodes (omega arith) c.loop-triple.invariant)

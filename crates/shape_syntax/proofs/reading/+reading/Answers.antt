@@ -7,12 +7,12 @@ use Rattle.std.specs.List.{Contains}
 use Rattle.rdf_model.specs.declared.term.Term.{Term}
 use Rattle.shape_syntax.proofs.Scans.{contains_member}
 use Rattle.shape_model.specs.Paths as defined
-use Rattle.compiled_paths.specs.PathReadings.{defined_path, members}
+use Rattle.path_ast.specs.PathReadings.{defined_path, members}
 use Rattle.shape_syntax.specs.PathDepth.{IsRead, IsDeep}
-use Rattle.shape_syntax.specs.PathWays.{turned, joined, AreDeep, AreReadPaths}
+use Rattle.shape_syntax.specs.PathWays.{modified, joined, AreDeep, AreReadPaths}
 use Rattle.shape_syntax.specs.declared.way.Join.TheVariants as joins
-use Rattle.shape_syntax.proofs.PathWays.{blank_path, deep_at_none, listed_inner, offered_inner, turned_inner, path_nodes_of, list_deep, list_read}
-use Rattle.shape_syntax.proofs.PathParts.{sequence_found, alternative_found, turned_found, each_more, found_nodes, some_read, first_read}
+use Rattle.shape_syntax.proofs.PathWays.{blank_path, deep_at_none, listed_inner, offered_inner, modified_inner, path_nodes_of, list_deep, list_read}
+use Rattle.shape_syntax.proofs.PathParts.{sequence_found, alternative_found, modified_found, each_more, found_nodes, some_read, first_read}
 use Rattle.shape_syntax.proofs.reading.+reading.Goals as goal
 
 pub read_at-returns-then-levels-eq0 : goal.read_at-returns-then-levels-eq0
@@ -28,10 +28,10 @@ read_below-read_list-requires t c =
     let less : 5 * c.args.levels + 2 < 5 * c.args.levels + 4 = omega arith in
     (subst (λ (n : ℕ). 5 * c.args.levels + 2 < n) c.decreases less, (c.requires.graph, listed_inner c.args.graph.now c.args.node.now c.requires.blank c.in_default.ensures c.requires.path))
 
-pub read_below-read_list-requires-in_default-turn_of : goal.read_below-read_list-requires-in_default-turn_of
-read_below-read_list-requires-in_default-turn_of t c =
+pub read_below-read_list-requires-in_default-modifier_of : goal.read_below-read_list-requires-in_default-modifier_of
+read_below-read_list-requires-in_default-modifier_of t c =
     let less : 5 * c.args.levels + 2 < 5 * c.args.levels + 4 = omega arith in
-    (subst (λ (n : ℕ). 5 * c.args.levels + 2 < n) c.decreases less, (c.requires.graph, offered_inner c.args.graph.now c.args.node.now c.in-Some.triple.now.predicate c.in-Some.triple.now.object c.in-Some.ensures c.requires.blank c.in_default-turn_of.ensures c.requires.path))
+    (subst (λ (n : ℕ). 5 * c.args.levels + 2 < n) c.decreases less, (c.requires.graph, offered_inner c.args.graph.now c.args.node.now c.in-Some.triple.now.predicate c.in-Some.triple.now.object c.in-Some.ensures c.requires.blank c.in_default-modifier_of.ensures c.requires.path))
 
 pub read_below-returns-in_default : goal.read_below-returns-in_default
 read_below-returns-in_default t c =
@@ -42,21 +42,21 @@ read_below-returns-in_default t c =
     (λ found h. sequence_found s n c.args.levels c.requires.blank found h)
     c.read_list.ensures
 
-pub read_below-returns-in_default-turn_of : goal.read_below-returns-in_default-turn_of
-read_below-returns-in_default-turn_of t c =
+pub read_below-returns-in_default-modifier_of : goal.read_below-returns-in_default-modifier_of
+read_below-returns-in_default-modifier_of t c =
     let s = c.args.graph.now in
     let n = c.args.node.now in
     let p = c.in-Some.triple.now.predicate in
     let m = c.in-Some.triple.now.object in
-    IfOk-weaker c.read_list-in_default-turn_of.result (λ found. MatchOption found (AreDeep s m c.args.levels) (λ path. (ps : defined.Paths) × AreReadPaths s m c.args.levels ps × (defined_path path ≡ joined joins.Alternative ps)))
+    IfOk-weaker c.read_list-in_default-modifier_of.result (λ found. MatchOption found (AreDeep s m c.args.levels) (λ path. (ps : defined.Paths) × AreReadPaths s m c.args.levels ps × (defined_path path ≡ joined joins.Alternative ps)))
     (λ found. MatchOption found (IsDeep s n (c.args.levels + 1)) (λ path. IsRead s n (c.args.levels + 1) (defined_path path)))
-    (λ found h. alternative_found s n p m c.in-Some.ensures c.requires.blank c.args.levels c.in_default-turn_of.ensures c.requires.path found h)
-    c.read_list-in_default-turn_of.ensures
+    (λ found h. alternative_found s n p m c.in-Some.ensures c.requires.blank c.args.levels c.in_default-modifier_of.ensures c.requires.path found h)
+    c.read_list-in_default-modifier_of.ensures
 
-pub read_below-read_turned-requires : goal.read_below-read_turned-requires
-read_below-read_turned-requires t c =
+pub read_below-read_modified-requires : goal.read_below-read_modified-requires
+read_below-read_modified-requires t c =
     let less : 5 * c.args.levels + 3 < 5 * c.args.levels + 4 = omega arith in
-    (subst (λ (n : ℕ). 5 * c.args.levels + 3 < n) c.decreases less, (c.requires.graph, turned_inner c.args.graph.now c.args.node.now c.in-Some.triple.now.predicate c.in-Some.triple.now.object c.in-Some.ensures c.requires.blank c.in-Some-turn_of.turn c.in-Some-turn_of.ensures c.requires.path))
+    (subst (λ (n : ℕ). 5 * c.args.levels + 3 < n) c.decreases less, (c.requires.graph, modified_inner c.args.graph.now c.args.node.now c.in-Some.triple.now.predicate c.in-Some.triple.now.object c.in-Some.ensures c.requires.blank c.in-Some-modifier_of.modifier c.in-Some-modifier_of.ensures c.requires.path))
 
 pub read_below-returns : goal.read_below-returns
 read_below-returns t c =
@@ -64,14 +64,14 @@ read_below-returns t c =
     let n = c.args.node.now in
     let p = c.in-Some.triple.now.predicate in
     let m = c.in-Some.triple.now.object in
-    let turn = c.in-Some-turn_of.turn in
-    IfOk-weaker c.read_turned.result (λ found. MatchOption found (IsDeep s m c.args.levels) (λ path. (q : defined.Path) × IsRead s m c.args.levels q × (defined_path path ≡ turned turn q)))
+    let modifier = c.in-Some-modifier_of.modifier in
+    IfOk-weaker c.read_modified.result (λ found. MatchOption found (IsDeep s m c.args.levels) (λ path. (q : defined.Path) × IsRead s m c.args.levels q × (defined_path path ≡ modified modifier q)))
     (λ found. MatchOption found (IsDeep s n (c.args.levels + 1)) (λ path. IsRead s n (c.args.levels + 1) (defined_path path)))
-    (λ found h. turned_found s n p m c.in-Some.ensures c.requires.blank c.args.levels turn c.in-Some-turn_of.ensures found h)
-    c.read_turned.ensures
+    (λ found h. modified_found s n p m c.in-Some.ensures c.requires.blank c.args.levels modifier c.in-Some-modifier_of.ensures found h)
+    c.read_modified.ensures
 
-pub read_turned-returns-in_ok-turned_path-in-Some : goal.read_turned-returns-in_ok-turned_path-in-Some
-read_turned-returns-in_ok-turned_path-in-Some t c = (defined_path c.in-Some.path, rw c.in-Some.is at c.in_ok-path.ensures, c.in_ok-turned_path-in-Some.ensures)
+pub read_modified-returns-in_ok-modified_path-in-Some : goal.read_modified-returns-in_ok-modified_path-in-Some
+read_modified-returns-in_ok-modified_path-in-Some t c = (defined_path c.in-Some.path, rw c.in-Some.is at c.in_ok-path.ensures, c.in_ok-modified_path-in-Some.ensures)
 
 pub read_each-loop-node-preserved : goal.read_each-loop-node-preserved
 read_each-loop-node-preserved t c =

@@ -1,5 +1,5 @@
 use Rattle.std.proofs.Common.{◌+◌, ◌*◌, map, take}
-use Rattle.compiled_paths.specs.PathReadings.{defined_path}
+use Rattle.path_ast.specs.PathReadings.{defined_path}
 use Rattle.shape_syntax.specs.PathWays.{AreRead}
 use Rattle.shape_syntax.proofs.reading.+reading.Given as goal
 
@@ -15,8 +15,8 @@ decreases-read_each l = 5 * l.levels + 1
 abbrev pub decreases-read_list : goal.decreases-read_list
 decreases-read_list l = 5 * l.levels + 2
 
-abbrev pub decreases-read_turned : goal.decreases-read_turned
-decreases-read_turned l = 5 * l.levels + 3
+abbrev pub decreases-read_modified : goal.decreases-read_modified
+decreases-read_modified l = 5 * l.levels + 3
 
 abbrev pub invariant-read_each-loop-node : goal.invariant-read_each-loop-node
 invariant-read_each-loop-node l = AreRead l.graph (take l.node-index l.nodes) l.levels (map defined_path l.paths.items)

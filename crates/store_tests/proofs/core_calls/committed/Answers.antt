@@ -14,5 +14,5 @@ pub commit-requires-clause-verdict : goal.commit-requires-clause-verdict
 commit-requires-clause-verdict g c =
     let store = c.args.core.now in
     let net = c.in_ok-transaction.transaction.net in
-    subst (λ (k : CheckedTransaction). AreOfVerdict store k.transaction.net k.transaction.verdict k.rows) (sym c.unchecked-checked.ensures)
+    subst (λ (k : CheckedTransaction). AreOfVerdict store k.transaction.net k.transaction.verdict k.pairs) (sym c.unchecked-checked.ensures)
     (subst (λ (v : Option Verdict). AreOfVerdict store net v []) (sym c.in_ok-transaction.ensures.unchecked) tt)

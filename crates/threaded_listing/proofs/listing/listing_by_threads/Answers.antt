@@ -2,12 +2,12 @@ use Rattle.std.proofs.Common.{List, length, arith, subst, sym}
 use Rattle.shape_ast.specs.Readings.{ReadShape}
 use Rattle.shape_ast.specs.Standing.{StandFor}
 use Rattle.shape_eval.specs.Settings.{Setting}
-use Rattle.graph_validation.specs.Counting.{StepsOfFirst}
-use Rattle.graph_validation.specs.Whole.{CollectsResults}
-use Rattle.graph_validation.proofs.Counting.{all_steps}
-use Rattle.graph_validation.proofs.Gathering.{all_shapes}
-use Rattle.term_validation.proofs.Bounded.{well_acyclic, well_shallow}
-use Rattle.term_validation.proofs.Naming.{are_named}
+use Rattle.parallel_validate.specs.Counting.{StepsOfFirst}
+use Rattle.parallel_validate.specs.Whole.{CollectsResults}
+use Rattle.parallel_validate.proofs.Counting.{all_steps}
+use Rattle.parallel_validate.proofs.Gathering.{all_shapes}
+use Rattle.parallel_validate.proofs.Bounded.{well_acyclic, well_shallow}
+use Rattle.parallel_validate.proofs.Naming.{are_named}
 use Rattle.threaded_listing.proofs.listing.listing_by_threads.Goals as goal
 
 pub bind-requires : goal.bind-requires

@@ -1,9 +1,9 @@
 use Rattle.std.proofs.Common.{◌≡◌, ◌<◌, ℕ, List, ap, length, arith, rules, subst}
 use Rattle.shape_ast.specs.declared.shape.Shape.{Shape}
-use Rattle.graph_validation.specs.Counting.{StepsOfFirst}
-use Rattle.graph_validation.specs.Whole.{CollectsResults}
-use Rattle.graph_validation.proofs.Counting.{more_steps, no_steps}
-use Rattle.graph_validation.proofs.Gathering.{more_shape}
+use Rattle.parallel_validate.specs.Counting.{StepsOfFirst}
+use Rattle.parallel_validate.specs.Whole.{CollectsResults}
+use Rattle.parallel_validate.proofs.Counting.{more_steps, no_steps}
+use Rattle.parallel_validate.proofs.Gathering.{more_shape}
 use Rattle.threaded_listing.proofs.shapes.all_rows.Goals as goal
 
 pub loop-shape-preserved : goal.loop-shape-preserved

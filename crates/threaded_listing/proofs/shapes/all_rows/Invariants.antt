@@ -1,6 +1,6 @@
 use Rattle.std.proofs.Common.{◌≤◌}
-use Rattle.graph_validation.specs.Counting.{StepsOfFirst}
-use Rattle.graph_validation.specs.Whole.{CollectsResults}
+use Rattle.parallel_validate.specs.Counting.{StepsOfFirst}
+use Rattle.parallel_validate.specs.Whole.{CollectsResults}
 use Rattle.threaded_listing.proofs.shapes.all_rows.Given as goal
 
 abbrev pub invariant-loop-shape : goal.invariant-loop-shape

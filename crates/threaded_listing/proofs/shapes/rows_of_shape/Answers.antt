@@ -1,8 +1,8 @@
 use Rattle.std.proofs.Common.{◌≡◌, ◌+◌, ◌<◌, ℕ, List, length, subst, sym}
 use Rattle.std.specs.List.{All}
-use Rattle.graph_validation.specs.Whole.{CollectsAtNodes}
-use Rattle.graph_validation.proofs.Counting.{shape_steps}
-use Rattle.graph_validation.proofs.Gathering.{at_targets}
+use Rattle.parallel_validate.specs.Whole.{CollectsAtNodes}
+use Rattle.parallel_validate.proofs.Counting.{shape_steps}
+use Rattle.parallel_validate.proofs.Gathering.{at_targets}
 use Rattle.threaded_listing.proofs.shapes.rows_of_shape.Goals as goal
 
 pub rows_at-requires-clause-nodes : goal.rows_at-requires-clause-nodes

@@ -1,4 +1,4 @@
-use Rattle.term_validation.proofs.Bounded.{well_acyclic, well_shallow}
+use Rattle.parallel_validate.proofs.Bounded.{well_acyclic, well_shallow}
 use Rattle.bound_shapes.proofs.bound.BoundShapes.new.Goals as goal
 
 pub returns-clause-bound : goal.returns-clause-bound

@@ -1,12 +1,15 @@
-use Rattle.std.proofs.Common.{rules, ◌≡◌, ◌∙◌, List, [], ap, refl, sym, subst}
+use Rattle.std.proofs.Common.{◌≡◌, ◌∙◌, true, List, ap, sym, subst}
+use Rattle.rdf_model.specs.declared.change.Change.{Change}
 use Rattle.rdf_model.specs.declared.triple.Triple.{Triple}
-use Rattle.rdf_model.specs.Graphs.{differing}
+use Rattle.rdf_model.specs.Graphs.{after, differing}
 use Rattle.shape_model.specs.Validation.{Listing}
-use Rattle.shape_model.specs.declared.result_row.ResultRow.{ResultRow}
+use Rattle.store_model.specs.Blocking.{has_blocking}
 use Rattle.store_model.specs.Store.{RecordedStore, StagedNamed, shapes_under}
 use Rattle.data_graph.specs.DataGraphs.{NamedGraph, with_shapes}
+use Rattle.data_graph.specs.Pairs.{HasListing}
 use Rattle.commit_core.specs.Commits.{committed_graph, data_of}
-use Rattle.commit_core.proofs.Planning.{rows_block}
+use Rattle.commit_core.specs.Outcomes.{TellsBlocking}
+use Rattle.commit_core.proofs.Outcomes.{blocking_listed, none_listed}
 use Rattle.commit_core.proofs.store.Core.judge.Goals as goal
 
 pub stage_shapes-requires : goal.stage_shapes-requires
@@ -14,33 +17,48 @@ stage_shapes-requires g c =
     let staged = c.args.checked.now.transaction.staged in
     subst (λ (d : NamedGraph). StagedNamed d.terms staged) (sym c.requires.next) c.requires.committable.staged
 
-pub results-requires-clause-next : goal.results-requires-clause-next
-results-requires-clause-next g c =
+pub validated-requires-clause-next : goal.validated-requires-clause-next
+validated-requires-clause-next g c =
     let x = c.args.checked.now.transaction in
     c.in_ok-stage_shapes.ensures ∙ ap (λ (d : NamedGraph). with_shapes d (shapes_under d.shapes x.staged)) c.requires.next
 
-pub returns-then-is_empty-clause-judged : goal.returns-then-is_empty-clause-judged
-returns-then-is_empty-clause-judged g c =
-    let e = c.in_ok-plan.ensures in
+pub accepting-requires : goal.accepting-requires
+accepting-requires g c =
     let x = c.args.checked.now.transaction in
     let own = committed_graph (data_of c.args.self.now) x in
     let staged : c.stage_shapes.new.graph ≡ own = c.in_ok-stage_shapes.ensures ∙ ap (λ (d : NamedGraph). with_shapes d (shapes_under d.shapes x.staged)) c.requires.next in
-    let next : c.results.new.next ≡ own = c.in_ok-rows.ensures.same ∙ staged in
-    let none : c.in_ok-rows.rows ≡ [] = c.is_empty.ensures.0 c.if-is_empty.true in
-    let listing : Listing own.triples own.shapes c.in_ok-rows.rows = c.in_ok-rows.ensures.rows in
-    let empty : Listing own.triples own.shapes [] = subst (λ (rows : List ResultRow). Listing own.triples own.shapes rows) none listing in
-    let changed : differing c.self.inside.graph.triples c.results.new.next.triples ≡ differing c.args.self.now.state.graph own.triples =
-    ap (λ (d : NamedGraph). differing c.self.inside.graph.triples d.triples) next ∙ ap (λ (s : RecordedStore). differing s.state.graph own.triples) c.self.view_is in
-    (([], empty, refl), e.0 ∙ next, e.1 ∙ changed, e.2)
+    let next : c.into_graph-validated.result ≡ own = c.into_graph-validated.ensures ∙ c.in_ok-outcome.ensures.outcome.0 ∙ staged in
+    let before : c.graph.result.now.triples ≡ c.args.self.now.state.graph = ap (λ (d : NamedGraph). d.triples) c.graph.ensures ∙ ap (λ (s : RecordedStore). s.state.graph) c.self.view_is in
+    ap (λ (d : NamedGraph). d.triples) next ∙ ap (λ (ts : List Triple). after ts x.net) (sym before) ∙ ap (λ (cs : List Change). after c.graph.result.now.triples cs) (sym c.as_slice-net.ensures)
+
+pub returns-then-blocks-clause-judged : goal.returns-then-blocks-clause-judged
+returns-then-blocks-clause-judged g c =
+    let x = c.args.checked.now.transaction in
+    let mode = c.args.self.now.limits.mode in
+    let own = committed_graph (data_of c.args.self.now) x in
+    let staged : c.stage_shapes.new.graph ≡ own = c.in_ok-stage_shapes.ensures ∙ ap (λ (d : NamedGraph). with_shapes d (shapes_under d.shapes x.staged)) c.requires.next in
+    let outcome = c.in_ok-outcome.outcome in
+    let p = c.in_ok-refusal.refusal in
+    let next : outcome.graph ≡ own = c.in_ok-outcome.ensures.outcome.0 ∙ staged in
+    let shapes : p.shapes ≡ own.shapes = c.in_ok-refusal.ensures.same.1 ∙ ap (λ (d : NamedGraph). d.shapes) next in
+    let listing : Listing own.triples own.shapes p.rows = subst (λ (d : NamedGraph). Listing d.triples d.shapes p.rows) next c.in_ok-refusal.ensures.listing in
+    let told : TellsBlocking mode own.triples own.shapes outcome.blocks = subst (λ (d : NamedGraph). TellsBlocking mode d.triples d.shapes outcome.blocks) staged c.in_ok-outcome.ensures.outcome.1 in
+    let some : has_blocking mode own.shapes p.rows ≡ true = blocking_listed mode own.triples own.shapes p.rows outcome.blocks told c.if-blocks.true listing in
+    (shapes, subst (λ (ts : List Triple). Listing own.triples ts p.rows) (sym shapes) listing, subst (λ (ts : List Triple). has_blocking mode ts p.rows ≡ true) (sym shapes) some, c.in_ok-refusal.ensures.same.0)
 
 pub returns-clause-judged : goal.returns-clause-judged
 returns-clause-judged g c =
+    let e = c.in_ok-plan.ensures in
     let x = c.args.checked.now.transaction in
+    let mode = c.args.self.now.limits.mode in
     let own = committed_graph (data_of c.args.self.now) x in
     let staged : c.stage_shapes.new.graph ≡ own = c.in_ok-stage_shapes.ensures ∙ ap (λ (d : NamedGraph). with_shapes d (shapes_under d.shapes x.staged)) c.requires.next in
-    let next : c.results.new.next ≡ own = c.in_ok-rows.ensures.same ∙ staged in
-    let shapes : c.in_ok-shapes.shapes ≡ own.shapes = c.in_ok-shapes.ensures ∙ c.shapes.ensures ∙ ap (λ (d : NamedGraph). d.shapes) next in
-    let listing : Listing own.triples own.shapes c.in_ok-rows.rows = c.in_ok-rows.ensures.rows in
-    let all = sym (ap (λ (s : RecordedStore). s.limits.mode) c.self.view_is) in
-    let some = rows_block c.args.self.now.limits.mode c.in_ok-shapes.shapes c.is_empty.result c.in_ok-rows.rows all c.is_empty.ensures c.if-is_empty.false in
-    (shapes, subst (λ (ts : List Triple). Listing own.triples ts c.in_ok-rows.rows) (sym shapes) listing, some, search rules)
+    let outcome = c.in_ok-outcome.outcome in
+    let next : c.into_graph-validated.result ≡ own = c.into_graph-validated.ensures ∙ c.in_ok-outcome.ensures.outcome.0 ∙ staged in
+    let listed : HasListing own.triples own.shapes = subst (λ (d : NamedGraph). HasListing d.triples d.shapes) next c.recall_listing.ensures in
+    let told : TellsBlocking mode own.triples own.shapes outcome.blocks = subst (λ (d : NamedGraph). TellsBlocking mode d.triples d.shapes outcome.blocks) staged c.in_ok-outcome.ensures.outcome.1 in
+    let none = none_listed mode own.triples own.shapes listed.0 outcome.blocks told c.if-blocks.false listed.1 in
+    let before : c.graph.result.now.triples ≡ c.args.self.now.state.graph = ap (λ (d : NamedGraph). d.triples) c.graph.ensures ∙ ap (λ (s : RecordedStore). s.state.graph) c.self.view_is in
+    let changed : differing c.graph.result.now.triples c.into_graph-validated.result.triples ≡ differing c.args.self.now.state.graph own.triples =
+    ap (λ (d : NamedGraph). differing c.graph.result.now.triples d.triples) next ∙ ap (λ (ts : List Triple). differing ts own.triples) before in
+    ((listed.0, listed.1, none), e.0 ∙ next, e.1 ∙ changed, e.2)

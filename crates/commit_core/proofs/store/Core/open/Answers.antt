@@ -1,11 +1,11 @@
-use Rattle.store_model.specs.declared.event.BlockMode.TheVariants.{All}
-use Rattle.commit_core.proofs.Consistency.{IsConsistent-empty, opens_empty}
+use Rattle.std.proofs.Common.{refl}
+use Rattle.commit_core.proofs.Consistency.{IsConsistent-empty}
 use Rattle.commit_core.proofs.NamedTerms.{first_names}
 use Rattle.commit_core.proofs.store.Core.open.Goals as goal
 
 pub invariant_of-result : goal.invariant_of-result
 invariant_of-result c =
-    rw (c.in_ok-graph.ensures, first_names, c.new-2.ensures.items, c.new-3.ensures.items, c.new-4.ensures, c.new-5.ensures) (IsConsistent-empty (record { terms = c.args.limits.terms; triples = c.args.limits.triples; mode = All }) c.requires.small)
+    rw (c.in_ok-graph.ensures, first_names, c.new-2.ensures.items, c.new-3.ensures.items, c.new-4.ensures, c.new-5.ensures) (IsConsistent-empty c.args.limits c.requires)
 
 pub returns : goal.returns
-returns c = rw (c.in_ok-graph.ensures, first_names, c.new-2.ensures.items, c.new-3.ensures.items, c.new-4.ensures, c.new-5.ensures) (opens_empty c.args.limits c.requires.mode)
+returns c = rw (c.in_ok-graph.ensures, first_names, c.new-2.ensures.items, c.new-3.ensures.items, c.new-4.ensures, c.new-5.ensures) refl

@@ -1,7 +1,7 @@
-use Rattle.std.proofs.Common.{rules, List, subst, sym}
+use Rattle.std.proofs.Common.{rules, ◌∙◌, List, ap, subst, sym}
 use Rattle.rdf_model.specs.declared.change.Change.{Change}
 use Rattle.store_model.specs.Store.{RecordedStore}
-use Rattle.data_graph.specs.DataGraphs.{AreNamedChanges}
+use Rattle.data_graph.specs.DataGraphs.{AreNamedChanges, NamedGraph, with_changes}
 use Rattle.commit_core.specs.Commits.{data_of}
 use Rattle.commit_core.proofs.NamedTerms.{net_named}
 use Rattle.commit_core.proofs.Planning.{judged_result}
@@ -11,7 +11,13 @@ pub after-requires : goal.after-requires
 after-requires g c =
     let net = c.args.checked.now.transaction.net in
     let named = subst (λ (s : RecordedStore). AreNamedChanges s.state.named net) (sym c.self.view_is) (net_named _ _ c.requires.committable.net) in
-    subst (λ (cs : List Change). AreNamedChanges c.self.inside.graph.terms cs) (sym c.as_slice.ensures) named
+    let own = subst (λ (cs : List Change). AreNamedChanges c.self.inside.graph.terms cs) (sym c.as_slice.ensures) named in
+    subst (λ (d : NamedGraph). AreNamedChanges d.terms c.as_slice.result.now) (sym c.graph.ensures) own
+
+pub judge-requires-clause-next : goal.judge-requires-clause-next
+judge-requires-clause-next g c =
+    c.in_ok-next.ensures ∙ ap (λ (d : NamedGraph). with_changes d c.as_slice.result.now) c.graph.ensures ∙ ap (λ (cs : List Change). with_changes c.self.inside.graph cs) c.as_slice.ensures
+    ∙ ap (λ (s : RecordedStore). with_changes (data_of s) c.args.checked.now.transaction.net) c.self.view_is
 
 pub returns-clause-plan : goal.returns-clause-plan
 returns-clause-plan g c = judged_result c.args.self.now.limits (data_of c.args.self.now) c.args.self.now.state.commits c.args.checked.now.transaction _ (search rules, search rules) c.judge.ensures.judged

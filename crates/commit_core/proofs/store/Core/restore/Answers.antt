@@ -1,4 +1,6 @@
-use Rattle.commit_core.proofs.RestoredParts.{core_consistent, core_restored, graph_ready, shapes_ready, triples_ready}
+use Rattle.std.proofs.Common.{◌∙◌, Bool, subst}
+use Rattle.commit_core.specs.Outcomes.{TellsBlocking}
+use Rattle.commit_core.proofs.RestoredParts.{blocks, core_consistent, core_restored, graph_ready, shapes_ready, triples_ready}
 use Rattle.commit_core.proofs.store.Core.restore.Goals as goal
 
 pub filled-requires-clause-triples : goal.filled-requires-clause-triples
@@ -13,24 +15,33 @@ filled-requires-clause-shapes g c =
     let start = rw c.deref-2.ensures.value at c.in_ok-named.ensures in
     shapes_ready c.args.limits c.args.records.items c.in_ok-triples.triples c.args.shapes c.in_ok-named.named c.in_ok-named.given last start c.requires.shapes
 
-pub has_result-requires : goal.has_result-requires
-has_result-requires g c =
+pub whole-requires : goal.whole-requires
+whole-requires g c =
     let last = rw c.deref.ensures.value at c.in_ok-triples.ensures in
     let start = rw c.deref-2.ensures.value at c.in_ok-named.ensures in
-    graph_ready c.args.limits c.args.records.items c.in_ok-triples.triples c.args.shapes c.in_ok-named.named c.in_ok-named.given last start c.requires.shapes c.in_ok-graph.graph c.in_ok-graph.ensures
+    graph_ready c.args.limits c.args.records.items c.in_ok-triples.triples c.args.shapes c.in_ok-named.named c.in_ok-named.given last start c.requires.shapes c.in_ok-filled.filled c.in_ok-filled.ensures
+
+pub returns-then-blocks-clause-store : goal.returns-then-blocks-clause-store
+returns-then-blocks-clause-store g c =
+    let last = rw c.deref.ensures.value at c.in_ok-triples.ensures in
+    let start = rw c.deref-2.ensures.value at c.in_ok-named.ensures in
+    let some = subst (λ (b : Bool). TellsBlocking c.args.limits.mode c.in_ok-filled.filled.triples c.in_ok-filled.filled.shapes b) c.if-blocks.true c.in_ok-outcome.ensures.outcome.1 in
+    blocks c.args.limits c.args.records.items c.in_ok-triples.triples c.args.shapes c.in_ok-named.named c.in_ok-named.given last start c.requires.shapes c.in_ok-filled.filled c.in_ok-filled.ensures some
 
 pub invariant_of-result : goal.invariant_of-result
 invariant_of-result g c =
     let last = rw c.deref.ensures.value at c.in_ok-triples.ensures in
     let start = rw c.deref-2.ensures.value at c.in_ok-named.ensures in
     let commits = rw c.deref-3.ensures.value at c.in_ok-commits.ensures in
-    let none = rw c.if-branch.false at c.in_ok-has_result.ensures.found in
-    rw c.new.ensures (core_consistent c.args.limits c.args.records.items c.in_ok-triples.triples c.args.shapes c.in_ok-named.named c.in_ok-named.given last start c.requires.shapes c.in_ok-graph.graph c.in_ok-graph.ensures c.has_result.new.graph c.in_ok-commits.commits.items c.requires.mode c.in_ok-has_result.ensures.same commits none c.requires.small)
+    let outcome = c.in_ok-outcome.ensures.outcome in
+    let none = subst (λ (b : Bool). TellsBlocking c.args.limits.mode c.in_ok-filled.filled.triples c.in_ok-filled.filled.shapes b) c.if-blocks.false outcome.1 in
+    rw c.new.ensures (core_consistent c.args.limits c.args.records.items c.in_ok-triples.triples c.args.shapes c.in_ok-named.named c.in_ok-named.given last start c.requires.shapes c.in_ok-filled.filled c.in_ok-filled.ensures c.into_graph.result c.in_ok-commits.commits.items (c.into_graph.ensures ∙ outcome.0) commits none c.requires.small)
 
 pub returns-clause-store : goal.returns-clause-store
 returns-clause-store g c =
     let last = rw c.deref.ensures.value at c.in_ok-triples.ensures in
     let start = rw c.deref-2.ensures.value at c.in_ok-named.ensures in
     let commits = rw c.deref-3.ensures.value at c.in_ok-commits.ensures in
-    let none = rw c.if-branch.false at c.in_ok-has_result.ensures.found in
-    rw c.new.ensures (core_restored c.args.limits c.args.records.items c.in_ok-triples.triples c.args.shapes c.in_ok-named.named c.in_ok-named.given last start c.requires.shapes c.in_ok-graph.graph c.in_ok-graph.ensures c.has_result.new.graph c.in_ok-commits.commits.items c.requires.mode c.in_ok-has_result.ensures.same commits none)
+    let outcome = c.in_ok-outcome.ensures.outcome in
+    let none = subst (λ (b : Bool). TellsBlocking c.args.limits.mode c.in_ok-filled.filled.triples c.in_ok-filled.filled.shapes b) c.if-blocks.false outcome.1 in
+    rw c.new.ensures (core_restored c.args.limits c.args.records.items c.in_ok-triples.triples c.args.shapes c.in_ok-named.named c.in_ok-named.given last start c.requires.shapes c.in_ok-filled.filled c.in_ok-filled.ensures c.into_graph.result c.in_ok-commits.commits.items (c.into_graph.ensures ∙ outcome.0) commits none)

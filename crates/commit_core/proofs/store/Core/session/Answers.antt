@@ -1,12 +1,11 @@
-use Rattle.store_model.specs.declared.event.BlockMode.TheVariants.{All}
 use Rattle.store_model.proofs.Steps.{opens, opens_none}
 use Rattle.commit_core.proofs.Consistency.{IsConsistent-step}
 use Rattle.commit_core.proofs.store.Core.session.Goals as goal
 
 pub invariant_of-self : goal.invariant_of-self
 invariant_of-self c =
-    rw c.push.ensures (IsConsistent-step _ _ _ c.self.invariant (opens_none (record { terms = c.self.inside.graph.limit; triples = c.self.inside.most_triples; mode = All }) _ c.if-self-ge-MOST_SESSIONS.true))
+    rw c.push.ensures (IsConsistent-step _ _ _ c.self.invariant (opens_none (record { terms = c.self.inside.graph.limit; triples = c.self.inside.bounds.triples; mode = c.self.inside.bounds.mode }) _ c.if-self-ge-MOST_SESSIONS.true))
 
 pub invariant_of-self-2 : goal.invariant_of-self-2
 invariant_of-self-2 c =
-    rw c.push-2.ensures (IsConsistent-step _ _ _ c.self.invariant (opens (record { terms = c.self.inside.graph.limit; triples = c.self.inside.most_triples; mode = All }) _ c.if-self-ge-MOST_SESSIONS.false))
+    rw c.push-2.ensures (IsConsistent-step _ _ _ c.self.invariant (opens (record { terms = c.self.inside.graph.limit; triples = c.self.inside.bounds.triples; mode = c.self.inside.bounds.mode }) _ c.if-self-ge-MOST_SESSIONS.false))

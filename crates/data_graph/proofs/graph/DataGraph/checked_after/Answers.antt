@@ -1,9 +1,9 @@
 use Rattle.std.proofs.Common.{sym, subst}
 use Rattle.rdf_model.specs.Graphs.{after}
 use Rattle.rdf_model.specs.Numbers.{AreNumbered}
-use Rattle.graph_validation.specs.Counting.{GrowsByCount}
+use Rattle.parallel_validate.specs.Counting.{GrowsByCount}
 use Rattle.parallel_validate.specs.Verdicts.{IsEvaluated}
-use Rattle.term_validation.specs.Named.{AreNamedTriples}
+use Rattle.parallel_validate.specs.Named.{AreNamedTriples}
 use Rattle.data_graph.specs.Changes.{IsCheckByNumber}
 use Rattle.data_graph.specs.DataGraphs.{AreNamedChanges, IsIndexOf, NamedGraph}
 use Rattle.data_graph.proofs.graph.DataGraph.checked_after.Goals as goal

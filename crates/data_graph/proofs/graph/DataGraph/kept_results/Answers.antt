@@ -3,9 +3,9 @@ use Rattle.rdf_model.specs.declared.term.Term.{Term}
 use Rattle.rdf_model.specs.declared.triple.Triple.{Triple}
 use Rattle.shape_model.specs.ShapeSyntax.{IsShape}
 use Rattle.rdf_model.specs.Numbers.{graph_of}
-use Rattle.graph_validation.specs.Counting.{GrowsByCount, IsTargetPair}
-use Rattle.term_validation.proofs.Members.{same_count}
-use Rattle.term_validation.proofs.NoShapes.{no_pairs}
+use Rattle.parallel_validate.specs.Counting.{GrowsByCount, IsTargetPair}
+use Rattle.parallel_validate.proofs.Members.{same_count}
+use Rattle.parallel_validate.proofs.NoShapes.{no_pairs}
 use Rattle.kept_rows.specs.declared.kept_row.KeptRow.{KeptRow}
 use Rattle.kept_rows.specs.Laws.{KeepsResults}
 use Rattle.data_graph.specs.DataGraphs.{IsIndexOf, NamedGraph}

@@ -5,9 +5,9 @@ use Rattle.shape_model.specs.declared.result_row.ResultRow.{ResultRow}
 use Rattle.shape_model.specs.ShapeSyntax.{IsShape}
 use Rattle.shape_model.specs.Validation.{Listing}
 use Rattle.rdf_model.specs.Numbers.{graph_of}
-use Rattle.graph_validation.specs.Counting.{GrowsByCount, IsTargetPair}
-use Rattle.term_validation.proofs.Members.{same_count, same_listing}
-use Rattle.term_validation.proofs.NoShapes.{no_pairs, no_shapes}
+use Rattle.parallel_validate.specs.Counting.{GrowsByCount, IsTargetPair}
+use Rattle.parallel_validate.proofs.Members.{same_count, same_listing}
+use Rattle.parallel_validate.proofs.NoShapes.{no_pairs, no_shapes}
 use Rattle.data_graph.specs.DataGraphs.{IsIndexOf, NamedGraph}
 use Rattle.data_graph.proofs.graph.DataGraph.listing.Goals as goal
 

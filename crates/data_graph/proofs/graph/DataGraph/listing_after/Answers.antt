@@ -5,7 +5,7 @@ use Rattle.rdf_model.specs.Graphs.{after}
 use Rattle.shape_model.specs.declared.result_row.ResultRow.{ResultRow}
 use Rattle.shape_model.specs.ShapeSyntax.{IsShape}
 use Rattle.shape_model.specs.Validation.{Listing}
-use Rattle.term_validation.proofs.NoShapes.{no_shapes}
+use Rattle.parallel_validate.proofs.NoShapes.{no_shapes}
 use Rattle.data_graph.specs.DataGraphs.{NamedGraph}
 use Rattle.data_graph.proofs.Checks.{listing_of}
 use Rattle.data_graph.proofs.NoChecks.{no_checks}

@@ -1,5 +1,5 @@
 use Rattle.std.proofs.Common.{sym, subst}
-use Rattle.term_validation.specs.Named.{AreNamedTriples}
+use Rattle.parallel_validate.specs.Named.{AreNamedTriples}
 use Rattle.data_graph.specs.DataGraphs.{NamedGraph}
 use Rattle.data_graph.proofs.graph.DataGraph.replace_shapes.Goals as goal
 

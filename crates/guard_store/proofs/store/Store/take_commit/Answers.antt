@@ -16,7 +16,7 @@ commit-requires-clause-committable g c = committable_now c.args.self.now c.args.
 pub commit-requires-clause-verdict : goal.commit-requires-clause-verdict
 commit-requires-clause-verdict g c =
     let x = c.args.handed in
-    verdict_now c.args.self.now c.args.pass c.start-held.result.0 c.start-held.result.1.core x.transaction.net x.transaction.verdict x.rows c.start-held.ensures.entered c.requires.kept
+    verdict_now c.args.self.now c.args.pass c.start-held.result.0 c.start-held.result.1.core x.transaction.net x.transaction.verdict x.pairs c.start-held.ensures.entered c.requires.kept
 
 pub finish-requires-clause-step : goal.finish-requires-clause-step
 finish-requires-clause-step g c = may_own c.args.self.now c.args.pass c.start-held.result.0 c.start-held.result.1.core c.commit.new.self.core _ c.requires.caller.own c.start-held.ensures.entered c.in-Ok-commit.ensures.answer.step

@@ -1,8 +1,0 @@
-use Rattle.std.proofs.Common.{take}
-use Rattle.std.specs.List.{Contains}
-use Rattle.plain_paths.specs.Pairs.{LeadsFurther}
-use Rattle.plain_paths.specs.declared.relation.Pair.{Pair}
-use Rattle.plain_paths.proofs.closure.next_reached.Given as goal
-
-abbrev pub invariant-loop-pair : goal.invariant-loop-pair
-invariant-loop-pair l = (a : Pair) → Contains (take l.pair-index l.pairs) a → LeadsFurther l.nodes a → ⊥

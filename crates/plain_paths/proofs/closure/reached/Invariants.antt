@@ -1,9 +1,0 @@
-use Rattle.std.proofs.Common.{◌-◌, ◌+◌, length}
-use Rattle.plain_paths.proofs.Reaches.{AreReached}
-use Rattle.plain_paths.proofs.closure.reached.Given as goal
-
-abbrev pub invariant-loop-next : goal.invariant-loop-next
-invariant-loop-next l = AreReached l.pairs l.node l.found
-
-abbrev pub decreases-loop-next : goal.decreases-loop-next
-decreases-loop-next l = length l.pairs + 1 - length l.found

@@ -1,5 +1,0 @@
-use Rattle.plain_paths.proofs.Reaches.{reaching_from}
-use Rattle.plain_paths.proofs.closure.reached_by.Goals as goal
-
-pub returns : goal.returns
-returns c = reaching_from c.args.pairs.now c.args.first.now c.in_ok-ends.ends c.as_slice.result.now c.in_ok-found.found.items c.as_slice.ensures c.in_ok-ends.ensures c.in_ok-found.ensures

@@ -1,6 +1,0 @@
-use Rattle.std.proofs.Common.{take}
-use Rattle.plain_paths.specs.Relations.{JoinsInTurn, Means}
-use Rattle.plain_paths.proofs.joins.in_turn.Given as goal
-
-abbrev pub invariant-loop-relation : goal.invariant-loop-relation
-invariant-loop-relation l = Means (JoinsInTurn (take l.relation-index l.relations)) l.found

@@ -1,7 +1,0 @@
-use Rattle.std.proofs.Common.{take}
-use Rattle.plain_terms.specs.Finds.{Finds, WithSome}
-use Rattle.plain_paths.specs.Pairs.{EndOf}
-use Rattle.plain_paths.proofs.pairs.ends_at.Given as goal
-
-abbrev pub invariant-loop-pair : goal.invariant-loop-pair
-invariant-loop-pair l = Finds (WithSome (take l.pair-index l.pairs) (EndOf l.node)) l.ends.items

@@ -1,7 +1,0 @@
-use Rattle.std.proofs.Common.{take}
-use Rattle.plain_terms.specs.Finds.{Finds, WithSome}
-use Rattle.plain_paths.specs.Pairs.{Linked}
-use Rattle.plain_paths.proofs.pairs.pairs_after.Given as goal
-
-abbrev pub invariant-loop-other : goal.invariant-loop-other
-invariant-loop-other l = Finds (WithSome (take l.other-index l.others) (Linked l.pair)) l.found.items

@@ -1,0 +1,13 @@
+use Rattle.plain_terms.specs.Finds.{WithSome}
+use Rattle.plain_terms.proofs.FoundItems.{some_all, some_step}
+use Rattle.plain_terms.specs.Pairs.{Linked}
+use Rattle.plain_terms.specs.declared.relation.Pair.{Pair}
+use Rattle.plain_terms.proofs.pairs.pairs_through.Goals as goal
+
+pub loop-pair-preserved : goal.loop-pair-preserved
+loop-pair-preserved c =
+    some_step (λ (a : Pair). WithSome c.args.others.now (Linked a)) c.args.pairs.now c.loop-pair.pair-index c.pair-item.result c.loop-pair.found.items c.in_ok-more.more.items c.append.new.self.items c.loop-pair-test.true c.pair-item.is c.in_ok-append.ensures.items c.loop-pair.invariant
+    c.in_ok-more.ensures
+
+pub returns : goal.returns
+returns c = some_all (λ (a : Pair). WithSome c.args.others.now (Linked a)) c.args.pairs.now c.loop-pair.pair-index c.loop-pair.found.items c.loop-pair-test.false c.loop-pair.invariant

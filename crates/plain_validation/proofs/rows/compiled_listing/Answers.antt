@@ -1,0 +1,18 @@
+use Rattle.std.proofs.Common.{◌∙◌, List, sym, subst}
+use Rattle.rdf_model.specs.declared.term.Term.{Term}
+use Rattle.rdf_model.specs.declared.triple.Triple.{Triple}
+use Rattle.shape_model.specs.Vocabulary.{rdf_type, sub_class_of}
+use Rattle.path_ast.specs.PathReadings.{IsNamed}
+use Rattle.parallel_validate.specs.Named.{AreNamedTriples}
+use Rattle.plain_validation.proofs.rows.compiled_listing.Goals as goal
+
+pub class_words-requires : goal.class_words-requires
+class_words-requires c = subst (λ (names : List Term). IsNamed names rdf_type × IsNamed names sub_class_of) (sym (c.from_terms-names.ensures ∙ c.from_vec.ensures)) c.in_ok-names.ensures.words
+
+pub compiled_in-requires-clause-graph : goal.compiled_in-requires-clause-graph
+compiled_in-requires-clause-graph c = subst (λ (names : List Term). AreNamedTriples names c.args.graph.now) (sym (c.from_terms-names.ensures ∙ c.from_vec.ensures)) c.in_ok-names.ensures.graph
+
+pub compiled_in-requires-clause-shapes : goal.compiled_in-requires-clause-shapes
+compiled_in-requires-clause-shapes c =
+    let named = subst (λ (ts : List Triple). AreNamedTriples c.in_ok-names.names.items ts) c.triples.ensures c.in_ok-names.ensures.shapes in
+    subst (λ (names : List Term). AreNamedTriples names c.args.shapes.now) (sym (c.from_terms-names.ensures ∙ c.from_vec.ensures)) named

@@ -1,4 +1,0 @@
-pub mod Members
-pub mod Naming
-pub mod NoShapes
-pub mod Bounded

@@ -1,6 +1,0 @@
-use Rattle.std.proofs.Common.{◌≡◌, drop}
-use Rattle.validation_rows.specs.Names.{with_terms}
-use Rattle.validation_rows.proofs.names.add_terms.Given as goal
-
-abbrev pub invariant-loop-triple : goal.invariant-loop-triple
-invariant-loop-triple l = with_terms l.names.items (drop l.triple-index l.triples) ≡ with_terms l.fn.names.items l.triples

@@ -1,4 +1,0 @@
-use Rattle.validation_rows.proofs.rows.compiled_listing.Given as goal
-
-abbrev pub ghosts-compiled_in : goal.ghosts-compiled_in
-ghosts-compiled_in a = record { name = a.blank.name; parts = a.blank.parts }
