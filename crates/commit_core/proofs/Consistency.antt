@@ -21,7 +21,7 @@ use Rattle.store_model.specs.declared.event.NameKind.{NameKind}
 use Rattle.store_model.specs.declared.event.NameKind.TheVariants.{Fresh, Known, Attach}
 use Rattle.store_model.specs.declared.event.Reply.{Reply}
 use Rattle.store_model.specs.declared.event.Reply.TheVariants.{Version, Named, Unknown, Full, Conflict, FullTriples, Refused, Done, LogFault}
-use Rattle.store_model.specs.Blocking.{NoBlocking, has_blocking}
+use Rattle.store_model.specs.Blocking.{has_blocking}
 use Rattle.store_model.specs.Nodes.{given_by, unknown_by}
 use Rattle.store_model.specs.Store.{State, RecordedStore, Replays, TakesStep, Step, StepOf, IsOpened, IsCommittable, VerdictFits, again, empty_store, overtaker, named_with, with_named, shapes_under, committed, is_staged}
 use Rattle.store_model.proofs.Blocking.{NoBlocking-listed}

@@ -7,9 +7,7 @@ use Rattle.rdf_model.specs.Graphs.{after}
 use Rattle.shape_model.specs.declared.result_row.ResultRow.{ResultRow}
 use Rattle.shape_model.specs.Validation.{Listing}
 use Rattle.store_model.specs.declared.event.BlockMode.{BlockMode}
-use Rattle.store_model.specs.declared.event.BlockMode.TheVariants.{All, Violation}
 use Rattle.store_model.specs.Blocking.{NoBlocking, has_blocking}
-use Rattle.store_model.specs.Snapshots.{Snapshot}
 use Rattle.store_model.proofs.Blocking.{NoBlocking-listed}
 use Rattle.kept_rows.specs.declared.pair_rows.PairRows.{PairRows}
 use Rattle.kept_rows.specs.Laws.{ChecksPairs}
@@ -17,7 +15,6 @@ use Rattle.blocking.specs.Sources.{HaveShapes, some_blocks}
 use Rattle.blocking.proofs.Blocking.{nothing_blocks, something_blocks}
 use Rattle.blocking.proofs.Sources.{source_shape}
 use Rattle.data_graph.specs.Pairs.{HasListing}
-use Rattle.commit_core.specs.Consistent.{IsSound}
 use Rattle.commit_core.specs.Outcomes.{HasBlocking, TellsBlocking}
 
 -- the source of each result of a listing is a shape
@@ -47,18 +44,3 @@ blocking_listed mode g s rows blocks told e l = listed_by mode g s rows (has_blo
 
 pub none_listed : (mode : BlockMode) (g s : List Triple) (rows : List ResultRow) (blocks : Bool) → TellsBlocking mode g s blocks → blocks ≡ false → Listing g s rows → has_blocking mode s rows ≡ false
 none_listed mode g s rows blocks told e l = (NoBlocking-listed mode g s rows l).0 (subst (λ (b : Bool). TellsBlocking mode g s b) e told)
-
--- what blocks in one mode blocks where all results do
-none_violates : (mode : BlockMode) (g s : List Triple) → NoBlocking mode g s → NoBlocking Violation g s
-none_violates All g s none row i = let never : true ≡ false = none row i in cc
-none_violates Violation g s none row i = none row i
-
-pub sound_in_either : (mode : BlockMode) (n : Snapshot) → IsSound mode n → IsSound Violation n
-sound_in_either mode n k = record {
-  ascending = k.ascending;
-  no_blocking = none_violates mode n.graph n.shapes k.no_blocking;
-  numbering = k.numbering;
-  small = k.small;
-  graph_named = k.graph_named;
-  shapes_named = k.shapes_named;
-}

@@ -27,7 +27,7 @@ use Rattle.store_model.proofs.Nodes.{ascending-given_with}
 use Rattle.term_dict.specs.Names.{first_terms, with_terms}
 use Rattle.parallel_validate.specs.Named.{AreNamedTriples, IsNamedTriple}
 use Rattle.data_graph.specs.DataGraphs.{AreNamedChanges, NamedGraph, with_changes, with_shapes}
-use Rattle.data_graph.proofs.AtOnce.{after_added}
+use Rattle.data_graph.proofs.Listed.{after_added}
 use Rattle.commit_core.specs.Consistent.{IsConsistent, IsSoundState}
 use Rattle.commit_core.specs.Outcomes.{HasBlocking}
 use Rattle.commit_core.specs.Restored.{FitInTurn, IsFirstMisfit, IsRestoreFault, IsRestored, accepted_by, fits_record, graph_after, record_terms, restored, restored_from, shapes_terms, with_record, without_each}
@@ -388,7 +388,7 @@ additions_named terms ts net e a =
 pub filled_is : (g f n : NamedGraph) (net : List Change) (ts shapes : List Triple) → IsAscending triple_cmp ts → g.triples ≡ [] → net ≡ map Add ts → f ≡ with_changes g net → n ≡ with_shapes f shapes
     → n ≡ record { triples = ts; shapes = shapes; terms = g.terms; limit = g.limit }
 filled_is g f n net ts shapes a none e ef en =
-    let all : after g.triples net ≡ ts = (λ i. after (none i) (e i)) ∙ sym (after_added (map Add ts) ts (record { adds = refl; ascending = a })) in
+    let all : after g.triples net ≡ ts = (λ i. after (none i) (e i)) ∙ after_added ts a in
     en ∙ (ap (λ (x : NamedGraph). with_shapes x shapes) ef ∙ (λ i. record { triples = all i; shapes = shapes; terms = g.terms; limit = g.limit }))
 
 -- what a restored store is made of

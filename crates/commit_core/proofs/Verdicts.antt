@@ -180,7 +180,7 @@ pub verdict_at : (l : Limits) (start : State) (front back : List Event) (head : 
 verdict_at l start front back head net v pairs replays number check = record { front = front; back = back; history = refl; head = head; replays = replays; number = number; check = check }
 
 -- and so is one on the snapshot of that version
-pub verdict_of_snapshot : (l : Limits) (start : State) (front back : List Event) (head : State) (n : Snapshot) (net : List Change) (v : Verdict) (pairs : List PairRows) → Replays l start front head → n ≡ snapshot_of head → v.head ≡ n.number
+pub verdict_of_snapshot : (l : Limits) (start : State) (front back : List Event) (head : State) (n : Snapshot) (net : List Change) (v : Verdict) (pairs : List PairRows) → Replays l start front head → n ≡ snapshot_of l.mode head → v.head ≡ n.number
     → IsPairedCheck n.named n.graph n.shapes net v.looks pairs → IsVerdictIn l start (front ++ back) net v pairs
 verdict_of_snapshot l start front back head n net v pairs replays is number check =
     verdict_at l start front back head net v pairs replays (number ∙ ap (λ (x : Snapshot). x.number) is) (subst (λ (x : Snapshot). IsPairedCheck x.named x.graph x.shapes net v.looks pairs) is check)

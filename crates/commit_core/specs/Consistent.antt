@@ -3,7 +3,6 @@ use Rattle.std.specs.Prelude.{◌≡◌, ◌+◌, ◌≤◌, ◌<◌, ◌^◌, f
 use Rattle.rdf_model.specs.Terms.{term_cmp, triple_cmp}
 use Rattle.rdf_model.specs.Numbers.{IsNumbering}
 use Rattle.collections.specs.Ordered.{IsAscending}
-use Rattle.store_model.specs.declared.event.BlockMode.{BlockMode}
 use Rattle.store_model.specs.declared.event.Limits.{Limits}
 use Rattle.store_model.specs.Blocking.{NoBlocking}
 use Rattle.store_model.specs.Store.{RecordedStore, Replays, State}
@@ -12,9 +11,9 @@ use Rattle.parallel_validate.specs.Named.{AreNamedTriples}
 
 -- The graph ascends and has no result under the shapes that blocks; no term has two numbers, each number is less than 2^32,
 -- and the terms of both graphs are named.
-pub record IsSound (mode : BlockMode) (n : Snapshot) : Type 0 where
+pub record IsSound (n : Snapshot) : Type 0 where
   pub ascending : IsAscending triple_cmp n.graph
-  pub no_blocking : NoBlocking mode n.graph n.shapes
+  pub no_blocking : NoBlocking n.mode n.graph n.shapes
   pub numbering : IsNumbering n.named
   pub small : length n.named < 2 ^ 32
   pub graph_named : AreNamedTriples n.named n.graph
@@ -23,7 +22,7 @@ pub record IsSound (mode : BlockMode) (n : Snapshot) : Type 0 where
 -- What each state of a history keeps: 64 sessions at most were given out; beside the two first there are no more names than
 -- the limit allows; and the nodes that were given out ascend.
 pub record IsSoundState (l : Limits) (s : State) : Type 0 where
-  pub sound : IsSound l.mode (snapshot_of s)
+  pub sound : IsSound (snapshot_of l.mode s)
   pub opened : s.opened ≤ 64
   pub two : 2 ≤ length s.named
   pub within : length s.named ≤ l.terms + 2
@@ -36,7 +35,7 @@ pub record IsConsistent (s : RecordedStore) : Type 0 where
   pub begins : IsSoundState s.limits s.start
   pub small : s.limits.terms + 2 < 2 ^ 32
   pub opened : s.state.opened ≤ 64
-  pub sound : IsSound s.limits.mode (snapshot_of s.state)
+  pub sound : IsSound (snapshot_of s.limits.mode s.state)
   pub two : 2 ≤ length s.state.named
   pub within : length s.state.named ≤ s.limits.terms + 2
   pub given : IsAscending term_cmp s.state.given

@@ -1,14 +1,13 @@
 //! What a commit hands in, is planned as and is answered.
 ghost use Rattle.std.specs.Prelude.{◌≡◌, [], IfOk, OnOk};
-ghost use Rattle.rdf_model.specs.Graphs.{after, differing};
 ghost use Rattle.store_model.specs.Store.{StagedNamed, is_staged, shapes_under};
 ghost use Rattle.shape_model.specs.Validation.{Listing};
 ghost use Rattle.data_graph.specs.DataGraphs.{with_shapes};
 
 use collections::Sequence;
-use data_graph::{DataGraph, ValidatedGraph, graph_differing};
+use data_graph::{DataGraph, ValidatedGraph};
 use kept_rows::PairRows;
-use rdf_model::{Change, Triple};
+use rdf_model::Triple;
 use shape_model::ResultRow;
 use shapes_graph::ShapesGraph;
 use std::alloc::{AllocError, Global};
@@ -225,23 +224,20 @@ pub fn refusing(alloc: Global, graph: &ValidatedGraph) -> Result<Refusal, AllocE
     })
 }
 
-/// The plan of a commit whose graph, after the changes, has no result that blocks.
+/// The plan of a commit whose graph, after its changes, has no result that blocks: these triples are in exactly one of the graph
+/// before and that one. It takes no memory.
 pub fn accepting(
-    alloc: Global,
-    graph: &DataGraph,
     next: ValidatedGraph,
-    net: &[Change],
+    changed: Vec<Triple>,
     staged: &Option<ShapesGraph>,
-) -> Result<Acceptance, AllocError>
-    requires { next.triples ≡ after graph.now.triples net.now }
-    ensures { IfOk result (λ plan. (plan.graph ≡ next) × (plan.accepted.changed ≡ differing graph.now.triples next.triples) × (plan.accepted.staged ≡ is_staged staged.now)) }
+) -> Acceptance
+    ensures { (result.graph ≡ next) × (result.accepted.changed ≡ changed.items) × (result.accepted.staged ≡ is_staged staged.now) }
 {
-    let changed = graph_differing(alloc, graph.triples(), next.triples(), net)?;
-    Ok(Acceptance {
+    Acceptance {
         graph: next,
         accepted: Accepted {
             changed: Sequence::from_vec(changed),
             staged: stages_shapes(staged),
         },
-    })
+    }
 }

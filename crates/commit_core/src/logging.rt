@@ -21,8 +21,8 @@ use crate::room::Slip;
 use crate::store::{Core, slip, version_of};
 use collections::Sequence;
 use commit_log::{AppendFault, Log};
+use data_graph::DataGraph;
 use disk::Disk;
-use page_index::Pages;
 use rdf_model::Triple;
 use record_text::Record;
 use shape_eval::Steps;
@@ -31,38 +31,24 @@ use std::alloc::{AllocError, Global};
 use std::sync::ledger::Ledger;
 use store_model::{Accepted, Action, Event, Overtaker, Reply, Transaction};
 
-// Those of the triples that are in the graph.
-fn those_in(
+// Those of the triples that are in the graph, and those that aren't.
+fn parted(
     alloc: Global,
-    graph: &Pages<Triple>,
+    graph: &DataGraph,
     triples: &[Triple],
-) -> Result<Vec<Triple>, AllocError>
-    ensures { IfOk result (λ v. v.items ≡ filter (λ t. has_item triple_cmp t graph.now) triples.now) }
+) -> Result<(Vec<Triple>, Vec<Triple>), AllocError>
+    ensures { IfOk result (λ parts. (parts.0.items ≡ filter (λ t. has_item triple_cmp t graph.now.triples) triples.now) × (parts.1.items ≡ filter (λ t. not (has_item triple_cmp t graph.now.triples)) triples.now)) }
 {
-    let mut found = Vec::new(alloc);
+    let mut there = Vec::new(alloc);
+    let mut absent = Vec::new(alloc);
     for triple in triples {
         if graph.contains(triple) {
-            found.push(triple.clone()?)?;
+            there.push(triple.clone()?)?;
+        } else {
+            absent.push(triple.clone()?)?;
         }
     }
-    Ok(found)
-}
-
-// Those of the triples that aren't.
-fn those_not_in(
-    alloc: Global,
-    graph: &Pages<Triple>,
-    triples: &[Triple],
-) -> Result<Vec<Triple>, AllocError>
-    ensures { IfOk result (λ v. v.items ≡ filter (λ t. not (has_item triple_cmp t graph.now)) triples.now) }
-{
-    let mut found = Vec::new(alloc);
-    for triple in triples {
-        if !graph.contains(triple) {
-            found.push(triple.clone()?)?;
-        }
-    }
-    Ok(found)
+    Ok((there, absent))
 }
 
 // The triples of the staged shapes graph, if there is one.
@@ -82,14 +68,13 @@ fn staged_triples(
 fn record_of_changes(
     alloc: Global,
     number: u64,
-    graph: &Pages<Triple>,
+    graph: &DataGraph,
     changed: &[Triple],
     staged: &Option<ShapesGraph>,
 ) -> Result<Record, AllocError>
-    ensures { IfOk result (IsRecordOf number graph.now changed.now staged.now) }
+    ensures { IfOk result (IsRecordOf number graph.now.triples changed.now staged.now) }
 {
-    let removed = those_in(alloc, graph, changed)?;
-    let added = those_not_in(alloc, graph, changed)?;
+    let (removed, added) = parted(alloc, graph, changed)?;
     Ok(Record {
         number,
         removed: Sequence::from_vec(removed),
@@ -123,7 +108,7 @@ impl Core {
         record_of_changes(
             self.alloc,
             version_of(&self.commits) + 1,
-            self.graph.triples(),
+            self.graph.graph(),
             acceptance.accepted.changed.as_slice(),
             &transaction.staged,
         )

@@ -8,6 +8,7 @@ ghost use Rattle.store_model.specs.Store.{AreNamed, NetNamed, looked_at};
 ghost use Rattle.parallel_validate.specs.Counting.{GrowsByCount};
 ghost use Rattle.parallel_validate.specs.Verdicts.{IsEvaluated};
 ghost use Rattle.shape_model.specs.Validation.{Listing};
+ghost use Rattle.data_graph.specs.DataGraphs.{triples_at};
 ghost use Rattle.commit_core.specs.Consistent.{IsSound};
 ghost use Rattle.commit_core.specs.Verdicts.{IsPairedCheck};
 
@@ -15,7 +16,6 @@ use crate::checked::CheckedNet;
 use bgp_query::{JoinFault, JoinPattern};
 use collections::Sequence;
 use data_graph::ValidatedGraph;
-use page_index::Pages;
 use rdf_model::{Change, Pattern, Term, Triple};
 use shape_eval::Steps;
 use shape_model::ResultRow;
@@ -24,24 +24,26 @@ use std::alloc::{AllocError, Global};
 use std::marker::Model;
 use std::sync::ledger::Ledger;
 use store_model::{BlockMode, Verdict};
+use term_dict::Dict;
+use triple_index::Index;
 
-/// The store as it was at one version: its number, and its data graph, ascending, which keeps its shapes graph, its names and
-/// its results. Contracts see the first four; the graph has no result under the shapes that blocks in either mode.
+/// The store as it was at one version: its number, its mode, and its data graph, ascending, which keeps its shapes graph, its
+/// names and its results. Contracts see the first five; the graph has no result under the shapes that blocks in the mode.
 pub struct Snap {
     number: u64,
+    mode: BlockMode,
     graph: ValidatedGraph,
 }
 
 impl Model for Snap {
-    ghost use Rattle.store_model.specs.declared.event.BlockMode.TheVariants as modes;
     ghost use Rattle.store_model.specs.Snapshots.{Snapshot};
     ghost use Rattle.commit_core.specs.Consistent.{IsSound};
 
     ghost Value = { Snapshot };
 
-    ghost view = { λ s. record { number = s.number; graph = s.graph.triples; shapes = s.graph.shapes; named = s.graph.terms } };
+    ghost view = { λ s. record { mode = s.mode; number = s.number; graph = s.graph.triples; shapes = s.graph.shapes; named = s.graph.terms } };
 
-    ghost invariant = { λ s. IsSound modes.Violation (record { number = s.number; graph = s.graph.triples; shapes = s.graph.shapes; named = s.graph.terms }) };
+    ghost invariant = { λ s. IsSound (record { mode = s.mode; number = s.number; graph = s.graph.triples; shapes = s.graph.shapes; named = s.graph.terms }) };
 }
 
 // Written by hand, so that what owns one calls it in place of having it written out.
@@ -49,6 +51,7 @@ impl Drop for Snap {
     fn drop(self) {
         let Snap {
             number: _,
+            mode: _,
             graph: _,
         } = self;
     }
@@ -56,12 +59,17 @@ impl Drop for Snap {
 
 impl Snap {
     // The snapshot of the graph, which it shares.
-    pub(crate) fn sharing(number: u64, graph: &ValidatedGraph) -> Result<Snap, AllocError>
-        requires { IsSound BlockMode.Violation (record { number = number; graph = graph.now.triples; shapes = graph.now.shapes; named = graph.now.terms }) }
-        ensures { IfOk result (λ snap. snap ≡ record { number = number; graph = graph.now.triples; shapes = graph.now.shapes; named = graph.now.terms }) }
+    pub(crate) fn sharing(
+        number: u64,
+        mode: BlockMode,
+        graph: &ValidatedGraph,
+    ) -> Result<Snap, AllocError>
+        requires { IsSound (record { mode = mode; number = number; graph = graph.now.triples; shapes = graph.now.shapes; named = graph.now.terms }) }
+        ensures { IfOk result (λ snap. snap ≡ record { mode = mode; number = number; graph = graph.now.triples; shapes = graph.now.shapes; named = graph.now.terms }) }
     {
         Ok(Snap {
             number,
+            mode,
             graph: graph.share()?,
         })
     }
@@ -73,11 +81,18 @@ impl Snap {
         self.number
     }
 
-    /// The triples.
-    pub fn triples(&self) -> &Pages<Triple>
-        ensures { result.now ≡ self.now.graph }
+    /// The names of terms.
+    pub fn names(&self) -> &Dict
+        ensures { result.now.terms ≡ self.now.named }
     {
-        self.graph.triples()
+        self.graph.names()
+    }
+
+    /// The triples by the numbers of their terms.
+    pub fn numbers(&self) -> &Index
+        ensures { triples_at self.now.named result.now ≡ self.now.graph }
+    {
+        self.graph.graph().index()
     }
 
     /// The shapes graph.
@@ -102,7 +117,7 @@ impl Snap {
 
     /// The bindings of the patterns in the graph with these changes: the terms of the variables, from the first on, under which
     /// each pattern stands there (SPARQL 1.1 Query, section 18.3), each once, ascending. `TooMany` comes exactly where there
-    /// are more than 100,000. It stays the same; the numbers by which it asks are kept for the next call.
+    /// are more than 100,000. It stays the same.
     pub fn select(
         &mut self,
         net: &[Change],
@@ -155,7 +170,7 @@ impl Snap {
 
     /// What every snapshot is, for a caller that rests on it. It does nothing.
     pub fn recall_sound(&self)
-        ensures { IsSound BlockMode.Violation self.now }
+        ensures { IsSound self.now }
     {
         let _ = &self.number;
     }

@@ -3,6 +3,7 @@ ghost use Rattle.std.specs.Prelude.{false, ◌≡◌, ◌+◌, ◌≤◌, ◌<�
 ghost use Rattle.store_model.specs.Store.{RecordedStore, empty_store, Step, TakesStep, IsOpened, IsCommittable, NetNamed, numbers_of, version};
 ghost use Rattle.store_model.specs.Snapshots.{snapshot_of};
 ghost use Rattle.store_model.specs.Nodes.{unknown_by};
+ghost use Rattle.rdf_model.specs.Graphs.{after, differing};
 ghost use Rattle.parallel_validate.specs.Counting.{GrowsByCount};
 ghost use Rattle.parallel_validate.specs.Verdicts.{IsEvaluated};
 ghost use Rattle.shape_model.specs.Validation.{Listing};
@@ -32,7 +33,7 @@ use collections::Sequence;
 use data_graph::{DataGraph, ValidatedGraph};
 use kept_rows::PairRows;
 use page_index::Pages;
-use rdf_model::{Change, Term};
+use rdf_model::{Change, Term, Triple};
 use record_text::Record;
 use shape_eval::Steps;
 use shape_model::ResultRow;
@@ -196,16 +197,16 @@ impl Core {
 
     // The store as it is now.
     fn newest(&self) -> Result<Snap, AllocError>
-        ensures { IfOk result (λ snap. snap ≡ snapshot_of self.now.state) }
+        ensures { IfOk result (λ snap. snap ≡ snapshot_of self.now.limits.mode self.now.state) }
     {
-        Snap::sharing(version_of(&self.commits), &self.graph)
+        Snap::sharing(version_of(&self.commits), self.bounds.mode, &self.graph)
     }
 
     /// The newest snapshot, at which a transaction begins.
     pub fn begin(&mut self, session: u32) -> Result<Snap, AllocError>
         requires { IsOpened self.old.state session }
         ensures step { IfOk result (λ snap. TakesStep self.old self.new (record { session = session; action = Action.Begin; reply = Reply.Version snap.number })) }
-        ensures snapshot { IfOk result (λ snap. snap ≡ snapshot_of self.old.state) }
+        ensures snapshot { IfOk result (λ snap. snap ≡ snapshot_of self.old.limits.mode self.old.state) }
         ensures memory { OnErr result (self.new ≡ self.old) }
     {
         let slip = slip(self.alloc)?;
@@ -225,7 +226,7 @@ impl Core {
     pub fn head(&mut self, session: u32) -> Result<Snap, AllocError>
         requires { IsOpened self.old.state session }
         ensures step { IfOk result (λ snap. TakesStep self.old self.new (record { session = session; action = Action.Head; reply = Reply.Version snap.number })) }
-        ensures snapshot { IfOk result (λ snap. snap ≡ snapshot_of self.old.state) }
+        ensures snapshot { IfOk result (λ snap. snap ≡ snapshot_of self.old.limits.mode self.old.state) }
         ensures memory { OnErr result (self.new ≡ self.old) }
     {
         let slip = slip(self.alloc)?;
@@ -394,17 +395,19 @@ impl Core {
         self.evaluated(next, &checked.transaction, steps)
     }
 
-    // What a commit that nothing overtook and whose graph is within the limit is going to do. The listing is made only where a
-    // result blocks.
+    // What a commit that nothing overtook and whose graph is within the limit is going to do; it changes these triples. The listing
+    // is made only where a result blocks.
     fn judge<L: Ledger>(
         &self,
         next: DataGraph,
+        changed: Vec<Triple>,
         checked: &CheckedTransaction,
         held: bool,
         steps: &mut Steps<L>,
     ) -> Result<Plan, AllocError>
         requires committable { IsCommittable self.now.state checked.now.transaction }
         requires next { next ≡ with_changes (data_of self.now) checked.now.transaction.net }
+        requires changed { changed.items ≡ differing self.now.state.graph (after self.now.state.graph checked.now.transaction.net) }
         requires found { MatchBool held (IsHeld self.now checked.now.transaction checked.now.pairs) (Unit {0}) }
         ensures judged { IfOk result (IsJudged self.now.limits.mode (data_of self.now) checked.now.transaction) }
         ensures steps { IfOk result (PlanSteps held self.now.state checked.now.transaction steps.old steps.new) }
@@ -421,9 +424,7 @@ impl Core {
         }
         let validated = outcome.into_graph();
         validated.recall_listing();
-        let net = checked.transaction.net.as_slice();
-        let plan = accepting(self.alloc, self.graph.graph(), validated, net, staged)?;
-        Ok(Plan::Accept(plan))
+        Ok(Plan::Accept(accepting(validated, changed, staged)))
     }
 
     // What the commit of the transaction does to this store; a verdict may have held.
@@ -445,12 +446,15 @@ impl Core {
             let triple = overtaker.triple.clone()?;
             return Ok(Plan::Overtaken(overtaker, triple));
         }
-        let next = self.graph.graph().after(transaction.net.as_slice())?;
-        let count = next.triples().len();
+        let (next, changed) = self
+            .graph
+            .graph()
+            .after_with_changed(transaction.net.as_slice())?;
+        let count = next.len();
         if count > self.bounds.triples {
             return Ok(Plan::TooLarge(count));
         }
-        self.judge(next, checked, held, steps)
+        self.judge(next, changed, checked, held, steps)
     }
 
     // Records a commit that changes nothing.
@@ -721,6 +725,6 @@ impl Core {
     pub fn triples(&self) -> usize
         ensures { result ≡ length self.now.state.graph }
     {
-        self.graph.triples().len()
+        self.graph.len()
     }
 }

@@ -1,6 +1,6 @@
 -- Changes by number make of the numbers of a graph those of the graph after the changes.
 use Rattle.std.proofs.Common.{◌≡◌, ◌∙◌, List, [], ◌∷◌, sym, ap, subst, inl, inr}
-use Rattle.std.specs.Prelude.{◌↔◌, map}
+use Rattle.std.specs.Prelude.{map}
 use Rattle.std.specs.List.{AllByRecursion, Contains}
 use Rattle.collections.specs.Ordered.{IsAscending, with_item, without_item}
 use Rattle.collections.proofs.Ascending.{IsAscending-with_item, IsAscending-without_item}
@@ -10,11 +10,11 @@ use Rattle.rdf_model.specs.declared.ids.Ids.{Ids}
 use Rattle.rdf_model.specs.declared.term.Term.{Term}
 use Rattle.rdf_model.specs.declared.triple.Triple.{Triple}
 use Rattle.rdf_model.specs.Graphs.{after}
-use Rattle.rdf_model.specs.Numbers.{AreNumbered, IsNumbering, graph_of, triple_at}
+use Rattle.rdf_model.specs.Numbers.{IsNumbering, graph_of, triple_at}
 use Rattle.rdf_model.specs.Orders.{triple_exact, triple_total}
 use Rattle.rdf_model.specs.Terms.{triple_cmp}
 use Rattle.parallel_validate.specs.Named.{IsNumbered}
-use Rattle.parallel_validate.proofs.Members.{all_numbered, in_graph, index_members, index_numbered, numbered_at, of_graph}
+use Rattle.parallel_validate.proofs.Members.{all_numbered, in_graph, numbered_at, of_graph}
 use Rattle.triple_index.specs.Changes.{after_ids}
 use Rattle.triple_index.specs.IdsOrder.{ids_exact, ids_total}
 use Rattle.triple_index.specs.Keys.{ids_cmp}
@@ -45,7 +45,7 @@ closed terms ids g f = record {
 }
 
 module _ (terms : List Term) (numbering : IsNumbering terms) where
-  same_ids : (i j : Ids) → IsNumbered terms i → IsNumbered terms j → triple_at terms i ≡ triple_at terms j → i ≡ j
+  pub same_ids : (i j : Ids) → IsNumbered terms i → IsNumbered terms j → triple_at terms i ≡ triple_at terms j → i ≡ j
   same_ids i j a b e =
       let subject = numbering i.subject j.subject a.0 b.0 (ap (λ (t : Triple). t.subject) e) in
       let predicate = numbering i.predicate j.predicate a.1 b.1 (ap (λ (t : Triple). t.predicate) e) in
@@ -92,7 +92,3 @@ pub index_after : (terms : List Term) (cs : List NumberedChange) (net : List Cha
 index_after terms cs net ids later g k n e l a b x =
     subst (λ (is : List Ids). IsIndexOf terms is (after g net)) (sym l) (subst (λ (cs' : List Change). IsIndexOf terms (after_ids ids cs) (after g cs')) e
     (closed terms (after_ids ids cs) (after g (map (change_at terms) cs)) (all terms k cs ids g n a b (opened terms ids g x))))
-
--- an index that was built at once of the numbers of a graph
-pub index_at_once : (terms : List Term) (ids index : List Ids) (g : List Triple) → AreNumbered terms ids → graph_of terms ids ≡ g → ((i : Ids) → Contains index i ↔ Contains ids i) → IsIndexOf terms index g
-index_at_once terms ids index g n e same = record { numbered = index_numbered terms ids index n same; members = index_members terms ids index g e same }

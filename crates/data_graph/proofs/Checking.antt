@@ -15,7 +15,6 @@ use Rattle.store_model.specs.Store.{changed_triple}
 use Rattle.shape_ast.specs.declared.shape.Shape.{Shape}
 use Rattle.shape_ast.specs.Readings.{AreBound, named_shapes}
 use Rattle.shape_ast.specs.Standing.{StandFor}
-use Rattle.shape_eval.specs.Told.{node_at}
 use Rattle.shape_eval.proofs.Asking.{node_bound}
 use Rattle.change_laws.specs.Checks.{AreChecked, CheckedPair}
 use Rattle.change_laws.proofs.Checked.{mapped_from, mapped_to}

@@ -91,17 +91,6 @@ module _ (p : Pattern) where
     | false ↦ λ f. ap (λ (ts : List Triple). after ts (changes_asked p net)) (other g c a f)
   ] refl)
 
-  asked_twice : (net : List Change) → changes_asked p (changes_asked p net) ≡ changes_asked p net
-  asked_twice [] = refl
-  asked_twice (c ∷ net) = elim (matches p (changed_triple c)) as (λ b. matches p (changed_triple c) ≡ b → changes_asked p (cond b (c ∷ changes_asked p net) (changes_asked p net)) ≡ cond b (c ∷ changes_asked p net) (changes_asked p net)) [
-    | true ↦ λ k. ap (λ b. cond b (c ∷ changes_asked p (changes_asked p net)) (changes_asked p (changes_asked p net))) k ∙ ap (λ (cs : List Change). c ∷ cs) (asked_twice net)
-    | false ↦ λ f. asked_twice net
-  ] refl
-
-  -- the other changes make no difference
-  pub found_among : (g : List Triple) (net : List Change) → IsAscending triple_cmp g → found (after g (changes_asked p net)) p ≡ found (after g net) p
-  found_among g net a = found_after g (changes_asked p net) a ∙ (ap (after (found g p)) (asked_twice net) ∙ sym (found_after g net a))
-
   pub none_asked : (net : List Change) → list_any (λ c. matches p (changed_triple c)) net ≡ false → changes_asked p net ≡ []
   none_asked [] e = refl
   none_asked (c ∷ net) e = elim (matches p (changed_triple c)) as (λ b. (b || list_any (λ c. matches p (changed_triple c)) net) ≡ false → cond b (c ∷ changes_asked p net) (changes_asked p net) ≡ []) [

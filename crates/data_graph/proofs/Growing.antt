@@ -1,5 +1,5 @@
 -- Where more terms are named, the triples by number stay those of the graph, and the words of classes keep their numbers.
-use Rattle.std.proofs.Common.{◌≡◌, ◌∙◌, true, false, cond, List, [], ◌∷◌, ◌++◌, Option, Some, None, sym, subst, arith, length-append, refl}
+use Rattle.std.proofs.Common.{◌≡◌, ◌∙◌, true, false, cond, List, [], ◌∷◌, ◌++◌, sym, subst, arith, length-append, refl}
 use Rattle.std.specs.Prelude.{◌↔◌}
 use Rattle.std.specs.List.{Contains}
 use Rattle.std.proofs.Math.ListN.{get_or-append}
@@ -15,7 +15,7 @@ use Rattle.term_dict.specs.Names.{first_terms, with_terms}
 use Rattle.bound_shapes.specs.Bound.{BoundGraph, IsBoundTo}
 use Rattle.bound_shapes.proofs.Growing.{still_bound}
 use Rattle.parallel_validate.specs.Named.{AreNamedTriples, IsNumbered}
-use Rattle.data_graph.specs.DataGraphs.{HaveClassWords, IsIndexOf, IsIndexed}
+use Rattle.data_graph.specs.DataGraphs.{HaveClassWords, IsIndexOf}
 
 same_triple : (terms : List Term) (u : Term) (i : Ids) → IsNumbered terms i → triple_at (terms ++ u ∷ []) i ≡ triple_at terms i
 same_triple terms u i n =
@@ -51,11 +51,6 @@ all_more terms (t ∷ ts) ids g x = elim (has_item term_cmp t terms) as (λ b. I
 -- by the names that a dictionary has afterwards
 pub named_more : (terms more ts : List Term) (ids : List Ids) (g : List Triple) → more ≡ with_terms terms ts → IsIndexOf terms ids g → IsIndexOf more ids g
 named_more terms more ts ids g e x = subst (λ (us : List Term). IsIndexOf us ids g) (sym e) (all_more terms ts ids g x)
-
--- where they are there
-pub indexed_more : (terms more ts : List Term) (numbers : Option (List Ids)) (g : List Triple) → more ≡ with_terms terms ts → IsIndexed terms numbers g → IsIndexed more numbers g
-indexed_more terms more ts None g e x = tt
-indexed_more terms more ts (Some ids) g e x = named_more terms more ts ids g e x
 
 -- the terms of no triples are named
 pub no_triple_named : (terms : List Term) (g : List Triple) → g ≡ [] → AreNamedTriples terms g

@@ -3,7 +3,7 @@ pub mod Changing
 pub mod Differing
 pub mod Finding
 pub mod Growing
-pub mod Runs
+pub mod Listed
 pub mod Tests
 pub mod AtOnce
 mod ChangedTriples

@@ -1,5 +1,5 @@
 -- A data graph with numbers for its terms.
-use Rattle.std.specs.Prelude.{◌↔◌, ℕ, List, MatchOption, Option}
+use Rattle.std.specs.Prelude.{◌↔◌, ℕ, List, []}
 use Rattle.collections.specs.Ordered.{IsAscending}
 use Rattle.rdf_model.specs.Terms.{triple_cmp}
 use Rattle.std.specs.List.{All, Contains}
@@ -8,7 +8,7 @@ use Rattle.rdf_model.specs.declared.change.Change.TheVariants as changes
 use Rattle.rdf_model.specs.declared.ids.Ids.{Ids}
 use Rattle.rdf_model.specs.declared.term.Term.{Term}
 use Rattle.rdf_model.specs.declared.triple.Triple.{Triple}
-use Rattle.rdf_model.specs.Graphs.{after}
+use Rattle.rdf_model.specs.Graphs.{after, with_each}
 use Rattle.rdf_model.specs.Numbers.{AreNumbered, graph_of, triple_at}
 use Rattle.store_model.specs.Store.{changed_triple}
 use Rattle.path_eval.specs.Instances.{AreClassWords}
@@ -16,6 +16,10 @@ use Rattle.term_dict.specs.Names.{Named, with_terms}
 use Rattle.parallel_validate.specs.Named.{IsNamedTriple, IsNumbered}
 use Rattle.triple_index.specs.declared.change.NumberedChange.{NumberedChange}
 use Rattle.triple_index.specs.declared.change.NumberedChange.TheVariants.{Add, Remove}
+
+-- the triples of numbers, each put into its place
+abbrev pub triples_at : List Term → List Ids → List Triple
+triples_at terms ids = with_each [] (graph_of terms ids)
 
 -- what a data graph is to contracts: its triples, the triples of its shapes graph, the terms by their numbers, and how many
 -- may be named beside the first two
@@ -63,7 +67,3 @@ change_at terms (Remove i) = changes.Remove (triple_at terms i)
 -- after changes the numbers later are the index of each graph after them whose index the numbers ids were
 abbrev pub KeepsIndex : List Term → List Ids → List Change → List Ids → Type 0
 KeepsIndex terms ids net later = (g : List Triple) → IsAscending triple_cmp g → IsIndexOf terms ids g → IsIndexOf terms later (after g net)
-
--- the triples by number, where they are there
-abbrev pub IsIndexed : List Term → Option (List Ids) → List Triple → Type 0
-IsIndexed terms numbers g = MatchOption numbers (Unit {0}) (λ ids. IsIndexOf terms ids g)

@@ -1,30 +1,15 @@
 -- How the triples that a pattern asks for are found.
-use Rattle.std.specs.Prelude.{◌≡◌, ◌<◌, ℕ, false, true, Option, None, Some, List, length}
+use Rattle.std.specs.Prelude.{◌≡◌, ◌<◌, ℕ, false, true, Option, List, length}
 use Rattle.std.specs.List.{Contains, filter}
-use Rattle.std.specs.declared.cmp.Ordering.{Ordering}
-use Rattle.std.specs.declared.cmp.Ordering.TheVariants.{Equal}
-use Rattle.std.specs.Ordering.{ordering_then}
 use Rattle.rdf_model.specs.declared.change.Change.{Change}
 use Rattle.rdf_model.specs.declared.ids.Ids.{Ids}
 use Rattle.rdf_model.specs.declared.pattern.Pattern.{Pattern}
 use Rattle.rdf_model.specs.declared.term.Term.{Term}
-use Rattle.rdf_model.specs.declared.triple.Triple.{Triple}
 use Rattle.rdf_model.specs.Matching.{fits, matches}
 use Rattle.rdf_model.specs.Numbers.{term_at, triple_at}
-use Rattle.rdf_model.specs.Terms.{term_cmp}
 use Rattle.store_model.specs.Store.{changed_triple}
 use Rattle.parallel_validate.specs.Named.{IsNumbered}
 use Rattle.triple_index.specs.Patterns.{fits_number, matches_ids}
-
--- how a term stands to the one that is given, and what comes after it if they tie; all are alike where none is given
-abbrev pub then_given : Option Term → Term → Ordering → Ordering
-then_given None t further = Equal
-then_given (Some x) t further = ordering_then (term_cmp t x) further
-
--- how a triple stands to those with the pattern's subject; and with its predicate, where both are given; and its object,
--- where all are: triples that tie stand side by side
-abbrev pub run_cmp : Pattern → Triple → Ordering
-run_cmp p t = then_given p.subject t.subject (then_given p.predicate t.predicate (then_given p.object t.object Equal))
 
 -- the changes of triples that the pattern asks for
 abbrev pub changes_asked : Pattern → List Change → List Change

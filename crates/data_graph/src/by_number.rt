@@ -1,16 +1,17 @@
 //! The triples that a pattern asks for, by the numbers of their terms.
-ghost use Rattle.std.specs.Prelude.{◌≡◌, ◌↔◌, ◌<◌, IfOk, MatchOption, length, true};
+ghost use Rattle.std.specs.Prelude.{◌≡◌, ◌↔◌, ◌<◌, IfOk, MatchOption, length};
 ghost use Rattle.std.specs.List.{All, Contains};
-ghost use Rattle.collections.specs.Listings.{IsListing};
+ghost use Rattle.collections.specs.Ordered.{has_item};
 ghost use Rattle.rdf_model.specs.declared.ids.Ids.{Ids as IdsData};
-ghost use Rattle.rdf_model.specs.Matching.{matches};
 ghost use Rattle.rdf_model.specs.Numbers.{AreNumbered, graph_of, term_at, triple_at};
 ghost use Rattle.rdf_model.specs.Terms.{triple_cmp};
-ghost use Rattle.parallel_validate.specs.Named.{IsNumbered};
+ghost use Rattle.store_model.specs.Finds.{found};
+ghost use Rattle.parallel_validate.specs.Named.{IsNamedTriple, IsNumbered};
+ghost use Rattle.data_graph.specs.DataGraphs.{triples_at};
 ghost use Rattle.data_graph.specs.Finding.{AllAskAlike, AsksAlike, AsksForNone, IsAsked, NoneIsAsked};
 
 use collections::sorted_once;
-use rdf_model::{Ids, Names, Pattern, Term, Triple};
+use rdf_model::{Ids, Names, Pattern, Term, Triple, Triples};
 use std::alloc::{AllocError, Global};
 use term_dict::Dict;
 use triple_index::Index;
@@ -89,8 +90,12 @@ fn read_triple(names: &Dict, ids: Ids) -> Result<Triple, AllocError>
     })
 }
 
-// The triples of numbers, in their order.
-fn read_triples(alloc: Global, names: &Dict, ids: &[Ids]) -> Result<Vec<Triple>, AllocError>
+/// The triples of numbers, in their order.
+pub(crate) fn read_triples(
+    alloc: Global,
+    names: &Dict,
+    ids: &[Ids],
+) -> Result<Vec<Triple>, AllocError>
     requires { All (IsNumbered names.now.terms) ids.now }
     ensures { IfOk result (λ triples. triples.items ≡ graph_of names.now.terms ids.now) }
 {
@@ -101,6 +106,29 @@ fn read_triples(alloc: Global, names: &Dict, ids: &[Ids]) -> Result<Vec<Triple>,
     Ok(triples)
 }
 
+// The numbers of the triple's terms, where all have one.
+fn numbers_of(names: &Dict, triple: &Triple) -> Option<Ids>
+    ensures { MatchOption result (IsNamedTriple names.now.terms triple.now → ⊥) (λ ids. IsNumbered names.now.terms ids × (triple_at names.now.terms ids ≡ triple.now)) }
+{
+    Some(Ids {
+        subject: names.id(&triple.subject)?,
+        predicate: names.id(&triple.predicate)?,
+        object: names.id(&triple.object)?,
+    })
+}
+
+/// Whether a triple is one of those that an index stands for.
+pub(crate) fn has_triple(names: &Dict, index: &Index, triple: &Triple) -> bool
+    requires { AreNumbered names.now.terms index.now }
+    ensures { result ≡ has_item triple_cmp triple.now (triples_at names.now.terms index.now) }
+{
+    names.recall_numbering();
+    match numbers_of(names, triple) {
+        Some(ids) => index.contains(ids),
+        None => false,
+    }
+}
+
 /// The triples that the pattern asks for of those that an index stands for, in their order.
 pub(crate) fn found_by_number(
     alloc: Global,
@@ -109,7 +137,7 @@ pub(crate) fn found_by_number(
     pattern: &Pattern,
 ) -> Result<Vec<Triple>, AllocError>
     requires { AreNumbered names.now.terms index.now }
-    ensures { IfOk result (λ v. IsListing triple_cmp (λ t. Contains (graph_of names.now.terms index.now) t × (matches pattern.now t ≡ true)) v.items) }
+    ensures { IfOk result (λ v. v.items ≡ found (triples_at names.now.terms index.now) pattern.now) }
 {
     let ids = ids_asked(alloc, names, index, pattern)?;
     let triples = read_triples(alloc, names, &ids)?;

@@ -1,6 +1,9 @@
 //! A data graph with its shapes graph and numbers for the terms of both.
-ghost use Rattle.std.specs.Prelude.{◌≡◌, ◌+◌, ◌<◌, ◌≤◌, ◌^◌, [], IfErr, IfOk, MatchOption, OnErr, OnOk, length};
-ghost use Rattle.rdf_model.specs.Graphs.{after};
+ghost use Rattle.std.specs.Prelude.{◌≡◌, ◌+◌, ◌<◌, ◌≤◌, ◌^◌, [], IfErr, IfOk, OnErr, OnOk, length};
+ghost use Rattle.rdf_model.specs.Graphs.{after, differing};
+ghost use Rattle.rdf_model.specs.Numbers.{AreNumbered};
+ghost use Rattle.rdf_model.specs.Terms.{triple_cmp};
+ghost use Rattle.collections.specs.Ordered.{IsAscending, has_item};
 ghost use Rattle.std.specs.List.{AllByRecursion};
 ghost use Rattle.bgp_query.specs.Selected.{AreSelected, IsJoinFault};
 ghost use Rattle.store_model.specs.Finds.{found};
@@ -14,22 +17,22 @@ ghost use Rattle.parallel_validate.specs.Named.{AreNamedTriples};
 ghost use Rattle.change_laws.specs.Pairs.{IsCheckFootprint};
 ghost use Rattle.kept_rows.specs.Laws.{ChecksPairs, KeepsResults};
 ghost use Rattle.data_graph.specs.Changes.{IsCheckByNumber, IsCheckOf};
-ghost use Rattle.data_graph.specs.DataGraphs.{AreNamedChanges, IsIndexOf, IsIndexed, names_of, with_changes, with_names, with_shapes};
+ghost use Rattle.data_graph.specs.DataGraphs.{AreNamedChanges, IsIndexOf, names_of, triples_at, with_changes, with_names, with_shapes};
 
-use crate::by_number::found_by_number;
+use crate::asked::list_after_asked;
+use crate::at_once::set_after;
+use crate::by_number::{found_by_number, has_triple};
+use crate::changed::triples_differing;
 use crate::changes::{
     CheckedChanges, NumberedCheck, PairedChanges, check_by_number, checked_changes, paired_changes,
     rows_of,
 };
-use crate::graphs::{graph_after, graph_after_asked, list_after_asked};
-use crate::numbering::{CLASS_WORDS, index_after, index_of, kept_by, listing_by};
-use crate::run::graph_matching;
+use crate::numbering::{CLASS_WORDS, index_after, kept_by, listing_by, number_changes};
 use crate::select::select_after;
 use bgp_query::{JoinFault, JoinPattern};
 use bound_shapes::BoundShapes;
 use collections::{Sequence, both};
 use kept_rows::{KeptRows, PairRows};
-use page_index::Pages;
 use parallel_validate::is_without_shapes;
 use rdf_model::{Change, Pattern, Term, Triple};
 use shape_eval::Steps;
@@ -42,25 +45,25 @@ use term_dict::{Dict, NameFault};
 use triple_index::Index;
 
 /// A data graph with the shapes graph by which it is validated, and numbers for the terms of both. Contracts see its triples,
-/// those of its shapes graph, the terms by their numbers, and how many may be named beside the two first. The shapes are
-/// bound to the numbers once. Its triples by number are there once it, or one that it was made from, was validated.
+/// those of its shapes graph, the terms by their numbers, and how many may be named beside the two first. It keeps its triples
+/// by their numbers alone. The shapes are bound to the numbers once.
 pub struct DataGraph {
     alloc: Global,
-    triples: Pages<Triple>,
     names: Dict,
-    numbers: Option<Index>,
+    numbers: Index,
     shapes: BoundShapes,
 }
 
 impl Model for DataGraph {
     ghost use Rattle.bound_shapes.specs.Bound.{IsBoundTo};
-    ghost use Rattle.data_graph.specs.DataGraphs.{HaveClassWords, IsIndexed, NamedGraph};
+    ghost use Rattle.rdf_model.specs.Numbers.{AreNumbered};
+    ghost use Rattle.data_graph.specs.DataGraphs.{HaveClassWords, NamedGraph, triples_at};
 
     ghost Value = { NamedGraph };
 
-    ghost view = { λ g. record { triples = g.triples; shapes = g.shapes.graph; terms = g.names.terms; limit = g.names.limit } };
+    ghost view = { λ g. record { triples = triples_at g.names.terms g.numbers; shapes = g.shapes.graph; terms = g.names.terms; limit = g.names.limit } };
 
-    ghost invariant = { λ g. HaveClassWords g.names.terms × IsIndexed g.names.terms g.numbers g.triples × IsBoundTo g.names.terms g.shapes };
+    ghost invariant = { λ g. HaveClassWords g.names.terms × AreNumbered g.names.terms g.numbers × IsBoundTo g.names.terms g.shapes };
 }
 
 // Written by hand, so that what owns one calls it in place of having it written out.
@@ -68,31 +71,10 @@ impl Drop for DataGraph {
     fn drop(self) {
         let DataGraph {
             alloc: _,
-            triples: _,
             names: _,
             numbers: _,
             shapes: _,
         } = self;
-    }
-}
-
-// Whether the order of triples serves the pattern no better than looking at all: it gives no subject,
-// but another term.
-fn wants_numbers(pattern: &Pattern) -> bool {
-    match (&pattern.subject, &pattern.predicate, &pattern.object) {
-        (Some(_), _, _) => false,
-        (None, None, None) => false,
-        (None, _, _) => true,
-    }
-}
-
-// Another index with the same triples, where one is there.
-fn share_numbers(numbers: &Option<Index>) -> Result<Option<Index>, AllocError>
-    ensures { IfOk result (λ share. share ≡ numbers.now) }
-{
-    match numbers {
-        Some(numbers) => Ok(Some(numbers.share()?)),
-        None => Ok(None),
     }
 }
 
@@ -107,9 +89,8 @@ impl DataGraph {
         let shapes = BoundShapes::new(alloc, &names, CLASS_WORDS, ShapesGraph::empty(alloc)?)?;
         Ok(DataGraph {
             alloc,
-            triples: Pages::new(alloc),
             names,
-            numbers: None,
+            numbers: Index::new(alloc),
             shapes,
         })
     }
@@ -119,22 +100,37 @@ impl DataGraph {
     pub fn share(&self) -> Result<DataGraph, AllocError>
         ensures { IfOk result (λ share. share ≡ self.now) }
     {
-        let (numbers, shapes) = both(share_numbers(&self.numbers), self.shapes.share())?;
-        let (triples, names) = both(self.triples.share(), self.names.share())?;
+        self.with_numbers(self.numbers.share()?)
+    }
+
+    // The graph of these triples, under the same shapes, by the same names.
+    fn with_numbers(&self, numbers: Index) -> Result<DataGraph, AllocError>
+        requires { AreNumbered self.now.terms numbers }
+        ensures { IfOk result (λ graph. graph ≡ record { triples = triples_at self.now.terms numbers; shapes = self.now.shapes; terms = self.now.terms; limit = self.now.limit }) }
+    {
+        let (names, shapes) = both(self.names.share(), self.shapes.share())?;
         Ok(DataGraph {
             alloc: self.alloc,
-            triples,
             names,
             numbers,
             shapes,
         })
     }
 
-    /// The triples.
-    pub fn triples(&self) -> &Pages<Triple>
-        ensures { result.now ≡ self.now.triples }
+    /// How many triples there are. It takes no memory.
+    pub fn len(&self) -> usize
+        ensures { result ≡ length self.now.triples }
     {
-        &self.triples
+        self.names.recall_numbering();
+        self.numbers.recall_ascending();
+        self.numbers.len()
+    }
+
+    /// Whether the triple is in the graph. A triple of which a term has no number isn't. It takes no memory.
+    pub fn contains(&self, triple: &Triple) -> bool
+        ensures { result ≡ has_item triple_cmp triple.now self.now.triples }
+    {
+        has_triple(&self.names, &self.numbers, triple)
     }
 
     /// The shapes graph.
@@ -163,27 +159,13 @@ impl DataGraph {
         Ok(numbers)
     }
 
-    // The triples by number.
-    fn index(&self) -> Result<Index, AllocError>
-        requires { AreNamedTriples self.now.terms self.now.triples }
-        ensures { IfOk result (λ numbers. IsIndexOf self.now.terms numbers self.now.triples) }
+    /// The triples by the numbers of their terms.
+    pub fn index(&self) -> &Index
+        ensures triples { triples_at self.now.terms result.now ≡ self.now.triples }
+        ensures index { IsIndexOf self.now.terms result.now self.now.triples }
+        ensures ascending { IsAscending triple_cmp self.now.triples }
     {
-        match &self.numbers {
-            Some(numbers) => Ok(numbers.share()?),
-            None => index_of(self.alloc, &self.names, &self.triples),
-        }
-    }
-
-    // The triples by number after the changes, where they are there before.
-    fn numbers_after(&self, net: &[Change]) -> Result<Option<Index>, AllocError>
-        requires { AreNamedChanges self.now.terms net.now }
-        ensures { IfOk result (λ numbers. IsIndexed self.now.terms numbers (after self.now.triples net.now)) }
-    {
-        self.triples.recall_ascending();
-        match &self.numbers {
-            Some(numbers) => Ok(Some(index_after(self.alloc, &self.names, numbers, net)?)),
-            None => Ok(None),
-        }
+        &self.numbers
     }
 
     /// The graph after the changes, whose terms are all named. It shares with this one what they leave.
@@ -191,18 +173,29 @@ impl DataGraph {
         requires { AreNamedChanges self.now.terms net.now }
         ensures { IfOk result (λ next. next ≡ with_changes self.now net.now) }
     {
-        let (triples, numbers) = both(
-            graph_after(self.alloc, &self.triples, net),
-            self.numbers_after(net),
+        let numbers = index_after(self.alloc, &self.names, &self.numbers, net)?;
+        self.with_numbers(numbers)
+    }
+
+    /// The graph after the changes, as `after` makes it, and the triples that are in exactly one of this graph and that one,
+    /// ascending.
+    pub fn after_with_changed(&self, net: &[Change]) -> Result<(DataGraph, Vec<Triple>), AllocError>
+        requires { AreNamedChanges self.now.terms net.now }
+        ensures { IfOk result (λ made. (made.0 ≡ with_changes self.now net.now) × (made.1.items ≡ differing self.now.triples (after self.now.triples net.now))) }
+    {
+        self.names.recall_numbering();
+        self.numbers.recall_ascending();
+        let changes = number_changes(self.alloc, &self.names, net)?;
+        let numbers = set_after(self.alloc, &self.numbers, &changes)?;
+        let changed = triples_differing(
+            self.alloc,
+            &self.names,
+            &self.numbers,
+            &numbers,
+            &changes,
         )?;
-        let (names, shapes) = both(self.names.share(), self.shapes.share())?;
-        Ok(DataGraph {
-            alloc: self.alloc,
-            triples,
-            names,
-            numbers,
-            shapes,
-        })
+        let next = self.with_numbers(numbers)?;
+        Ok((next, changed))
     }
 
     /// Puts another shapes graph in the place of the one that is there. All its terms are named; its shapes are bound
@@ -216,29 +209,9 @@ impl DataGraph {
         Ok(())
     }
 
-    // The triples that the pattern asks for, where their numbers serve it, and are there.
-    fn matching_by_number(
-        &self,
-        alloc: Global,
-        pattern: &Pattern,
-    ) -> Result<Option<Vec<Triple>>, AllocError>
-        ensures { IfOk result (λ matching. MatchOption matching (Unit {0}) (λ v. v.items ≡ found self.now.triples pattern.now)) }
-    {
-        self.triples.recall_ascending();
-        match &self.numbers {
-            Some(numbers) if wants_numbers(pattern) => Ok(Some(found_by_number(
-                alloc,
-                &self.names,
-                numbers,
-                pattern,
-            )?)),
-            _ => Ok(None),
-        }
-    }
-
     /// The triples that the pattern asks for in the graph with these changes, in their order. It looks at
-    /// the changes, and at those triples alone that begin as the pattern does, or stand with its numbers;
-    /// at all where the pattern gives no subject and no graph before this one was validated.
+    /// the changes, and at those triples alone that stand side by side for the pattern in one of the orders of
+    /// their numbers; at all where it gives no term.
     pub fn find(
         &self,
         alloc: Global,
@@ -247,20 +220,13 @@ impl DataGraph {
     ) -> Result<Vec<Triple>, AllocError>
         ensures { IfOk result (λ v. v.items ≡ found (after self.now.triples net.now) pattern.now) }
     {
-        self.triples.recall_ascending();
-        match self.matching_by_number(alloc, pattern)? {
-            Some(matching) => Ok(list_after_asked(alloc, matching, net, pattern)?),
-            None => {
-                let graph = graph_after_asked(self.triples.share()?, net, pattern)?;
-                Ok(graph_matching(alloc, &graph, pattern)?)
-            }
-        }
+        let matching = found_by_number(alloc, &self.names, &self.numbers, pattern)?;
+        list_after_asked(alloc, matching, net, pattern)
     }
 
     /// The bindings of the patterns in the graph with these changes: the terms of the variables, from the first on, under which
     /// each pattern stands there (SPARQL 1.1 Query, section 18.3), each once, ascending. `TooMany` comes exactly where there
-    /// are more than 100,000. All terms of the graph are named. The graph stays the same; its triples by number are made
-    /// where they aren't there, and kept.
+    /// are more than 100,000. The graph stays the same.
     pub fn select(
         &mut self,
         net: &[Change],
@@ -271,15 +237,11 @@ impl DataGraph {
         ensures rows { IfOk result (λ rows. AreSelected (after self.old.triples net.now) patterns.now rows.items) }
         ensures fault { IfErr result (λ fault. IsJoinFault fault (after self.old.triples net.now) patterns.now) }
     {
-        self.triples.recall_ascending();
-        let numbers = self.index()?;
-        let selected = select_after(self.alloc, &self.names, &numbers, net, patterns);
-        self.numbers = Some(numbers);
-        selected
+        select_after(self.alloc, &self.names, self.index(), net, patterns)
     }
 
     /// The results of validating the graph by its shapes graph (SHACL section 3.6), each once, in the order of results. All
-    /// terms of the graph are named. Without shapes nothing is numbered. The evaluations are counted in `steps`: there are
+    /// terms of the graph are named. Without shapes the graph isn't read. The evaluations are counted in `steps`: there are
     /// as many as there are pairs of a shape and its target. After an error the count is what it was, or more.
     pub fn listing<L: Ledger>(&mut self, steps: &mut Steps<L>) -> Result<Vec<ResultRow>, AllocError>
         requires { AreNamedTriples self.old.terms self.old.triples }
@@ -291,59 +253,43 @@ impl DataGraph {
         if is_without_shapes(self.shapes.graph()) {
             return Ok(Vec::new(self.alloc));
         }
-        let numbers = self.index()?;
-        let rows = listing_by(self.alloc, &self.names, &numbers, &self.shapes, steps)?;
-        self.numbers = Some(numbers);
-        Ok(rows)
+        listing_by(self.alloc, &self.names, self.index(), &self.shapes, steps)
     }
 
     /// The results of the listing, each with the pair of a shape and a focus node that gives it, and counted as there.
-    pub fn kept_results<L: Ledger>(&mut self, steps: &mut Steps<L>) -> Result<KeptRows, AllocError>
-        requires { AreNamedTriples self.old.terms self.old.triples }
-        ensures same { self.new ≡ self.old }
-        ensures rows { IfOk result (KeepsResults self.old.terms self.old.triples self.old.shapes) }
-        ensures steps { OnOk result (GrowsByCount (IsTargetPair self.old.triples self.old.shapes) steps.old steps.new) }
+    pub fn kept_results<L: Ledger>(&self, steps: &mut Steps<L>) -> Result<KeptRows, AllocError>
+        ensures rows { IfOk result (KeepsResults self.now.terms self.now.triples self.now.shapes) }
+        ensures steps { OnOk result (GrowsByCount (IsTargetPair self.now.triples self.now.shapes) steps.old steps.new) }
         ensures counted { steps.old ≤ steps.new }
     {
         if is_without_shapes(self.shapes.graph()) {
             return Ok(KeptRows::new(self.alloc));
         }
-        let numbers = self.index()?;
-        let rows = kept_by(self.alloc, &self.names, &numbers, &self.shapes, steps)?;
-        self.numbers = Some(numbers);
-        Ok(rows)
+        kept_by(self.alloc, &self.names, self.index(), &self.shapes, steps)
     }
 
-    // What checking the changes finds, by number. The numbers of the triples after them are kept in `next`.
+    // What checking the changes finds, by number.
     fn checked_after<L: Ledger>(
         &self,
         net: &[Change],
-        next: &mut DataGraph,
+        next: &DataGraph,
         steps: &mut Steps<L>,
     ) -> Result<NumberedCheck, AllocError>
-        requires graph { AreNamedTriples self.now.terms self.now.triples }
         requires net { AreNamedChanges self.now.terms net.now }
-        requires after { AreNamedTriples self.now.terms (after self.now.triples net.now) }
-        requires next { next.old ≡ with_changes self.now net.now }
-        ensures same { next.new ≡ next.old }
+        requires next { next.now ≡ with_changes self.now net.now }
         ensures checked { IfOk result (λ checked. IsCheckByNumber self.now.terms self.now.triples self.now.shapes net.now checked.pairs checked.looks) }
         ensures steps { OnOk result (GrowsByCount (IsEvaluated self.now.triples self.now.shapes net.now) steps.old steps.new) }
         ensures counted { steps.old ≤ steps.new }
     {
-        self.triples.recall_ascending();
-        let before = self.index()?;
-        let later = next.index()?;
-        let checked = check_by_number(
+        check_by_number(
             self.alloc,
             &self.names,
-            &before,
-            &later,
+            self.index(),
+            next.index(),
             &self.shapes,
             net,
             steps,
-        )?;
-        next.numbers = Some(later);
-        Ok(checked)
+        )
     }
 
     /// The results of the graph that the changes make of this one, which has none, under its shapes graph: those of what

@@ -7,17 +7,17 @@ ghost use Rattle.store_model.specs.Store.{changed_triple};
 ghost use Rattle.parallel_validate.specs.Counting.{GrowsByCount, IsTargetPair};
 ghost use Rattle.bound_shapes.specs.Bound.{IsBoundTo};
 ghost use Rattle.kept_rows.specs.Laws.{KeepsResults};
-ghost use Rattle.parallel_validate.specs.Named.{AreNamedTriples, IsNamedTriple};
-ghost use Rattle.data_graph.specs.DataGraphs.{AreNamedChanges, IsIndexOf, IsNumberedChange, KeepsIndex, change_at};
+ghost use Rattle.parallel_validate.specs.Named.{IsNamedTriple};
+ghost use Rattle.data_graph.specs.DataGraphs.{AreNamedChanges, IsNumberedChange, KeepsIndex, change_at};
 
-use crate::graphs::triple_of;
+use crate::asked::triple_of;
+use crate::at_once::set_after;
 use bound_shapes::BoundShapes;
 use kept_rows::KeptRows;
 use kept_validation::whole_kept;
-use page_index::Pages;
 use parallel_validate::{number_triple, whole};
 use path_eval::ClassWords;
-use rdf_model::{Change, Ids, Triple};
+use rdf_model::{Change, Ids};
 use shape_eval::Steps;
 use shape_model::ResultRow;
 use std::alloc::{AllocError, Global};
@@ -31,29 +31,12 @@ pub(crate) const CLASS_WORDS: ClassWords = ClassWords {
     sub_class_of: 1,
 };
 
-// The triples of a graph by the numbers of their terms, in their order.
-fn number_graph(alloc: Global, names: &Dict, graph: &Pages<Triple>) -> Result<Vec<Ids>, AllocError>
-    requires { AreNamedTriples names.now.terms graph.now }
-    ensures { IfOk result (λ ids. AreNumbered names.now.terms ids.items × (graph_of names.now.terms ids.items ≡ graph.now)) }
-{
-    let mut ids = Vec::with_capacity(alloc, graph.len())?;
-    for triple in graph.iter() {
-        ids.push(number_triple(names, triple))?;
-    }
-    Ok(ids)
-}
-
-/// The index of a graph, built at once.
-pub fn index_of(alloc: Global, names: &Dict, graph: &Pages<Triple>) -> Result<Index, AllocError>
-    requires { AreNamedTriples names.now.terms graph.now }
-    ensures { IfOk result (λ index. IsIndexOf names.now.terms index graph.now) }
-{
-    let ids = number_graph(alloc, names, graph)?;
-    Ok(Index::from_triples(alloc, &ids)?)
-}
-
 /// The triples that are added or removed, by the numbers of their terms.
-pub fn number_changed(alloc: Global, names: &Dict, net: &[Change]) -> Result<Vec<Ids>, AllocError>
+pub(crate) fn number_changed(
+    alloc: Global,
+    names: &Dict,
+    net: &[Change],
+) -> Result<Vec<Ids>, AllocError>
     requires { AreNamedChanges names.now.terms net.now }
     ensures { IfOk result (λ ids. AreNumbered names.now.terms ids.items × (graph_of names.now.terms ids.items ≡ map changed_triple net.now)) }
 {
@@ -76,8 +59,8 @@ fn number_change(names: &Dict, change: &Change) -> NumberedChange
     }
 }
 
-// The changes by the numbers of their terms, in their order.
-fn number_changes(
+/// The changes by the numbers of their terms, in their order.
+pub(crate) fn number_changes(
     alloc: Global,
     names: &Dict,
     net: &[Change],
@@ -93,7 +76,7 @@ fn number_changes(
 }
 
 /// The index after the changes. It shares with the index what they leave.
-pub fn index_after(
+pub(crate) fn index_after(
     alloc: Global,
     names: &Dict,
     index: &Index,
@@ -105,13 +88,11 @@ pub fn index_after(
     names.recall_numbering();
     index.recall_ascending();
     let changes = number_changes(alloc, names, net)?;
-    let mut next = index.share()?;
-    next.apply(&changes)?;
-    Ok(next)
+    set_after(alloc, index, &changes)
 }
 
 /// The listing of the graph that an index stands for.
-pub fn listing_by<L: Ledger>(
+pub(crate) fn listing_by<L: Ledger>(
     alloc: Global,
     names: &Dict,
     index: &Index,
@@ -130,7 +111,7 @@ pub fn listing_by<L: Ledger>(
 }
 
 /// The results of the graph that an index stands for, each with the pair that gives it.
-pub fn kept_by<L: Ledger>(
+pub(crate) fn kept_by<L: Ledger>(
     alloc: Global,
     names: &Dict,
     index: &Index,

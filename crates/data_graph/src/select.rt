@@ -10,7 +10,7 @@ ghost use Rattle.store_model.specs.Store.{changed_triple, terms_of};
 ghost use Rattle.term_dict.specs.Names.{with_terms};
 ghost use Rattle.data_graph.specs.DataGraphs.{AreNamedChanges, IsIndexOf};
 
-use crate::graphs::triple_of;
+use crate::asked::triple_of;
 use crate::numbering::index_after;
 use bgp_query::{JoinFault, JoinPattern};
 use collections::Sequence;

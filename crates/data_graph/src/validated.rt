@@ -14,8 +14,7 @@ use crate::graph::DataGraph;
 use bgp_query::{JoinFault, JoinPattern};
 use collections::{Sequence, both};
 use kept_rows::{KeptRows, PairRows};
-use page_index::Pages;
-use rdf_model::{Change, Term, Triple};
+use rdf_model::{Change, Term};
 use shape_eval::Steps;
 use shape_model::ResultRow;
 use shapes_graph::ShapesGraph;
@@ -73,7 +72,6 @@ impl ValidatedGraph {
         ensures steps { OnOk result (GrowsByCount (IsTargetPair graph.triples graph.shapes) steps.old steps.new) }
         ensures counted { steps.old ≤ steps.new }
     {
-        let mut graph = graph;
         let rows = graph.kept_results(steps)?;
         Ok(ValidatedGraph { graph, rows })
     }
@@ -94,11 +92,11 @@ impl ValidatedGraph {
         &self.graph
     }
 
-    /// The triples.
-    pub fn triples(&self) -> &Pages<Triple>
-        ensures { result.now ≡ self.now.triples }
+    /// How many triples there are. It takes no memory.
+    pub fn len(&self) -> usize
+        ensures { result ≡ length self.now.triples }
     {
-        self.graph.triples()
+        self.graph.len()
     }
 
     /// The shapes graph.

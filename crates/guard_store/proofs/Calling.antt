@@ -43,17 +43,17 @@ use Rattle.guard_store.specs.declared.faults.CommitFault.{CommitFault}
 use Rattle.guard_store.specs.Answers.{Attaches, AttachesNot, Begins, Heads, NamesFor, NamesForNot, NamesNot, Stages, StagesNot, IsOpen, AnswersCommit, CommitCounts, Commits, EndsReading, TurnCommits, TurnCounts, attach_answer, attach_fault, event_of, naming_of, unknown_at}
 
 pub begins_now : (store : SharedStore) (old : StoreSession) (pass : Caller Event Origin) (snap : Snapshot) (v : ℕ) (new : StoreSession) → old.current ≡ None
-    → (t : Turn store old.pass pass (event_of old.number actions.Begin (replies.Version snap.number))) × (snap ≡ snapshot_of t.before) → v ≡ snap.number → new ≡ record old { pass = pass; current = Some (begun_at snap); head = None } → Begins store old new v
+    → (t : Turn store old.pass pass (event_of old.number actions.Begin (replies.Version snap.number))) × (snap ≡ snapshot_of store.limits.mode t.before) → v ≡ snap.number → new ≡ record old { pass = pass; current = Some (begun_at snap); head = None } → Begins store old new v
 begins_now store old pass snap v new none t ev en =
     let now : StoreSession = record old { pass = pass; current = Some (begun_at snap); head = None } in
-    let same : now ≡ record old { pass = pass; current = Some (begun_at (snapshot_of t.0.before)); head = None } = ap (λ (n : Snapshot). let s : StoreSession = record old { pass = pass; current = Some (begun_at n); head = None } in s) t.1 in
+    let same : now ≡ record old { pass = pass; current = Some (begun_at (snapshot_of store.limits.mode t.0.before)); head = None } = ap (λ (n : Snapshot). let s : StoreSession = record old { pass = pass; current = Some (begun_at n); head = None } in s) t.1 in
     subst (λ (s : StoreSession). Begins store old s v) (sym en) (subst (λ (k : ℕ). Begins store old now k) (sym ev) (none, (t.0, same)))
 
 pub heads_now : (store : SharedStore) (old : StoreSession) (pass : Caller Event Origin) (snap : Snapshot) (v : ℕ) (new : StoreSession) → (w : OpenTransaction) × IsOpen old w
-    → (t : Turn store old.pass pass (event_of old.number actions.Head (replies.Version snap.number))) × (snap ≡ snapshot_of t.before) → v ≡ snap.number → new ≡ record old { pass = pass; head = Some snap } → Heads store old new v
+    → (t : Turn store old.pass pass (event_of old.number actions.Head (replies.Version snap.number))) × (snap ≡ snapshot_of store.limits.mode t.before) → v ≡ snap.number → new ≡ record old { pass = pass; head = Some snap } → Heads store old new v
 heads_now store old pass snap v new is t ev en =
     let now : StoreSession = record old { pass = pass; head = Some snap } in
-    let same : now ≡ record old { pass = pass; head = Some (snapshot_of t.0.before) } = ap (λ (n : Snapshot). let s : StoreSession = record old { pass = pass; head = Some n } in s) t.1 in
+    let same : now ≡ record old { pass = pass; head = Some (snapshot_of store.limits.mode t.0.before) } = ap (λ (n : Snapshot). let s : StoreSession = record old { pass = pass; head = Some n } in s) t.1 in
     subst (λ (s : StoreSession). Heads store old s v) (sym en) (subst (λ (k : ℕ). Heads store old now k) (sym ev) (is, (t.0, same)))
 
 -- the turn of a commit, by what the core answered

@@ -146,7 +146,7 @@ pub begins_session : (store : SharedStore) (old new : StoreSession) (v : ℕ) �
 begins_session store old new v is b =
     let t = b.1.0 in
     let e : Event = event_of old.number actions.Begin (replies.Version v) in
-    let w : OpenTransaction = begun_at (snapshot_of t.before) in
+    let w : OpenTransaction = begun_at (snapshot_of store.limits.mode t.before) in
     let same : t.after ≡ t.before = t.step.1.1 in
     let fits : FitsState w.transaction t.after = record { base = subst (λ (x : State). version t.before ≤ version x) (sym same) (omega arith); net = tt; staged = tt; verdict = refl } in
     session_with store old new e (Some w) None is t (ap (λ s. s.number) b.1.1) (ap (λ s. s.current) b.1.1) (ap (λ s. s.head) b.1.1) (fits_after store old.pass new.pass e (Some w) t fits) ((refl, tt, record { net = tt; staged = tt }), tt)
@@ -218,9 +218,9 @@ heads_session store old new v is b =
     let e : Event = event_of old.number actions.Head (replies.Version v) in
     let fits = open_fits store old w is b.0.1 in
     let now : FitsState w.transaction t.before = fits_before store old.pass new.pass e (Some w) t fits in
-    let version : IsVersionIn store.limits store.start new.pass.known.front (snapshot_of t.before) = subst (λ (es : List Event). IsVersionIn store.limits store.start es (snapshot_of t.before)) (sym (front_is store old.pass new.pass e t)) (version_now store.limits store.start t.seen (e ∷ []) t.before (snapshot_of t.before) t.replays refl) in
+    let version : IsVersionIn store.limits store.start new.pass.known.front (snapshot_of store.limits.mode t.before) = subst (λ (es : List Event). IsVersionIn store.limits store.start es (snapshot_of store.limits.mode t.before)) (sym (front_is store old.pass new.pass e t)) (version_now store.limits store.start t.seen (e ∷ []) t.before (snapshot_of store.limits.mode t.before) t.replays refl) in
     let kept : KeptIn store old.pass.known.front (Some w) = subst (KeptIn store old.pass.known.front) b.0.1 is.kept in
-    session_with store old new e (Some w) (Some (snapshot_of t.before)) is t (ap (λ s. s.number) b.1.1) (ap (λ s. s.current) b.1.1 ∙ b.0.1) (ap (λ s. s.head) b.1.1) (fits_turned store old.pass new.pass e (Some w) t fits)
+    session_with store old new e (Some w) (Some (snapshot_of store.limits.mode t.before)) is t (ap (λ s. s.number) b.1.1) (ap (λ s. s.current) b.1.1 ∙ b.0.1) (ap (λ s. s.head) b.1.1) (fits_turned store old.pass new.pass e (Some w) t fits)
     (turned_front store old.pass new.pass e (λ es. KeptIn store es (Some w)) (kept_last store (Some w)) t kept, (version, now.net))
 
 pub heads_not_session : (store : SharedStore) (old new : StoreSession) (f : HeadFault) → IsSession store old → HeadsNot f store old new → IsSession store new

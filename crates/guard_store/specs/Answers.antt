@@ -132,7 +132,7 @@ BeginsNot begins.Memory store old new = (old.current ≡ None) × Fails store ol
 
 abbrev pub Begins : SharedStore → StoreSession → StoreSession → ℕ → Type 0
 Begins store old new v = (old.current ≡ None)
-    × ((t : Turn store old.pass new.pass (event_of old.number actions.Begin (replies.Version v))) × (new ≡ record old { pass = new.pass; current = Some (begun_at (snapshot_of t.before)); head = None }))
+    × ((t : Turn store old.pass new.pass (event_of old.number actions.Begin (replies.Version v))) × (new ≡ record old { pass = new.pass; current = Some (begun_at (snapshot_of store.limits.mode t.before)); head = None }))
 
 -- the event of a block's terms
 abbrev pub naming_of : ℕ → NameKind → List Triple → Reply → Event
@@ -189,7 +189,7 @@ AttachesNot attaches.Memory store old new ts = ((w : OpenTransaction) × IsOpen 
 -- The newest version, whose snapshot the session keeps.
 abbrev pub Heads : SharedStore → StoreSession → StoreSession → ℕ → Type 0
 Heads store old new v = ((w : OpenTransaction) × IsOpen old w)
-    × ((t : Turn store old.pass new.pass (event_of old.number actions.Head (replies.Version v))) × (new ≡ record old { pass = new.pass; head = Some (snapshot_of t.before) }))
+    × ((t : Turn store old.pass new.pass (event_of old.number actions.Head (replies.Version v))) × (new ≡ record old { pass = new.pass; head = Some (snapshot_of store.limits.mode t.before) }))
 
 abbrev pub HeadsNot : HeadFault → SharedStore → StoreSession → StoreSession → Type 0
 HeadsNot heads.NoTransaction store old new = (old.current ≡ None) × (new ≡ old)

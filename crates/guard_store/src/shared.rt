@@ -128,7 +128,7 @@ impl<D: Disk> Shared<D> {
     pub(crate) fn begin(&mut self, session: u32) -> Result<Snap, AllocError>
         requires { IsOpened self.old.core.state session }
         ensures step { IfOk result (λ snap. TakesStep self.old.core self.new.core (event_of session Action.Begin (Reply.Version snap.number))) }
-        ensures snapshot { IfOk result (λ snap. snap ≡ snapshot_of self.old.core.state) }
+        ensures snapshot { IfOk result (λ snap. snap ≡ snapshot_of self.old.core.limits.mode self.old.core.state) }
         ensures memory { OnErr result (self.new.core ≡ self.old.core) }
         ensures origin { self.new.origin ≡ self.old.origin }
     {
@@ -140,7 +140,7 @@ impl<D: Disk> Shared<D> {
     pub(crate) fn head(&mut self, session: u32) -> Result<Snap, AllocError>
         requires { IsOpened self.old.core.state session }
         ensures step { IfOk result (λ snap. TakesStep self.old.core self.new.core (event_of session Action.Head (Reply.Version snap.number))) }
-        ensures snapshot { IfOk result (λ snap. snap ≡ snapshot_of self.old.core.state) }
+        ensures snapshot { IfOk result (λ snap. snap ≡ snapshot_of self.old.core.limits.mode self.old.core.state) }
         ensures memory { OnErr result (self.new.core ≡ self.old.core) }
         ensures origin { self.new.origin ≡ self.old.origin }
     {

@@ -32,7 +32,7 @@ impl<D: Disk> Store<D> {
     ) -> (Pass<Shared<D>>, Result<Snap, AllocError>)
         requires { IsCaller self.now number pass }
         ensures { MatchResult result.1
-            (λ snap. (t : Turn self.now pass result.0 (event_of number Action.Begin (Reply.Version snap.number))) × (snap ≡ snapshot_of t.before))
+            (λ snap. (t : Turn self.now pass result.0 (event_of number Action.Begin (Reply.Version snap.number))) × (snap ≡ snapshot_of self.now.limits.mode t.before))
             (λ _. Fails self.now pass result.0 number) }
     {
         let Ok(slip) = slip(self.alloc) else {
@@ -57,7 +57,7 @@ impl<D: Disk> Store<D> {
     ) -> (Pass<Shared<D>>, Result<Snap, AllocError>)
         requires { IsCaller self.now number pass }
         ensures { MatchResult result.1
-            (λ snap. (t : Turn self.now pass result.0 (event_of number Action.Head (Reply.Version snap.number))) × (snap ≡ snapshot_of t.before))
+            (λ snap. (t : Turn self.now pass result.0 (event_of number Action.Head (Reply.Version snap.number))) × (snap ≡ snapshot_of self.now.limits.mode t.before))
             (λ _. Fails self.now pass result.0 number) }
     {
         let Ok(slip) = slip(self.alloc) else {

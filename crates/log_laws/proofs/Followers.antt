@@ -11,10 +11,10 @@ use Rattle.record_text.specs.declared.record.Record.{Record}
 use Rattle.record_text.specs.Records.{HasReadableShapes}
 use Rattle.commit_log.specs.Format.{AreRecordsFrom}
 use Rattle.store_model.specs.Store.{empty_store, shapes_under}
-use Rattle.commit_core.specs.Restored.{FitInTurn, fits_record, graph_after, restored, without_each}
+use Rattle.commit_core.specs.Restored.{FitInTurn, fits_record, graph_after, without_each}
 use Rattle.commit_core.specs.RestoredParts.{graphs, shapes_after}
 use Rattle.commit_core.proofs.RestoredParts.{graph_part}
-use Rattle.follower.specs.Records.{AllFit, AreNumberedFrom, Fits, data_after, data_from, data_of, having, shapes_from, staged_over}
+use Rattle.follower.specs.Records.{AllFit, AreNumberedFrom, Fits, data_after, data_from, having, shapes_from, staged_over}
 use Rattle.follower.proofs.Leaders.{follows_leader}
 use Rattle.log_laws.specs.Laws.{FollowersGraphsAreRestored, FollowsStore, GivesRestored, IsAscendingIfStaged, StageAscending}
 use Rattle.log_laws.proofs.Graphs.{in_order}

@@ -1,5 +1,5 @@
 -- The graph after a commit, by its record.
-use Rattle.std.proofs.Common.{Equal, ◌≡◌, ◌∙◌, ℕ, Bool, true, false, cond, not, ◌&&◌, ◌||◌, List, [], ◌∷◌, refl, sym, ap}
+use Rattle.std.proofs.Common.{◌≡◌, ◌∙◌, ℕ, Bool, true, false, cond, not, ◌&&◌, ◌||◌, List, [], ◌∷◌, refl, sym, ap}
 use Rattle.std.specs.List.{Contains, filter, list_all}
 use Rattle.std.specs.Ordering.{eq_by_cmp}
 use Rattle.collections.specs.Ordered.{IsAscending, has_item, with_item, without_item}

@@ -1,5 +1,5 @@
 -- What a run of session files over a core and its log gives.
-use Rattle.std.specs.Prelude.{◌≡◌, ℕ, ◌≤◌, List, ◌++◌, length, Option, None}
+use Rattle.std.specs.Prelude.{ℕ, ◌≤◌, List, length, Option, None}
 use Rattle.disk.specs.Crashes.{History}
 use Rattle.commit_log.specs.Log.{LogState}
 use Rattle.outside.specs.Files.{Contents}

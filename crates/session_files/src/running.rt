@@ -1,5 +1,5 @@
 //! Session files run beside each other, or in the order of a history.
-ghost use Rattle.std.specs.Prelude.{◌≡◌, ◌≢◌, ◌⊎◌, ℕ, List, None, Some, [], ◌∷◌, ◌++◌, ◌≤◌, false, IfErr, MatchResult, length, map, string_bytes};
+ghost use Rattle.std.specs.Prelude.{◌≡◌, ◌≢◌, ◌⊎◌, ℕ, List, None, Some, [], ◌∷◌, ◌≤◌, false, IfErr, MatchResult, length, map, string_bytes};
 ghost use Rattle.std.specs.List.{AllByRecursion};
 ghost use Rattle.store_model.specs.Store.{RecordedStore, empty_store};
 ghost use Rattle.session_model.specs.Print.{IsPrint, IsRunText};

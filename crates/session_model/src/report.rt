@@ -1,41 +1,49 @@
-ghost use Rattle.std.specs.Prelude.{◌≡◌, IfOk, string_bytes};
+ghost use Rattle.std.specs.Prelude.{◌≡◌, [], IfOk, string_bytes};
+ghost use Rattle.rdf_model.specs.Graphs.{with_each};
+ghost use Rattle.rdf_model.specs.Numbers.{graph_of};
 ghost use Rattle.shape_model.specs.Validation.{Listing};
 ghost use Rattle.session_model.specs.Reports.{IsReportText};
 
 use collections::Sequence;
-use page_index::Pages;
-use rdf_model::Triple;
 use report_writer::report;
 use shape_model::ResultRow;
 use shapes_graph::ShapesGraph;
 use std::alloc::{AllocError, Global};
 use std::fmt;
 use std::marker::Model;
+use term_dict::Dict;
+use triple_index::Index;
 
 /// The results of validating a graph by a shapes graph (SHACL section 3.6), each once, in the order of results. Contracts see
-/// both graphs; the type keeps that the results are just theirs. Its text is made when it is printed.
+/// both graphs; the type keeps that the results are just theirs. The graph is kept by the numbers of its terms. Its text is made
+/// when it is printed.
 pub struct Report {
-    graph: Pages<Triple>,
+    names: Dict,
+    numbers: Index,
     shapes: ShapesGraph,
     rows: Sequence<ResultRow>,
 }
 
 impl Model for Report {
+    ghost use Rattle.std.specs.Prelude.{[]};
+    ghost use Rattle.rdf_model.specs.Graphs.{with_each};
+    ghost use Rattle.rdf_model.specs.Numbers.{graph_of};
     ghost use Rattle.shape_model.specs.Validation.{Listing};
     ghost use Rattle.session_model.specs.Reports.{ReportedGraph};
 
     ghost Value = { ReportedGraph };
 
-    ghost view = { λ r. record { graph = r.graph; shapes = r.shapes } };
+    ghost view = { λ r. record { graph = with_each [] (graph_of r.names.terms r.numbers); shapes = r.shapes } };
 
-    ghost invariant = { λ r. Listing r.graph r.shapes r.rows };
+    ghost invariant = { λ r. Listing (with_each [] (graph_of r.names.terms r.numbers)) r.shapes r.rows };
 }
 
 // Written by hand, so that what owns one calls it in place of having it written out.
 impl Drop for Report {
     fn drop(self) {
         let Report {
-            graph: _,
+            names: _,
+            numbers: _,
             shapes: _,
             rows: _,
         } = self;
@@ -50,13 +58,19 @@ impl fmt::Debug for Report {
 }
 
 impl Report {
-    /// The report of a graph with these results.
-    pub fn new(graph: Pages<Triple>, shapes: ShapesGraph, rows: Sequence<ResultRow>) -> Report
-        requires { Listing graph shapes rows }
-        ensures { result ≡ record { graph = graph; shapes = shapes } }
+    /// The report of a graph with these results: of the triples of the numbers, by the names of their terms.
+    pub fn new(
+        names: Dict,
+        numbers: Index,
+        shapes: ShapesGraph,
+        rows: Sequence<ResultRow>,
+    ) -> Report
+        requires { Listing (with_each [] (graph_of names.terms numbers)) shapes rows }
+        ensures { result ≡ record { graph = with_each [] (graph_of names.terms numbers); shapes = shapes } }
     {
         Report {
-            graph,
+            names,
+            numbers,
             shapes,
             rows,
         }
@@ -67,7 +81,8 @@ impl Report {
         ensures { Listing self.graph self.shapes result.0 × (result.1 ≡ self.shapes) }
     {
         let Report {
-            graph: _,
+            names: _,
+            numbers: _,
             shapes,
             rows,
         } = self;

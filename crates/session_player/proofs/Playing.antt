@@ -226,7 +226,7 @@ pub fits_after : (i : ℕ) (s m : RecordedStore) (x : Transaction) → FitsState
 fits_after i s m x f h = subst (FitsState x) (sym h.step.step.1.1) f
 
 -- what a check at the head keeps is a verdict of the store's history
-pub head_keeps : (s n : RecordedStore) (e : Event) (head : Snapshot) (b : Bool) (old new : OpenTransaction) → Replays s.limits s.start s.history s.state → TakesStep s n e → head ≡ snapshot_of s.state → Checks b head old new → KeepsIn n.limits n.start n.history old.transaction.net new.checked
+pub head_keeps : (s n : RecordedStore) (e : Event) (head : Snapshot) (b : Bool) (old new : OpenTransaction) → Replays s.limits s.start s.history s.state → TakesStep s n e → head ≡ snapshot_of s.limits.mode s.state → Checks b head old new → KeepsIn n.limits n.start n.history old.transaction.net new.checked
 head_keeps s n e head b old new replays t is h =
     subst (λ (l : Limits). KeepsIn l n.start n.history old.transaction.net new.checked) (sym t.limits)
     (subst (λ (x : State). KeepsIn s.limits x n.history old.transaction.net new.checked) (sym t.start)

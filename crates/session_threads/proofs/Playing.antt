@@ -135,7 +135,7 @@ plays_begin store old new (Ok v) r rs more was is b told em =
     let t = b.1.0 in
     let h = b.1.1 in
     let count : v ≡ version t.before = cc (t.step.1.0) in
-    let now : plain_in new.current ≡ Some (begun v t.before.graph t.before.shapes) = plain_open new (begun_at (snapshot_of t.before)) (ap (λ s. s.current) h) ∙ ap (λ (k : ℕ). Some (begun k t.before.graph t.before.shapes)) (sym count) in
+    let now : plain_in new.current ≡ Some (begun v t.before.graph t.before.shapes) = plain_open new (begun_at (snapshot_of store.limits.mode t.before)) (ap (λ s. s.current) h) ∙ ap (λ (k : ℕ). Some (begun k t.before.graph t.before.shapes)) (sym count) in
     plays_event store old new None (Some (begun v t.before.graph t.before.shapes)) Begin actions.Begin (replies.Version v) rs more (said.Begun v) was is (ap (λ s. s.number) h) (plain_none old b.0) now refl refl refl t (λ cs. refl) (em ∙ ap (λ x. rs ++ x ∷ []) told)
 plays_begin store old new (Err begins.AlreadyOpen) r rs more was is b told em =
     plays_local store old new (Some (plain b.0.0)) (Some (plain b.0.0)) Begin rs more said.AlreadyOpen is (ap (λ s. s.number) b.1) (ap (λ s. s.pass) b.1) (plain_open old b.0.0 b.0.1) (plain_open new b.0.0 (ap (λ s. s.current) b.1 ∙ b.0.1)) refl

@@ -30,9 +30,6 @@ use Rattle.rdf_model.specs.contracts.term.TermOrd.TheImpl as term_order
 use Rattle.rdf_model.specs.contracts.term.TermPartialEq.TheImpl as term_equality
 use Rattle.rdf_model.specs.contracts.term.TermPartialOrd.TheImpl as term_comparison
 use Rattle.rdf_model.specs.contracts.triple.Triple as triple
-use Rattle.rdf_model.specs.contracts.triple.TripleOrd.TheImpl as triple_order
-use Rattle.rdf_model.specs.contracts.triple.TriplePartialEq.TheImpl as triple_equality
-use Rattle.rdf_model.specs.contracts.triple.TriplePartialOrd.TheImpl as triple_comparison
 use Rattle.term_dict.proofs.entry.NamedTerm.TheSendSync as named_sent
 use Rattle.term_dict.proofs.entry.ByTerm.TheSendSync as by_term_sent
 use Rattle.term_dict.specs.contracts.entry.NamedTerm as named
@@ -105,9 +102,6 @@ shapes_send = search (content_send, content_sync, crosses, sendable) depth 60 fi
 shapes_sync : IsSync shapes.the_row
 shapes_sync = search (content_send, content_sync, crosses, sendable) depth 60 fits 20000
 
-triples_send : IsSend (pages.the_row triple.the_row triple_order.ghosts triple_equality.ghosts triple_comparison.ghosts)
-triples_send = search (page_knot.crosses, triple_sent.the_send, triple_sent.the_sync, crosses, sendable) depth 60 fits 20000
-
 given_send : IsSend (pages.the_row term.the_row term_order.ghosts term_equality.ghosts term_comparison.ghosts)
 given_send = search (page_knot.crosses, term_sent.the_send, term_sent.the_sync, crosses, sendable) depth 60 fits 20000
 
@@ -130,7 +124,7 @@ bound_shapes_send : IsSend bound_shapes.the_row
 bound_shapes_send = search (shapes_send, compiled.planned_send, compiled.planned_sync, crosses, sendable) depth 60 fits 20000
 
 data_graph_send : IsSend data_graph.the_row
-data_graph_send = search (triples_send, dict_send, index_send, bound_shapes_send, crosses, sendable) depth 60 fits 20000
+data_graph_send = search (dict_send, index_send, bound_shapes_send, crosses, sendable) depth 60 fits 20000
 
 kept_pages_send : IsSend (pages.the_row kept_row.the_row kept_row_order.ghosts kept_row_equality.ghosts kept_row_comparison.ghosts)
 kept_pages_send = search (page_knot.crosses, kept_row_sent.the_send, kept_row_sent.the_sync, crosses, sendable) depth 60 fits 20000
@@ -205,7 +199,7 @@ session_send : (D : RattleType) (d : disks.Ghosts D.Denot) → IsSend D → IsSe
 session_send D d sent = search (session_inside_send D d sent, view_send) depth 60
 
 report_send : IsSend report.the_row
-report_send = search (triples_send, shapes_send, row_sent.the_send, sequence_sent.the_send, crosses, sendable) depth 60 fits 20000
+report_send = search (dict_send, index_send, shapes_send, row_sent.the_send, sequence_sent.the_send, crosses, sendable) depth 60 fits 20000
 
 reply_send : IsSend (reply.the_field).row
 reply_send = search (text_sent.the_send, triple_send, report_send, crosses, sendable) depth 60 fits 20000

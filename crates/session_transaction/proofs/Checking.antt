@@ -6,6 +6,7 @@ use Rattle.rdf_model.specs.declared.change.Change.{Change}
 use Rattle.store_model.specs.declared.commit.Transaction.{Transaction}
 use Rattle.store_model.specs.declared.commit.Verdict.{Verdict}
 use Rattle.store_model.specs.declared.event.Event.{Event}
+use Rattle.store_model.specs.declared.event.BlockMode.{BlockMode}
 use Rattle.store_model.specs.declared.event.Limits.{Limits}
 use Rattle.store_model.specs.Snapshots.{Snapshot, snapshot_of}
 use Rattle.store_model.specs.Store.{AreNamed, HasChange, IsCommittable, NetNamed, RecordedStore, Replays, State, VerdictFits, looked_at, version}
@@ -30,7 +31,7 @@ version_lasts l start events more n v = record {
 }
 
 -- the version to which events lead is one of each history that begins with them
-pub version_now : (l : Limits) (start : State) (front back : List Event) (s : State) (n : Snapshot) → Replays l start front s → n ≡ snapshot_of s → IsVersionIn l start (front ++ back) n
+pub version_now : (l : Limits) (start : State) (front back : List Event) (s : State) (n : Snapshot) → Replays l start front s → n ≡ snapshot_of l.mode s → IsVersionIn l start (front ++ back) n
 version_now l start front back s n replays is = record { front = front; back = back; history = refl; state = s; replays = replays; is = is }
 
 pub keeps_last : (l : Limits) (start : State) (events more : List Event) (net : List Change) (o : Option CheckedNet) → KeepsIn l start events net o → KeepsIn l start (events ++ more) net o
@@ -96,5 +97,5 @@ check_same true n old new h = (ap (λ (w : OpenTransaction). w.transaction) h.1.
 check_same false n old new h = (ap (λ (w : OpenTransaction). w.transaction) h.1, ap (λ (w : OpenTransaction). w.snap) h.1)
 
 -- the changes are of terms that are named at the newest version
-pub named_now : (x : Transaction) (s : State) (n : Snapshot) → FitsState x s → n ≡ snapshot_of s → NetNamed n.named x.net
-named_now x s n f is = subst (λ (y : Snapshot). NetNamed y.named x.net) (sym is) f.net
+pub named_now : (mode : BlockMode) (x : Transaction) (s : State) (n : Snapshot) → FitsState x s → n ≡ snapshot_of mode s → NetNamed n.named x.net
+named_now mode x s n f is = subst (λ (y : Snapshot). NetNamed y.named x.net) (sym is) f.net

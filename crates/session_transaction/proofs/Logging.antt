@@ -1,5 +1,5 @@
 -- A core and its log after a commit.
-use Rattle.std.proofs.Common.{◌≡◌, ◌∙◌, ℕ, ◌+◌, Bool, true, false, ◌||◌, List, [], ◌∷◌, ◌++◌, Option, Some, None, refl, sym, ap, subst, inl, inr}
+use Rattle.std.proofs.Common.{◌≡◌, ◌∙◌, ℕ, Bool, true, false, ◌||◌, List, [], ◌∷◌, Option, refl, sym, ap, inl, inr}
 use Rattle.std.specs.Prelude.{◌⊎◌}
 use Rattle.disk.specs.Crashes.{History}
 use Rattle.disk.specs.Faults.{Rose}
@@ -17,9 +17,9 @@ use Rattle.commit_core.specs.declared.commit.Commit.{Commit}
 use Rattle.commit_core.specs.declared.commit.Commit.TheVariants.{Done, Conflict, FullTriples, Refused, LogFault, Stopped, Memory}
 use Rattle.commit_core.specs.Commits.{Answers, HasNoFault}
 use Rattle.commit_core.specs.Consistent.{IsConsistent}
-use Rattle.commit_core.specs.Logged.{IsAppended, IsBeside, IsFailed, IsInStep, LogsCommit, record_of}
+use Rattle.commit_core.specs.Logged.{IsBeside, IsInStep, LogsCommit, record_of}
 use Rattle.commit_core.proofs.LoggedCommits.{in_step_by}
-use Rattle.session_transaction.specs.Logging.{KeepsLog, KeepsStep, StandsBeside}
+use Rattle.session_transaction.specs.Logging.{KeepsStep}
 
 or_false : (a : Bool) → (a || false) ≡ a
 or_false true = refl

@@ -62,7 +62,7 @@ pub record IsVersionIn (l : Limits) (start : State) (events : List Event) (n : S
   pub history : events ≡ front ++ back
   pub state : State
   pub replays : Replays l start front state
-  pub is : n ≡ snapshot_of state
+  pub is : n ≡ snapshot_of l.mode state
 
 -- it is what a check of the changes found at a version of the history
 pub record IsKept (l : Limits) (start : State) (events : List Event) (net : List Change) (c : CheckedNet) : Type 0 where

@@ -1,5 +1,5 @@
 -- What a commit does to the log that its core may have.
-use Rattle.std.specs.Prelude.{◌≡◌, ◌⊎◌, ℕ, true, false, List, Option, Some, None}
+use Rattle.std.specs.Prelude.{◌≡◌, ◌⊎◌, ℕ, true, List, Option, Some, None}
 use Rattle.disk.specs.Crashes.{History}
 use Rattle.disk.specs.Faults.{Rose}
 use Rattle.commit_log.specs.Log.{IsSameLater, LogState}

@@ -1,5 +1,5 @@
 //! The bindings of patterns in the graph of an open transaction.
-ghost use Rattle.std.specs.Prelude.{◌≡◌, ◌++◌, IfOk, MatchBool, MatchResult, map};
+ghost use Rattle.std.specs.Prelude.{◌≡◌, IfOk, MatchBool, MatchResult, map};
 ghost use Rattle.bgp_query.specs.Selected.{AreSelected};
 ghost use Rattle.bgp_query.specs.TermBindings;
 ghost use Rattle.bgp_query.specs.TermBindings.{part_opened};

@@ -259,9 +259,10 @@ impl OpenTransaction {
         ensures { IfOk result (λ report. report ≡ record { graph = self.now.snap.graph; shapes = self.now.snap.shapes }) }
     {
         let rows = Sequence::from_vec(self.snap.listing()?);
-        let graph = self.snap.triples().share()?;
+        let names = self.snap.names().share()?;
+        let numbers = self.snap.numbers().share()?;
         let shapes = self.snap.shapes().share()?;
-        Ok(Report::new(graph, shapes, rows))
+        Ok(Report::new(names, numbers, shapes, rows))
     }
 
     /// Checks its changes at the head, a version of the store in which all their terms are named, and keeps the verdict with its

@@ -1,5 +1,5 @@
 -- A commit against which nothing stands is accepted.
-use Rattle.std.proofs.Common.{◌≡◌, ℕ, ◌+◌, ◌≤◌, Bool, true, false, nat_lt, length, Option, None, refl, sym, ap, ◌∙◌, subst, arith, inl, inr}
+use Rattle.std.proofs.Common.{◌≡◌, ◌≤◌, Bool, true, false, nat_lt, length, Option, subst, arith, inl, inr}
 use Rattle.std.specs.Prelude.{MatchBool, MatchOption}
 use Rattle.std.proofs.lemmas.Bool.Decides.{nat_tests}
 use Rattle.rdf_model.specs.Graphs.{after}
@@ -7,10 +7,10 @@ use Rattle.store_model.specs.declared.commit.Overtaker.{Overtaker}
 use Rattle.store_model.specs.declared.commit.Transaction.{Transaction}
 use Rattle.store_model.specs.declared.event.Limits.{Limits}
 use Rattle.store_model.specs.declared.event.Reply.{Reply}
-use Rattle.store_model.specs.declared.event.Reply.TheVariants.{Conflict, FullTriples, Refused, Done, LogFault, Stopped}
+use Rattle.store_model.specs.declared.event.Reply.TheVariants.{Conflict, FullTriples, Refused, Stopped}
 use Rattle.store_model.specs.Blocking.{has_blocking}
 use Rattle.store_model.specs.Logs.{IsUnlogged}
-use Rattle.store_model.specs.Store.{State, Replies, AcceptsCommit, CommitsByListing, CommitsWithinLimit, CommitsUnlessOvertaken, again, overtaker, shapes_under, version}
+use Rattle.store_model.specs.Store.{State, Replies, AcceptsCommit, CommitsByListing, CommitsWithinLimit, CommitsUnlessOvertaken, again, shapes_under, version}
 use Rattle.store_model.proofs.Blocking.{NoBlocking-listed}
 use Rattle.store_laws.specs.Commits.{IsClean, CleanCommitsAreAccepted, UnloggedCleanCommits}
 

@@ -1,4 +1,4 @@
-use Rattle.std.proofs.Common.{◌≡◌, string_bytes, take}
+use Rattle.std.proofs.Common.{string_bytes, take}
 use Rattle.session_model.specs.Print.{AreSessionLines}
 use Rattle.session_player.proofs.print.text_of.Given as goal
 

@@ -1,10 +1,8 @@
 use Rattle.std.proofs.Common.{◌≡◌, ◌∙◌, true, List, ap, sym, subst}
-use Rattle.rdf_model.specs.declared.change.Change.{Change}
 use Rattle.rdf_model.specs.declared.triple.Triple.{Triple}
-use Rattle.rdf_model.specs.Graphs.{after, differing}
 use Rattle.shape_model.specs.Validation.{Listing}
 use Rattle.store_model.specs.Blocking.{has_blocking}
-use Rattle.store_model.specs.Store.{RecordedStore, StagedNamed, shapes_under}
+use Rattle.store_model.specs.Store.{StagedNamed, shapes_under}
 use Rattle.data_graph.specs.DataGraphs.{NamedGraph, with_shapes}
 use Rattle.data_graph.specs.Pairs.{HasListing}
 use Rattle.commit_core.specs.Commits.{committed_graph, data_of}
@@ -21,15 +19,6 @@ pub validated-requires-clause-next : goal.validated-requires-clause-next
 validated-requires-clause-next g c =
     let x = c.args.checked.now.transaction in
     c.in_ok-stage_shapes.ensures ∙ ap (λ (d : NamedGraph). with_shapes d (shapes_under d.shapes x.staged)) c.requires.next
-
-pub accepting-requires : goal.accepting-requires
-accepting-requires g c =
-    let x = c.args.checked.now.transaction in
-    let own = committed_graph (data_of c.args.self.now) x in
-    let staged : c.stage_shapes.new.graph ≡ own = c.in_ok-stage_shapes.ensures ∙ ap (λ (d : NamedGraph). with_shapes d (shapes_under d.shapes x.staged)) c.requires.next in
-    let next : c.into_graph-validated.result ≡ own = c.into_graph-validated.ensures ∙ c.in_ok-outcome.ensures.outcome.0 ∙ staged in
-    let before : c.graph.result.now.triples ≡ c.args.self.now.state.graph = ap (λ (d : NamedGraph). d.triples) c.graph.ensures ∙ ap (λ (s : RecordedStore). s.state.graph) c.self.view_is in
-    ap (λ (d : NamedGraph). d.triples) next ∙ ap (λ (ts : List Triple). after ts x.net) (sym before) ∙ ap (λ (cs : List Change). after c.graph.result.now.triples cs) (sym c.as_slice-net.ensures)
 
 pub returns-then-blocks-clause-judged : goal.returns-then-blocks-clause-judged
 returns-then-blocks-clause-judged g c =
@@ -48,7 +37,7 @@ returns-then-blocks-clause-judged g c =
 
 pub returns-clause-judged : goal.returns-clause-judged
 returns-clause-judged g c =
-    let e = c.in_ok-plan.ensures in
+    let e = c.accepting.ensures in
     let x = c.args.checked.now.transaction in
     let mode = c.args.self.now.limits.mode in
     let own = committed_graph (data_of c.args.self.now) x in
@@ -58,7 +47,4 @@ returns-clause-judged g c =
     let listed : HasListing own.triples own.shapes = subst (λ (d : NamedGraph). HasListing d.triples d.shapes) next c.recall_listing.ensures in
     let told : TellsBlocking mode own.triples own.shapes outcome.blocks = subst (λ (d : NamedGraph). TellsBlocking mode d.triples d.shapes outcome.blocks) staged c.in_ok-outcome.ensures.outcome.1 in
     let none = none_listed mode own.triples own.shapes listed.0 outcome.blocks told c.if-blocks.false listed.1 in
-    let before : c.graph.result.now.triples ≡ c.args.self.now.state.graph = ap (λ (d : NamedGraph). d.triples) c.graph.ensures ∙ ap (λ (s : RecordedStore). s.state.graph) c.self.view_is in
-    let changed : differing c.graph.result.now.triples c.into_graph-validated.result.triples ≡ differing c.args.self.now.state.graph own.triples =
-    ap (λ (d : NamedGraph). differing c.graph.result.now.triples d.triples) next ∙ ap (λ (ts : List Triple). differing ts own.triples) before in
-    ((listed.0, listed.1, none), e.0 ∙ next, e.1 ∙ changed, e.2)
+    ((listed.0, listed.1, none), e.0 ∙ next, e.1 ∙ c.requires.changed, e.2)

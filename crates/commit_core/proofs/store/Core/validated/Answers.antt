@@ -1,4 +1,4 @@
-use Rattle.std.proofs.Common.{◌∙◌, Bool, true, false, List, refl, sym, subst}
+use Rattle.std.proofs.Common.{◌∙◌, Bool, List, refl, sym, subst}
 use Rattle.std.specs.Prelude.{MatchBool, OnOk}
 use Rattle.kept_rows.specs.declared.pair_rows.PairRows.{PairRows}
 use Rattle.kept_rows.specs.Laws.{ChecksPairs}

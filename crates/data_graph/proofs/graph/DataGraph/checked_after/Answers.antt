@@ -1,26 +1,20 @@
 use Rattle.std.proofs.Common.{sym, subst}
+use Rattle.std.proofs.lemmas.Result.{IfOk-weaker, on_ok_weaker}
 use Rattle.rdf_model.specs.Graphs.{after}
 use Rattle.rdf_model.specs.Numbers.{AreNumbered}
 use Rattle.parallel_validate.specs.Counting.{GrowsByCount}
 use Rattle.parallel_validate.specs.Verdicts.{IsEvaluated}
-use Rattle.parallel_validate.specs.Named.{AreNamedTriples}
-use Rattle.data_graph.specs.Changes.{IsCheckByNumber}
+use Rattle.data_graph.specs.Changes.{IsCheckByNumber, WhereIndexed}
 use Rattle.data_graph.specs.DataGraphs.{AreNamedChanges, IsIndexOf, NamedGraph}
 use Rattle.data_graph.proofs.graph.DataGraph.checked_after.Goals as goal
 
-pub index-requires : goal.index-requires
-index-requires g c = c.requires.graph
-
-pub index-requires-2 : goal.index-requires-2
-index-requires-2 g c = subst (λ (d : NamedGraph). AreNamedTriples d.terms d.triples) (sym c.requires.next) c.requires.after
-
 pub check_by_number-requires-clause-before : goal.check_by_number-requires-clause-before
-check_by_number-requires-clause-before g c = (subst (λ (d : NamedGraph). IsIndexOf d.terms c.in_ok-before.before d.triples) (sym c.self.view_is) c.in_ok-before.ensures).numbered
+check_by_number-requires-clause-before g c = (subst (λ (d : NamedGraph). IsIndexOf d.terms c.index.result.now d.triples) (sym c.self.view_is) c.index.ensures.index).numbered
 
 pub check_by_number-requires-clause-later : goal.check_by_number-requires-clause-later
 check_by_number-requires-clause-later g c =
-    let own = (subst (λ (d : NamedGraph). IsIndexOf d.terms c.in_ok-later.later d.triples) c.requires.next c.in_ok-later.ensures).numbered in
-    subst (λ (d : NamedGraph). AreNumbered d.terms c.in_ok-later.later) (sym c.self.view_is) own
+    let own = (subst (λ (d : NamedGraph). IsIndexOf d.terms c.index-2.result.now d.triples) c.requires.next c.index-2.ensures.index).numbered in
+    subst (λ (d : NamedGraph). AreNumbered d.terms c.index-2.result.now) (sym c.self.view_is) own
 
 pub check_by_number-requires-clause-shapes : goal.check_by_number-requires-clause-shapes
 check_by_number-requires-clause-shapes g c = c.self.invariant.2
@@ -31,17 +25,22 @@ check_by_number-requires-clause-net g c = subst (λ (d : NamedGraph). AreNamedCh
 pub returns-clause-checked : goal.returns-clause-checked
 returns-clause-checked g c =
     let net = c.args.net.now in
-    let before = subst (λ (d : NamedGraph). IsIndexOf d.terms c.in_ok-before.before d.triples) (sym c.self.view_is) c.in_ok-before.ensures in
-    let later = subst (λ (d : NamedGraph). IsIndexOf d.terms c.in_ok-later.later d.triples) c.requires.next c.in_ok-later.ensures in
-    let own = subst (λ (d : NamedGraph). IsIndexOf d.terms c.in_ok-later.later (after d.triples net)) (sym c.self.view_is) later in
-    let found = c.in_ok-checked.ensures.checked c.self.inside.triples c.recall_ascending.ensures before.members own.members in
-    subst (λ (d : NamedGraph). IsCheckByNumber d.terms d.triples d.shapes net c.in_ok-checked.checked.pairs c.in_ok-checked.checked.looks) c.self.view_is found
+    let terms = c.self.inside.names.terms in
+    let before = subst (λ (d : NamedGraph). IsIndexOf d.terms c.index.result.now c.args.self.now.triples) (sym c.self.view_is) c.index.ensures.index in
+    let later = subst (λ (d : NamedGraph). IsIndexOf d.terms c.index-2.result.now d.triples) c.requires.next c.index-2.ensures.index in
+    let own = subst (λ (d : NamedGraph). IsIndexOf d.terms c.index-2.result.now (after c.args.self.now.triples net)) (sym c.self.view_is) later in
+    IfOk-weaker c.check_by_number.result
+    (λ checked. WhereIndexed terms c.index.result.now c.index-2.result.now net (λ g. IsCheckByNumber terms g c.self.inside.shapes.graph net checked.pairs checked.looks))
+    (λ checked. IsCheckByNumber c.args.self.now.terms c.args.self.now.triples c.args.self.now.shapes net checked.pairs checked.looks)
+    (λ checked f. subst (λ (d : NamedGraph). IsCheckByNumber d.terms c.args.self.now.triples d.shapes net checked.pairs checked.looks) c.self.view_is (f c.args.self.now.triples c.index.ensures.ascending before.members own.members))
+    c.check_by_number.ensures.checked
 
 pub returns-clause-steps : goal.returns-clause-steps
 returns-clause-steps g c =
     let net = c.args.net.now in
-    let before = subst (λ (d : NamedGraph). IsIndexOf d.terms c.in_ok-before.before d.triples) (sym c.self.view_is) c.in_ok-before.ensures in
-    let later = subst (λ (d : NamedGraph). IsIndexOf d.terms c.in_ok-later.later d.triples) c.requires.next c.in_ok-later.ensures in
-    let own = subst (λ (d : NamedGraph). IsIndexOf d.terms c.in_ok-later.later (after d.triples net)) (sym c.self.view_is) later in
-    let count = c.in_ok-checked.ensures.steps c.self.inside.triples c.recall_ascending.ensures before.members own.members in
-    subst (λ (d : NamedGraph). GrowsByCount (IsEvaluated d.triples d.shapes net) c.args.steps.now c.check_by_number.new.steps) c.self.view_is count
+    let before = subst (λ (d : NamedGraph). IsIndexOf d.terms c.index.result.now c.args.self.now.triples) (sym c.self.view_is) c.index.ensures.index in
+    let later = subst (λ (d : NamedGraph). IsIndexOf d.terms c.index-2.result.now d.triples) c.requires.next c.index-2.ensures.index in
+    let own = subst (λ (d : NamedGraph). IsIndexOf d.terms c.index-2.result.now (after c.args.self.now.triples net)) (sym c.self.view_is) later in
+    on_ok_weaker c.check_by_number.result
+    (λ f. subst (λ (d : NamedGraph). GrowsByCount (IsEvaluated c.args.self.now.triples d.shapes net) c.args.steps.now c.check_by_number.new.steps) c.self.view_is (f c.args.self.now.triples c.index.ensures.ascending before.members own.members))
+    c.check_by_number.ensures.steps

@@ -1,4 +1,5 @@
 use Rattle.std.proofs.Common.{◌≡◌, ◌∙◌, List, ap, sym, subst}
+use Rattle.std.proofs.lemmas.Result.{IfOk-weaker, on_ok_weaker}
 use Rattle.rdf_model.specs.declared.term.Term.{Term}
 use Rattle.rdf_model.specs.declared.triple.Triple.{Triple}
 use Rattle.shape_model.specs.ShapeSyntax.{IsShape}
@@ -22,12 +23,12 @@ returns-then-is_without_shapes-clause-rows g c =
 pub returns-clause-rows : goal.returns-clause-rows
 returns-clause-rows g c =
     let terms = c.self.inside.names.terms in
-    let numbers = c.in_ok-numbers.numbers in
+    let numbers = c.index.result.now in
     let triples = c.args.self.now.triples in
-    let rows = c.in_ok-rows.rows in
-    let index = subst (λ (d : NamedGraph). IsIndexOf d.terms numbers triples) (sym c.self.view_is) c.in_ok-numbers.ensures in
-    let own : KeepsResults terms triples c.self.inside.shapes.graph rows = same_kept terms (graph_of terms numbers) triples c.self.inside.shapes.graph rows index.members c.in_ok-rows.ensures.rows in
-    subst (λ (d : NamedGraph). KeepsResults d.terms triples d.shapes rows) c.self.view_is own
+    let s = c.self.inside.shapes.graph in
+    let index = subst (λ (d : NamedGraph). IsIndexOf d.terms numbers triples) (sym c.self.view_is) c.index.ensures.index in
+    IfOk-weaker c.kept_by.result (λ (rows : List KeptRow). KeepsResults terms (graph_of terms numbers) s rows) (λ (rows : List KeptRow). KeepsResults c.args.self.now.terms triples c.args.self.now.shapes rows)
+    (λ rows k. subst (λ (d : NamedGraph). KeepsResults d.terms triples d.shapes rows) c.self.view_is (same_kept terms (graph_of terms numbers) triples s rows index.members k)) c.kept_by.ensures.rows
 
 pub returns-then-is_without_shapes-clause-steps : goal.returns-then-is_without_shapes-clause-steps
 returns-then-is_without_shapes-clause-steps g c =
@@ -39,7 +40,9 @@ returns-then-is_without_shapes-clause-steps g c =
 pub returns-clause-steps : goal.returns-clause-steps
 returns-clause-steps g c =
     let terms = c.self.inside.names.terms in
-    let numbers = c.in_ok-numbers.numbers in
-    let index = subst (λ (d : NamedGraph). IsIndexOf d.terms numbers c.args.self.now.triples) (sym c.self.view_is) c.in_ok-numbers.ensures in
-    let count = subst (λ (d : NamedGraph). GrowsByCount (IsTargetPair (graph_of terms numbers) d.shapes) c.args.steps.now c.kept_by.new.steps) c.self.view_is c.in_ok-rows.ensures.steps in
-    same_count (graph_of terms numbers) c.args.self.now.triples c.args.self.now.shapes index.members c.args.steps.now c.kept_by.new.steps count
+    let numbers = c.index.result.now in
+    let triples = c.args.self.now.triples in
+    let s = c.args.self.now.shapes in
+    let index = subst (λ (d : NamedGraph). IsIndexOf d.terms numbers triples) (sym c.self.view_is) c.index.ensures.index in
+    on_ok_weaker c.kept_by.result
+    (λ l. same_count (graph_of terms numbers) triples s index.members c.args.steps.now c.kept_by.new.steps (subst (λ (d : NamedGraph). GrowsByCount (IsTargetPair (graph_of terms numbers) d.shapes) c.args.steps.now c.kept_by.new.steps) c.self.view_is l)) c.kept_by.ensures.steps

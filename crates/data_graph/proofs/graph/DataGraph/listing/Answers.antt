@@ -1,4 +1,5 @@
 use Rattle.std.proofs.Common.{◌≡◌, ◌∙◌, List, ap, sym, subst}
+use Rattle.std.proofs.lemmas.Result.{IfOk-weaker, on_ok_weaker}
 use Rattle.rdf_model.specs.declared.term.Term.{Term}
 use Rattle.rdf_model.specs.declared.triple.Triple.{Triple}
 use Rattle.shape_model.specs.declared.result_row.ResultRow.{ResultRow}
@@ -22,10 +23,12 @@ returns-then-is_without_shapes-clause-rows g c =
 pub returns-clause-rows : goal.returns-clause-rows
 returns-clause-rows g c =
     let terms = c.self.inside.names.terms in
-    let numbers = c.in_ok-numbers.numbers in
-    let index = subst (λ (d : NamedGraph). IsIndexOf d.terms numbers c.args.self.now.triples) (sym c.self.view_is) c.in_ok-numbers.ensures in
-    let rows = subst (λ (d : NamedGraph). Listing (graph_of terms numbers) d.shapes c.in_ok-rows.rows.items) c.self.view_is c.in_ok-rows.ensures.rows in
-    same_listing (graph_of terms numbers) c.args.self.now.triples c.args.self.now.shapes index.members c.in_ok-rows.rows.items rows
+    let numbers = c.index.result.now in
+    let triples = c.args.self.now.triples in
+    let s = c.args.self.now.shapes in
+    let index = subst (λ (d : NamedGraph). IsIndexOf d.terms numbers triples) (sym c.self.view_is) c.index.ensures.index in
+    IfOk-weaker c.listing_by.result (λ rows. Listing (graph_of terms numbers) c.self.inside.shapes.graph rows.items) (λ rows. Listing triples s rows.items)
+    (λ rows l. same_listing (graph_of terms numbers) triples s index.members rows.items (subst (λ (d : NamedGraph). Listing (graph_of terms numbers) d.shapes rows.items) c.self.view_is l)) c.listing_by.ensures.rows
 
 pub returns-then-is_without_shapes-clause-steps : goal.returns-then-is_without_shapes-clause-steps
 returns-then-is_without_shapes-clause-steps g c =
@@ -37,7 +40,9 @@ returns-then-is_without_shapes-clause-steps g c =
 pub returns-clause-steps : goal.returns-clause-steps
 returns-clause-steps g c =
     let terms = c.self.inside.names.terms in
-    let numbers = c.in_ok-numbers.numbers in
-    let index = subst (λ (d : NamedGraph). IsIndexOf d.terms numbers c.args.self.now.triples) (sym c.self.view_is) c.in_ok-numbers.ensures in
-    let count = subst (λ (d : NamedGraph). GrowsByCount (IsTargetPair (graph_of terms numbers) d.shapes) c.args.steps.now c.listing_by.new.steps) c.self.view_is c.in_ok-rows.ensures.steps in
-    same_count (graph_of terms numbers) c.args.self.now.triples c.args.self.now.shapes index.members c.args.steps.now c.listing_by.new.steps count
+    let numbers = c.index.result.now in
+    let triples = c.args.self.now.triples in
+    let s = c.args.self.now.shapes in
+    let index = subst (λ (d : NamedGraph). IsIndexOf d.terms numbers triples) (sym c.self.view_is) c.index.ensures.index in
+    on_ok_weaker c.listing_by.result
+    (λ l. same_count (graph_of terms numbers) triples s index.members c.args.steps.now c.listing_by.new.steps (subst (λ (d : NamedGraph). GrowsByCount (IsTargetPair (graph_of terms numbers) d.shapes) c.args.steps.now c.listing_by.new.steps) c.self.view_is l)) c.listing_by.ensures.steps

@@ -1,6 +1,8 @@
-use Rattle.std.proofs.Common.{◌≡◌, ◌∙◌, ◌++◌, ℕ, List, ap, append_assoc, codes, length, string_bytes, subst, sym}
+use Rattle.std.proofs.Common.{◌≡◌, ◌∙◌, ◌++◌, ℕ, List, [], ap, append_assoc, codes, length, string_bytes, subst, sym}
 use Rattle.std.specs.Fmt.{decimal}
 use Rattle.rdf_model.specs.declared.triple.Triple.{Triple}
+use Rattle.rdf_model.specs.Graphs.{with_each}
+use Rattle.rdf_model.specs.Numbers.{graph_of}
 use Rattle.shape_model.specs.declared.result_row.ResultRow.{ResultRow}
 use Rattle.shape_model.specs.Validation.{Listing}
 use Rattle.report_writer.specs.Report.{report_text}
@@ -26,4 +28,4 @@ report-requires c = rw c.as_slice.ensures (listing_sources _ _ _ _ c.shapes.ensu
 pub returns : goal.returns
 returns c =
     let told = c.in_ok-lines.ensures.graph c.self.inside.shapes c.shapes.ensures.shapes.stand c.shapes.ensures.well_formed in
-    text_of c.args.self.now c.self.inside.graph c.self.inside.shapes c.self.inside.rows (string_bytes c.in_ok-lines.lines) (string_bytes c.write.new.self) c.self.view_is c.self.invariant (rw c.as_slice.ensures at told) (c.in_ok-write.ensures.bytes ∙ rw (c.new-text.ensures.bytes, c.len-count.ensures) (ap (λ (ts : List ℕ). codes "report " ++ ts) (flat (decimal (length c.self.inside.rows)) (string_bytes c.in_ok-lines.lines))))
+    text_of c.args.self.now (with_each [] (graph_of c.self.inside.names.terms c.self.inside.numbers)) c.self.inside.shapes c.self.inside.rows (string_bytes c.in_ok-lines.lines) (string_bytes c.write.new.self) c.self.view_is c.self.invariant (rw c.as_slice.ensures at told) (c.in_ok-write.ensures.bytes ∙ rw (c.new-text.ensures.bytes, c.len-count.ensures) (ap (λ (ts : List ℕ). codes "report " ++ ts) (flat (decimal (length c.self.inside.rows)) (string_bytes c.in_ok-lines.lines))))

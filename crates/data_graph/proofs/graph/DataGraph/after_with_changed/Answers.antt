@@ -1,0 +1,54 @@
+use Rattle.std.proofs.Common.{◌≡◌, ◌∙◌, List, subst, sym, ap}
+use Rattle.std.specs.List.{AllByRecursion}
+use Rattle.rdf_model.specs.declared.change.Change.{Change}
+use Rattle.rdf_model.specs.Graphs.{after, differing}
+use Rattle.rdf_model.specs.Numbers.{AreNumbered}
+use Rattle.triple_index.specs.Changes.{after_ids}
+use Rattle.triple_index.specs.declared.change.NumberedChange.{NumberedChange}
+use Rattle.data_graph.specs.DataGraphs.{AreNamedChanges, IsNumberedChange, KeepsIndex, NamedGraph, triples_at}
+use Rattle.data_graph.proofs.Differing.{kept_index}
+use Rattle.data_graph.proofs.Listed.{listed_after, numbered_after}
+use Rattle.data_graph.proofs.graph.DataGraph.after_with_changed.Goals as goal
+
+pub number_changes-requires : goal.number_changes-requires
+number_changes-requires c = subst (λ (d : NamedGraph). AreNamedChanges d.terms c.args.net.now) (sym c.self.view_is) c.requires
+
+pub triples_differing-requires-clause-index : goal.triples_differing-requires-clause-index
+triples_differing-requires-clause-index c = c.self.invariant.1
+
+pub triples_differing-requires-clause-changes : goal.triples_differing-requires-clause-changes
+triples_differing-requires-clause-changes c =
+    subst (λ (cs : List NumberedChange). AllByRecursion (IsNumberedChange c.self.inside.names.terms) cs) (sym c.deref-2.ensures.value) c.in_ok-changes.ensures.0
+
+pub triples_differing-requires-clause-later : goal.triples_differing-requires-clause-later
+triples_differing-requires-clause-later c = c.in_ok-numbers.ensures ∙ ap (after_ids c.self.inside.numbers) (c.deref.ensures.value ∙ sym c.deref-2.ensures.value)
+
+pub with_numbers-requires : goal.with_numbers-requires
+with_numbers-requires c =
+    let terms = c.self.inside.names.terms in
+    let ids = c.self.inside.numbers in
+    let net = c.args.net.now in
+    let cs = c.in_ok-changes.changes.items in
+    let later = c.in_ok-numbers.numbers in
+    let l : later ≡ after_ids ids cs = c.in_ok-numbers.ensures ∙ ap (after_ids ids) c.deref.ensures.value in
+    let kept = kept_index terms c.recall_numbering.ensures ids later cs c.self.invariant.1 c.recall_ascending.ensures c.in_ok-changes.ensures.0 l in
+    let whole = subst (λ (ds : List Change). KeepsIndex terms ids ds later) c.in_ok-changes.ensures.1 kept in
+    subst (λ (d : NamedGraph). AreNumbered d.terms later) c.self.view_is (numbered_after terms ids later net c.self.invariant.1 whole)
+
+pub returns : goal.returns
+returns c =
+    let terms = c.self.inside.names.terms in
+    let ids = c.self.inside.numbers in
+    let net = c.args.net.now in
+    let cs = c.in_ok-changes.changes.items in
+    let later = c.in_ok-numbers.numbers in
+    let l : later ≡ after_ids ids cs = c.in_ok-numbers.ensures ∙ ap (after_ids ids) c.deref.ensures.value in
+    let kept = kept_index terms c.recall_numbering.ensures ids later cs c.self.invariant.1 c.recall_ascending.ensures c.in_ok-changes.ensures.0 l in
+    let whole = subst (λ (ds : List Change). KeepsIndex terms ids ds later) c.in_ok-changes.ensures.1 kept in
+    let x = c.args.self.now in
+    let listed = listed_after terms ids later net c.self.invariant.1 whole in
+    let own : triples_at x.terms later ≡ after x.triples net = subst (λ (d : NamedGraph). triples_at d.terms later ≡ after d.triples net) c.self.view_is listed in
+    let changed = c.in_ok-changed.ensures ∙ ap (differing (triples_at terms ids)) listed in (
+      c.in_ok-next.ensures ∙ (λ k. record { triples = own k; shapes = x.shapes; terms = x.terms; limit = x.limit }),
+      changed ∙ ap (λ (d : NamedGraph). differing d.triples (after d.triples net)) c.self.view_is,
+    )
