@@ -2,6 +2,11 @@
 # Whether a Turtle reader of others reads the printed reports as the graphs that they say: each report is read by rapper
 # (Debian: raptor2-utils), and its triples are compared with triples written by hand. Usage: tools/check_report.sh
 set -u
+case ${1-} in --help | -h)
+  sed -n '2,3s/^# \{0,1\}//p' "$0"
+  exit 0
+  ;;
+esac
 root=$(cd "$(dirname "$0")/.." && pwd) || exit 70
 if ! command -v rapper >/dev/null; then
   echo "skipped: rapper is not installed"
