@@ -5,7 +5,7 @@ use Rattle.std.specs.List.{AllByRecursion, flat_map}
 use Rattle.record_text.specs.declared.record.Record.{Record}
 use Rattle.record_text.specs.Records.{record_text, IsReadableRecord}
 use Rattle.record_text.proofs.Sections.{texts_apart}
-use Rattle.commit_log.specs.Format.{header, block, Entry, spelled, IsOpened, front, AreRecordsFrom, BeginsWith}
+use Rattle.commit_log.specs.Format.{header, block, Entry, spelled, IsOpened, AreRecordsFrom, BeginsWith}
 use Rattle.commit_log.specs.Bad.{HasHeader, HasNoRecord, OpensToOne, NoLogIsBad, OneIsToBlame}
 use Rattle.commit_log.proofs.One.{same_text}
 

@@ -15,11 +15,10 @@ use Rattle.shape_model.specs.ShapeLooks.{Looks}
 use Rattle.shape_model.specs.Walks.{Chain, Walk, WalkSome, WalkThrough, Walks}
 use Rattle.shape_model.specs.declared.result_row.ResultRow.{ResultRow}
 use Rattle.shape_model.proofs.Covers.{cover_law}
-use Rattle.path_eval.proofs.Mirrors.{mapped_from, mapped_to}
-use Rattle.evidence_blocks.specs.declared.block.Block.{Block}
+use Rattle.path_eval.proofs.Mirrors.{mapped_from}
 use Rattle.evidence_blocks.specs.declared.block.ShownLook.{ShownLook}
-use Rattle.evidence_blocks.specs.Blocks.{Gives, HasTriples, IsEvidence, looks_in}
-use Rattle.evidence_blocks.specs.Shown.{IsShown, triples_in}
+use Rattle.evidence_blocks.specs.Blocks.{Gives, HasTriples, looks_in}
+use Rattle.evidence_blocks.specs.Shown.{triples_in}
 use Rattle.evidence_laws.specs.Shown.{EvidenceIsShown, LooksAloneDecide, ShownBlocksHold}
 
 -- what stands under some look

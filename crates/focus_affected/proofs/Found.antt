@@ -6,10 +6,10 @@ use Rattle.std.proofs.lemmas.List.Elements.{Contains-append_cases, Contains-appe
 use Rattle.rdf_model.specs.declared.term.Term.{Term}
 use Rattle.rdf_model.specs.declared.ids.Ids.{Ids}
 use Rattle.rdf_model.specs.declared.look.Look.{Look}
-use Rattle.rdf_model.specs.Numbers.{AreNumbered, IsNumbering, graph_of, term_at}
+use Rattle.rdf_model.specs.Numbers.{graph_of, term_at}
 use Rattle.shape_model.specs.Looks.{BackLook}
 use Rattle.shape_model.specs.NodeLooks.{IsLook, PathReads}
-use Rattle.shape_model.specs.Walks.{Walk, Walks}
+use Rattle.shape_model.specs.Walks.{Walks}
 use Rattle.path_ast.specs.declared.path.Path.{Path}
 use Rattle.path_ast.specs.PathReadings.{path_of}
 use Rattle.path_eval.specs.Naming.{AddsLooks, NumberedEach}

@@ -18,7 +18,7 @@ use Rattle.focus_affected.specs.declared.plan.NumberedKind.{NumberedKind}
 use Rattle.focus_affected.specs.declared.plan.NumberedKind.TheVariants.{Out, In, OutAny}
 use Rattle.focus_affected.specs.declared.plan.NumberedLook.{NumberedLook}
 use Rattle.focus_affected.specs.Plans.{IsBoundKind, kind_of, node_in, row_of, way_of}
-use Rattle.focus_affected.specs.Finding.{Finds, FindsBy, FindsFrom, FindsWith, IsMatched, IsTouchedBy, WhereNodes}
+use Rattle.focus_affected.specs.Finding.{FindsBy, FindsFrom, FindsWith, IsMatched, IsTouchedBy, WhereNodes}
 use Rattle.focus_affected.proofs.Found.{finds_same}
 
 pub chosen : (p q x n : ℕ) → (if p == q then Some x else None) ≡ Some n → (p ≡ q) × (x ≡ n)

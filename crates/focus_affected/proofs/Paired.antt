@@ -17,7 +17,6 @@ use Rattle.rdf_model.proofs.Finding.{from_given}
 use Rattle.shape_model.specs.Looks.{LookRow}
 use Rattle.shape_model.specs.ShapeLooks.{Looks}
 use Rattle.shape_model.specs.Touching.{Touched}
-use Rattle.path_eval.specs.Naming.{AddsLooks}
 use Rattle.path_eval.proofs.Footprints.{looks_same}
 use Rattle.path_eval.proofs.Mirrors.{mapped_from, mapped_to}
 use Rattle.change_laws.specs.Pairs.{FindingLook}
@@ -29,7 +28,7 @@ use Rattle.focus_affected.specs.declared.index.RowPlace.{RowPlace}
 use Rattle.focus_affected.specs.Plans.{AreBoundPlans, IsBoundLookRow, IsBoundPlan, kind_of, node_in, row_of}
 use Rattle.focus_affected.specs.Index.{HasRow, IsAskedOf, IsItem, IsKindAt, IsRowAt}
 use Rattle.focus_affected.specs.Finding.{ArePairs, FindsAt, FindsAtSome, FindsBy, FindsWith, FindsWithAt, FindsWithSome, IsMatched, IsTouchedAt, IsTouchedBy, IsTouchedBySome, WherePlans}
-use Rattle.focus_affected.specs.Touched.{AddsTouchLooks, AreChanged, ArePlaced, ArePlans, IsTouchedPair, ListsTouched}
+use Rattle.focus_affected.specs.Touched.{AddsTouchLooks, AreChanged, ArePlaced, ArePlans, ListsTouched}
 use Rattle.focus_affected.proofs.Found.{next_found, none_found, pairs_from, pairs_same}
 use Rattle.focus_affected.proofs.Matched.{chosen, from_matched}
 

@@ -3,7 +3,6 @@ use follow_command::{FollowFault, FollowedFiles, follow_files};
 use outside::{MemFile, MemFiles};
 use rdf_text::Text;
 use std::alloc::{AllocError, Global};
-use std::process::Abort;
 use std::test::Fail;
 
 // A log of two records: the first adds a triple, and the second changes nothing.

@@ -7,7 +7,6 @@ use Rattle.rdf_model.specs.declared.term.Term.{Term}
 use Rattle.rdf_model.specs.declared.triple.Triple.{Triple}
 use Rattle.record_text.specs.declared.record.Record.{Record}
 use Rattle.follower.specs.declared.version.Version.{Version}
-use Rattle.follower.specs.Numbered.{IsIndexOf}
 use Rattle.follower.specs.Records.{Fits, data_after, data_from, shapes_after, shapes_from}
 use Rattle.follower.specs.Versions.{IsRun, IsRunSoFar, IsVersion}
 use Rattle.follower.proofs.Sequences.{data_joined, fit_joined, numbered_joined, shapes_joined, versions_joined}

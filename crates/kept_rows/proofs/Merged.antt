@@ -10,9 +10,7 @@ use Rattle.std.specs.FinMap.{nat_cmp-IsAntisymmetric}
 use Rattle.std.proofs.lemmas.Cmp.{nat_cmp_total}
 use Rattle.collections.proofs.Members.{has_cases, has_equal, has_head, has_tail, with_cases, with_new, with_old}
 use Rattle.collections.specs.Ordered.{with_item}
-use Rattle.rdf_model.specs.declared.change.Change.{Change}
 use Rattle.rdf_model.specs.declared.term.Term.{Term}
-use Rattle.rdf_model.specs.declared.triple.Triple.{Triple}
 use Rattle.rdf_model.specs.Numbers.{IsNumbering, term_at}
 use Rattle.collections.specs.Listings.{IsListing}
 use Rattle.shape_model.specs.declared.result_row.ResultRow.{ResultRow}
@@ -26,7 +24,7 @@ use Rattle.kept_rows.specs.declared.kept_row.KeptRow.{KeptRow}
 use Rattle.kept_rows.specs.declared.pair_rows.PairRows.{PairRows}
 use Rattle.kept_rows.specs.Kept.{IsFoundBy, IsOfChecked, IsRowOf, Merges, kept_cmp}
 use Rattle.kept_rows.specs.Laws.{AreBoundPairs, AreBoundRows, ListingLaw, MergeLaw, paired_row, paired_rows, read_pair, read_pairs}
-use Rattle.kept_rows.specs.Merging.{is_of, pair_cmp, pair_of, with_checked, with_rows, without_checked, without_pair}
+use Rattle.kept_rows.specs.Merging.{is_of, pair_of, with_checked, with_rows, without_checked, without_pair}
 use Rattle.kept_rows.specs.Orders.{kept_exact, kept_total}
 
 -- of a list, what passes a test

@@ -6,7 +6,6 @@ use Rattle.std.proofs.lemmas.List.{length-map, map-append, take_all}
 use Rattle.std.proofs.lemmas.List.Elements.{Contains-append_cases, Contains-append_left, Contains-append_right}
 use Rattle.collections.proofs.Members.{has_cases, has_head}
 use Rattle.rdf_model.specs.declared.term.Term.{Term}
-use Rattle.rdf_model.specs.declared.triple.Triple.{Triple}
 use Rattle.rdf_model.specs.declared.ids.Ids.{Ids}
 use Rattle.rdf_model.specs.Numbers.{graph_of, term_at}
 use Rattle.shape_model.specs.declared.result_row.ResultRow.{ResultRow}
@@ -23,7 +22,6 @@ use Rattle.shape_eval.specs.Told.{node_at}
 use Rattle.shape_eval.proofs.Asking.{node_bound}
 use Rattle.shape_eval.proofs.Growing.{joined}
 use Rattle.shape_eval.proofs.Lookups.{at_place, got_at, is_at, only_some}
-use Rattle.parallel_validate.specs.Counting.{IsNodeOf}
 use Rattle.change_laws.specs.Pairs.{PairRow, PairedRow}
 use Rattle.kept_rows.specs.declared.kept_row.KeptRow.{KeptRow}
 use Rattle.kept_rows.specs.Laws.{paired_row, paired_rows}

@@ -2,7 +2,7 @@
 
 use follower::{AtFault, Fed, Follower, Served};
 use rdf_model::{Names, Triples};
-use record_text::{Record, read_record, write_record};
+use record_text::{Record, read_record};
 use std::alloc::Global;
 use std::process::Abort;
 use std::test::Fail;

@@ -4,19 +4,16 @@ use Rattle.std.specs.List.{Contains}
 use Rattle.std.proofs.lemmas.List.{get_or_default, map-append, take_more}
 use Rattle.std.proofs.lemmas.List.Elements.{Contains-push_cases}
 use Rattle.rdf_model.specs.declared.term.Term.{Term}
-use Rattle.rdf_model.specs.declared.triple.Triple.{Triple}
 use Rattle.rdf_model.specs.declared.ids.Ids.{Ids}
 use Rattle.rdf_model.specs.declared.look.Look.{Look}
 use Rattle.rdf_model.specs.Numbers.{graph_of, term_at}
-use Rattle.shape_model.specs.declared.result_row.ResultRow.{ResultRow}
 use Rattle.path_eval.specs.Naming.{AddsLooks}
 use Rattle.path_eval.proofs.Footprints.{looks_none, next_looks, none_before}
 use Rattle.shape_ast.specs.declared.shape.Shape.{Shape}
 use Rattle.shape_eval.proofs.Lookups.{is_at}
-use Rattle.shape_eval.specs.Told.{node_at}
 use Rattle.parallel_validate.specs.declared.pairs.CheckedRows.{CheckedRows}
 use Rattle.parallel_validate.specs.PairResults.{AddsPairLooks, CountsTarget, ListsPair, PairLook, StepsOfPair}
-use Rattle.parallel_validate.specs.PairsResults.{AddsLooksOfPairs, ArePlacedPairs, CountsPairs, HaveRows, StepsOfPairs, pair_of, shape_at}
+use Rattle.parallel_validate.specs.PairsResults.{AddsLooksOfPairs, CountsPairs, HaveRows, StepsOfPairs, pair_of, shape_at}
 
 -- one pair more
 count_last : (Counts : ℕ × ℕ → ℕ → ℕ → Type 0) (es : List (ℕ × ℕ)) (e : ℕ × ℕ) (old mid new : ℕ) → CountsPairs Counts es old mid → Counts e mid new → CountsPairs Counts (es ++ e ∷ []) old new

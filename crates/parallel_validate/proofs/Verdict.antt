@@ -25,7 +25,6 @@ use Rattle.shape_model.specs.Rows.{result_row_cmp}
 use Rattle.shape_model.specs.ShapeLooks.{ResultLook, TargetLook}
 use Rattle.shape_model.specs.Targets.{Target}
 use Rattle.shape_model.specs.Touching.{Touched}
-use Rattle.shape_model.specs.declared.result_row.ResultRow.{ResultRow}
 use Rattle.shape_model.proofs.Listings.{listing_same}
 use Rattle.path_eval.specs.Naming.{AddsLooks, look_of}
 use Rattle.path_eval.proofs.Footprints.{looks_more}
@@ -46,7 +45,7 @@ use Rattle.shape_plans.specs.Planned.{ArePlansOf}
 use Rattle.parallel_validate.specs.declared.pairs.CheckedRows.{CheckedRows}
 use Rattle.parallel_validate.specs.PairResults.{PairLook}
 use Rattle.parallel_validate.specs.PairsResults.{AddsLooksOfPairs, ArePlacedPairs, HaveRows, StepsOfPairs, pair_of, shape_at}
-use Rattle.parallel_validate.specs.Verdicts.{AreBoundLooks, CountsEvaluated, IsEvaluated, KeepsChecked, KeepsLooks, StandsBeside, WhereChecked, checked_pair, checked_pairs}
+use Rattle.parallel_validate.specs.Verdicts.{AreBoundLooks, CountsEvaluated, IsEvaluated, StandsBeside, checked_pair, checked_pairs}
 use Rattle.parallel_validate.proofs.Counts.{IsAim, apart_pairs, count_same, counted}
 
 none_at : {X : Type 0} → {x : X} → None ≡ Some x → ⊥

@@ -10,7 +10,7 @@ ghost use Rattle.plain_components.specs.Rows.{PairRow, PairsAt, SharedRow, TagRo
 ghost use Rattle.plain_components.specs.Pairs.{Shares, SharesSome, Stands};
 ghost use Rattle.plain_terms.specs.Finds.{Finds, WithSome};
 
-use plain_terms::{TermTest, chosen, is_among, is_same, objects};
+use plain_terms::{TermTest, chosen, is_same, objects};
 use plain_values::{PlainSite, is_at_most, is_less, row_alone, row_beside, tag};
 use rdf_model::Term;
 use rdf_text::Text;

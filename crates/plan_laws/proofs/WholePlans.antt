@@ -11,7 +11,7 @@ use Rattle.shape_model.specs.Paths.{Path}
 use Rattle.shape_model.specs.Readings.{IsShallow, References, reading}
 use Rattle.shape_rules.specs.Broken.{IsWellFormed}
 use Rattle.shape_rules.specs.Rows.{row}
-use Rattle.shape_sizes.specs.Sizes.{AreReferred, IsLookWeight, WeighsBy}
+use Rattle.shape_sizes.specs.Sizes.{IsLookWeight, WeighsBy}
 use Rattle.shape_sizes.specs.Sizes as rules
 use Rattle.shape_properties.specs.Syntax.{IsShape}
 use Rattle.shape_rules.proofs.Shallow.{shallow}

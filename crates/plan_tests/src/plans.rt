@@ -6,7 +6,6 @@ use rdf_text::Text;
 use read_plans::{LookKind, PlanFault, PlannedLook, plan};
 use shape_ast::{Constraint, Shape, Shapes, ShapesComponent, Target, TermComponent};
 use std::alloc::{AllocError, Global};
-use std::process::Abort;
 use std::test::Fail;
 
 fn word(alloc: Global, text: &str) -> Result<Term, AllocError> {

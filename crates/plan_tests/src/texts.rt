@@ -6,7 +6,6 @@ use read_plans::plan;
 use shape_ast::Shapes;
 use shape_reader::read_shapes;
 use std::alloc::{AllocError, Global};
-use std::process::Abort;
 use std::test::Fail;
 
 // One triple, written twice: two rows of sh:class.

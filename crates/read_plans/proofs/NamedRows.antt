@@ -23,7 +23,7 @@ use Rattle.shape_ast.specs.declared.target.Target.TheVariants as targets
 use Rattle.shape_ast.specs.Readings.{HoldsOfConstraint, HoldsOfShape, HoldsOfTarget, ReadShape, parameter, read_constraint, read_optional_path, read_shape, read_shapes, read_target}
 use Rattle.read_plans.specs.NamedRows.{AreNamedWith, HoldsOfRow}
 use Rattle.read_plans.specs.PathRows.{path_rows, some_rows, through_rows}
-use Rattle.read_plans.specs.ShapeRows.{all_target_rows, closed_rows, constraint_rows, optional_rows, own_rows, plan_rows, referred_places, rows_with, shape_rows, target_rows, term_rows, value_way}
+use Rattle.read_plans.specs.ShapeRows.{all_target_rows, constraint_rows, optional_rows, own_rows, plan_rows, referred_places, rows_with, shape_rows, target_rows, term_rows, value_way}
 use Rattle.read_plans.proofs.Lists.{mapped_from}
 use Rattle.read_plans.proofs.Plans.{of_place}
 

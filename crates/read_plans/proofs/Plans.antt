@@ -21,7 +21,7 @@ use Rattle.shape_ast.specs.declared.target.Target.{Target}
 use Rattle.shape_ast.specs.declared.target.Target.TheVariants as targets
 use Rattle.shape_ast.specs.Readings.{HoldsOfConstraint, HoldsOfShape, ReadShape, read_constraint, read_shape, read_shapes}
 use Rattle.shape_ast.proofs.Agreeing.{same_active, same_but_path, with_path}
-use Rattle.shape_ast.specs.Standing.{AreCompiled, IsAt, IsLinked, SameShape, StandFor, StandsIn, shape_reading}
+use Rattle.shape_ast.specs.Standing.{IsAt, IsLinked, SameShape, StandFor, StandsIn, shape_reading}
 use Rattle.read_plans.specs.Laws.{ListLooks}
 use Rattle.shape_model.specs.Limits.{levels_limit}
 use Rattle.read_plans.specs.ShapeRows.{all_target_rows, constraint_rows, optional_rows, own_rows, plan_rows, referred_places, rows_with, shape_rows, target_rows, value_way}

@@ -7,7 +7,6 @@ use Rattle.commit_log.specs.Log.{IsSameLater, LogState}
 use Rattle.record_text.specs.declared.record.Record.{Record}
 use Rattle.store_model.specs.declared.event.Event.{Event}
 use Rattle.store_model.specs.declared.event.Action.TheVariants as actions
-use Rattle.store_model.specs.declared.event.Reply.{Reply}
 use Rattle.store_model.specs.declared.event.Reply.TheVariants as replies
 use Rattle.store_model.specs.Logs.{is_fault}
 use Rattle.store_model.specs.Store.{RecordedStore, TakesStep, version}

@@ -9,15 +9,14 @@ use Rattle.rdf_model.specs.declared.term.Term.{Term}
 use Rattle.rdf_model.specs.declared.term.Term.TheVariants.{Blank}
 use Rattle.rdf_model.specs.declared.triple.Triple.{Triple}
 use Rattle.rdf_model.specs.Numbers.{term_at}
-use Rattle.shape_model.specs.Limits.{levels_limit}
-use Rattle.shape_model.specs.Looks.{LookKind, LookRow}
+use Rattle.shape_model.specs.Looks.{LookRow}
 use Rattle.shape_model.specs.Paths as defined
 use Rattle.shape_model.specs.Patterns.{IsPatternOf}
-use Rattle.shape_model.specs.Readings.{IsAcyclic, IsShallow, reading}
+use Rattle.shape_model.specs.Readings.{reading}
 use Rattle.shape_model.specs.ShapeLooks.{Looks}
 use Rattle.shape_model.specs.Targets.{HasTarget}
 use Rattle.path_ast.specs.declared.path.Path.{Path, Predicate, Inverse', Sequence', Alternative', ZeroOrMore', OneOrMore', ZeroOrOne', Row_of-Path, end_of-Path, more_of-Path}
-use Rattle.path_ast.specs.PathReadings.{HasEach, IsBoundOptional, IsBoundPath, RowHasEach, members, path_of, read_path, read_row}
+use Rattle.path_ast.specs.PathReadings.{HasEach, IsBoundOptional, IsBoundPath, RowHasEach, members, read_path, read_row}
 use Rattle.path_eval.specs.declared.instances.ClassWords.{ClassWords}
 use Rattle.path_eval.specs.Instances.{AreClassWords}
 use Rattle.shape_ast.specs.declared.constraint.Constraint.{Constraint}
@@ -27,7 +26,7 @@ use Rattle.shape_ast.specs.declared.shape.Shape.{Shape}
 use Rattle.shape_ast.specs.declared.target.Target.{Target}
 use Rattle.shape_ast.specs.declared.target.Target.TheVariants.{Node, Class, ImplicitClass, SubjectsOf, ObjectsOf}
 use Rattle.shape_ast.specs.Readings.{AreBound, HoldsOfConstraint, HoldsOfShape, HoldsOfTarget, ReadShape, named_shapes, read_constraint, read_optional, read_optional_path, read_pattern, read_shape, read_target}
-use Rattle.shape_ast.specs.Standing.{AreBuilt, HasFlagsText, IsBuilt, StandFor}
+use Rattle.shape_ast.specs.Standing.{HasFlagsText, IsBuilt}
 use Rattle.focus_affected.specs.declared.plan.NumberedKind.{NumberedKind}
 use Rattle.focus_affected.specs.declared.plan.NumberedKind.TheVariants.{Out, In, OutAny}
 use Rattle.focus_affected.specs.declared.plan.NumberedLook.{NumberedLook}

@@ -6,7 +6,7 @@ use Rattle.std.proofs.lemmas.List.{map-append, take_all, take_more}
 use Rattle.std.proofs.lemmas.List.Elements.{All-append, All-cons, All-nil, Contains-append_left, Contains-push, Contains-push_cases}
 use Rattle.rdf_model.specs.declared.term.Term.{Term}
 use Rattle.rdf_model.specs.Numbers.{term_at}
-use Rattle.shape_model.specs.Looks.{LookKind, LookRow}
+use Rattle.shape_model.specs.Looks.{LookRow}
 use Rattle.shape_model.specs.Paths as defined
 use Rattle.path_ast.specs.declared.path.Path.{Path, Sequence, Predicate, Inverse', Sequence', Alternative', ZeroOrMore', OneOrMore', ZeroOrOne'}
 use Rattle.path_ast.specs.PathReadings.{HasEach, HoldsOfEach, IsBoundOptional, IsBoundPath, defined_path, members, path_of, read_row}
@@ -14,7 +14,6 @@ use Rattle.path_ast.proofs.Names.{each_named}
 use Rattle.path_ast.proofs.Rows.{sequence_each, sequence_read}
 use Rattle.read_plans.specs.declared.look.PlannedLook.{PlannedLook}
 use Rattle.read_plans.specs.Rows.{read_kind, read_look, read_looks}
-use Rattle.focus_affected.specs.declared.plan.NumberedKind.{NumberedKind}
 use Rattle.focus_affected.specs.declared.plan.NumberedLook.{NumberedLook}
 use Rattle.focus_affected.specs.Plans.{AreBoundRows, IsBoundLookRow, kind_of, row_of, way_of}
 

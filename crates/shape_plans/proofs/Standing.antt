@@ -26,7 +26,6 @@ use Rattle.read_plans.proofs.Plans.{all_within, of_place, plan_listed}
 use Rattle.read_plans.proofs.ShapeSteps.{found_at, read_at}
 use Rattle.focus_affected.specs.declared.plan.ShapePlan.{ShapePlan}
 use Rattle.focus_affected.specs.Plans.{AreBoundPlans, IsBoundPlan, row_of}
-use Rattle.focus_affected.specs.Touched.{ArePlans}
 use Rattle.shape_plans.specs.Planned.{AreFirstPlans, ArePlansOf, Declares, IsPlanOf}
 
 -- two readings of a shape that agree as a validation asks declare targets alike

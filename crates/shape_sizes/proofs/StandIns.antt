@@ -13,7 +13,7 @@ use Rattle.shape_model.specs.Readings.{Sibling}
 use Rattle.shape_model.proofs.Declarations.{values_law}
 use Rattle.reference_totals.specs.declared.place.WeightedPlace.{WeightedPlace}
 use Rattle.shape_syntax.proofs.Items.{get_within}
-use Rattle.shape_references.specs.Bundles.{IsName, IsPlace}
+use Rattle.shape_references.specs.Bundles.{IsName}
 use Rattle.shape_references.specs.Siblings.{IsOnlyParent, IsQualifiedUnder}
 use Rattle.shape_properties.specs.declared.property.ShapeProperty.TheVariants as properties
 use Rattle.shape_properties.specs.Properties.{property_iri}

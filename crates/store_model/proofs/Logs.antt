@@ -6,7 +6,7 @@ use Rattle.store_model.specs.declared.event.Limits.{Limits}
 use Rattle.store_model.specs.declared.event.Reply.{Reply}
 use Rattle.store_model.specs.declared.event.Reply.TheVariants.{Session, SessionsFull, Version, Named, Unknown, Full, Conflict, FullTriples, Refused, Done, LogFault, Stopped, Nothing}
 use Rattle.store_model.specs.Logs.{IsUnlogged, HasNoLog, is_fault, has_fault, FaultsStop, UnloggedRun}
-use Rattle.store_model.specs.Store.{State, StepOf, Replays}
+use Rattle.store_model.specs.Store.{State, StepOf}
 use Rattle.store_model.proofs.Outcomes.{outcome}
 
 or_false : (a : Bool) → (a || false) ≡ a

@@ -12,7 +12,7 @@ use Rattle.rdf_lexical.specs.declared.refusal.RefusalKind.{RefusalKind}
 use Rattle.rdf_lexical.specs.declared.refusal.RefusalKind.TheVariants.{UnexpectedToken, UndeclaredPrefix}
 use Rattle.turtle_reader.specs.Parsers.{Outcome, Parser, ◌>>=◌, give, refuse, asking, left}
 use Rattle.turtle_reader.specs.Tokens
-use Rattle.turtle_reader.specs.Tokens.{next, is_next, is_other, expected, where_next}
+use Rattle.turtle_reader.specs.Tokens.{next, is_next, expected, where_next}
 use Rattle.turtle_reader.specs.Terms
 use Rattle.turtle_reader.specs.Grammar
 use Rattle.turtle_reader.proofs.Progress.{Takes, Keeps, Below, takes_keeps, takes_then, then_takes, keeps_then, keeps_many}

@@ -3,7 +3,6 @@ use Rattle.std.specs.List.{All}
 use Rattle.rdf_model.specs.declared.term.Term.{Term}
 use Rattle.path_ast.specs.PathReadings.{IsNamed}
 use Rattle.shape_ast.specs.declared.shape.Shape.{Shape}
-use Rattle.shape_ast.specs.declared.target.Target.{Target}
 use Rattle.shape_ast.specs.Readings.{AreNamed, HoldsOfShape, HoldsOfTarget}
 use Rattle.shape_ast.specs.Standing.{AreBuilt, IsBuilt}
 use Rattle.constraint_tests.proofs.evaluations.node_shape.Goals as goal

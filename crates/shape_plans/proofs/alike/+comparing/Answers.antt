@@ -2,7 +2,7 @@ use Rattle.std.proofs.Common.{◌≡◌, ◌+◌, ◌<◌, ℕ, List, length, ta
 use Rattle.std.proofs.lemmas.List.{take_all}
 use Rattle.path_ast.specs.declared.path.Path.{Path}
 use Rattle.path_ast.proofs.Sizes.{alternative_more, alternative_size, list_size, member_more, path_size, sequence_more, sequence_size}
-use Rattle.shape_plans.proofs.Comparing.{ReadAllSame, alternatives_same, next_same, sequences_same}
+use Rattle.shape_plans.proofs.Comparing.{ReadAllSame, alternatives_same, sequences_same}
 use Rattle.shape_plans.proofs.alike.+comparing.Goals as goal
 
 pub are_same_paths-is_same_path-requires : goal.are_same_paths-is_same_path-requires

@@ -1,7 +1,7 @@
 use Rattle.std.proofs.Common.{◌≡◌, arith, refl, subst}
 use Rattle.rdf_model.specs.declared.term.Term.{Term}
 use Rattle.rdf_model.specs.declared.triple.Triple.{Triple}
-use Rattle.shape_model.specs.Vocabulary.{ShProperty, ShQualifiedValueShape}
+use Rattle.shape_model.specs.Vocabulary.{ShProperty}
 use Rattle.shape_model.specs.ShapeSyntax.{HasProperty}
 use Rattle.shape_syntax.specs.Gathering.{Gives}
 use Rattle.shape_syntax.proofs.Loops.{gathered_none, gathered_next, gathered_all, gave_as}

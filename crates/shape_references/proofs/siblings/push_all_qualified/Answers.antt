@@ -5,7 +5,7 @@ use Rattle.shape_model.specs.Vocabulary.{ShProperty, ShQualifiedValueShape}
 use Rattle.shape_model.specs.ShapeSyntax.{HasProperty}
 use Rattle.shape_syntax.specs.Gathering.{Gives}
 use Rattle.shape_syntax.proofs.Loops.{gathered_none, gathered_next, gathered_all, gave_as}
-use Rattle.shape_references.specs.Siblings.{IsQualifiedUnder, MayHaveSiblings}
+use Rattle.shape_references.specs.Siblings.{IsQualifiedUnder}
 use Rattle.shape_references.proofs.SiblingValues.{values_give}
 use Rattle.shape_references.proofs.siblings.push_all_qualified.Goals as goal
 

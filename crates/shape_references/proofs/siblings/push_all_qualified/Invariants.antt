@@ -4,7 +4,6 @@ use Rattle.rdf_model.specs.declared.triple.Triple.{Triple}
 use Rattle.shape_model.specs.Vocabulary.{ShQualifiedValueShape}
 use Rattle.shape_model.specs.ShapeSyntax.{HasProperty}
 use Rattle.shape_syntax.specs.Gathering.{HasGathered}
-use Rattle.shape_references.specs.Siblings.{MayHaveSiblings}
 use Rattle.shape_references.proofs.siblings.push_all_qualified.Given as goal
 
 abbrev pub invariant-loop-triple : goal.invariant-loop-triple

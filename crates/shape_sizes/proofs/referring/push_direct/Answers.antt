@@ -1,6 +1,5 @@
 use Rattle.std.proofs.Common.{◌≡◌, List, [], ◌∷◌, sym, subst, arith, refl, inl, inr}
 use Rattle.std.specs.List.{Contains}
-use Rattle.collections.proofs.Members.{has_cases, has_equal}
 use Rattle.rdf_model.specs.declared.term.Term.{Term}
 use Rattle.shape_references.proofs.BoundSteps.{bound_as, bound_none, bound_push, in_new}
 use Rattle.shape_properties.specs.OfProperties.{TakenBy}

@@ -1,6 +1,6 @@
 use Rattle.std.proofs.Common.{◌≡◌, ◌∙◌, List, sym, subst}
 use Rattle.rdf_model.specs.declared.term.Term.{Term}
-use Rattle.shape_sizes.specs.Counted.{ArePlaces, HaveNames}
+use Rattle.shape_sizes.specs.Counted.{HaveNames}
 use Rattle.shape_sizes.specs.Sizes.{size_limit}
 use Rattle.shape_sizes.proofs.Weights.{are_weights}
 use Rattle.shape_sizes.proofs.sizes.sizes_of.Goals as goal
