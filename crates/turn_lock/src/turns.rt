@@ -19,7 +19,7 @@ use std::thread;
 use std::time::Duration;
 
 // How often a caller looks before it sleeps, and how often in all before it draws a ticket that isn't served yet.
-const LOOKS_BEFORE_SLEEP: u32 = 100;
+const LOOKS_BEFORE_SLEEP: u32 = 1_000;
 
 const LOOKS_BEFORE_TICKET: u32 = 100_000;
 
@@ -225,8 +225,8 @@ impl<S: Entries> Turns<S> {
 
     /// Waits for the caller's turn, and takes the state. The caller has then seen the whole history.
     ///
-    /// The turn is the next one where nobody has a turn; else the caller looks again for a few microseconds, and then sleeps
-    /// until the end of a turn wakes it. Callers don't come in the order in which they called.
+    /// The turn is the next one where nobody has a turn; else the caller looks again for some tens of microseconds, about as long
+    /// as a turn takes, and then sleeps until the end of a turn wakes it. Callers don't come in the order in which they called.
     pub fn enter<R: Wait>(&self, rt: &R, pass: Pass<S>) -> (Held<S>, S)
         requires { pass.lock ≡ self.now.id }
         ensures held { result.0 ≡ record pass { known = record pass.known { front = S.entries result.1 } } }
