@@ -59,7 +59,6 @@ pub enum OpenLogFault {
 }
 
 /// A log on a disk.
-#[derive(Drop)]
 pub struct Log<D: Disk> {
     disk: D,
     end: u64,
@@ -75,6 +74,18 @@ impl<D: Disk> Model for Log<D> {
     ghost view = { λ l. record { disk = l.disk; end = l.end; count = l.count; closed = l.closed } };
 
     ghost invariant = { λ l. IsLog D.tells D.bytes D.history l.disk l.end l.count l.closed };
+}
+
+// Written by hand, so that what owns one calls it in place of having it written out.
+impl<D: Disk + Drop> Drop for Log<D> {
+    fn drop(self) {
+        let Log {
+            disk: _,
+            end: _,
+            count: _,
+            closed: _,
+        } = self;
+    }
 }
 
 // Writes a piece and waits until it is durable.
@@ -265,6 +276,12 @@ impl<D: Disk> Log<D> {
     pub fn into_disk(self) -> D
         ensures { result ≡ self.disk }
     {
-        self.disk
+        let Log {
+            disk,
+            end: _,
+            count: _,
+            closed: _,
+        } = self;
+        disk
     }
 }

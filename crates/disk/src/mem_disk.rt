@@ -14,7 +14,6 @@ const PLACES: u64 = 1 << 63;
 
 /// The bytes that a sync made durable, and the ranges that were written since, each by its place and
 /// its size.
-#[derive(Drop)]
 pub struct MemMoment {
     durable: Vec<u8>,
     unsynced: Vec<(u64, u64)>,
@@ -26,6 +25,16 @@ impl Model for MemMoment {
     ghost Value = { Moment };
 
     ghost view = { λ m. record { durable = m.durable.items; unsynced = m.unsynced.items } };
+}
+
+// Written by hand, so that what owns one calls it in place of having it written out.
+impl Drop for MemMoment {
+    fn drop(self) {
+        let MemMoment {
+            durable: _,
+            unsynced: _,
+        } = self;
+    }
 }
 
 impl MemMoment {
@@ -65,7 +74,6 @@ impl MemMoment {
 /// A disk in memory. The calls with the listed numbers, the first call's being 1, fail; a write that
 /// fails still puts the first bytes of its piece, so many as `short` says. A write or a sync for which
 /// memory runs out fails too.
-#[derive(Drop)]
 pub struct MemDisk {
     alloc: Global,
     bytes: Vec<u8>,
@@ -92,6 +100,23 @@ impl Model for MemDisk {
       calls = d.calls;
       faults = d.faults;
     } };
+}
+
+// Written by hand, so that what owns one calls it in place of having it written out.
+impl Drop for MemDisk {
+    fn drop(self) {
+        let MemDisk {
+            alloc: _,
+            bytes: _,
+            chosen: _,
+            past: _,
+            moment: _,
+            fail: _,
+            short: _,
+            calls: _,
+            faults: _,
+        } = self;
+    }
 }
 
 impl MemDisk {

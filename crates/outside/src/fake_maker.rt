@@ -11,7 +11,6 @@ use std::marker::Model;
 /// A maker over another one. It refuses the builds with the listed numbers, the first build's being 1,
 /// and answers all others as the maker below; where no number is listed it refuses only what that
 /// maker refuses.
-#[derive(Drop)]
 pub struct FakeMaker<M> {
     maker: M,
     refuse: Vec<u64>,
@@ -32,6 +31,19 @@ impl<M> Model for FakeMaker<M> {
       asked = m.asked.items;
       refused = m.refused.items;
     } };
+}
+
+// Written by hand, so that what owns one calls it in place of having it written out.
+impl<M: Drop> Drop for FakeMaker<M> {
+    fn drop(self) {
+        let FakeMaker {
+            maker: _,
+            refuse: _,
+            calls: _,
+            asked: _,
+            refused: _,
+        } = self;
+    }
 }
 
 impl<M> FakeMaker<M> {

@@ -8,15 +8,21 @@ use std::alloc::Global;
 use std::marker::Model;
 
 /// A name and the bytes that it holds.
-#[derive(Debug, Drop)]
+#[derive(Debug)]
 pub struct MemFile {
     pub name: String,
     pub bytes: Vec<u8>,
 }
 
+// Written by hand, so that what owns one calls it in place of having it written out.
+impl Drop for MemFile {
+    fn drop(self) {
+        let MemFile { name: _, bytes: _ } = self;
+    }
+}
+
 /// Files in memory. The loads with the listed numbers, the first load's being 1, fail; where no number
 /// is listed a load fails only for a name that no file has.
-#[derive(Drop)]
 pub struct MemFiles {
     files: Vec<MemFile>,
     fail: Vec<u64>,
@@ -38,6 +44,19 @@ impl Model for MemFiles {
       loaded = map string_bytes m.loaded.items;
       failed = map string_bytes m.failed.items;
     } };
+}
+
+// Written by hand, so that what owns one calls it in place of having it written out.
+impl Drop for MemFiles {
+    fn drop(self) {
+        let MemFiles {
+            files: _,
+            fail: _,
+            calls: _,
+            loaded: _,
+            failed: _,
+        } = self;
+    }
 }
 
 impl MemFiles {

@@ -9,7 +9,6 @@ use std::alloc::Global;
 use std::marker::Model;
 
 /// The maker that the crate `regex` is.
-#[derive(Drop)]
 pub struct RegexMaker {
     asked: Vec<Request>,
     refused: Vec<Request>,
@@ -24,6 +23,16 @@ impl Model for RegexMaker {
       asked = m.asked.items;
       refused = m.refused.items;
     } };
+}
+
+// Written by hand, so that what owns one calls it in place of having it written out.
+impl Drop for RegexMaker {
+    fn drop(self) {
+        let RegexMaker {
+            asked: _,
+            refused: _,
+        } = self;
+    }
 }
 
 impl RegexMaker {

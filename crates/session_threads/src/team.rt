@@ -27,7 +27,6 @@ use store_model::Limits;
 const THREADS: usize = 64;
 
 /// A session with the number of its file.
-#[derive(Drop)]
 pub struct Player<D: Disk> {
     session: Option<Session<D>>,
     number: u32,
@@ -41,6 +40,17 @@ impl<D: Disk> Model for Player<D> {
     ghost Value = { TeamPlayer };
 
     ghost view = { λ p. record { session = p.session; number = p.number; replies = p.replies } };
+}
+
+// Written by hand, so that what owns one calls it in place of having it written out.
+impl<D: Disk + Drop> Drop for Player<D> {
+    fn drop(self) {
+        let Player {
+            session: _,
+            number: _,
+            replies: _,
+        } = self;
+    }
 }
 
 impl<D: Disk + Drop> Player<D> {

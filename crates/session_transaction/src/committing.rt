@@ -20,7 +20,6 @@ use std::sync::ledger::Ledger;
 use store_model::Again;
 
 /// What a commit is answered.
-#[derive(Drop)]
 pub enum Committed {
     /// The transaction changes nothing; it stands at this version.
     ReadOnly {
@@ -53,6 +52,31 @@ pub enum Committed {
     Stopped {
         version: u64,
     },
+}
+
+// Written by hand, so that what owns one calls it in place of having it written out.
+impl Drop for Committed {
+    fn drop(self) {
+        match self {
+            Committed::ReadOnly { version: _ } => {}
+            Committed::Done {
+                number: _,
+                again: _,
+            } => {}
+            Committed::Conflict {
+                commit: _,
+                triple: _,
+            } => {}
+            Committed::FullTriples { count: _ } => {}
+            Committed::Refused {
+                rows: _,
+                again: _,
+                shapes: _,
+            } => {}
+            Committed::LogFault => {}
+            Committed::Stopped { version: _ } => {}
+        }
+    }
 }
 
 /// Commits a transaction that changes something or stages shapes, with the results of its verdict, if it has one, and counts its

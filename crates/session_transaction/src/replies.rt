@@ -8,7 +8,7 @@ ghost use Rattle.session_model.specs.Sessions.{binding_text, find_reply, select_
 ghost use Rattle.session_transaction.specs.Replies.{IsCommitReply, IsListed, IsRefused, IsRefusedBlock};
 
 use crate::committing::Committed;
-use collections::{Sequence, let_go};
+use collections::Sequence;
 use rdf_model::{Term, Text, Triple};
 use report_writer::report;
 use session_model::{Command, SessionReply};
@@ -116,23 +116,19 @@ pub fn reply_of_commit(alloc: Global, committed: Committed) -> Result<SessionRep
     requires { IsListed committed }
     ensures { IfOk result (IsCommitReply committed) }
 {
-    match committed {
-        Committed::ReadOnly { version } => Ok(SessionReply::ReadOnly(version)),
-        Committed::Done { number, again } => {
-            let_go(again);
-            Ok(SessionReply::Committed(number))
+    match &committed {
+        Committed::ReadOnly { version } => Ok(SessionReply::ReadOnly(*version)),
+        Committed::Done { number, again: _ } => Ok(SessionReply::Committed(*number)),
+        Committed::Conflict { commit, triple } => {
+            Ok(SessionReply::Overtaken(*commit, triple.clone()?))
         }
-        Committed::Conflict { commit, triple } => Ok(SessionReply::Overtaken(commit, triple)),
         Committed::FullTriples { count: _ } => Ok(SessionReply::FullGraph),
         Committed::Refused {
             rows,
-            again,
+            again: _,
             shapes,
-        } => {
-            let_go(again);
-            refusal(alloc, &rows, &shapes)
-        }
+        } => refusal(alloc, rows, shapes),
         Committed::LogFault => Ok(SessionReply::LogFailed),
-        Committed::Stopped { version } => Ok(SessionReply::Stopped(version)),
+        Committed::Stopped { version } => Ok(SessionReply::Stopped(*version)),
     }
 }

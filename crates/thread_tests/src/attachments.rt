@@ -162,7 +162,7 @@ fn run<L: Ledger, R: Wait + Abort>(rt: &R, alloc: Global, blank: Blank) -> Resul
     let (second, done) = store.commit(rt, second, &mut steps);
     assert!(rt;
         matches!(
-            done,
+            &done,
             Ok(Committed::Done {
                 number: 1,
                 again: _
