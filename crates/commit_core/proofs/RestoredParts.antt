@@ -403,9 +403,6 @@ module _ (l : Limits) (rs : List Record) (triples shapes : List Triple) (named :
   shapes_ready = subst (λ (ns : List Term). AreNamedTriples ns shapes) (sym terms_are) (subst (λ (ts : List Triple). AreNamedTriples (restored rs).named ts) (sym staged) (named_shapes rs))
 
   module _ (graph : NamedGraph) (filled : graph ≡ record { triples = triples; shapes = shapes; terms = named.terms; limit = named.limit }) where
-    pub graph_ready : AreNamedTriples graph.terms graph.triples
-    graph_ready = subst (λ (x : NamedGraph). AreNamedTriples x.terms x.triples) (sym filled) triples_ready
-
     last_is : graph ≡ record { triples = (restored rs).graph; shapes = (restored rs).shapes; terms = (restored rs).named; limit = l.terms }
     last_is =
         let limit = ap (λ (x : NamedGraph). x.limit) start.graph_is in

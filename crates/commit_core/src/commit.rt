@@ -5,7 +5,7 @@ ghost use Rattle.shape_model.specs.Validation.{Listing};
 ghost use Rattle.data_graph.specs.DataGraphs.{with_shapes};
 
 use collections::Sequence;
-use data_graph::{DataGraph, ValidatedGraph};
+use data_graph::{DataGraph, NumberHints, ValidatedGraph};
 use kept_rows::PairRows;
 use rdf_model::Triple;
 use shape_model::ResultRow;
@@ -17,6 +17,8 @@ use store_model::{Accepted, Again, Overtaker, Transaction};
 /// nothing.
 pub struct CheckedTransaction {
     pub transaction: Transaction,
+    /// Of the terms of its changes.
+    pub hints: NumberHints,
     pub pairs: Sequence<PairRows>,
 }
 
@@ -25,6 +27,7 @@ impl Drop for CheckedTransaction {
     fn drop(self) {
         let CheckedTransaction {
             transaction: _,
+            hints: _,
             pairs: _,
         } = self;
     }
@@ -33,20 +36,25 @@ impl Drop for CheckedTransaction {
 impl CheckedTransaction {
     /// A transaction that nothing was checked of.
     pub fn unchecked(alloc: Global, transaction: Transaction) -> CheckedTransaction
-        ensures { result ≡ record { transaction = transaction; pairs = [] } }
+        ensures { result ≡ record { transaction = transaction; hints = tt; pairs = [] } }
     {
         CheckedTransaction {
             transaction,
+            hints: NumberHints::new(alloc),
             pairs: Sequence::new(alloc),
         }
     }
 
-    /// The transaction, and the pairs.
-    pub fn into_parts(self) -> (Transaction, Sequence<PairRows>)
-        ensures { result ≡ (self.transaction, self.pairs) }
+    /// The transaction, the hints, and the pairs.
+    pub fn into_parts(self) -> (Transaction, NumberHints, Sequence<PairRows>)
+        ensures { result ≡ (self.transaction, self.hints, self.pairs) }
     {
-        let CheckedTransaction { transaction, pairs } = self;
-        (transaction, pairs)
+        let CheckedTransaction {
+            transaction,
+            hints,
+            pairs,
+        } = self;
+        (transaction, hints, pairs)
     }
 
     /// The transaction alone.
@@ -55,6 +63,7 @@ impl CheckedTransaction {
     {
         let CheckedTransaction {
             transaction,
+            hints: _,
             pairs: _,
         } = self;
         transaction

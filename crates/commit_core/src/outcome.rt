@@ -1,7 +1,6 @@
 //! The graph that a commit would make, with its results, and whether one of them blocks.
 ghost use Rattle.std.specs.Prelude.{◌≡◌, ◌≤◌, IfOk, OnOk};
 ghost use Rattle.parallel_validate.specs.Counting.{GrowsByCount, IsTargetPair};
-ghost use Rattle.parallel_validate.specs.Named.{AreNamedTriples};
 ghost use Rattle.commit_core.specs.Outcomes.{IsOutcome, TellsBlocking};
 
 use blocking::has_blocking;
@@ -42,7 +41,6 @@ impl Outcome {
         graph: DataGraph,
         steps: &mut Steps<L>,
     ) -> Result<Outcome, AllocError>
-        requires { AreNamedTriples graph.terms graph.triples }
         ensures outcome { IfOk result (IsOutcome mode graph) }
         ensures steps { OnOk result (GrowsByCount (IsTargetPair graph.triples graph.shapes) steps.old steps.new) }
         ensures counted { steps.old ≤ steps.new }

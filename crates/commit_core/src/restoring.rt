@@ -20,7 +20,7 @@ use crate::naming::give_all;
 use crate::outcome::Outcome;
 use crate::store::Core;
 use collections::{Sequence, sorted_once};
-use data_graph::DataGraph;
+use data_graph::{DataGraph, NumberHints};
 use page_index::Pages;
 use rdf_model::{Change, Term, Triple};
 use record_text::Record;
@@ -281,7 +281,7 @@ fn filled(
 {
     triples.recall_ascending();
     let net = additions(alloc, triples)?;
-    let mut filled = graph.after(&net)?;
+    let mut filled = graph.after(&net, &NumberHints::new(alloc))?;
     filled.replace_shapes(shapes)?;
     Ok(filled)
 }

@@ -15,7 +15,7 @@ ghost use Rattle.commit_core.specs.Verdicts.{IsPairedCheck};
 use crate::checked::CheckedNet;
 use bgp_query::{JoinFault, JoinPattern};
 use collections::Sequence;
-use data_graph::ValidatedGraph;
+use data_graph::{NumberHints, ValidatedGraph};
 use rdf_model::{Change, Pattern, Term, Triple};
 use shape_eval::Steps;
 use shape_model::ResultRow;
@@ -117,15 +117,14 @@ impl Snap {
 
     /// The bindings of the patterns in the graph with these changes: the terms of the variables, from the first on, under which
     /// each pattern stands there (SPARQL 1.1 Query, section 18.3), each once, ascending. `TooMany` comes exactly where there
-    /// are more than 100,000. It stays the same.
+    /// are more than 100,000.
     pub fn select(
-        &mut self,
+        &self,
         net: &[Change],
         patterns: &[JoinPattern<Term>],
     ) -> Result<Vec<Sequence<Term>>, JoinFault>
-        ensures same { self.new ≡ self.old }
-        ensures rows { IfOk result (λ rows. AreSelected (after self.old.graph net.now) patterns.now rows.items) }
-        ensures fault { IfErr result (λ fault. IsJoinFault fault (after self.old.graph net.now) patterns.now) }
+        ensures rows { IfOk result (λ rows. AreSelected (after self.now.graph net.now) patterns.now rows.items) }
+        ensures fault { IfErr result (λ fault. IsJoinFault fault (after self.now.graph net.now) patterns.now) }
     {
         self.graph.select(net, patterns)
     }
@@ -138,6 +137,7 @@ impl Snap {
     pub fn check<L: Ledger>(
         &self,
         net: &[Change],
+        hints: &NumberHints,
         steps: &mut Steps<L>,
     ) -> Result<CheckedNet, AllocError>
         requires { NetNamed self.now.named net.now }
@@ -148,8 +148,8 @@ impl Snap {
         ensures counted { steps.old ≤ steps.new }
     {
         let graph = self.graph.graph();
-        let mut next = graph.after(net)?;
-        let found = graph.paired_after(net, &mut next, steps)?;
+        let next = graph.after(net, hints)?;
+        let found = graph.paired_after(net, hints, &next, steps)?;
         let (pairs, looks) = found.into_parts();
         Ok(CheckedNet {
             verdict: Verdict {

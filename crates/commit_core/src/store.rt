@@ -30,7 +30,7 @@ use crate::room::Slip;
 use crate::snapshot::Snap;
 use blocking::pairs_block;
 use collections::Sequence;
-use data_graph::{DataGraph, ValidatedGraph};
+use data_graph::{DataGraph, NumberHints, ValidatedGraph};
 use kept_rows::PairRows;
 use page_index::Pages;
 use rdf_model::{Change, Term, Triple};
@@ -337,6 +337,7 @@ impl Core {
         &self,
         next: DataGraph,
         net: &[Change],
+        hints: &NumberHints,
         steps: &mut Steps<L>,
     ) -> Result<Outcome, AllocError>
         requires named { NetNamed self.now.state.named net.now }
@@ -345,8 +346,8 @@ impl Core {
         ensures steps { OnOk result (GrowsByCount (IsEvaluated self.now.state.graph self.now.state.shapes net.now) steps.old steps.new) }
         ensures counted { steps.old ≤ steps.new }
     {
-        let mut next = next;
-        let pairs = self.graph.graph().pairs_after(net, &mut next, steps)?;
+        let graph = self.graph.graph();
+        let pairs = graph.pairs_after(net, hints, &next, steps)?;
         let outcome = self.merged(next, pairs.as_slice())?;
         Ok(outcome)
     }
@@ -356,19 +357,20 @@ impl Core {
     fn evaluated<L: Ledger>(
         &self,
         next: DataGraph,
-        transaction: &Transaction,
+        checked: &CheckedTransaction,
         steps: &mut Steps<L>,
     ) -> Result<Outcome, AllocError>
-        requires committable { IsCommittable self.now.state transaction.now }
-        requires next { next ≡ committed_graph (data_of self.now) transaction.now }
+        requires committable { IsCommittable self.now.state checked.now.transaction }
+        requires next { next ≡ committed_graph (data_of self.now) checked.now.transaction }
         ensures outcome { IfOk result (IsOutcome self.now.limits.mode next) }
-        ensures steps { OnOk result (ResultSteps false self.now.state transaction.now steps.old steps.new) }
+        ensures steps { OnOk result (ResultSteps false self.now.state checked.now.transaction steps.old steps.new) }
         ensures counted { steps.old ≤ steps.new }
     {
         self.recall_consistent();
+        let transaction = &checked.transaction;
         match &transaction.staged {
             Some(_) => Outcome::whole(self.bounds.mode, next, steps),
-            None => self.changed(next, transaction.net.as_slice(), steps),
+            None => self.changed(next, transaction.net.as_slice(), &checked.hints, steps),
         }
     }
 
@@ -392,7 +394,7 @@ impl Core {
             let outcome = self.merged(next, checked.pairs.as_slice())?;
             return Ok(outcome);
         }
-        self.evaluated(next, &checked.transaction, steps)
+        self.evaluated(next, checked, steps)
     }
 
     // What a commit that nothing overtook and whose graph is within the limit is going to do; it changes these triples. The listing
@@ -449,7 +451,7 @@ impl Core {
         let (next, changed) = self
             .graph
             .graph()
-            .after_with_changed(transaction.net.as_slice())?;
+            .after_with_changed(transaction.net.as_slice(), &checked.hints)?;
         let count = next.len();
         if count > self.bounds.triples {
             return Ok(Plan::TooLarge(count));

@@ -8,10 +8,9 @@ pub mod Tests
 pub mod AtOnce
 mod ChangedTriples
 mod Checking
-mod Checks
+mod NamedLooks
 mod Existing
 mod Keeping
 mod Moved
 mod NoChecks
-mod RowsOfPairs
 mod Selecting

@@ -10,7 +10,7 @@ use Rattle.parallel_validate.specs.Verdicts.{IsEvaluated}
 use Rattle.shape_model.proofs.Bridges.{makes_shape}
 use Rattle.shape_model.specs.Readings.{reading}
 use Rattle.shape_model.specs.Targets.{HasTarget}
-use Rattle.data_graph.specs.Changes.{IsCheckOf}
+use Rattle.change_laws.specs.Pairs.{IsCheckFootprint}
 
 pub no_checks : (g s : List Triple) (net : List Change) → ((shape : Term) → IsShape s shape → ⊥) → (old : ℕ) → GrowsByCount (IsEvaluated g s net) old old
 no_checks g s net none old = (
@@ -27,16 +27,8 @@ no_checks g s net none old = (
 none_in : {X : Type 0} → (x : X) → Contains [] x → ⊥
 none_in x c = absurd (omega (arith, c.1))
 
--- a check finds nothing and makes no look
-pub no_check : (g s : List Triple) (net : List Change) → ((shape : Term) → IsShape s shape → ⊥) → IsCheckOf g s net [] []
-no_check g s net none =
+-- a check makes no look
+pub no_looks : (g s : List Triple) (net : List Change) → ((shape : Term) → IsShape s shape → ⊥) → IsCheckFootprint g s net []
+no_looks g s net none =
     let never : (shape : Term) → HasTarget (reading s shape) → ⊥ = λ shape t. none shape (makes_shape s shape t) in
-    record {
-      looks = λ look. (λ c. absurd (none_in look c), elim [ inl f ↦ absurd (never f.0 f.1) | inr c ↦ absurd (never c.0 c.2.0) ]);
-      checked = [];
-      pairs = record {
-        pairs = λ shape f. (λ h. absurd (none_in h.0 h.1), λ t. absurd (never shape t.0));
-        rows = λ c i. absurd (none_in c i);
-      };
-      listing = record { ascending = tt; members = λ r. (λ c. absurd (none_in r c), λ h. absurd (none_in h.0 h.1)) };
-    }
+    λ look. (λ c. absurd (none_in look c), elim [ inl f ↦ absurd (never f.0 f.1) | inr c ↦ absurd (never c.0 c.2.0) ])

@@ -8,7 +8,6 @@ ghost use Rattle.std.specs.List.{AllByRecursion};
 ghost use Rattle.bgp_query.specs.Selected.{AreSelected, IsJoinFault};
 ghost use Rattle.store_model.specs.Finds.{found};
 ghost use Rattle.store_model.specs.Store.{AreNamed, looked_at};
-ghost use Rattle.shape_model.specs.Validation.{Listing, NoResult};
 ghost use Rattle.parallel_validate.specs.Verdicts.{IsEvaluated};
 ghost use Rattle.term_dict.specs.Faults.{IsCause};
 ghost use Rattle.term_dict.specs.Names.{AreNumbersOf, first_terms, with_terms};
@@ -16,18 +15,16 @@ ghost use Rattle.parallel_validate.specs.Counting.{GrowsByCount, IsTargetPair};
 ghost use Rattle.parallel_validate.specs.Named.{AreNamedTriples};
 ghost use Rattle.change_laws.specs.Pairs.{IsCheckFootprint};
 ghost use Rattle.kept_rows.specs.Laws.{ChecksPairs, KeepsResults};
-ghost use Rattle.data_graph.specs.Changes.{IsCheckByNumber, IsCheckOf};
+ghost use Rattle.data_graph.specs.Changes.{IsCheckByNumber};
 ghost use Rattle.data_graph.specs.DataGraphs.{AreNamedChanges, IsIndexOf, names_of, triples_at, with_changes, with_names, with_shapes};
 
 use crate::asked::list_after_asked;
 use crate::at_once::set_after;
 use crate::by_number::{found_by_number, has_triple};
 use crate::changed::triples_differing;
-use crate::changes::{
-    CheckedChanges, NumberedCheck, PairedChanges, check_by_number, checked_changes, paired_changes,
-    rows_of,
-};
-use crate::numbering::{CLASS_WORDS, index_after, kept_by, listing_by, number_changes};
+use crate::changes::{NumberedCheck, PairedChanges, check_by_number, paired_changes};
+use crate::hints::NumberHints;
+use crate::numbering::{CLASS_WORDS, index_after, kept_by, number_changed, number_changes};
 use crate::select::select_after;
 use bgp_query::{JoinFault, JoinPattern};
 use bound_shapes::BoundShapes;
@@ -36,7 +33,6 @@ use kept_rows::{KeptRows, PairRows};
 use parallel_validate::is_without_shapes;
 use rdf_model::{Change, Pattern, Term, Triple};
 use shape_eval::Steps;
-use shape_model::ResultRow;
 use shapes_graph::ShapesGraph;
 use std::alloc::{AllocError, Global};
 use std::marker::Model;
@@ -169,23 +165,27 @@ impl DataGraph {
     }
 
     /// The graph after the changes, whose terms are all named. It shares with this one what they leave.
-    pub fn after(&self, net: &[Change]) -> Result<DataGraph, AllocError>
+    pub fn after(&self, net: &[Change], hints: &NumberHints) -> Result<DataGraph, AllocError>
         requires { AreNamedChanges self.now.terms net.now }
         ensures { IfOk result (λ next. next ≡ with_changes self.now net.now) }
     {
-        let numbers = index_after(self.alloc, &self.names, &self.numbers, net)?;
+        let numbers = index_after(self.alloc, &self.names, &self.numbers, net, hints)?;
         self.with_numbers(numbers)
     }
 
     /// The graph after the changes, as `after` makes it, and the triples that are in exactly one of this graph and that one,
     /// ascending.
-    pub fn after_with_changed(&self, net: &[Change]) -> Result<(DataGraph, Vec<Triple>), AllocError>
+    pub fn after_with_changed(
+        &self,
+        net: &[Change],
+        hints: &NumberHints,
+    ) -> Result<(DataGraph, Vec<Triple>), AllocError>
         requires { AreNamedChanges self.now.terms net.now }
         ensures { IfOk result (λ made. (made.0 ≡ with_changes self.now net.now) × (made.1.items ≡ differing self.now.triples (after self.now.triples net.now))) }
     {
         self.names.recall_numbering();
         self.numbers.recall_ascending();
-        let changes = number_changes(self.alloc, &self.names, net)?;
+        let changes = number_changes(self.alloc, &self.names, net, hints)?;
         let numbers = set_after(self.alloc, &self.numbers, &changes)?;
         let changed = triples_differing(
             self.alloc,
@@ -226,37 +226,21 @@ impl DataGraph {
 
     /// The bindings of the patterns in the graph with these changes: the terms of the variables, from the first on, under which
     /// each pattern stands there (SPARQL 1.1 Query, section 18.3), each once, ascending. `TooMany` comes exactly where there
-    /// are more than 100,000. The graph stays the same.
+    /// are more than 100,000.
     pub fn select(
-        &mut self,
+        &self,
         net: &[Change],
         patterns: &[JoinPattern<Term>],
     ) -> Result<Vec<Sequence<Term>>, JoinFault>
-        requires { AreNamedTriples self.old.terms self.old.triples }
-        ensures same { self.new ≡ self.old }
-        ensures rows { IfOk result (λ rows. AreSelected (after self.old.triples net.now) patterns.now rows.items) }
-        ensures fault { IfErr result (λ fault. IsJoinFault fault (after self.old.triples net.now) patterns.now) }
+        ensures rows { IfOk result (λ rows. AreSelected (after self.now.triples net.now) patterns.now rows.items) }
+        ensures fault { IfErr result (λ fault. IsJoinFault fault (after self.now.triples net.now) patterns.now) }
     {
         select_after(self.alloc, &self.names, self.index(), net, patterns)
     }
 
-    /// The results of validating the graph by its shapes graph (SHACL section 3.6), each once, in the order of results. All
-    /// terms of the graph are named. Without shapes the graph isn't read. The evaluations are counted in `steps`: there are
-    /// as many as there are pairs of a shape and its target. After an error the count is what it was, or more.
-    pub fn listing<L: Ledger>(&mut self, steps: &mut Steps<L>) -> Result<Vec<ResultRow>, AllocError>
-        requires { AreNamedTriples self.old.terms self.old.triples }
-        ensures same { self.new ≡ self.old }
-        ensures rows { IfOk result (λ rows. Listing self.old.triples self.old.shapes rows.items) }
-        ensures steps { OnOk result (GrowsByCount (IsTargetPair self.old.triples self.old.shapes) steps.old steps.new) }
-        ensures counted { steps.old ≤ steps.new }
-    {
-        if is_without_shapes(self.shapes.graph()) {
-            return Ok(Vec::new(self.alloc));
-        }
-        listing_by(self.alloc, &self.names, self.index(), &self.shapes, steps)
-    }
-
-    /// The results of the listing, each with the pair of a shape and a focus node that gives it, and counted as there.
+    /// The results of validating the graph by its shapes graph (SHACL section 3.6), each with the pair of a shape and a focus
+    /// node that gives it. Without shapes the graph isn't read. The evaluations are counted in `steps`: there are as many as
+    /// there are pairs of a shape and its target. After an error the count is what it was, or more.
     pub fn kept_results<L: Ledger>(&self, steps: &mut Steps<L>) -> Result<KeptRows, AllocError>
         ensures rows { IfOk result (KeepsResults self.now.terms self.now.triples self.now.shapes) }
         ensures steps { OnOk result (GrowsByCount (IsTargetPair self.now.triples self.now.shapes) steps.old steps.new) }
@@ -272,6 +256,7 @@ impl DataGraph {
     fn checked_after<L: Ledger>(
         &self,
         net: &[Change],
+        hints: &NumberHints,
         next: &DataGraph,
         steps: &mut Steps<L>,
     ) -> Result<NumberedCheck, AllocError>
@@ -281,84 +266,31 @@ impl DataGraph {
         ensures steps { OnOk result (GrowsByCount (IsEvaluated self.now.triples self.now.shapes net.now) steps.old steps.new) }
         ensures counted { steps.old ≤ steps.new }
     {
+        let changed = number_changed(self.alloc, &self.names, net, hints)?;
         check_by_number(
             self.alloc,
             &self.names,
             self.index(),
             next.index(),
             &self.shapes,
-            net,
+            &changed,
             steps,
         )
     }
 
-    /// The results of the graph that the changes make of this one, which has none, under its shapes graph: those of what
-    /// the changes touch, each once, in the order of results. All terms of the graph and the changes are named. The
-    /// evaluations are counted in `steps`: there are as many as there are pairs of a shape and a node that a changed triple
-    /// touches and that are targets after the changes. After an error the count is what it was, or more.
-    pub fn listing_after<L: Ledger>(
-        &self,
-        net: &[Change],
-        next: &mut DataGraph,
-        steps: &mut Steps<L>,
-    ) -> Result<Vec<ResultRow>, AllocError>
-        requires graph { AreNamedTriples self.now.terms self.now.triples }
-        requires net { AreNamedChanges self.now.terms net.now }
-        requires after { AreNamedTriples self.now.terms (after self.now.triples net.now) }
-        requires next { next.old ≡ with_changes self.now net.now }
-        requires none { NoResult self.now.triples self.now.shapes }
-        ensures same { next.new ≡ next.old }
-        ensures rows { IfOk result (λ rows. Listing (after self.now.triples net.now) self.now.shapes rows.items) }
-        ensures steps { OnOk result (GrowsByCount (IsEvaluated self.now.triples self.now.shapes net.now) steps.old steps.new) }
-        ensures counted { steps.old ≤ steps.new }
-    {
-        if is_without_shapes(self.shapes.graph()) {
-            return Ok(Vec::new(self.alloc));
-        }
-        let checked = self.checked_after(net, next, steps)?;
-        Ok(rows_of(self.alloc, checked.pairs)?)
-    }
-
-    /// Checks the changes of the graph under its shapes graph: the results that what they touch has after them, whatever
-    /// results the graph has besides, and all looks that were made, those by which it was found what they touch with them.
-    /// All terms of the graph and the changes are named, and so are those of the looks. The evaluations are counted as by
-    /// `listing_after`.
-    pub fn check_after<L: Ledger>(
-        &self,
-        net: &[Change],
-        next: &mut DataGraph,
-        steps: &mut Steps<L>,
-    ) -> Result<CheckedChanges, AllocError>
-        requires graph { AreNamedTriples self.now.terms self.now.triples }
-        requires net { AreNamedChanges self.now.terms net.now }
-        requires after { AreNamedTriples self.now.terms (after self.now.triples net.now) }
-        requires next { next.old ≡ with_changes self.now net.now }
-        ensures same { next.new ≡ next.old }
-        ensures check { IfOk result (λ found. IsCheckOf self.now.triples self.now.shapes net.now found.looks found.rows) }
-        ensures named { IfOk result (λ found. AllByRecursion (λ look. AreNamed self.now.terms (looked_at look)) found.looks) }
-        ensures steps { OnOk result (GrowsByCount (IsEvaluated self.now.triples self.now.shapes net.now) steps.old steps.new) }
-        ensures counted { steps.old ≤ steps.new }
-    {
-        if is_without_shapes(self.shapes.graph()) {
-            return Ok(CheckedChanges::empty(self.alloc));
-        }
-        let checked = self.checked_after(net, next, steps)?;
-        Ok(checked_changes(self.alloc, &self.names, checked)?)
-    }
-
     /// The pairs of a shape and a node that the changes touch, each with its results after them, whatever results the graph has
-    /// besides. All terms of the graph and the changes are named. The evaluations are counted as by `listing_after`.
+    /// besides. All terms of the changes are named. The evaluations are counted in `steps`: there are as many as there are pairs
+    /// of a shape and a node that a changed triple touches and that are targets after the changes. After an error the count is
+    /// what it was, or more.
     pub fn pairs_after<L: Ledger>(
         &self,
         net: &[Change],
-        next: &mut DataGraph,
+        hints: &NumberHints,
+        next: &DataGraph,
         steps: &mut Steps<L>,
     ) -> Result<Sequence<PairRows>, AllocError>
-        requires graph { AreNamedTriples self.now.terms self.now.triples }
         requires net { AreNamedChanges self.now.terms net.now }
-        requires after { AreNamedTriples self.now.terms (after self.now.triples net.now) }
-        requires next { next.old ≡ with_changes self.now net.now }
-        ensures same { next.new ≡ next.old }
+        requires next { next.now ≡ with_changes self.now net.now }
         ensures checks { IfOk result (ChecksPairs self.now.terms self.now.triples self.now.shapes net.now) }
         ensures steps { OnOk result (GrowsByCount (IsEvaluated self.now.triples self.now.shapes net.now) steps.old steps.new) }
         ensures counted { steps.old ≤ steps.new }
@@ -366,7 +298,7 @@ impl DataGraph {
         if is_without_shapes(self.shapes.graph()) {
             return Ok(Sequence::new(self.alloc));
         }
-        let checked = self.checked_after(net, next, steps)?;
+        let checked = self.checked_after(net, hints, next, steps)?;
         Ok(checked.pairs)
     }
 
@@ -375,14 +307,12 @@ impl DataGraph {
     pub fn paired_after<L: Ledger>(
         &self,
         net: &[Change],
-        next: &mut DataGraph,
+        hints: &NumberHints,
+        next: &DataGraph,
         steps: &mut Steps<L>,
     ) -> Result<PairedChanges, AllocError>
-        requires graph { AreNamedTriples self.now.terms self.now.triples }
         requires net { AreNamedChanges self.now.terms net.now }
-        requires after { AreNamedTriples self.now.terms (after self.now.triples net.now) }
-        requires next { next.old ≡ with_changes self.now net.now }
-        ensures same { next.new ≡ next.old }
+        requires next { next.now ≡ with_changes self.now net.now }
         ensures checks { IfOk result (λ found. ChecksPairs self.now.terms self.now.triples self.now.shapes net.now found.pairs) }
         ensures looks { IfOk result (λ found. IsCheckFootprint self.now.triples self.now.shapes net.now found.looks) }
         ensures named { IfOk result (λ found. AllByRecursion (λ look. AreNamed self.now.terms (looked_at look)) found.looks) }
@@ -392,7 +322,7 @@ impl DataGraph {
         if is_without_shapes(self.shapes.graph()) {
             return Ok(PairedChanges::empty(self.alloc));
         }
-        let checked = self.checked_after(net, next, steps)?;
+        let checked = self.checked_after(net, hints, next, steps)?;
         Ok(paired_changes(self.alloc, &self.names, checked)?)
     }
 }

@@ -17,12 +17,14 @@ mod by_number;
 mod changed;
 mod changes;
 mod graph;
+mod hints;
 mod looks;
 mod numbering;
 mod pairs;
 mod select;
 mod validated;
 
-pub use changes::{CheckedChanges, PairedChanges};
+pub use changes::PairedChanges;
 pub use graph::DataGraph;
+pub use hints::NumberHints;
 pub use validated::ValidatedGraph;

@@ -2,7 +2,6 @@
 ghost use Rattle.std.specs.Prelude.{◌≡◌, ◌≤◌, IfOk, OnOk, map};
 ghost use Rattle.std.specs.List.{AllByRecursion};
 ghost use Rattle.rdf_model.specs.Numbers.{AreNumbered, graph_of};
-ghost use Rattle.shape_model.specs.Validation.{Listing};
 ghost use Rattle.store_model.specs.Store.{changed_triple};
 ghost use Rattle.parallel_validate.specs.Counting.{GrowsByCount, IsTargetPair};
 ghost use Rattle.bound_shapes.specs.Bound.{IsBoundTo};
@@ -12,14 +11,13 @@ ghost use Rattle.data_graph.specs.DataGraphs.{AreNamedChanges, IsNumberedChange,
 
 use crate::asked::triple_of;
 use crate::at_once::set_after;
+use crate::hints::{NumberHints, number_by_hint};
 use bound_shapes::BoundShapes;
 use kept_rows::KeptRows;
 use kept_validation::whole_kept;
-use parallel_validate::{number_triple, whole};
 use path_eval::ClassWords;
 use rdf_model::{Change, Ids};
 use shape_eval::Steps;
-use shape_model::ResultRow;
 use std::alloc::{AllocError, Global};
 use std::sync::ledger::Ledger;
 use term_dict::Dict;
@@ -36,26 +34,27 @@ pub(crate) fn number_changed(
     alloc: Global,
     names: &Dict,
     net: &[Change],
+    hints: &NumberHints,
 ) -> Result<Vec<Ids>, AllocError>
     requires { AreNamedChanges names.now.terms net.now }
     ensures { IfOk result (λ ids. AreNumbered names.now.terms ids.items × (graph_of names.now.terms ids.items ≡ map changed_triple net.now)) }
 {
     let mut ids = Vec::with_capacity(alloc, net.len())?;
-    for change in net {
-        ids.push(number_triple(names, triple_of(change)))?;
+    for (place, change) in net.iter().enumerate() {
+        ids.push(number_by_hint(names, hints.of(place), triple_of(change)))?;
     }
     Ok(ids)
 }
 
 // A change by the numbers of its terms.
-fn number_change(names: &Dict, change: &Change) -> NumberedChange
+fn number_change(names: &Dict, change: &Change, hint: Option<Ids>) -> NumberedChange
     requires { IsNamedTriple names.now.terms (changed_triple change.now) }
     ensures numbered { IsNumberedChange names.now.terms result }
     ensures change { change_at names.now.terms result ≡ change.now }
 {
     match change {
-        Change::Add(triple) => NumberedChange::Add(number_triple(names, triple)),
-        Change::Remove(triple) => NumberedChange::Remove(number_triple(names, triple)),
+        Change::Add(triple) => NumberedChange::Add(number_by_hint(names, hint, triple)),
+        Change::Remove(triple) => NumberedChange::Remove(number_by_hint(names, hint, triple)),
     }
 }
 
@@ -64,13 +63,14 @@ pub(crate) fn number_changes(
     alloc: Global,
     names: &Dict,
     net: &[Change],
+    hints: &NumberHints,
 ) -> Result<Vec<NumberedChange>, AllocError>
     requires { AreNamedChanges names.now.terms net.now }
     ensures { IfOk result (λ changes. AllByRecursion (IsNumberedChange names.now.terms) changes.items × (map (change_at names.now.terms) changes.items ≡ net.now)) }
 {
     let mut changes = Vec::with_capacity(alloc, net.len())?;
-    for change in net {
-        changes.push(number_change(names, change))?;
+    for (place, change) in net.iter().enumerate() {
+        changes.push(number_change(names, change, hints.of(place)))?;
     }
     Ok(changes)
 }
@@ -81,33 +81,15 @@ pub(crate) fn index_after(
     names: &Dict,
     index: &Index,
     net: &[Change],
+    hints: &NumberHints,
 ) -> Result<Index, AllocError>
     requires { AreNamedChanges names.now.terms net.now }
     ensures { IfOk result (KeepsIndex names.now.terms index.now net.now) }
 {
     names.recall_numbering();
     index.recall_ascending();
-    let changes = number_changes(alloc, names, net)?;
+    let changes = number_changes(alloc, names, net, hints)?;
     set_after(alloc, index, &changes)
-}
-
-/// The listing of the graph that an index stands for.
-pub(crate) fn listing_by<L: Ledger>(
-    alloc: Global,
-    names: &Dict,
-    index: &Index,
-    shapes: &BoundShapes,
-    steps: &mut Steps<L>,
-) -> Result<Vec<ResultRow>, AllocError>
-    requires index { AreNumbered names.now.terms index.now }
-    requires shapes { IsBoundTo names.now.terms shapes.now }
-    ensures rows { IfOk result (λ rows. Listing (graph_of names.now.terms index.now) shapes.now.graph rows.items) }
-    ensures steps { OnOk result (GrowsByCount (IsTargetPair (graph_of names.now.terms index.now) shapes.now.graph) steps.old steps.new) }
-    ensures counted { steps.old ≤ steps.new }
-{
-    names.recall_numbering();
-    let planned = shapes.planned();
-    Ok(whole(alloc, index, names, planned.words, &planned.bound, steps)?)
 }
 
 /// The results of the graph that an index stands for, each with the pair that gives it.

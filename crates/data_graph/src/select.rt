@@ -11,6 +11,7 @@ ghost use Rattle.term_dict.specs.Names.{with_terms};
 ghost use Rattle.data_graph.specs.DataGraphs.{AreNamedChanges, IsIndexOf};
 
 use crate::asked::triple_of;
+use crate::hints::NumberHints;
 use crate::numbering::index_after;
 use bgp_query::{JoinFault, JoinPattern};
 use collections::Sequence;
@@ -60,6 +61,6 @@ pub(crate) fn select_after(
         return Err(JoinFault::Memory);
     };
     more.recall_numbering();
-    let later = index_after(alloc, &more, index, net)?;
+    let later = index_after(alloc, &more, index, net, &NumberHints::new(alloc))?;
     select_terms(alloc, &more, &later, patterns)
 }

@@ -6,7 +6,6 @@ ghost use Rattle.shape_model.specs.Validation.{Listing};
 ghost use Rattle.parallel_validate.specs.Counting.{GrowsByCount, IsTargetPair};
 ghost use Rattle.term_dict.specs.Faults.{IsCause};
 ghost use Rattle.term_dict.specs.Names.{AreNumbersOf, first_terms, with_terms};
-ghost use Rattle.parallel_validate.specs.Named.{AreNamedTriples};
 ghost use Rattle.data_graph.specs.DataGraphs.{names_of, with_names};
 ghost use Rattle.data_graph.specs.Pairs.{HasListing, IsAfterCheck};
 
@@ -61,13 +60,12 @@ impl ValidatedGraph {
         })
     }
 
-    /// The graph with its results by an evaluation of each pair of a shape and its target, counted in `steps`. All its terms are
-    /// named. After an error the count is what it was, or more.
+    /// The graph with its results by an evaluation of each pair of a shape and its target, counted in `steps`. After an error
+    /// the count is what it was, or more.
     pub fn whole<L: Ledger>(
         graph: DataGraph,
         steps: &mut Steps<L>,
     ) -> Result<ValidatedGraph, AllocError>
-        requires { AreNamedTriples graph.terms graph.triples }
         ensures graph { IfOk result (λ validated. validated ≡ graph) }
         ensures steps { OnOk result (GrowsByCount (IsTargetPair graph.triples graph.shapes) steps.old steps.new) }
         ensures counted { steps.old ≤ steps.new }
@@ -127,14 +125,12 @@ impl ValidatedGraph {
 
     /// The bindings of the patterns in the graph with these changes, as by `DataGraph::select`.
     pub fn select(
-        &mut self,
+        &self,
         net: &[Change],
         patterns: &[JoinPattern<Term>],
     ) -> Result<Vec<Sequence<Term>>, JoinFault>
-        requires { AreNamedTriples self.old.terms self.old.triples }
-        ensures same { self.new ≡ self.old }
-        ensures rows { IfOk result (λ rows. AreSelected (after self.old.triples net.now) patterns.now rows.items) }
-        ensures fault { IfErr result (λ fault. IsJoinFault fault (after self.old.triples net.now) patterns.now) }
+        ensures rows { IfOk result (λ rows. AreSelected (after self.now.triples net.now) patterns.now rows.items) }
+        ensures fault { IfErr result (λ fault. IsJoinFault fault (after self.now.triples net.now) patterns.now) }
     {
         self.graph.select(net, patterns)
     }

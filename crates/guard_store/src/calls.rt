@@ -24,12 +24,12 @@ use std::sync::ledger::Ledger;
 use store_model::NameKind;
 
 // The answer to a block whose blank nodes need not have been given out.
-fn stage_answer(answer: Result<(), AttachFault>) -> Result<(), StageFault>
+fn stage_answer<T: Drop>(answer: Result<T, AttachFault>) -> Result<T, StageFault>
     requires { (node : Term) → answer ≢ Err (AttachFault.Unknown node) }
     ensures { answer ≡ attach_answer result }
 {
     match answer {
-        Ok(()) => Ok(()),
+        Ok(value) => Ok(value),
         Err(AttachFault::NoTransaction) => Err(StageFault::NoTransaction),
         Err(AttachFault::Unknown { node: _ }) => unreachable!(),
         Err(AttachFault::Full { count }) => Err(StageFault::Full { count }),
@@ -69,14 +69,14 @@ impl<D: Disk> Store<D> {
         }
     }
 
-    // Names the terms of the block, which is of this kind, that the open transaction is to stage.
+    // Names the terms of the block, which is of this kind, that the open transaction is to stage, and gives their numbers.
     fn name_for<R: Wait>(
         &self,
         rt: &R,
         session: Session<D>,
         kind: NameKind,
         triples: &[Triple],
-    ) -> (Session<D>, Result<(), AttachFault>)
+    ) -> (Session<D>, Result<Vec<u32>, AttachFault>)
         requires { IsSession self.now session }
         ensures { MatchResult result.1
             (λ _. NamesFor self.now session result.0 kind triples.now)
@@ -89,7 +89,7 @@ impl<D: Disk> Store<D> {
         let (pass, answer) = self.name_parts(rt, pass, number, kind, triples);
         let session = Session::from_parts(pass, number, current, head);
         match answer {
-            Ok(()) => (session, Ok(())),
+            Ok(numbers) => (session, Ok(numbers)),
             Err(NamingFault::Unknown { node }) => (session, Err(AttachFault::Unknown { node })),
             Err(NamingFault::Full { count }) => (session, Err(AttachFault::Full { count })),
             Err(NamingFault::Memory) => (session, Err(AttachFault::Memory)),
@@ -113,7 +113,7 @@ impl<D: Disk> Store<D> {
     {
         let (session, answer) = self.name_for(rt, session, kind.name_kind(), triples);
         match answer {
-            Ok(()) => session.with_changes(self.alloc, kind, triples),
+            Ok(numbers) => session.with_changes(self.alloc, kind, triples, &numbers),
             Err(fault) => (session, Err(fault)),
         }
     }
@@ -190,7 +190,7 @@ impl<D: Disk> Store<D> {
     {
         let (session, answer) = self.name_for(rt, session, NameKind::Fresh, shapes.triples());
         match stage_answer(answer) {
-            Ok(()) => (session.with_shapes(shapes), Ok(())),
+            Ok(_) => (session.with_shapes(shapes), Ok(())),
             Err(fault) => (session, Err(fault)),
         }
     }

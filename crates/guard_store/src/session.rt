@@ -19,7 +19,6 @@ use std::marker::Model;
 use turn_lock::Pass;
 
 /// The first caller, which opens sessions and meets them again. It isn't to be dropped where `close` is to follow.
-#[derive(Drop)]
 pub struct Keeper<D: Disk> {
     pass: Pass<Shared<D>>,
     // How many sessions it opened.
@@ -32,6 +31,13 @@ impl<D: Disk> Model for Keeper<D> {
     ghost Value = { StoreKeeper };
 
     ghost view = { λ k. record { pass = k.pass; opened = k.opened } };
+}
+
+// Written by hand, so that what owns one calls it in place of having it written out.
+impl<D: Disk + Drop> Drop for Keeper<D> {
+    fn drop(self) {
+        let Keeper { pass: _, opened: _ } = self;
+    }
 }
 
 impl<D: Disk> Keeper<D> {
@@ -148,12 +154,13 @@ impl<D: Disk> Session<D> {
         pass
     }
 
-    // Stages the changes of a block in the open transaction.
+    // Stages the changes of a block, whose terms have these numbers, in the open transaction.
     pub(crate) fn with_changes(
         self,
         alloc: Global,
         kind: ChangeKind,
         triples: &[Triple],
+        numbers: &[u32],
     ) -> (Session<D>, Result<(), AttachFault>)
         requires { self.current ≢ None }
         ensures { MatchResult result.1
@@ -162,7 +169,7 @@ impl<D: Disk> Session<D> {
     {
         let (pass, number, current, head) = self.into_parts();
         let Some(open) = current else { unreachable!() };
-        let (open, staged) = open.with_changes(alloc, kind, triples);
+        let (open, staged) = open.with_changes(alloc, kind, triples, numbers);
         if staged {
             return (Session::from_parts(pass, number, Some(open), None), Ok(()));
         }

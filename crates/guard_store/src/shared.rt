@@ -40,7 +40,6 @@ impl<D: Disk> Model for Beginning<D> {
 }
 
 /// The core that turns pass on, with its log where it has one. It stands for the core's history.
-#[derive(Drop)]
 pub struct Shared<D: Disk> {
     core: Core,
     log: Option<Log<D>>,
@@ -56,6 +55,17 @@ impl<D: Disk> Model for Shared<D> {
     ghost view = { λ s. record { core = s.core; log = s.log; origin = log_origin D.bytes D.history D.chosen D.faults s.first.value } };
 
     ghost invariant = { λ s. HasItsLog D.tells D.bytes D.history D.chosen D.faults (log_origin D.bytes D.history D.chosen D.faults s.first.value) s.core s.log };
+}
+
+// Written by hand, so that what owns one calls it in place of having it written out.
+impl<D: Disk + Drop> Drop for Shared<D> {
+    fn drop(self) {
+        let Shared {
+            core: _,
+            log: _,
+            first: _,
+        } = self;
+    }
 }
 
 impl<D: Disk> Entries for Shared<D> {

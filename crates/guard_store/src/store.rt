@@ -24,7 +24,6 @@ use turn_lock::{Held, Pass, Turns};
 
 /// A store that its callers enter in turns. Contracts see which one it is, its limits, the state that its history begins at, and
 /// what the disk of its log told then, where it has one.
-#[derive(Drop)]
 pub struct Store<D: Disk> {
     turns: Turns<Shared<D>>,
     // The core and its log before the first event.
@@ -41,6 +40,17 @@ impl<D: Disk> Model for Store<D> {
     ghost view = { λ s. record { id = s.turns.id; limits = s.first.value.core.limits; start = s.first.value.core.start; log = s.first.value.origin } };
 
     ghost invariant = { λ s. s.turns.seats ≡ 65 };
+}
+
+// Written by hand, so that what owns one calls it in place of having it written out.
+impl<D: Disk + Drop> Drop for Store<D> {
+    fn drop(self) {
+        let Store {
+            turns: _,
+            first: _,
+            alloc: _,
+        } = self;
+    }
 }
 
 impl<D: Disk> Store<D> {

@@ -73,7 +73,7 @@ impl<D: Disk> Store<D> {
         }
     }
 
-    // Names terms of a block of this kind, all or none.
+    // Names terms of a block of this kind, all or none, and gives their numbers.
     fn take_names<R: Wait>(
         &self,
         rt: &R,
@@ -81,7 +81,7 @@ impl<D: Disk> Store<D> {
         number: u32,
         kind: NameKind,
         terms: &[Term],
-    ) -> (Pass<Shared<D>>, Result<(), NamingFault>)
+    ) -> (Pass<Shared<D>>, Result<Vec<u32>, NamingFault>)
         requires { IsCaller self.now number pass }
         ensures { MatchResult result.1
             (λ _. Turn self.now pass result.0 (event_of number (Action.Name kind terms.now) Reply.Named))
@@ -92,7 +92,7 @@ impl<D: Disk> Store<D> {
         };
         let (held, mut shared) = self.start(rt, pass);
         match shared.name(number, kind, terms) {
-            Ok(_) => (self.finish(held, shared), Ok(())),
+            Ok(numbers) => (self.finish(held, shared), Ok(numbers)),
             Err(NamingFault::Unknown { node }) => {
                 (
                     self.finish(held, shared),
@@ -109,7 +109,7 @@ impl<D: Disk> Store<D> {
         }
     }
 
-    /// Names the terms of the triples of a block of this kind, all or none.
+    /// Names the terms of the triples of a block of this kind, all or none, and gives their numbers.
     pub(crate) fn name_parts<R: Wait>(
         &self,
         rt: &R,
@@ -117,7 +117,7 @@ impl<D: Disk> Store<D> {
         number: u32,
         kind: NameKind,
         triples: &[Triple],
-    ) -> (Pass<Shared<D>>, Result<(), NamingFault>)
+    ) -> (Pass<Shared<D>>, Result<Vec<u32>, NamingFault>)
         requires { IsCaller self.now number pass }
         ensures { MatchResult result.1
             (λ _. Turn self.now pass result.0 (event_of number (Action.Name kind (parts_of triples.now)) Reply.Named))

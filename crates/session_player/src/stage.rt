@@ -1,5 +1,5 @@
 // What the commands do that change a transaction.
-ghost use Rattle.std.specs.Prelude.{◌≡◌, [], ◌∷◌, ◌++◌, IfOk, OnOk};
+ghost use Rattle.std.specs.Prelude.{◌≡◌, [], ◌∷◌, ◌++◌, IfOk, MatchResult, None, OnOk, Some};
 ghost use Rattle.store_model.specs.Store.{IsOpened};
 ghost use Rattle.session_transaction.specs.Replies.{IsRefusedBlock, answer_in};
 ghost use Rattle.session_transaction.specs.Transactions.{command_of, plain_in};
@@ -12,22 +12,25 @@ use session_model::{Block, Command, SessionReply, ShapesBlock};
 use session_transaction::{ChangeKind, OpenTransaction, block_refusal, terms_in};
 use std::alloc::{AllocError, Global};
 
-// Names the terms of the triples of a block of this kind, or gives the reply to one whose terms may not be named.
+// Names the terms of the triples of a block of this kind, and gives their numbers, or else the reply to a block whose terms may
+// not be named.
 fn name_terms(
     alloc: Global,
     core: &mut Core,
     session: u32,
     kind: NameKind,
     triples: &[Triple],
-) -> Result<Option<SessionReply>, AllocError>
+) -> Result<Result<Vec<u32>, SessionReply>, AllocError>
     requires { IsOpened core.old.state session }
-    ensures { IfOk result (λ refusal. NamesAll refusal core.old core.new session kind triples.now) }
+    ensures { IfOk result (λ named. MatchResult named
+        (λ _. NamesAll None core.old core.new session kind triples.now)
+        (λ reply. NamesAll (Some reply) core.old core.new session kind triples.now)) }
 {
     let terms = terms_in(alloc, triples)?;
     match core.name(session, kind, &terms) {
-        Ok(_) => Ok(None),
-        Err(NamingFault::Unknown { node }) => Ok(Some(SessionReply::UnknownNode(node))),
-        Err(NamingFault::Full { count: _ }) => Ok(Some(SessionReply::FullTerms)),
+        Ok(numbers) => Ok(Ok(numbers)),
+        Err(NamingFault::Unknown { node }) => Ok(Err(SessionReply::UnknownNode(node))),
+        Err(NamingFault::Full { count: _ }) => Ok(Err(SessionReply::FullTerms)),
         Err(NamingFault::Memory) => Err(AllocError),
     }
 }
@@ -49,13 +52,16 @@ pub fn change(
         replies.push(SessionReply::NoTransaction)?;
         return Ok(None);
     };
-    let refusal = name_terms(alloc, core, session, kind.name_kind(), block.triples())?;
-    if let Some(reply) = refusal {
-        replies.push(reply)?;
-        return Ok(Some(open));
-    }
+    let named = name_terms(alloc, core, session, kind.name_kind(), block.triples())?;
+    let numbers = match named {
+        Ok(numbers) => numbers,
+        Err(reply) => {
+            replies.push(reply)?;
+            return Ok(Some(open));
+        }
+    };
     block.recall_readable();
-    let (open, staged) = open.with_changes(alloc, kind, block.triples());
+    let (open, staged) = open.with_changes(alloc, kind, block.triples(), &numbers);
     if !staged {
         return Err(AllocError);
     }
@@ -80,10 +86,13 @@ pub fn stage(
         return Ok(None);
     };
     let graph = shapes.graph();
-    let refusal = name_terms(alloc, core, session, NameKind::Fresh, graph.triples())?;
-    if let Some(reply) = refusal {
-        replies.push(reply)?;
-        return Ok(Some(open));
+    let named = name_terms(alloc, core, session, NameKind::Fresh, graph.triples())?;
+    match named {
+        Ok(_) => {}
+        Err(reply) => {
+            replies.push(reply)?;
+            return Ok(Some(open));
+        }
     }
     shapes.recall_readable();
     let copy = graph.share()?;

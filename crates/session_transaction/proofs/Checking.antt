@@ -83,7 +83,7 @@ same_checked None = refl
 same_checked (Some c) = refl
 
 pub back_again : (w : OpenTransaction) → w.transaction.verdict ≡ None → handed_back (handed_in w) w.snap ≡ w
-back_again w none = λ i. record { transaction = record w.transaction { verdict = sym none i }; checked = same_checked w.checked i; snap = w.snap }
+back_again w none = λ i. record { transaction = record w.transaction { verdict = sym none i }; checked = same_checked w.checked i; hints = w.hints; snap = w.snap }
 
 -- a check keeps its verdict, and changes nothing else
 pub check_keeps : (l : Limits) (start : State) (events : List Event) (b : Bool) (n : Snapshot) (old new : OpenTransaction) → IsVersionIn l start events n → Checks b n old new → KeepsIn l start events old.transaction.net new.checked

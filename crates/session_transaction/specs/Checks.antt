@@ -29,7 +29,7 @@ abbrev pub committing : OpenTransaction → Transaction
 committing w = record w.transaction { verdict = verdict_of w.checked }
 
 abbrev pub handed_in : OpenTransaction → CheckedTransaction
-handed_in w = record { transaction = committing w; pairs = pairs_of w.checked }
+handed_in w = record { transaction = committing w; hints = w.hints; pairs = pairs_of w.checked }
 
 -- and the other way round
 abbrev pub checked_of : Option Verdict → List PairRows → Option CheckedNet
@@ -37,7 +37,7 @@ checked_of None pairs = None
 checked_of (Some v) pairs = Some (record { verdict = v; pairs = pairs })
 
 abbrev pub handed_back : CheckedTransaction → Snapshot → OpenTransaction
-handed_back x n = record { transaction = record x.transaction { verdict = None }; checked = checked_of x.transaction.verdict x.pairs; snap = n }
+handed_back x n = record { transaction = record x.transaction { verdict = None }; checked = checked_of x.transaction.verdict x.pairs; hints = x.hints; snap = n }
 
 -- What a check of the changes at this version found: all its looks are of terms that are named there.
 pub record IsCheckAt (n : Snapshot) (net : List Change) (c : CheckedNet) : Type 0 where

@@ -55,7 +55,7 @@ reply_of Attachment count = Attached count
 
 -- the transaction that begins at the snapshot
 abbrev pub begun_at : Snapshot → OpenTransaction
-begun_at n = record { transaction = record { base = n.number; net = []; staged = None; finds = []; verdict = None }; checked = None; snap = n }
+begun_at n = record { transaction = record { base = n.number; net = []; staged = None; finds = []; verdict = None }; checked = None; hints = tt; snap = n }
 
 -- what was checked before a change counts no more
 abbrev pub with_changes : OpenTransaction → List Change → OpenTransaction

@@ -8,6 +8,7 @@ ghost use Rattle.session_transaction.specs.Transactions.{begun_at, change_of, ch
 
 use collections::Sequence;
 use commit_core::{CheckedNet, CheckedTransaction, Snap, Transaction, Verdict};
+use data_graph::NumberHints;
 use kept_rows::PairRows;
 use rdf_model::{Change, Net, Pattern, Triple};
 use session_model::{Report, SessionReply};
@@ -23,6 +24,8 @@ pub struct OpenTransaction {
     // It has no verdict itself.
     pub(crate) transaction: Transaction,
     checked: Option<CheckedNet>,
+    // Of the terms of its changes.
+    hints: NumberHints,
     pub(crate) snap: Snap,
 }
 
@@ -32,6 +35,7 @@ impl Drop for OpenTransaction {
         let OpenTransaction {
             transaction: _,
             checked: _,
+            hints: _,
             snap: _,
         } = self;
     }
@@ -153,6 +157,7 @@ impl OpenTransaction {
         OpenTransaction {
             transaction,
             checked: None,
+            hints: NumberHints::new(alloc),
             snap,
         }
     }
@@ -181,21 +186,25 @@ impl OpenTransaction {
         let OpenTransaction {
             transaction,
             checked: _,
+            hints,
             snap,
         } = self;
         OpenTransaction {
             transaction,
             checked: None,
+            hints,
             snap,
         }
     }
 
-    /// The transaction with a change of each triple, and nothing checked; without the memory for them, as it was.
+    /// The transaction with a change of each triple, and nothing checked; without the memory for them, as it was. The numbers are
+    /// those that naming the terms of the triples gave.
     pub fn with_changes(
         self,
         alloc: Global,
         kind: ChangeKind,
         triples: &[Triple],
+        numbers: &[u32],
     ) -> (OpenTransaction, bool)
         ensures { MatchBool result.1 (result.0 ≡ Transactions.with_changes self (changes_of kind triples.now)) (result.0 ≡ self) }
     {
@@ -205,15 +214,21 @@ impl OpenTransaction {
         let OpenTransaction {
             transaction,
             checked,
+            hints,
             snap,
         } = self;
         let mut transaction = transaction;
+        let mut hints = hints;
         let net = mem::replace(&mut transaction.net, Net::new(alloc));
         let (net, grew) = appended(net, more);
         transaction.net = net;
+        if grew {
+            hints.add(numbers);
+        }
         let open = OpenTransaction {
             transaction,
             checked,
+            hints,
             snap,
         };
         if grew {
@@ -227,18 +242,9 @@ impl OpenTransaction {
     pub fn with_shapes(self, shapes: ShapesGraph) -> OpenTransaction
         ensures { result ≡ Transactions.with_shapes self shapes }
     {
-        let OpenTransaction {
-            transaction,
-            checked: _,
-            snap,
-        } = self;
-        let mut transaction = transaction;
-        transaction.staged = Some(shapes);
-        OpenTransaction {
-            transaction,
-            checked: None,
-            snap,
-        }
+        let mut open = self.unchecked();
+        open.transaction.staged = Some(shapes);
+        open
     }
 
     /// The triples that the pattern asks for in its graph with its changes, in their order. The pattern is recorded.
@@ -283,7 +289,7 @@ impl OpenTransaction {
             self.checked = None;
             return Ok(false);
         }
-        let found = head.check(self.transaction.net.as_slice(), steps)?;
+        let found = head.check(self.transaction.net.as_slice(), &self.hints, steps)?;
         self.checked = Some(found);
         Ok(true)
     }
@@ -295,24 +301,31 @@ impl OpenTransaction {
         let OpenTransaction {
             transaction,
             checked,
+            hints,
             snap,
         } = self;
         let mut transaction = transaction;
         let (verdict, pairs) = parts_of(alloc, checked);
         transaction.verdict = verdict;
-        (CheckedTransaction { transaction, pairs }, snap)
+        let handed = CheckedTransaction {
+            transaction,
+            hints,
+            pairs,
+        };
+        (handed, snap)
     }
 
     /// The transaction that handed this in, and began at the snapshot.
     pub fn from_parts(handed: CheckedTransaction, snap: Snap) -> OpenTransaction
         ensures { result ≡ handed_back handed snap }
     {
-        let (transaction, pairs) = handed.into_parts();
+        let (transaction, hints, pairs) = handed.into_parts();
         let mut transaction = transaction;
         let verdict = transaction.verdict.take();
         OpenTransaction {
             transaction,
             checked: checked_with(verdict, pairs),
+            hints,
             snap,
         }
     }

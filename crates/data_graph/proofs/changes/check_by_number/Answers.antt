@@ -1,9 +1,6 @@
-use Rattle.std.proofs.Common.{◌≡◌, List, map, sym, subst}
+use Rattle.std.proofs.Common.{List, map, sym, subst}
 use Rattle.std.specs.Prelude.{◌↔◌}
 use Rattle.std.specs.List.{Contains}
-use Rattle.rdf_model.specs.declared.ids.Ids.{Ids}
-use Rattle.rdf_model.specs.Numbers.{graph_of}
-use Rattle.store_model.specs.Store.{changed_triple}
 use Rattle.change_laws.proofs.Checked.{mapped_to}
 use Rattle.shape_plans.specs.declared.planned.PlannedShapes.{PlannedShapes}
 use Rattle.parallel_validate.specs.PairsResults.{ArePlacedPairs, pair_of}
@@ -27,11 +24,10 @@ returns-clause-checked g c =
     let pairs = c.in_ok-checked.checked.pairs in
     let looked = c.in_ok-checked.checked.looks in
     let made = c.in_ok-numbered.numbered.items in
-    let numbers = subst (λ (ids : List Ids). graph_of terms ids ≡ map changed_triple c.args.net.now) (sym c.deref.ensures.value) c.in_ok-changed.ensures.1 in
     let same = subst (λ (p : PlannedShapes). (q : PairRows) → Contains (map (numbered p.bound.shapes) pairs) q ↔ Contains made q) c.planned-planned.ensures c.in_ok-numbered.ensures in
     let placed = subst (λ (p : PlannedShapes). ArePlacedPairs terms p.bound.shapes (map pair_of pairs)) c.planned-planned.ensures c.in_ok-checked.ensures.placed in
-    subst (λ (ps : List PairRows). WhereIndexed terms c.args.before.now c.args.later.now c.args.net.now (λ g. IsCheckByNumber terms g b.graph c.args.net.now ps looked)) (sym c.from_vec.ensures)
-    (changed_check terms shapes c.args.before.now c.args.later.now c.deref.result.now b.graph c.args.net.now
+    λ net numbers. subst (λ (ps : List PairRows). WhereIndexed terms c.args.before.now c.args.later.now net (λ g. IsCheckByNumber terms g b.graph net ps looked)) (sym c.from_vec.ensures)
+    (changed_check terms shapes c.args.before.now c.args.later.now c.args.changed.now b.graph net
     c.requires.shapes.stand c.requires.shapes.acyclic c.requires.shapes.shallow numbers pairs made looked same c.requires.shapes.planned.bound placed (rw c.planned-planned.ensures at c.in_ok-checked.ensures.checked) (rw c.planned-planned.ensures at c.in_ok-checked.ensures.looks)
     (rw c.planned-planned.ensures at c.in_ok-checked.ensures.bound))
 
@@ -39,6 +35,5 @@ pub returns-clause-steps : goal.returns-clause-steps
 returns-clause-steps g c =
     let terms = c.args.names.now.terms in
     let b = c.args.shapes.now in
-    let numbers = subst (λ (ids : List Ids). graph_of terms ids ≡ map changed_triple c.args.net.now) (sym c.deref.ensures.value) c.in_ok-changed.ensures.1 in
-    changed_count terms b.planned.bound.shapes c.args.before.now c.args.later.now c.deref.result.now b.graph c.args.net.now
+    λ net numbers. changed_count terms b.planned.bound.shapes c.args.before.now c.args.later.now c.args.changed.now b.graph net
     c.requires.shapes.stand c.requires.shapes.acyclic c.requires.shapes.shallow numbers c.args.steps.now c.check.new.steps (rw c.planned-planned.ensures at c.in_ok-checked.ensures.steps)

@@ -1,31 +1,19 @@
 use Rattle.std.proofs.Common.{ap, sym, subst}
 use Rattle.std.specs.List.{AllByRecursion}
-use Rattle.rdf_model.specs.Graphs.{after}
 use Rattle.parallel_validate.specs.Counting.{GrowsByCount}
 use Rattle.parallel_validate.specs.Verdicts.{IsEvaluated}
 use Rattle.store_model.specs.Snapshots.{Snapshot}
 use Rattle.store_model.specs.Store.{AreNamed, looked_at}
-use Rattle.parallel_validate.specs.Named.{AreNamedTriples}
 use Rattle.data_graph.specs.DataGraphs.{AreNamedChanges, NamedGraph}
 use Rattle.commit_core.specs.Verdicts.{IsPairedCheck}
-use Rattle.commit_core.proofs.NamedTerms.{named_after, net_named}
+use Rattle.commit_core.proofs.NamedTerms.{net_named}
 use Rattle.commit_core.proofs.snapshot.Snap.check.Goals as goal
 
 pub after-requires : goal.after-requires
 after-requires g c = subst (λ (d : NamedGraph). AreNamedChanges d.terms c.args.net.now) (sym c.graph-graph.ensures) (subst (λ (s : Snapshot). AreNamedChanges s.named c.args.net.now) (sym c.self.view_is) (net_named c.args.self.now.named c.args.net.now c.requires))
 
-pub paired_after-requires-clause-graph : goal.paired_after-requires-clause-graph
-paired_after-requires-clause-graph g c = subst (λ (d : NamedGraph). AreNamedTriples d.terms d.triples) (sym c.graph-graph.ensures) c.self.invariant.graph_named
-
 pub paired_after-requires-clause-net : goal.paired_after-requires-clause-net
 paired_after-requires-clause-net g c = subst (λ (d : NamedGraph). AreNamedChanges d.terms c.args.net.now) (sym c.graph-graph.ensures) (subst (λ (s : Snapshot). AreNamedChanges s.named c.args.net.now) (sym c.self.view_is) (net_named c.args.self.now.named c.args.net.now c.requires))
-
-pub paired_after-requires-clause-after : goal.paired_after-requires-clause-after
-paired_after-requires-clause-after g c =
-    let net = c.args.net.now in
-    let graph = subst (λ (s : Snapshot). AreNamedTriples s.named s.graph) c.self.view_is c.self.invariant.graph_named in
-    let own = subst (λ (s : Snapshot). AreNamedTriples s.named (after s.graph net)) (sym c.self.view_is) (named_after c.args.self.now.named c.args.self.now.graph net graph c.requires) in
-    subst (λ (d : NamedGraph). AreNamedTriples d.terms (after d.triples net)) (sym c.graph-graph.ensures) own
 
 pub returns-clause-head : goal.returns-clause-head
 returns-clause-head g c = ap (λ (s : Snapshot). s.number) c.self.view_is

@@ -3,30 +3,22 @@ use Rattle.std.specs.Prelude.{false, IfOk, OnOk}
 use Rattle.rdf_model.specs.declared.change.Change.{Change}
 use Rattle.parallel_validate.specs.Counting.{GrowsByCount, IsTargetPair}
 use Rattle.parallel_validate.specs.Verdicts.{IsEvaluated}
-use Rattle.parallel_validate.specs.Named.{AreNamedTriples}
 use Rattle.store_model.specs.declared.event.BlockMode.{BlockMode}
 use Rattle.store_model.specs.Store.{NetNamed, RecordedStore}
 use Rattle.data_graph.specs.DataGraphs.{NamedGraph, with_changes}
 use Rattle.commit_core.specs.Commits.{data_of}
 use Rattle.commit_core.specs.Outcomes.{IsOutcome}
 use Rattle.commit_core.specs.Work.{ResultSteps}
-use Rattle.commit_core.proofs.NamedTerms.{named_after}
 use Rattle.commit_core.proofs.Planning.{unstaged}
 use Rattle.commit_core.proofs.Work.{changed_steps, on_ok, whole_steps}
 use Rattle.commit_core.proofs.store.Core.evaluated.Goals as goal
-
-pub whole-requires : goal.whole-requires
-whole-requires g c =
-    let s = c.args.self.now.state in
-    let net = c.args.transaction.now.net in
-    subst (λ (d : NamedGraph). AreNamedTriples d.terms d.triples) (sym c.requires.next) (named_after s.named s.graph net c.recall_consistent.ensures.sound.graph_named c.requires.committable.net)
 
 pub changed-requires-clause-named : goal.changed-requires-clause-named
 changed-requires-clause-named g c = subst (λ (cs : List Change). NetNamed c.args.self.now.state.named cs) (sym c.as_slice.ensures) c.requires.committable.net
 
 pub changed-requires-clause-next : goal.changed-requires-clause-next
 changed-requires-clause-next g c =
-    let x = c.args.transaction.now in
+    let x = c.args.checked.now.transaction in
     let next = c.requires.next ∙ unstaged (data_of c.args.self.now) x c.in-None.is in
     subst (λ (cs : List Change). c.args.next ≡ with_changes (data_of c.args.self.now) cs) (sym c.as_slice.ensures) next
 
@@ -35,7 +27,7 @@ returns-in-Some-clause-outcome g c = subst (λ (m : BlockMode). IfOk c.whole.res
 
 pub returns-in-Some-clause-steps : goal.returns-in-Some-clause-steps
 returns-in-Some-clause-steps g c =
-    let x = c.args.transaction.now in
+    let x = c.args.checked.now.transaction in
     let s = c.args.self.now.state in
     let old = c.args.steps.now in
     let new = c.whole.new.steps in
@@ -44,7 +36,7 @@ returns-in-Some-clause-steps g c =
 
 pub returns-in-None-clause-steps : goal.returns-in-None-clause-steps
 returns-in-None-clause-steps g c =
-    let x = c.args.transaction.now in
+    let x = c.args.checked.now.transaction in
     let s = c.args.self.now.state in
     let old = c.args.steps.now in
     let new = c.changed.new.steps in

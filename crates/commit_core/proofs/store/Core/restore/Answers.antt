@@ -1,6 +1,6 @@
 use Rattle.std.proofs.Common.{◌∙◌, Bool, subst}
 use Rattle.commit_core.specs.Outcomes.{TellsBlocking}
-use Rattle.commit_core.proofs.RestoredParts.{blocks, core_consistent, core_restored, graph_ready, shapes_ready, triples_ready}
+use Rattle.commit_core.proofs.RestoredParts.{blocks, core_consistent, core_restored, shapes_ready, triples_ready}
 use Rattle.commit_core.proofs.store.Core.restore.Goals as goal
 
 pub filled-requires-clause-triples : goal.filled-requires-clause-triples
@@ -14,12 +14,6 @@ filled-requires-clause-shapes g c =
     let last = rw c.deref.ensures.value at c.in_ok-triples.ensures in
     let start = rw c.deref-2.ensures.value at c.in_ok-named.ensures in
     shapes_ready c.args.limits c.args.records.items c.in_ok-triples.triples c.args.shapes c.in_ok-named.named c.in_ok-named.given last start c.requires.shapes
-
-pub whole-requires : goal.whole-requires
-whole-requires g c =
-    let last = rw c.deref.ensures.value at c.in_ok-triples.ensures in
-    let start = rw c.deref-2.ensures.value at c.in_ok-named.ensures in
-    graph_ready c.args.limits c.args.records.items c.in_ok-triples.triples c.args.shapes c.in_ok-named.named c.in_ok-named.given last start c.requires.shapes c.in_ok-filled.filled c.in_ok-filled.ensures
 
 pub returns-then-blocks-clause-store : goal.returns-then-blocks-clause-store
 returns-then-blocks-clause-store g c =

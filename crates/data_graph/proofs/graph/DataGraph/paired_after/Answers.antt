@@ -12,9 +12,9 @@ use Rattle.kept_rows.specs.declared.pair_rows.PairRows.{PairRows}
 use Rattle.kept_rows.specs.Laws.{ChecksPairs}
 use Rattle.data_graph.specs.declared.changes.PairedChanges.{PairedChanges}
 use Rattle.data_graph.specs.DataGraphs.{NamedGraph}
-use Rattle.data_graph.proofs.Checks.{looks_named}
+use Rattle.data_graph.proofs.NamedLooks.{looks_named}
 use Rattle.data_graph.proofs.Keeping.{none_checked}
-use Rattle.data_graph.proofs.NoChecks.{no_check, no_checks}
+use Rattle.data_graph.proofs.NoChecks.{no_checks, no_looks}
 use Rattle.data_graph.proofs.graph.DataGraph.paired_after.Goals as goal
 
 pub returns-then-is_without_shapes-clause-checks : goal.returns-then-is_without_shapes-clause-checks
@@ -29,7 +29,7 @@ returns-then-is_without_shapes-clause-looks g c =
     let x = c.args.self.now in
     let same : c.graph.result.now ≡ x.shapes = c.graph.ensures ∙ ap (λ (d : NamedGraph). d.shapes) c.self.view_is in
     let none = subst (λ (ts : List Triple). (shape : Term) → IsShape ts shape → ⊥) same (c.is_without_shapes.ensures.0 c.if-is_without_shapes.true) in
-    subst (λ (found : PairedChanges). IsCheckFootprint x.triples x.shapes c.args.net.now found.looks) (sym c.empty.ensures) (no_check x.triples x.shapes c.args.net.now none).looks
+    subst (λ (found : PairedChanges). IsCheckFootprint x.triples x.shapes c.args.net.now found.looks) (sym c.empty.ensures) (no_looks x.triples x.shapes c.args.net.now none)
 
 pub returns-then-is_without_shapes-clause-named : goal.returns-then-is_without_shapes-clause-named
 returns-then-is_without_shapes-clause-named g c =
