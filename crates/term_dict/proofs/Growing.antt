@@ -36,15 +36,16 @@ has_false t (u ∷ us) n = elim (term_cmp u t) as (λ o. term_cmp u t ≡ o → 
   | Greater ↦ λ h. has_false t us (λ c. n (has_tail u us t c))
 ] refl
 
+-- what stands at a place, whatever would be taken where nothing does
+pub get_or-other : (us : List Term) (n : ℕ) (d e : Term) → n < length us → get_or us n d ≡ get_or us n e
+get_or-other [] n d e h = absurd (omega arith)
+get_or-other (u ∷ us) zero d e h = refl
+get_or-other (u ∷ us) (suc n) d e h = get_or-other us n d e (omega arith)
+
 pub with_old_term : (t : Term) (us : List Term) (n : ℕ) → IsNumberOf us t n → us ≡ with_term us t
 with_old_term t us n i =
     let c : Contains us t = (n, i.within, get_or-other us n t (Blank 0 0) i.within ∙ i.is) in
     sym (ap (λ b. cond b us (us ++ t ∷ [])) (has_true t us c))
-  where
-    get_or-other : (us : List Term) (n : ℕ) (d e : Term) → n < length us → get_or us n d ≡ get_or us n e
-    get_or-other [] n d e h = absurd (omega arith)
-    get_or-other (u ∷ us) zero d e h = refl
-    get_or-other (u ∷ us) (suc n) d e h = get_or-other us n d e (omega arith)
 
 pub with_new_term : (t : Term) (us vs : List Term) → (Contains us t → ⊥) → vs ≡ us ++ t ∷ [] → vs ≡ with_term us t
 with_new_term t us vs n e = e ∙ sym (ap (λ b. cond b us (us ++ t ∷ [])) (has_false t us n))

@@ -1,7 +1,9 @@
--- What a term feeds a hasher: its texts and numbers, one after the other.
-use Rattle.std.specs.Prelude.{◌≡◌, ◌++◌, IsTrue, true, Some, None}
+-- What a term feeds a hasher: its texts and numbers, one after the other; and its hash.
+use Rattle.std.specs.Prelude.{◌≡◌, ◌++◌, ℕ, IsTrue, true, Some, None}
 use Rattle.std.proofs.Common.{refl, ap}
 use Rattle.std.specs.Hash as fed
+use Rattle.std.specs.Hash.DefaultHasher as sip
+use Rattle.std.specs.List.{fold}
 use Rattle.std.specs.declared.cmp.Ordering.{Ordering}
 use Rattle.std.specs.declared.cmp.Ordering.TheVariants.{Less, Equal, Greater}
 use Rattle.std.specs.Ordering.{is_eq, eq_by_cmp}
@@ -24,3 +26,7 @@ tied Greater h = cc
 -- equal terms feed alike
 pub fed_alike : (x y : Term) → IsTrue (eq_by_cmp term_cmp x y) → term_writes x ≡ term_writes y
 fed_alike x y h = ap term_writes (term_exact x y (tied (term_cmp x y) h))
+
+-- its hash by SipHash-1-3 with both keys 0
+unfoldable pub term_hash : Term → ℕ
+term_hash t = sip.finish (fold sip.write sip.initial (term_writes t))

@@ -1,4 +1,4 @@
-//! A named term, in the list of the terms and in the order of terms.
+//! A named term in the list of the terms, and its number among the others by hash.
 ghost use Rattle.std.specs.Prelude.{◌≡◌};
 
 use collections::ExactClone;
@@ -37,23 +37,14 @@ impl ExactClone for NamedTerm {
     ghost clone_is_equal = { λ source copy is_copy. is_copy };
 }
 
-// A named term, among others by the order of terms.
-#[derive(Drop)]
-pub(crate) struct ByTerm {
+// The number of a named term, among others by the hashes of their terms. It holds no term, so that a page of such is
+// copied as plain numbers are.
+pub(crate) struct ByHash {
+    pub(crate) hash: u64,
     pub(crate) number: usize,
-    pub(crate) term: Arc<Term>,
 }
 
-impl Model for ByTerm {
-    ghost use Rattle.std.specs.Arc.{arc_value};
-    ghost use Rattle.term_dict.specs.Entries.{Entry};
-
-    ghost Value = { Entry };
-
-    ghost view = { λ e. record { number = e.number; term = arc_value e.term } };
-}
-
-impl Ord for ByTerm {
+impl Ord for ByHash {
     ghost use Rattle.std.proofs.Common.{refl};
     ghost use Rattle.term_dict.specs.Entries.{entry_cmp};
     ghost use Rattle.term_dict.specs.Orders.{entry_total};
@@ -66,12 +57,14 @@ impl Ord for ByTerm {
 
     ghost matches_eq = { λ x y. refl };
 
-    fn cmp(&self, other: &ByTerm) -> Ordering {
-        (*self.term).cmp(&*other.term)
+    fn cmp(&self, other: &ByHash) -> Ordering {
+        self.hash
+            .cmp(&other.hash)
+            .then(self.number.cmp(&other.number))
     }
 }
 
-impl PartialOrd for ByTerm {
+impl PartialOrd for ByHash {
     ghost use Rattle.std.specs.Ordering.{as_partial_cmp};
     ghost use Rattle.std.specs.Cmp.{partial_order_from_total};
     ghost use Rattle.term_dict.specs.Entries.{entry_cmp};
@@ -81,12 +74,12 @@ impl PartialOrd for ByTerm {
 
     ghost laws = { partial_order_from_total entry_total };
 
-    fn partial_cmp(&self, other: &ByTerm) -> Option<Ordering> {
+    fn partial_cmp(&self, other: &ByHash) -> Option<Ordering> {
         Some(self.cmp(other))
     }
 }
 
-impl PartialEq for ByTerm {
+impl PartialEq for ByHash {
     ghost use Rattle.std.specs.Ordering.{eq_by_cmp};
     ghost use Rattle.std.specs.Cmp.{partial_equiv_from_equiv, eq_by_cmp_equiv};
     ghost use Rattle.term_dict.specs.Entries.{entry_cmp};
@@ -96,29 +89,28 @@ impl PartialEq for ByTerm {
 
     ghost laws = { partial_equiv_from_equiv (eq_by_cmp_equiv entry_total) };
 
-    fn eq(&self, other: &ByTerm) -> bool {
+    fn eq(&self, other: &ByHash) -> bool {
         self.cmp(other) == Ordering::Equal
     }
 }
 
-impl Eq for ByTerm {
+impl Eq for ByHash {
     ghost use Rattle.std.specs.Cmp.{eq_by_cmp_equiv};
     ghost use Rattle.term_dict.specs.Orders.{entry_total};
 
     ghost laws = { eq_by_cmp_equiv entry_total };
 }
 
-impl Clone for ByTerm {
+impl Copy for ByHash {}
+
+impl Clone for ByHash {
     ghost is_clone = { λ source copy. copy ≡ source };
 
-    fn clone(&self) -> Result<ByTerm, AllocError> {
-        Ok(ByTerm {
-            number: self.number,
-            term: Arc::try_clone(&self.term)?,
-        })
+    fn clone(&self) -> Result<ByHash, AllocError> {
+        Ok(*self)
     }
 }
 
-impl ExactClone for ByTerm {
+impl ExactClone for ByHash {
     ghost clone_is_equal = { λ source copy is_copy. is_copy };
 }

@@ -4,11 +4,13 @@ ghost use Rattle.std.specs.List.{IsDistinct};
 ghost use Rattle.std.specs.Ordering.{eq_by_cmp};
 ghost use Rattle.rdf_model.specs.Terms.{term_cmp};
 ghost use Rattle.rdf_model.specs.declared.term.Term.{Term as TermData};
+ghost use Rattle.term_dict.specs.Hashes.{term_hash};
 ghost use Rattle.term_dict.specs.Names.{AreNumbersOf, IsNumberOf, with_term, with_terms};
 
 use indexmap::IndexSet;
 use rdf_model::Term;
 use std::alloc::{AllocError, Global};
+use std::collections::hash_map::DefaultHasher;
 use std::hash::{Hash, Hasher};
 use std::marker::Model;
 
@@ -73,6 +75,16 @@ impl<'a> Hash for MetTerm<'a> {
             }
         }
     }
+}
+
+// The hash of a term.
+#[tactic(auto, unfolding(crate::specs::Hashes::term_hash))]
+pub(crate) fn hash_of(term: &Term) -> u64
+    ensures { result ≡ term_hash term.now }
+{
+    let mut state = DefaultHasher::new();
+    MetTerm { term }.hash(&mut state);
+    state.finish()
 }
 
 // Terms, each once, by the order of their first appearance.

@@ -1,4 +1,4 @@
-//! Named terms by their numbers, and by their order.
+//! Named terms by their numbers, and their numbers by hash.
 ghost use Rattle.std.specs.Prelude.{◌≡◌, ◌<◌, ◌≤◌, [], ◌∷◌, ◌++◌, IfOk, MatchOption, OnOk, get_or, length, map};
 ghost use Rattle.std.specs.List.{AllByRecursion, Contains, IsDistinct};
 ghost use Rattle.std.specs.Ordering.{eq_by_cmp};
@@ -6,10 +6,12 @@ ghost use Rattle.rdf_model.specs.Matching.{same_term};
 ghost use Rattle.rdf_model.specs.Terms.{term_cmp};
 ghost use Rattle.rdf_model.specs.Numbers.{IsNumbering, term_at};
 ghost use Rattle.term_dict.specs.Entries.{entries_from, entry};
+ghost use Rattle.term_dict.specs.Hashes.{term_hash};
 ghost use Rattle.term_dict.specs.Names.{AreNumbersOf, IsNumberOf, with_term, with_terms};
+ghost use Rattle.term_dict.specs.Tables.{IsNext, IsNoneFrom, NoneHashed};
 
-use crate::entry::{ByTerm, NamedTerm};
-use crate::met::{MetTerm, met_of};
+use crate::entry::{ByHash, NamedTerm};
+use crate::met::{MetTerm, hash_of, met_of};
 use growing_list::GrowingList;
 use page_index::Pages;
 use rdf_model::Term;
@@ -17,19 +19,12 @@ use std::alloc::{AllocError, Global};
 use std::marker::Model;
 use std::sync::Arc;
 
-// Whether an entry is of a term.
-fn is_of(entry: &ByTerm, term: &Term) -> bool
-    ensures { result ≡ same_term entry.now.term term.now }
-{
-    *entry.term == *term
-}
-
-// Named terms by their numbers, and in the order of terms. Contracts see the list of the terms by their numbers.
+// Named terms by their numbers, and their numbers by hash. Contracts see the list of the terms by their numbers.
 #[derive(Drop)]
 pub(crate) struct TermTable {
     alloc: Global,
     terms: GrowingList<NamedTerm>,
-    by_term: Pages<ByTerm>,
+    by_hash: Pages<ByHash>,
 }
 
 impl Model for TermTable {
@@ -41,7 +36,7 @@ impl Model for TermTable {
 
     ghost view = { λ t. t.terms };
 
-    ghost invariant = { λ t. AreOne t.terms t.by_term };
+    ghost invariant = { λ t. AreOne t.terms t.by_hash };
 }
 
 impl TermTable {
@@ -51,7 +46,7 @@ impl TermTable {
         TermTable {
             alloc,
             terms: GrowingList::new(alloc),
-            by_term: Pages::new(alloc),
+            by_hash: Pages::new(alloc),
         }
     }
 
@@ -68,7 +63,7 @@ impl TermTable {
         Ok(TermTable {
             alloc: self.alloc,
             terms: self.terms.share()?,
-            by_term: self.by_term.share()?,
+            by_hash: self.by_hash.share()?,
         })
     }
 
@@ -89,13 +84,27 @@ impl TermTable {
         }
     }
 
-    // The number of a term.
-    pub(crate) fn number(&self, term: &Term) -> Option<usize>
-        ensures { MatchOption result (Contains self.now term.now → ⊥) (λ number. IsNumberOf self.now term.now number) }
+    // Whether a number is a term's.
+    fn is_at(&self, number: usize, term: &Term) -> bool
+        requires { number < length self.now }
+        ensures { result ≡ same_term (term_at self.now number) term.now }
     {
-        match self.by_term.seek(|entry| (*entry.term).cmp(term)) {
+        match self.term(number) {
+            Some(named) => *named == *term,
+            None => false,
+        }
+    }
+
+    // The next number, from one on, of a term with a hash.
+    fn next_with(&self, hash: u64, from: usize) -> Option<usize>
+        ensures { MatchOption result (NoneHashed self.now hash from (length self.now)) (λ number. IsNext self.now hash from number) }
+    {
+        match self
+            .by_hash
+            .seek(|entry| entry.cmp(&ByHash { hash, number: from }))
+        {
             Some(entry) => {
-                if is_of(entry, term) {
+                if entry.hash == hash {
                     return Some(entry.number);
                 }
                 None
@@ -104,25 +113,57 @@ impl TermTable {
         }
     }
 
-    // The table with a term that is new to it.
-    fn with_new(self, term: &Term) -> Result<TermTable, AllocError>
-        requires { Contains self term.now → ⊥ }
+    // The number of a term, where that isn't below one.
+    fn number_from(&self, term: &Term, hash: u64, from: usize) -> Option<usize>
+        requires { hash ≡ term_hash term.now }
+        ensures { MatchOption result (IsNoneFrom self.now from term.now) (λ number. IsNumberOf self.now term.now number) }
+    {
+        let count = self.len();
+        match self.next_with(hash, from) {
+            Some(number) => {
+                if self.is_at(number, term) {
+                    return Some(number);
+                }
+                self.number_from(term, hash, number + 1)
+            }
+            None => None,
+        }
+    }
+
+    // The number of a term, whose hash is given.
+    fn number_of(&self, term: &Term, hash: u64) -> Option<usize>
+        requires { hash ≡ term_hash term.now }
+        ensures { MatchOption result (Contains self.now term.now → ⊥) (λ number. IsNumberOf self.now term.now number) }
+    {
+        self.number_from(term, hash, 0)
+    }
+
+    // The number of a term.
+    pub(crate) fn number(&self, term: &Term) -> Option<usize>
+        ensures { MatchOption result (Contains self.now term.now → ⊥) (λ number. IsNumberOf self.now term.now number) }
+    {
+        self.number_of(term, hash_of(term))
+    }
+
+    // The table with a term that is new to it, whose hash is given.
+    fn with_new(self, term: &Term, hash: u64) -> Result<TermTable, AllocError>
+        requires new { Contains self term.now → ⊥ }
+        requires hash { hash ≡ term_hash term.now }
         ensures { IfOk result (λ next. next ≡ self ++ term.now ∷ []) }
     {
         let TermTable {
             alloc,
             mut terms,
-            mut by_term,
+            mut by_hash,
         } = self;
         let number = terms.len();
         let term = Arc::new(alloc, term.clone()?)?;
-        let same = Arc::try_clone(&term)?;
         terms.push(NamedTerm { term })?;
-        let _ = by_term.insert(ByTerm { number, term: same })?;
+        let _ = by_hash.insert(ByHash { hash, number })?;
         Ok(TermTable {
             alloc,
             terms,
-            by_term,
+            by_hash,
         })
     }
 
@@ -131,31 +172,32 @@ impl TermTable {
         ensures table { IfOk result (λ next. next.0 ≡ with_term self term.now) }
         ensures number { IfOk result (λ next. IsNumberOf next.0 term.now next.1) }
     {
-        match self.number(term) {
+        let hash = hash_of(term);
+        match self.number_of(term, hash) {
             Some(number) => Ok((self, number)),
             None => {
                 let number = self.len();
-                Ok((self.with_new(term)?, number))
+                Ok((self.with_new(term, hash)?, number))
             }
         }
     }
 }
 
-// Adds a term, and its entry in the order of terms.
+// Adds a term, and its entry by hash.
 fn push_entry(
     alloc: Global,
     number: usize,
     term: &Term,
     terms: &mut GrowingList<NamedTerm>,
-    by_term: &mut Vec<ByTerm>,
+    by_hash: &mut Vec<ByHash>,
 ) -> Result<(), AllocError>
     ensures terms { OnOk result (terms.new ≡ terms.old ++ term.now ∷ []) }
-    ensures entries { OnOk result (by_term.new.items ≡ by_term.old.items ++ entry number term.now ∷ []) }
+    ensures entries { OnOk result (by_hash.new.items ≡ by_hash.old.items ++ entry number term.now ∷ []) }
 {
+    let hash = hash_of(term);
     let term = Arc::new(alloc, term.clone()?)?;
-    let same = Arc::try_clone(&term)?;
     terms.push(NamedTerm { term })?;
-    by_term.push(ByTerm { number, term: same })?;
+    by_hash.push(ByHash { hash, number })?;
     Ok(())
 }
 
@@ -163,16 +205,16 @@ fn push_entry(
 fn entries_of(
     alloc: Global,
     terms: &[MetTerm],
-) -> Result<(GrowingList<NamedTerm>, Vec<ByTerm>), AllocError>
+) -> Result<(GrowingList<NamedTerm>, Vec<ByHash>), AllocError>
     ensures terms { IfOk result (λ named. named.0 ≡ terms.now) }
     ensures entries { IfOk result (λ named. named.1.items ≡ entries_from 0 terms.now) }
 {
     let mut named = GrowingList::new(alloc);
-    let mut by_term = Vec::with_capacity(alloc, terms.len())?;
+    let mut by_hash = Vec::with_capacity(alloc, terms.len())?;
     for (number, met) in terms.iter().enumerate() {
-        push_entry(alloc, number, met.term, &mut named, &mut by_term)?;
+        push_entry(alloc, number, met.term, &mut named, &mut by_hash)?;
     }
-    Ok((named, by_term))
+    Ok((named, by_hash))
 }
 
 // The table of terms, no two of which are equal.
@@ -180,12 +222,12 @@ pub(crate) fn table_of(alloc: Global, terms: &[MetTerm]) -> Result<TermTable, Al
     requires { IsDistinct (eq_by_cmp term_cmp) terms.now }
     ensures { IfOk result (λ table. table ≡ terms.now) }
 {
-    let (terms, mut by_term) = entries_of(alloc, terms)?;
-    by_term.sort()?;
+    let (terms, mut by_hash) = entries_of(alloc, terms)?;
+    by_hash.sort()?;
     Ok(TermTable {
         alloc,
         terms,
-        by_term: Pages::from_sorted(alloc, &by_term)?,
+        by_hash: Pages::from_sorted(alloc, &by_hash)?,
     })
 }
 

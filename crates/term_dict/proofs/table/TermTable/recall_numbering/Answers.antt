@@ -1,8 +1,7 @@
 use Rattle.std.proofs.Common.{List, subst}
 use Rattle.rdf_model.specs.declared.term.Term.{Term}
 use Rattle.rdf_model.specs.Numbers.{IsNumbering}
-use Rattle.term_dict.proofs.Places.{numbering}
 use Rattle.term_dict.proofs.table.TermTable.recall_numbering.Goals as goal
 
 pub returns : goal.returns
-returns c = subst (λ (ts : List Term). IsNumbering ts) c.self.view_is (numbering c.self.inside.terms c.self.inside.by_term c.self.invariant)
+returns c = subst (λ (ts : List Term). IsNumbering ts) c.self.view_is c.self.invariant.apart
