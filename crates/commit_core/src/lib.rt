@@ -29,6 +29,7 @@ mod store;
 
 pub use checked::CheckedNet;
 pub use commit::{CheckedTransaction, Commit};
+pub use data_graph::NumberHints;
 pub use naming::NamingFault;
 pub use record_text::Record;
 pub use replay::ReplayFault;

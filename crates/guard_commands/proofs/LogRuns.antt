@@ -13,7 +13,7 @@ use Rattle.store_model.specs.Store.{RecordedStore, State, empty_store, version}
 use Rattle.store_model.proofs.Logs.{FaultsStop-holds}
 use Rattle.commit_core.specs.Logged.{IsInStep, Lasts, lost_of, records_of}
 use Rattle.commit_core.specs.Restored.{IsRestored, restored, restored_from, with_record}
-use Rattle.guard_store.specs.Slots.{HadRecords}
+use Rattle.session_files.specs.Slots.{HadRecords}
 use Rattle.session_model.specs.Print.{IsRunText}
 use Rattle.session_model.specs.Sessions.{HasReplies}
 use Rattle.session_laws.specs.Following.{Follow, fault_place}

@@ -8,7 +8,7 @@ use Rattle.input_files.specs.Loads.{Loads}
 use Rattle.store_model.specs.declared.event.Limits.{Limits}
 use Rattle.store_model.specs.Store.{RecordedStore, empty_store}
 use Rattle.session_model.specs.Sessions.{HasReplies}
-use Rattle.session_threads.proofs.Gathering.{unlogged_end}
+use Rattle.session_files.proofs.Gathering.{unlogged_end}
 use Rattle.session_files.specs.declared.fault.RunFault.{RunFault}
 use Rattle.session_files.specs.declared.session_run.SessionRun.{SessionRun}
 use Rattle.session_files.specs.Faults.{StopsRun}

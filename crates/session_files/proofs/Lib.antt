@@ -1,3 +1,4 @@
 pub mod SoFar
 pub mod Answering
 pub mod Replaying
+pub mod Gathering

@@ -4,3 +4,4 @@ pub mod Logged
 pub mod Faults
 pub mod Progress
 pub mod Laws
+pub mod Slots

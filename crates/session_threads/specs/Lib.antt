@@ -3,3 +3,4 @@ pub mod Replies
 pub mod Playing
 pub mod Team
 pub mod Ends
+pub mod Slots

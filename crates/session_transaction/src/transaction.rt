@@ -7,8 +7,7 @@ ghost use Rattle.session_transaction.specs.Transactions;
 ghost use Rattle.session_transaction.specs.Transactions.{begun_at, change_of, changes_of, name_kind_of, plain};
 
 use collections::Sequence;
-use commit_core::{CheckedNet, CheckedTransaction, Snap, Transaction, Verdict};
-use data_graph::NumberHints;
+use commit_core::{CheckedNet, CheckedTransaction, NumberHints, Snap, Transaction, Verdict};
 use kept_rows::PairRows;
 use rdf_model::{Change, Net, Pattern, Triple};
 use session_model::{Report, SessionReply};
