@@ -5,19 +5,19 @@ use Rattle.page_tree.proofs.page.Entry.TheLaws.TheKnot as page_knot
 use Rattle.page_index.specs.contracts.pages.Pages as pages
 use Rattle.growing_list.specs.contracts.growing.GrowingList as growing
 use Rattle.term_dict.proofs.entry.NamedTerm.TheSendSync as named_sent
-use Rattle.term_dict.proofs.entry.ByTerm.TheSendSync as by_term_sent
+use Rattle.term_dict.proofs.entry.ByHash.TheSendSync as by_hash_sent
 use Rattle.term_dict.specs.contracts.entry.NamedTerm as named
-use Rattle.term_dict.specs.contracts.entry.ByTerm as by_term
-use Rattle.term_dict.specs.contracts.entry.ByTermOrd.TheImpl as by_term_order
-use Rattle.term_dict.specs.contracts.entry.ByTermPartialEq.TheImpl as by_term_equality
-use Rattle.term_dict.specs.contracts.entry.ByTermPartialOrd.TheImpl as by_term_comparison
+use Rattle.term_dict.specs.contracts.entry.ByHash as by_hash
+use Rattle.term_dict.specs.contracts.entry.ByHashOrd.TheImpl as by_hash_order
+use Rattle.term_dict.specs.contracts.entry.ByHashPartialEq.TheImpl as by_hash_equality
+use Rattle.term_dict.specs.contracts.entry.ByHashPartialOrd.TheImpl as by_hash_comparison
 use Rattle.term_dict.specs.contracts.dict.Dict as dict
 
 names_sync : IsSync (growing.the_row named.the_row)
 names_sync = search (named_sent.the_send, named_sent.the_sync, crosses, sendable) depth 60 fits 20000
 
-by_term_sync : IsSync (pages.the_row by_term.the_row by_term_order.ghosts by_term_equality.ghosts by_term_comparison.ghosts)
-by_term_sync = search (page_knot.crosses, by_term_sent.the_send, by_term_sent.the_sync, crosses, sendable) depth 60 fits 20000
+by_hash_sync : IsSync (pages.the_row by_hash.the_row by_hash_order.ghosts by_hash_equality.ghosts by_hash_comparison.ghosts)
+by_hash_sync = search (page_knot.crosses, by_hash_sent.the_send, by_hash_sent.the_sync, crosses, sendable) depth 60 fits 20000
 
 pub dict_sync : IsSync dict.the_row
-dict_sync = search (names_sync, by_term_sync, crosses, sendable) depth 60 fits 20000
+dict_sync = search (names_sync, by_hash_sync, crosses, sendable) depth 60 fits 20000

@@ -10,12 +10,12 @@ use Rattle.rdf_model.specs.contracts.triple.TripleOrd.TheImpl as triple_order
 use Rattle.rdf_model.specs.contracts.triple.TriplePartialEq.TheImpl as triple_equality
 use Rattle.rdf_model.specs.contracts.triple.TriplePartialOrd.TheImpl as triple_comparison
 use Rattle.term_dict.proofs.entry.NamedTerm.TheSendSync as named_sent
-use Rattle.term_dict.proofs.entry.ByTerm.TheSendSync as by_term_sent
+use Rattle.term_dict.proofs.entry.ByHash.TheSendSync as by_hash_sent
 use Rattle.term_dict.specs.contracts.entry.NamedTerm as named
-use Rattle.term_dict.specs.contracts.entry.ByTerm as by_term
-use Rattle.term_dict.specs.contracts.entry.ByTermOrd.TheImpl as by_term_order
-use Rattle.term_dict.specs.contracts.entry.ByTermPartialEq.TheImpl as by_term_equality
-use Rattle.term_dict.specs.contracts.entry.ByTermPartialOrd.TheImpl as by_term_comparison
+use Rattle.term_dict.specs.contracts.entry.ByHash as by_hash
+use Rattle.term_dict.specs.contracts.entry.ByHashOrd.TheImpl as by_hash_order
+use Rattle.term_dict.specs.contracts.entry.ByHashPartialEq.TheImpl as by_hash_equality
+use Rattle.term_dict.specs.contracts.entry.ByHashPartialOrd.TheImpl as by_hash_comparison
 use Rattle.term_dict.specs.contracts.dict.Dict as dict
 use Rattle.triple_index.proofs.key.Key.TheSendSync as key_sent
 use Rattle.triple_index.specs.contracts.key.Key as key
@@ -41,11 +41,11 @@ triples_send = search (page_knot.crosses, triple_sent.the_send, triple_sent.the_
 names_send : IsSend (growing.the_row named.the_row)
 names_send = search (named_sent.the_send, named_sent.the_sync, crosses, sendable) depth 60 fits 20000
 
-by_term_send : IsSend (pages.the_row by_term.the_row by_term_order.ghosts by_term_equality.ghosts by_term_comparison.ghosts)
-by_term_send = search (page_knot.crosses, by_term_sent.the_send, by_term_sent.the_sync, crosses, sendable) depth 60 fits 20000
+by_hash_send : IsSend (pages.the_row by_hash.the_row by_hash_order.ghosts by_hash_equality.ghosts by_hash_comparison.ghosts)
+by_hash_send = search (page_knot.crosses, by_hash_sent.the_send, by_hash_sent.the_sync, crosses, sendable) depth 60 fits 20000
 
 dict_send : IsSend dict.the_row
-dict_send = search (names_send, by_term_send, crosses, sendable) depth 60 fits 20000
+dict_send = search (names_send, by_hash_send, crosses, sendable) depth 60 fits 20000
 
 keys_send : IsSend (pages.the_row key.the_row key_order.ghosts key_equality.ghosts key_comparison.ghosts)
 keys_send = search (page_knot.crosses, key_sent.the_send, key_sent.the_sync, crosses, sendable) depth 60 fits 20000
