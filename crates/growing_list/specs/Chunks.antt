@@ -3,11 +3,11 @@ use Rattle.std.specs.Prelude.{◌≡◌, ℕ, ◌<◌, ◌≤◌, List, [], ◌�
 
 -- the items of a full chunk
 abbrev pub full_chunk : ℕ
-full_chunk = 512
+full_chunk = 64
 
 -- the items of a full block, which has as many chunks as a full chunk has items
 abbrev pub full_block : ℕ
-full_block = 262144
+full_block = 16384
 
 -- the items of the chunks, in order
 abbrev pub all_items : {X : Type 0} → List (List X) → List X

@@ -9,7 +9,7 @@ use std::marker::Model;
 use std::sync::Arc;
 
 /// The number of items of a block that is full, which has as many chunks as a full chunk has items.
-pub(crate) const FULL_BLOCK: usize = 262_144;
+pub(crate) const FULL_BLOCK: usize = 16_384;
 
 // Chunks side by side, which lists may share. Contracts see their items in order.
 pub(crate) struct Block<T> {

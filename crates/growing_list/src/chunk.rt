@@ -7,7 +7,7 @@ use std::marker::Model;
 use std::sync::Arc;
 
 /// The number of items of a chunk that is full.
-pub(crate) const FULL_CHUNK: usize = 512;
+pub(crate) const FULL_CHUNK: usize = 64;
 
 // Items side by side, which lists may share. Contracts see them in their order.
 pub(crate) struct Chunk<T> {

@@ -104,7 +104,7 @@ impl<T> GrowingList<T> {
 
 impl<T: Drop> GrowingList<T> {
     /// Another list with the same items. It copies no item, only where each block stands, which is one
-    /// step for each 262,144 items, and neither list sees a later push to the other.
+    /// step for each 16,384 items, and neither list sees a later push to the other.
     pub fn share(&self) -> Result<GrowingList<T>, AllocError>
         ensures { IfOk result (λ share. share ≡ self.now) }
     {
