@@ -5,10 +5,10 @@ use Rattle.std.specs.declared.cmp.Ordering.TheVariants.{Less, Equal, Greater}
 use Rattle.collections.specs.Ordered.{AllAbove, IsAscending}
 
 abbrev pub most : ℕ
-most = 64
+most = 32
 
 abbrev pub least : ℕ
-least = 16
+least = 8
 
 -- a page: its keys in order, its height over the leaves, and how many keys or pages stand right in it
 pub record Image (K : Type 0) : Type 0 where

@@ -10,10 +10,10 @@ use std::marker::Model;
 use std::sync::Arc;
 
 /// The most keys of a leaf, and the most pages below an inner page.
-pub const MOST: usize = 64;
+pub const MOST: usize = 32;
 
 /// The fewest keys or pages of a page that is not the root.
-pub(crate) const LEAST: usize = 16;
+pub(crate) const LEAST: usize = 8;
 
 /// A page of the tree: a leaf of keys, or the pages below it.
 ///

@@ -5,7 +5,7 @@ use Rattle.page_index.proofs.levels.root_over.Goals as goal
 
 pub over-requires : goal.over-requires
 over-requires g c =
-    let few : length c.loop-alloc.level.items ≤ 64 = (let f = c.loop-alloc-test.false in let n = c.len.ensures in omega arith) in
+    let few : length c.loop-alloc.level.items ≤ 32 = (let f = c.loop-alloc-test.false in let n = c.len.ensures in omega arith) in
     record { sound = c.loop-alloc.invariant.sound; size = (c.loop-alloc.invariant.some, few) }
 
 pub returns : goal.returns
