@@ -103,13 +103,16 @@ lowest m (u ∷ us) d c = elim (has_cases (entry m u) (entries_from (m + 1) us) 
   | inr k ↦ let l = lowest (m + 1) us d k in omega arith
 ]
 
--- an entry's number is a place
-entry_at : (m i : ℕ) (us : List Term) (d : ByHash) → Contains (entries_from m us) d → d.number ≡ m + i → i < length us
+-- an entry stands at its number
+entry_at : (m i : ℕ) (us : List Term) (d : ByHash) → Contains (entries_from m us) d → d.number ≡ m + i → (i < length us) × (term_hash (term_at us i) ≡ d.hash)
 entry_at m i [] d c h = absurd (omega arith)
-entry_at m zero (u ∷ us) d c h = omega arith
+entry_at m zero (u ∷ us) d c h = elim (has_cases (entry m u) (entries_from (m + 1) us) d c) [
+  | inl s ↦ (omega arith, ap (λ (w : ByHash). w.hash) s)
+  | inr k ↦ absurd (let l = lowest (m + 1) us d k in omega arith)
+]
 entry_at m (suc i) (u ∷ us) d c h = elim (has_cases (entry m u) (entries_from (m + 1) us) d c) [
   | inl s ↦ absurd (let k : m ≡ d.number = ap (λ (w : ByHash). w.number) s in omega arith)
-  | inr k ↦ let l = entry_at (m + 1) i us d k (omega arith) in omega arith
+  | inr k ↦ let l = entry_at (m + 1) i us d k (omega arith) in let b = l.0 in (omega arith, l.1)
 ]
 
 entry_there : (m i : ℕ) (us : List Term) → i < length us → Contains (entries_from m us) (entry (m + i) (term_at us i))
@@ -160,11 +163,14 @@ module _ (h m : ℕ) (us : List Term) (es : List ByHash) (o : AreOne us es) wher
       ]
 
   pub next_there : (d : ByHash) → first_reached (to_place h m) es ≡ Some d → d.hash ≡ h → IsNext us h m d.number
-  next_there d r s = record {
-    reached = then_from d.hash h d.number m s (not_below (to_place h m) es d r);
-    within = entry_at 0 d.number us d ((o.same d).1 (first_there (to_place h m) es d r)) (omega arith);
-    none = λ n up under within is. (let p = (passed d n r up within is).1 in absurd (omega arith));
-  }
+  next_there d r s =
+      let place = entry_at 0 d.number us d ((o.same d).1 (first_there (to_place h m) es d r)) (omega arith) in
+      record {
+        reached = then_from d.hash h d.number m s (not_below (to_place h m) es d r);
+        within = place.0;
+        hashed = place.1 ∙ s;
+        none = λ n up under within is. (let p = (passed d n r up within is).1 in absurd (omega arith));
+      }
 
   pub other_hash : (d : ByHash) → first_reached (to_place h m) es ≡ Some d → (d.hash ≡ h → ⊥) → NoneHashed us h m (length us)
   other_hash d r other n up under within is = other (passed d n r up within is).0

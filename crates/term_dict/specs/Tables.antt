@@ -18,10 +18,11 @@ pub record AreOne (terms : List Term) (entries : List ByHash) : Type 0 where
 abbrev pub NoneHashed : List Term → ℕ → ℕ → ℕ → Type 0
 NoneHashed terms hash from to = (n : ℕ) → from ≤ n → n < to → n < length terms → term_hash (term_at terms n) ≡ hash → ⊥
 
--- a number from one on, below which no term from that one on has the hash
+-- the first number, from one on, of a term with the hash
 pub record IsNext (terms : List Term) (hash from n : ℕ) : Type 0 where
   pub reached : from ≤ n
   pub within : n < length terms
+  pub hashed : term_hash (term_at terms n) ≡ hash
   pub none : NoneHashed terms hash from n
 
 -- the term has no number from the one given on

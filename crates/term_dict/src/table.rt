@@ -118,6 +118,7 @@ impl TermTable {
         requires { hash ≡ term_hash term.now }
         ensures { MatchOption result (IsNoneFrom self.now from term.now) (λ number. IsNumberOf self.now term.now number) }
     {
+        // (a number is below it, so that one more can be told)
         let count = self.len();
         match self.next_with(hash, from) {
             Some(number) => {
