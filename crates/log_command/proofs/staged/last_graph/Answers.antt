@@ -1,7 +1,7 @@
 use Rattle.std.proofs.Common.{◌∙◌, List, subst, sym}
 use Rattle.rdf_model.specs.declared.triple.Triple.{Triple}
 use Rattle.shape_rules.specs.Broken.{IsWellFormed}
-use Rattle.shapes_graph.proofs.Empty.{empty_well_formed}
+use Rattle.shape_rules.proofs.Empty.{empty_well_formed}
 use Rattle.log_command.proofs.LastStaged.{is_last, last_ascends, none_staged, shapes_stop_as}
 use Rattle.log_command.proofs.staged.last_graph.Goals as goal
 

@@ -5,7 +5,8 @@ use Rattle.rdf_model.specs.declared.term.Term.{Term}
 use Rattle.shape_ast.specs.Once.{AreOnce}
 use Rattle.shape_ast.specs.Standing.{AreCompiled}
 use Rattle.shape_rules.specs.Broken.{IsWellFormed}
-use Rattle.shapes_graph.proofs.Empty.{empty_compiled, empty_once, empty_well_formed}
+use Rattle.shape_rules.proofs.Empty.{empty_well_formed}
+use Rattle.shapes_graph.proofs.Empty.{empty_compiled, empty_once}
 use Rattle.shapes_graph.proofs.graph.ShapesGraph.empty.Goals as goal
 
 pub new-requires-3-clause-well_formed : goal.new-requires-3-clause-well_formed
