@@ -1,29 +1,28 @@
 //! The commands and their arguments, as `clap` takes them.
-ghost use Rattle.std.specs.Prelude.{◌≡◌, IfOk, false};
-ghost use Rattle.clap.specs.Words.{app_of, new_app, rule_of};
-ghost use Rattle.clap.specs.declared.builder.command.Command.TheViews.{out-Command};
+ghost use Rattle.std.specs.Prelude.{◌≡◌, IfOk};
+ghost use Rattle.clap.specs.Words.{app_of, new_app, with_rule, with_subcommand};
+ghost use Rattle.command_line.specs.Building;
+ghost use Rattle.command_line.specs.Building.{IsArgument, IsCommand};
 ghost use Rattle.command_line.specs.CommandLine;
 
 use clap::{Arg, ArgAction, Command};
+use collections::both;
 use std::alloc::{AllocError, Global};
 
 fn option<'a>(alloc: Global, id: &'a str) -> Arg<'a>
-    ensures rule { rule_of result ≡ CommandLine.option_rule id.entry.now }
-    ensures local { result.global ≡ false }
+    ensures { IsArgument (CommandLine.option_rule id.entry.now) result }
 {
     Arg::new(alloc, id).long(id).action(ArgAction::Set)
 }
 
 fn name<'a>(alloc: Global, id: &'a str) -> Arg<'a>
-    ensures rule { rule_of result ≡ CommandLine.name_rule id.entry.now }
-    ensures local { result.global ≡ false }
+    ensures { IsArgument (CommandLine.name_rule id.entry.now) result }
 {
     Arg::new(alloc, id).required(true).action(ArgAction::Set)
 }
 
 fn names<'a>(alloc: Global, id: &'a str) -> Arg<'a>
-    ensures rule { rule_of result ≡ CommandLine.names_rule id.entry.now }
-    ensures local { result.global ≡ false }
+    ensures { IsArgument (CommandLine.names_rule id.entry.now) result }
 {
     Arg::new(alloc, id)
         .required(true)
@@ -31,119 +30,165 @@ fn names<'a>(alloc: Global, id: &'a str) -> Arg<'a>
         .action(ArgAction::Append)
 }
 
+// A command without arguments.
+fn named<'a>(alloc: Global, name: &'a str) -> Result<Command<'a>, AllocError>
+    ensures { IfOk result (IsCommand (new_app name.entry.now)) }
+{
+    Ok(Command::new(alloc, name))
+}
+
+// The command with an option more.
+fn with_option<'a>(
+    command: Result<Command<'a>, AllocError>,
+    alloc: Global,
+    id: &'a str,
+) -> Result<Command<'a>, AllocError>
+    ensures { (app : _) → IfOk command.entry (IsCommand app)
+        → IfOk result (IsCommand (with_rule app (CommandLine.option_rule id.entry.now))) }
+{
+    command?.arg(option(alloc, id))
+}
+
+// The command with a name more.
+fn with_name<'a>(
+    command: Result<Command<'a>, AllocError>,
+    alloc: Global,
+    id: &'a str,
+) -> Result<Command<'a>, AllocError>
+    ensures { (app : _) → IfOk command.entry (IsCommand app)
+        → IfOk result (IsCommand (with_rule app (CommandLine.name_rule id.entry.now))) }
+{
+    command?.arg(name(alloc, id))
+}
+
+// The command with names more, one at least.
+fn with_names<'a>(
+    command: Result<Command<'a>, AllocError>,
+    alloc: Global,
+    id: &'a str,
+) -> Result<Command<'a>, AllocError>
+    ensures { (app : _) → IfOk command.entry (IsCommand app)
+        → IfOk result (IsCommand (with_rule app (CommandLine.names_rule id.entry.now))) }
+{
+    command?.arg(names(alloc, id))
+}
+
+// The command with a subcommand more.
+fn with_command<'a>(
+    command: Result<Command<'a>, AllocError>,
+    subcommand: Result<Command<'a>, AllocError>,
+) -> Result<Command<'a>, AllocError>
+    ensures { (app : _) → (under : _) → IfOk command.entry (IsCommand app) → IfOk subcommand.entry (IsCommand under)
+        → IfOk result (IsCommand (with_subcommand app under.top)) }
+{
+    let (command, subcommand) = both(command, subcommand)?;
+    command.subcommand(subcommand)
+}
+
 // A command with the options of a store.
 fn with_limits<'a>(alloc: Global, name: &'a str) -> Result<Command<'a>, AllocError>
-    ensures app { IfOk result (λ c. app_of c ≡ CommandLine.with_limits (new_app name.entry.now)) }
-    ensures local { IfOk result (λ c. (out-Command c).has_globals ≡ false) }
+    ensures { IfOk result (IsCommand (CommandLine.with_limits (new_app name.entry.now))) }
 {
-    Command::new(alloc, name)
-        .arg(option(alloc, "max-terms"))?
-        .arg(option(alloc, "max-triples"))?
-        .arg(option(alloc, "block"))
+    let command = with_option(named(alloc, name), alloc, "max-terms");
+    let command = with_option(command, alloc, "max-triples");
+    with_option(command, alloc, "block")
 }
 
 fn run<'a>(alloc: Global) -> Result<Command<'a>, AllocError>
-    ensures app { IfOk result (λ c. app_of c ≡ CommandLine.run) }
-    ensures local { IfOk result (λ c. (out-Command c).has_globals ≡ false) }
+    ensures { IfOk result (IsCommand CommandLine.run) }
 {
-    with_limits(alloc, "run")?
-        .arg(option(alloc, "log"))?
-        .arg(names(alloc, "files"))
+    let command = with_option(with_limits(alloc, "run"), alloc, "log");
+    with_names(command, alloc, "files")
 }
 
 fn replay<'a>(alloc: Global) -> Result<Command<'a>, AllocError>
-    ensures app { IfOk result (λ c. app_of c ≡ CommandLine.replay) }
-    ensures local { IfOk result (λ c. (out-Command c).has_globals ≡ false) }
+    ensures { IfOk result (IsCommand CommandLine.replay) }
 {
-    with_limits(alloc, "replay")?
-        .arg(name(alloc, "history"))?
-        .arg(names(alloc, "files"))
+    let command = with_name(with_limits(alloc, "replay"), alloc, "history");
+    with_names(command, alloc, "files")
 }
 
 fn create_log<'a>(alloc: Global) -> Result<Command<'a>, AllocError>
-    ensures app { IfOk result (λ c. app_of c ≡ CommandLine.create_log) }
-    ensures local { IfOk result (λ c. (out-Command c).has_globals ≡ false) }
+    ensures { IfOk result (IsCommand CommandLine.create_log) }
 {
-    Command::new(alloc, "create-log").arg(name(alloc, "name"))
+    with_name(named(alloc, "create-log"), alloc, "name")
 }
 
 fn follow<'a>(alloc: Global) -> Result<Command<'a>, AllocError>
-    ensures app { IfOk result (λ c. app_of c ≡ CommandLine.follow) }
-    ensures local { IfOk result (λ c. (out-Command c).has_globals ≡ false) }
+    ensures { IfOk result (IsCommand CommandLine.follow) }
 {
-    Command::new(alloc, "follow")
-        .arg(name(alloc, "log"))?
-        .arg(name(alloc, "order"))?
-        .arg(name(alloc, "number"))
+    let command = with_name(named(alloc, "follow"), alloc, "log");
+    let command = with_name(command, alloc, "order");
+    with_name(command, alloc, "number")
+}
+
+// A command with the names of a data graph and a shapes graph.
+fn with_graphs<'a>(alloc: Global, name: &'a str) -> Result<Command<'a>, AllocError>
+    ensures { IfOk result (IsCommand (Building.with_graphs (new_app name.entry.now))) }
+{
+    let command = with_name(named(alloc, name), alloc, "data");
+    with_name(command, alloc, "shapes")
 }
 
 fn validate<'a>(alloc: Global) -> Result<Command<'a>, AllocError>
-    ensures app { IfOk result (λ c. app_of c ≡ CommandLine.validate) }
-    ensures local { IfOk result (λ c. (out-Command c).has_globals ≡ false) }
+    ensures { IfOk result (IsCommand CommandLine.validate) }
 {
-    Command::new(alloc, "validate")
-        .arg(name(alloc, "data"))?
-        .arg(name(alloc, "shapes"))
+    with_graphs(alloc, "validate")
 }
 
 fn explain<'a>(alloc: Global) -> Result<Command<'a>, AllocError>
-    ensures app { IfOk result (λ c. app_of c ≡ CommandLine.explain) }
-    ensures local { IfOk result (λ c. (out-Command c).has_globals ≡ false) }
+    ensures { IfOk result (IsCommand CommandLine.explain) }
 {
-    Command::new(alloc, "explain")
-        .arg(name(alloc, "data"))?
-        .arg(name(alloc, "shapes"))
+    with_graphs(alloc, "explain")
 }
 
 fn verify<'a>(alloc: Global) -> Result<Command<'a>, AllocError>
-    ensures app { IfOk result (λ c. app_of c ≡ CommandLine.verify) }
-    ensures local { IfOk result (λ c. (out-Command c).has_globals ≡ false) }
+    ensures { IfOk result (IsCommand CommandLine.verify) }
 {
-    Command::new(alloc, "verify")
-        .arg(name(alloc, "data"))?
-        .arg(name(alloc, "shapes"))?
-        .arg(name(alloc, "evidence"))
+    with_name(with_graphs(alloc, "verify"), alloc, "evidence")
 }
 
 fn generate<'a>(alloc: Global) -> Result<Command<'a>, AllocError>
-    ensures app { IfOk result (λ c. app_of c ≡ CommandLine.generate) }
-    ensures local { IfOk result (λ c. (out-Command c).has_globals ≡ false) }
+    ensures { IfOk result (IsCommand CommandLine.generate) }
 {
-    Command::new(alloc, "generate").arg(name(alloc, "numbers"))
+    with_name(named(alloc, "generate"), alloc, "numbers")
+}
+
+// The program's command, which takes one of others.
+fn program<'a>(alloc: Global) -> Result<Command<'a>, AllocError>
+    ensures { IfOk result (IsCommand Building.program) }
+{
+    Ok(Command::new(alloc, "shacl_guard").subcommand_required(true))
 }
 
 // The program's command with those that run session files.
 fn session_commands<'a>(alloc: Global) -> Result<Command<'a>, AllocError>
-    ensures { IfOk result (λ c. app_of c ≡ CommandLine.session_commands) }
+    ensures { IfOk result (IsCommand CommandLine.session_commands) }
 {
-    Command::new(alloc, "shacl_guard")
-        .subcommand_required(true)
-        .subcommand(run(alloc)?)?
-        .subcommand(replay(alloc)?)
+    let command = with_command(program(alloc), run(alloc));
+    with_command(command, replay(alloc))
 }
 
 // The program's command with those too that make a log and follow one.
 fn store_commands<'a>(alloc: Global) -> Result<Command<'a>, AllocError>
-    ensures { IfOk result (λ c. app_of c ≡ CommandLine.store_commands) }
+    ensures { IfOk result (IsCommand CommandLine.store_commands) }
 {
-    session_commands(alloc)?
-        .subcommand(create_log(alloc)?)?
-        .subcommand(follow(alloc)?)
+    let command = with_command(session_commands(alloc), create_log(alloc));
+    with_command(command, follow(alloc))
 }
 
 // The program's command with those too that take a data graph and a shapes graph.
 fn file_commands<'a>(alloc: Global) -> Result<Command<'a>, AllocError>
-    ensures { IfOk result (λ c. app_of c ≡ CommandLine.file_commands) }
+    ensures { IfOk result (IsCommand CommandLine.file_commands) }
 {
-    store_commands(alloc)?
-        .subcommand(validate(alloc)?)?
-        .subcommand(explain(alloc)?)?
-        .subcommand(verify(alloc)?)
+    let command = with_command(store_commands(alloc), validate(alloc));
+    let command = with_command(command, explain(alloc));
+    with_command(command, verify(alloc))
 }
 
 /// The command that the words are read for.
 pub fn command_line<'a>(alloc: Global) -> Result<Command<'a>, AllocError>
     ensures { IfOk result (λ c. app_of c ≡ CommandLine.command_line) }
 {
-    file_commands(alloc)?.subcommand(generate(alloc)?)
+    with_command(file_commands(alloc), generate(alloc))
 }

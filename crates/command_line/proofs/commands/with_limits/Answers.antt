@@ -1,0 +1,4 @@
+use Rattle.command_line.proofs.commands.with_limits.Goals as goal
+
+pub returns : goal.returns
+returns c = c.with_option.ensures _ (c.with_option-command-2.ensures _ (c.with_option-command.ensures _ c.named.ensures))
