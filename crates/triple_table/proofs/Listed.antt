@@ -1,0 +1,137 @@
+-- Triples by the ranks of their terms ascend as the triples do.
+use Rattle.std.proofs.Common.{◌≡◌, ◌∙◌, ℕ, zero, suc, ◌+◌, ◌<◌, ◌≤◌, List, [], ◌∷◌, length, map, get_or, refl, sym, subst, ap, arith, inl, inr}
+use Rattle.std.specs.Prelude.{◌⊎◌, ◌↔◌}
+use Rattle.std.specs.List.{AllByRecursion, Contains}
+use Rattle.std.specs.declared.cmp.Ordering.{Ordering}
+use Rattle.std.specs.declared.cmp.Ordering.TheVariants.{Less, Equal, Greater}
+use Rattle.std.specs.Ordering.{MatchOrdering, nat_cmp, ordering_reverse, ordering_then}
+use Rattle.std.specs.Cmp.{nat_cmp_is, tied_itself}
+use Rattle.std.proofs.lemmas.List.{length-map}
+use Rattle.std.proofs.lemmas.Bool.{cases_eq, cases_lt}
+use Rattle.std.proofs.lemmas.Cmp.{nat_cmp_total}
+use Rattle.collections.specs.Listings.{IsListing}
+use Rattle.collections.specs.Ordered.{AllAbove, IsAscending}
+use Rattle.collections.proofs.Members.{below, has_cases, has_equal, has_tail}
+use Rattle.rdf_model.specs.declared.ids.Ids.{Ids}
+use Rattle.rdf_model.specs.declared.term.Term.{Term}
+use Rattle.rdf_model.specs.declared.term.Term.TheVariants.{Blank}
+use Rattle.rdf_model.specs.declared.triple.Triple.{Triple}
+use Rattle.rdf_model.specs.Numbers.{AreNumbered, graph_of, term_at, triple_at}
+use Rattle.rdf_model.specs.Orders.{term_total}
+use Rattle.rdf_model.specs.Terms.{term_cmp, triple_cmp}
+use Rattle.triple_table.specs.Ranks.{IsBelow, IsRanking, Placed, ids_cmp, rank_at, ranked, terms_of}
+use Rattle.triple_table.proofs.Ranking.{get_or-other}
+
+-- what stands in a list of images
+in_image : {X Y : Type 0} (f : X → Y) (xs : List X) (x : X) → Contains xs x → Contains (map f xs) (f x)
+in_image f [] x c = absurd (omega arith)
+in_image f (y ∷ xs) x c = elim (has_cases y xs x c) [
+  | inl e ↦ has_equal (f y) (map f xs) (f x) (ap f e)
+  | inr d ↦ has_tail (f y) (map f xs) (f x) (in_image f xs x d)
+]
+
+from_image : {X Y : Type 0} (f : X → Y) (xs : List X) (y : Y) → Contains (map f xs) y → (x : X) × Contains xs x × (f x ≡ y)
+from_image f [] y c = absurd (omega arith)
+from_image f (x ∷ xs) y c = elim (has_cases (f x) (map f xs) y c) [
+  | inl e ↦ (x, has_equal x xs x refl, e)
+  | inr d ↦ let r = from_image f xs y d in (r.0, has_tail x xs r.0 r.1, r.2)
+]
+
+pub each_is : {X : Type 0} (P : X → Type 0) (xs : List X) (x : X) → AllByRecursion P xs → Contains xs x → P x
+each_is P [] x a c = absurd (omega arith)
+each_is P (y ∷ xs) x a c = elim (has_cases y xs x c) [
+  | inl e ↦ subst P e a.0
+  | inr d ↦ each_is P xs x a.1 d
+]
+
+from_each : {X : Type 0} (P : X → Type 0) (xs : List X) → ((x : X) → Contains xs x → P x) → AllByRecursion P xs
+from_each P [] f = tt
+from_each P (x ∷ xs) f = (f x (has_equal x xs x refl), from_each P xs (λ y c. f y (has_tail x xs y c)))
+
+-- the order of ascending terms is that of their places
+rises : (ts : List Term) (n m : ℕ) → IsAscending term_cmp ts → n < m → m < length ts → term_cmp (term_at ts n) (term_at ts m) ≡ Less
+rises [] n m a l w = absurd (omega arith)
+rises (t ∷ ts) n zero a l w = absurd (omega arith)
+rises (t ∷ ts) zero (suc m) a l w = below term_cmp t ts (term_at ts m) a.0 (m, omega arith, get_or-other ts m (term_at ts m) (Blank 0 0) (omega arith))
+rises (t ∷ ts) (suc n) (suc m) a l w = rises ts n m a.1 (omega arith) (omega arith)
+
+order_at : (ts : List Term) (n m : ℕ) → IsAscending term_cmp ts → n < length ts → m < length ts → term_cmp (term_at ts n) (term_at ts m) ≡ nat_cmp n m
+order_at ts n m a v w = elim (cases_eq n m) [
+  | inl e ↦ subst (λ (k : ℕ). term_cmp (term_at ts n) (term_at ts k) ≡ nat_cmp n k) e (tied_itself term_total (term_at ts n) ∙ sym (tied_itself nat_cmp_total n))
+  | inr f ↦ elim (cases_lt n m) [
+    | inl l ↦ rises ts n m a l w ∙ nat_cmp_is n m Less l
+    | inr g ↦ (let l : m < n = less f g in term_total.antisymm (term_at ts n) (term_at ts m) ∙ ap ordering_reverse (rises ts m n a l v) ∙ nat_cmp_is n m Greater l)
+  ]
+]
+  where
+    less : (n ≡ m → ⊥) → m ≤ n → m < n
+    less f g = elim (cases_lt m n) [ inl l ↦ l | inr k ↦ absurd (f (omega arith)) ]
+
+module _ (ts : List Term) (a : IsAscending term_cmp ts) where
+  triple_order : (i j : Ids) → IsBelow (length ts) i → IsBelow (length ts) j → triple_cmp (triple_at ts i) (triple_at ts j) ≡ ids_cmp i j
+  triple_order i j p q =
+      let s = order_at ts i.subject j.subject a p.0 q.0 in
+      let v = order_at ts i.predicate j.predicate a p.1 q.1 in
+      let o = order_at ts i.object j.object a p.2 q.2 in
+      λ k. ordering_then (s k) (ordering_then (v k) (o k))
+
+  triples_above : (i : Ids) (is : List Ids) → IsBelow (length ts) i → AllByRecursion (IsBelow (length ts)) is → AllAbove ids_cmp i is → AllAbove triple_cmp (triple_at ts i) (graph_of ts is)
+  triples_above i [] p q above = tt
+  triples_above i (j ∷ is) p q above = (triple_order i j p q.0 ∙ above.0, triples_above i is p q.1 above.1)
+
+  graph_ascends : (is : List Ids) → AllByRecursion (IsBelow (length ts)) is → IsAscending ids_cmp is → IsAscending triple_cmp (graph_of ts is)
+  graph_ascends [] q up = tt
+  graph_ascends (i ∷ is) q up = (triples_above i is q.0 q.1 up.0, graph_ascends is q.1 up.1)
+
+module _ (ts sorted : List Term) (ranks : List ℕ) (r : IsRanking ts sorted ranks) where
+  -- the triple of ranks is that of the numbers
+  same_triple : (i : Ids) → IsBelow (length ts) i → triple_at sorted (ranked ranks i) ≡ triple_at ts i
+  same_triple i p =
+      let s = (r.stands i.subject p.0).1 in
+      let v = (r.stands i.predicate p.1).1 in
+      let o = (r.stands i.object p.2).1 in
+      λ k. record { subject = s k; predicate = v k; object = o k }
+
+  ranked_below : (i : Ids) → IsBelow (length ts) i → IsBelow (length sorted) (ranked ranks i)
+  ranked_below i p = ((r.stands i.subject p.0).0, (r.stands i.predicate p.1).0, (r.stands i.object p.2).0)
+
+  pub below_ranks : (ids : List Ids) → AreNumbered ts ids → AllByRecursion (IsBelow (length ranks)) ids
+  below_ranks ids n = subst (λ (k : ℕ). AllByRecursion (IsBelow k) ids) (sym r.long) n
+
+  module _ (ids out : List Ids) (n : AreNumbered ts ids) (l : IsListing ids_cmp (Contains (map (ranked ranks) ids)) out) where
+    pub out_below : AllByRecursion (IsBelow (length sorted)) out
+    out_below = from_each (IsBelow (length sorted)) out (λ o c.
+        (let i = from_image (ranked ranks) ids o ((l.members o).0 c) in
+        subst (IsBelow (length sorted)) i.2 (ranked_below i.0 (each_is (IsBelow (length ts)) ids i.0 n i.1))))
+
+    to : (t : Triple) → Contains (graph_of sorted out) t → Contains (graph_of ts ids) t
+    to t c =
+        let o = from_image (triple_at sorted) out t c in
+        let i = from_image (ranked ranks) ids o.0 ((l.members o.0).0 o.1) in
+        let same = same_triple i.0 (each_is (IsBelow (length ts)) ids i.0 n i.1) in
+        subst (λ (u : Triple). Contains (graph_of ts ids) u) (sym same ∙ ap (triple_at sorted) i.2 ∙ o.2) (in_image (triple_at ts) ids i.0 i.1)
+
+    back : (t : Triple) → Contains (graph_of ts ids) t → Contains (graph_of sorted out) t
+    back t c =
+        let i = from_image (triple_at ts) ids t c in
+        let same = same_triple i.0 (each_is (IsBelow (length ts)) ids i.0 n i.1) in
+        subst (λ (u : Triple). Contains (graph_of sorted out) u) (same ∙ i.2) (in_image (triple_at sorted) out (ranked ranks i.0) ((l.members (ranked ranks i.0)).1 (in_image (ranked ranks) ids i.0 i.1)))
+
+    pub ranked_listing : IsListing triple_cmp (Contains (graph_of ts ids)) (graph_of sorted out)
+    ranked_listing = record {
+      ascending = graph_ascends sorted r.ascending out out_below l.ascending;
+      members = λ t. (λ c. to t c, λ c. back t c);
+    }
+
+-- the same, where what was read is what was made
+pub listing_as : (ranks rs : List ℕ) (ids found out : List Ids) → rs ≡ ranks → found ≡ map (ranked rs) ids → IsListing ids_cmp (Contains found) out → IsListing ids_cmp (Contains (map (ranked ranks) ids)) out
+listing_as ranks rs ids found out e f l = subst (λ (is : List Ids). IsListing ids_cmp (Contains is) out) (f ∙ ap (λ (r : List ℕ). map (ranked r) ids) e) l
+
+pub below_as : (placed us : List Placed) (out outs : List Ids) → us ≡ placed → outs ≡ out → AllByRecursion (IsBelow (length (terms_of placed))) out → AllByRecursion (IsBelow (length us)) outs
+below_as placed us out outs e f a =
+    let long = length-map placed (λ (p : Placed). p.term) ∙ sym (ap (λ (ps : List Placed). length ps) e) in
+    subst (λ (is : List Ids). AllByRecursion (IsBelow (length us)) is) (sym f) (subst (λ (n : ℕ). AllByRecursion (IsBelow n) out) long a)
+
+pub ranked_listing_as : (ts : List Term) (placed us : List Placed) (ranks : List ℕ) (ids out outs : List Ids) (triples : List Triple) → IsRanking ts (terms_of placed) ranks → AreNumbered ts ids → IsListing ids_cmp (Contains (map (ranked ranks) ids)) out → us ≡ placed → outs ≡ out → triples ≡ graph_of (terms_of us) outs → IsListing triple_cmp (Contains (graph_of ts ids)) triples
+ranked_listing_as ts placed us ranks ids out outs triples r n l e f g =
+    subst (λ (zs : List Triple). IsListing triple_cmp (Contains (graph_of ts ids)) zs) (sym (g ∙ (λ k. graph_of (terms_of (e k)) (f k)))) (ranked_listing ts (terms_of placed) ranks r ids out n l)

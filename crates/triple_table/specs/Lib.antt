@@ -1,0 +1,5 @@
+pub mod Hashes
+pub mod Orders
+pub mod Ranks
+pub mod Sought
+pub mod Tables

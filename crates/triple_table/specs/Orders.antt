@@ -1,0 +1,41 @@
+-- The laws of the orders of terms with their places, and of triples by numbers.
+use Rattle.std.specs.Prelude.{◌≡◌, refl}
+use Rattle.std.specs.declared.cmp.Ordering.{Ordering}
+use Rattle.std.specs.declared.cmp.Ordering.TheVariants.{Less, Equal, Greater}
+use Rattle.std.specs.Ordering.{nat_cmp, ordering_then}
+use Rattle.std.specs.Cmp.{IsTotalOrder}
+use Rattle.std.specs.FinMap.{nat_cmp-IsAntisymmetric}
+use Rattle.std.proofs.lemmas.Cmp.{nat_cmp_total, on_total, then_total}
+use Rattle.rdf_model.specs.declared.ids.Ids.{Ids}
+use Rattle.rdf_model.specs.Orders.{term_exact, term_total}
+use Rattle.rdf_model.specs.Terms.{term_cmp}
+use Rattle.triple_table.specs.Ranks.{Placed, ids_cmp, placed_cmp}
+
+-- when two orders in turn find no difference, neither does
+both_equal : (o p : Ordering) → ordering_then o p ≡ Equal → (o ≡ Equal) × (p ≡ Equal)
+both_equal Less p h = cc
+both_equal Equal p h = (refl, h)
+both_equal Greater p h = cc
+
+pub placed_total : IsTotalOrder placed_cmp
+placed_total = then_total (on_total (λ (p : Placed). p.term) term_total) (on_total (λ (p : Placed). p.place) nat_cmp_total)
+
+-- those that tie are one
+pub placed_exact : (a b : Placed) → placed_cmp a b ≡ Equal → a ≡ b
+placed_exact a b h =
+    let p = both_equal (term_cmp a.term b.term) (nat_cmp a.place b.place) h in
+    let term = term_exact a.term b.term p.0 in
+    let place = nat_cmp-IsAntisymmetric a.place b.place p.1 in
+    λ i. record { term = term i; place = place i }
+
+pub ids_total : IsTotalOrder ids_cmp
+ids_total = then_total (on_total (λ (i : Ids). i.subject) nat_cmp_total) (then_total (on_total (λ (i : Ids). i.predicate) nat_cmp_total) (on_total (λ (i : Ids). i.object) nat_cmp_total))
+
+pub ids_exact : (a b : Ids) → ids_cmp a b ≡ Equal → a ≡ b
+ids_exact a b h =
+    let p = both_equal (nat_cmp a.subject b.subject) (ordering_then (nat_cmp a.predicate b.predicate) (nat_cmp a.object b.object)) h in
+    let q = both_equal (nat_cmp a.predicate b.predicate) (nat_cmp a.object b.object) p.1 in
+    let subject = nat_cmp-IsAntisymmetric a.subject b.subject p.0 in
+    let predicate = nat_cmp-IsAntisymmetric a.predicate b.predicate q.0 in
+    let object = nat_cmp-IsAntisymmetric a.object b.object q.1 in
+    λ i. record { subject = subject i; predicate = predicate i; object = object i }

@@ -1,0 +1,241 @@
+//! Terms, each kept once, in the order of their first appearance.
+ghost use Rattle.std.specs.Prelude.{◌≡◌, ◌<◌, ◌^◌, [], IfOk, length};
+ghost use Rattle.rdf_model.specs.Numbers.{IsNumbering};
+ghost use Rattle.std.specs.Ordering.{eq_by_cmp};
+ghost use Rattle.rdf_model.specs.Terms.{term_cmp};
+ghost use Rattle.triple_table.specs.Tables.{HasGrown, IsPlaceOf, IsTripleOf};
+
+use crate::narrowed::narrowed;
+use indexmap::{Equivalent, IndexSet};
+use rdf_model::{Ids, Term};
+use std::alloc::{AllocError, Global};
+use std::hash::{Hash, Hasher};
+use std::marker::Model;
+
+// A term among others, found by its hash.
+#[derive(Debug, Drop)]
+pub(crate) struct KeptTerm {
+    term: Term,
+}
+
+impl Model for KeptTerm {
+    ghost use Rattle.rdf_model.specs.declared.term.Term.{Term as TermData};
+
+    ghost Value = { TermData };
+
+    ghost view = { λ k. k.term };
+}
+
+impl PartialEq for KeptTerm {
+    ghost use Rattle.std.specs.Cmp.{partial_equiv_from_equiv, eq_by_cmp_equiv};
+    ghost use Rattle.rdf_model.specs.Orders.{term_total};
+
+    ghost eq = { eq_by_cmp term_cmp };
+
+    ghost laws = { partial_equiv_from_equiv (eq_by_cmp_equiv term_total) };
+
+    fn eq(&self, other: &KeptTerm) -> bool {
+        self.term == other.term
+    }
+}
+
+impl Eq for KeptTerm {
+    ghost use Rattle.std.specs.Cmp.{eq_by_cmp_equiv};
+    ghost use Rattle.rdf_model.specs.Orders.{term_total};
+
+    ghost laws = { eq_by_cmp_equiv term_total };
+}
+
+impl Hash for KeptTerm {
+    ghost use Rattle.triple_table.specs.Hashes.{term_writes, fed_alike};
+
+    ghost hash_input = { term_writes };
+
+    ghost respects_eq = { fed_alike };
+
+    fn hash<H: Hasher>(&self, state: &mut H) {
+        SoughtTerm { term: &self.term }.hash(state);
+    }
+}
+
+// A term that is looked for among those that are kept.
+#[derive(Clone, Copy)]
+struct SoughtTerm<'a> {
+    term: &'a Term,
+}
+
+impl<'a> PartialEq for SoughtTerm<'a> {
+    ghost use Rattle.triple_table.specs.Sought.{same_sought, sought_laws};
+    ghost use Rattle.std.specs.Cmp.{partial_equiv_from_equiv};
+
+    ghost eq = { same_sought };
+
+    ghost laws = { partial_equiv_from_equiv sought_laws };
+
+    fn eq(&self, other: &SoughtTerm<'a>) -> bool {
+        *self.term == *other.term
+    }
+}
+
+impl<'a> Eq for SoughtTerm<'a> {
+    ghost use Rattle.triple_table.specs.Sought.{sought_laws};
+
+    ghost laws = { sought_laws };
+}
+
+impl<'a> Hash for SoughtTerm<'a> {
+    ghost use Rattle.triple_table.specs.Hashes.{term_writes, fed_alike};
+
+    ghost hash_input = { λ s. term_writes s.term.now };
+
+    ghost respects_eq = { λ x y. fed_alike x.term.now y.term.now };
+
+    fn hash<H: Hasher>(&self, state: &mut H) {
+        match self.term {
+            Term::Blank { session, number } => {
+                session.hash(state);
+                number.hash(state);
+            }
+            Term::Iri(iri) => iri.as_str().hash(state),
+            Term::Literal {
+                lexical,
+                datatype,
+                language,
+            } => {
+                lexical.as_str().hash(state);
+                datatype.as_str().hash(state);
+                if let Some(tag) = language {
+                    tag.as_str().hash(state);
+                }
+            }
+        }
+    }
+}
+
+impl<'a> Equivalent<KeptTerm> for SoughtTerm<'a> {
+    ghost use Rattle.std.specs.Cmp.{eq_by_cmp_equiv};
+    ghost use Rattle.rdf_model.specs.Orders.{term_total};
+    ghost use Rattle.triple_table.specs.Hashes.{fed_alike};
+
+    ghost equivalent = { λ q. eq_by_cmp term_cmp q.term.now };
+
+    ghost respects_hash = { λ q. fed_alike q.term.now };
+
+    ghost respects_eq = { λ q. (eq_by_cmp_equiv term_total).congr q.term.now };
+
+    fn equivalent(&self, key: &KeptTerm) -> bool {
+        *self.term == key.term
+    }
+}
+
+// Terms, each once, in the order of their first appearance.
+#[derive(Debug)]
+pub(crate) struct KeptTerms {
+    alloc: Global,
+    seen: IndexSet<KeptTerm>,
+}
+
+// Written by hand, so that what owns such terms calls it in place of having it written out.
+impl Drop for KeptTerms {
+    fn drop(self) {
+        match self {
+            KeptTerms { alloc: _, seen: _ } => {}
+        }
+    }
+}
+
+impl Model for KeptTerms {
+    ghost use Rattle.std.specs.Prelude.{List};
+    ghost use Rattle.rdf_model.specs.declared.term.Term.{Term as TermData};
+
+    ghost Value = { List TermData };
+
+    ghost view = { λ k. k.seen.keys };
+}
+
+impl KeptTerms {
+    pub(crate) fn new(alloc: Global) -> KeptTerms
+        ensures { result ≡ [] }
+    {
+        KeptTerms {
+            alloc,
+            seen: IndexSet::new(alloc),
+        }
+    }
+
+    // The terms in their order.
+    pub(crate) fn terms(&self) -> &[KeptTerm]
+        ensures terms { result.now ≡ self.now }
+        ensures numbering { IsNumbering self.now }
+    {
+        self.seen.as_slice()
+    }
+
+    // The place of a term, which becomes the last one where it has none.
+    fn place(&mut self, term: Term) -> Result<u32, AllocError>
+        ensures grown { HasGrown self.old self.new }
+        ensures place { IfOk result (λ place. IsPlaceOf self.new place term) }
+    {
+        let (place, _) = self.seen.insert_full(KeptTerm { term })?;
+        Ok(narrowed(place)?)
+    }
+
+    // The place of a term, of which a copy becomes the last one where it has none.
+    fn place_of(&mut self, term: &Term) -> Result<u32, AllocError>
+        ensures grown { HasGrown self.old self.new }
+        ensures place { IfOk result (λ place. IsPlaceOf self.new place term.now) }
+    {
+        match self.seen.get_index_of(SoughtTerm { term }) {
+            Some(place) => Ok(narrowed(place)?),
+            None => self.place(term.clone()?),
+        }
+    }
+
+    // The numbers of the triple of three terms.
+    pub(crate) fn place_all(
+        &mut self,
+        subject: &Term,
+        predicate: &Term,
+        object: Term,
+    ) -> Result<Ids, AllocError>
+        ensures grown { HasGrown self.old self.new }
+        ensures ids { IfOk result (λ ids. IsTripleOf self.new ids (record { subject = subject.now; predicate = predicate.now; object = object })) }
+    {
+        let subject = self.place_of(subject)?;
+        let predicate = self.place_of(predicate)?;
+        let object = self.place(object)?;
+        Ok(Ids {
+            subject,
+            predicate,
+            object,
+        })
+    }
+
+    // The vector of the terms.
+    pub(crate) fn into_vec(self) -> Result<Vec<Term>, AllocError>
+        ensures terms { IfOk result (λ terms. terms.items ≡ self) }
+        ensures numbering { IfOk result (λ terms. IsNumbering terms.items) }
+    {
+        let KeptTerms { alloc, seen } = self;
+        Ok(
+            seen.into_iter()
+                .map(|kept| kept.into_term())
+                .collect(alloc)?,
+        )
+    }
+}
+
+impl KeptTerm {
+    pub(crate) fn term(&self) -> &Term
+        ensures { result.now ≡ self.now }
+    {
+        &self.term
+    }
+
+    fn into_term(self) -> Term
+        ensures { result ≡ self }
+    {
+        let KeptTerm { term } = self;
+        term
+    }
+}

@@ -1,0 +1,107 @@
+//! Triples in the order in which they were found.
+ghost use Rattle.std.specs.Prelude.{◌≡◌, [], ◌∷◌, ◌++◌, IfOk, OnErr, OnOk};
+ghost use Rattle.std.specs.List.{Contains};
+ghost use Rattle.collections.specs.Listings.{IsListing};
+ghost use Rattle.rdf_model.specs.Numbers.{AreNumbered, IsNumbering, graph_of};
+ghost use Rattle.rdf_model.specs.Terms.{triple_cmp};
+
+use crate::kept::KeptTerms;
+use crate::ranks::sorted_triples;
+use collections::Sequence;
+use rdf_model::{Ids, Term, Triple};
+use std::alloc::{AllocError, Global};
+use std::marker::Model;
+
+/// Triples in the order in which they were found, by the numbers of their terms, each of which is kept once. Contracts see
+/// the list of the triples.
+#[derive(Debug)]
+pub struct TripleTable {
+    alloc: Global,
+    terms: KeptTerms,
+    triples: Vec<Ids>,
+}
+
+// Written by hand, so that what owns a table calls it in place of having it written out.
+impl Drop for TripleTable {
+    fn drop(self) {
+        let TripleTable {
+            alloc: _,
+            terms: _,
+            triples: _,
+        } = self;
+    }
+}
+
+impl Model for TripleTable {
+    ghost use Rattle.std.specs.Prelude.{List};
+    ghost use Rattle.rdf_model.specs.Numbers.{AreNumbered, graph_of};
+    ghost use Rattle.rdf_model.specs.declared.triple.Triple.{Triple as TripleData};
+
+    ghost Value = { List TripleData };
+
+    ghost view = { λ t. graph_of t.terms t.triples.items };
+
+    ghost invariant = { λ t. AreNumbered t.terms t.triples.items };
+}
+
+impl TripleTable {
+    /// No triple. It takes no memory.
+    pub fn new(alloc: Global) -> TripleTable
+        ensures { result ≡ [] }
+    {
+        TripleTable {
+            alloc,
+            terms: KeptTerms::new(alloc),
+            triples: Vec::new(alloc),
+        }
+    }
+
+    /// Adds a triple. It fails for want of memory, or of numbers for the terms, and the triples are then as they were.
+    pub fn push(&mut self, triple: Triple) -> Result<(), AllocError>
+        ensures ok { OnOk result (self.new ≡ self.old ++ triple ∷ []) }
+        ensures err { OnErr result (self.new ≡ self.old) }
+    {
+        self.push_terms(&triple.subject, &triple.predicate, triple.object.clone()?)
+    }
+
+    /// Adds the triple of three terms, as `push` does. The first two are copied only where they are new.
+    pub fn push_terms(
+        &mut self,
+        subject: &Term,
+        predicate: &Term,
+        object: Term,
+    ) -> Result<(), AllocError>
+        ensures ok { OnOk result (self.new ≡ self.old ++ record { subject = subject.now; predicate = predicate.now; object = object } ∷ []) }
+        ensures err { OnErr result (self.new ≡ self.old) }
+    {
+        let ids = self.terms.place_all(subject, predicate, object)?;
+        self.triples.push(ids)?;
+        Ok(())
+    }
+
+    /// The triples, each once, in their order.
+    pub fn into_sorted(self) -> Result<Sequence<Triple>, AllocError>
+        ensures { IfOk result (λ sorted. IsListing triple_cmp (Contains self) sorted) }
+    {
+        let TripleTable {
+            alloc,
+            terms,
+            triples,
+        } = self;
+        sorted_triples(alloc, terms.terms(), &triples)
+    }
+
+    /// The terms, each once, and the triples by the places of their terms.
+    pub fn into_parts(self) -> Result<(Vec<Term>, Vec<Ids>), AllocError>
+        ensures graph { IfOk result (λ parts. graph_of parts.0.items parts.1.items ≡ self) }
+        ensures numbered { IfOk result (λ parts. AreNumbered parts.0.items parts.1.items) }
+        ensures numbering { IfOk result (λ parts. IsNumbering parts.0.items) }
+    {
+        let TripleTable {
+            alloc: _,
+            terms,
+            triples,
+        } = self;
+        Ok((terms.into_vec()?, triples))
+    }
+}
