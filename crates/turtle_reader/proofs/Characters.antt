@@ -25,8 +25,9 @@ of_text bs session first u = ap (λ b. cond b (text_read (chars bs) session firs
 pub of_no_text : (bs : List ℕ) (session first : ℕ) → (IsUtf8 bs → ⊥) → reads bs session first ≡ Err (line_of bs (utf8_valid_len bs), NotUtf8)
 of_no_text bs session first n = ap (λ b. cond b (text_read (chars bs) session first) (refused bs)) (false_from_ne_true (is_utf8 bs) (λ e. n (IsUtf8-from_is_utf8 bs e)))
 
-pub whole_text : (r : Result (List Triple) ReadFault) (bs text : List ℕ) (session first next : ℕ) → IsUtf8 bs → text ≡ bs
-    → MatchResult r (λ triples. text_read (chars text) session first ≡ Ok (triples, next)) (λ fault. Refuses fault (text_read (chars text) session first))
-    → MatchResult r (λ triples. reads bs session first ≡ Ok (triples, next)) (λ fault. Refuses fault (reads bs session first))
-whole_text (Ok ts) bs text session first next u e h = of_text bs session first u ∙ ap (λ t. text_read (chars t) session first) (sym e) ∙ h
-whole_text (Err f) bs text session first next u e h = subst (λ x. Refuses f x) (ap (λ t. text_read (chars t) session first) e ∙ sym (of_text bs session first u)) h
+-- what is made of a reading of the characters is made of that of the bytes
+pub whole_text : {T : Type 0} (f : T → List Triple) (r : Result T ReadFault) (bs text : List ℕ) (session first next : ℕ) → IsUtf8 bs → text ≡ bs
+    → MatchResult r (λ read. text_read (chars text) session first ≡ Ok (f read, next)) (λ fault. Refuses fault (text_read (chars text) session first))
+    → MatchResult r (λ read. reads bs session first ≡ Ok (f read, next)) (λ fault. Refuses fault (reads bs session first))
+whole_text f (Ok read) bs text session first next u e h = of_text bs session first u ∙ ap (λ t. text_read (chars t) session first) (sym e) ∙ h
+whole_text f (Err fault) bs text session first next u e h = subst (λ x. Refuses fault x) (ap (λ t. text_read (chars t) session first) e ∙ sym (of_text bs session first u)) h

@@ -2,7 +2,7 @@
 use Rattle.std.proofs.Common.{◌≡◌, ◌∙◌, ℕ, List, [], ◌∷◌, Ok, Result, ap, sym, subst, inl, inr, arith}
 use Rattle.turtle_reader.specs.Parsers.{Refusal}
 use Rattle.turtle_reader.specs.Document.{graph_of}
-use Rattle.std.specs.Prelude.{◌⊎◌}
+use Rattle.std.specs.Prelude.{◌⊎◌, ◌↔◌}
 use Rattle.std.specs.List.{Contains}
 use Rattle.collections.specs.Listings.{IsListing}
 use Rattle.collections.specs.Ordered.{IsAscending, with_item}
@@ -40,6 +40,10 @@ each_cases (t ∷ ts) g w c = elim (each_cases ts (with_item triple_cmp t g) w c
 
 only : (ts : List Triple) (w : Triple) → Contains (with_each [] ts) w → Contains ts w
 only ts w c = elim (each_cases ts [] w c) [ inl d ↦ d | inr d ↦ absurd (omega arith) ]
+
+-- their set has just the triples of a list
+pub each_members : (ts : List Triple) (w : Triple) → Contains ts w ↔ Contains (with_each [] ts) w
+each_members ts w = (λ c. each_new ts [] w c, λ c. only ts w c)
 
 -- the listing of the triples that a list contains is their set
 pub listing_each : (xs zs : List Triple) → IsListing triple_cmp (λ t. Contains xs t) zs → zs ≡ with_each [] xs

@@ -2,6 +2,7 @@
 ghost use Rattle.std.specs.Prelude.{◌≡◌, ◌+◌, ◌<◌, ◌≤◌, ◌^◌, [], length, Ok, IfOk, OnOk, OnErr, MatchResult};
 ghost use Rattle.std.specs.Str.{chars};
 ghost use Rattle.rdf_lexical.specs.Refusals.{Refuses};
+ghost use Rattle.rdf_model.specs.Graphs.{with_each};
 ghost use Rattle.turtle_reader.specs.Document;
 ghost use Rattle.turtle_reader.specs.Document.{text_read, reads};
 ghost use Rattle.turtle_reader.specs.Grammar;
@@ -10,10 +11,11 @@ ghost use Rattle.turtle_reader.specs.Progress.{IsReady, need};
 use crate::grammar::read_statements;
 use crate::state::State;
 use crate::table::NameTable;
-use collections::{Sequence, sorted_once};
+use collections::Sequence;
 use rdf_lexical::{ReadFault, RefusalKind};
 use rdf_model::Triple;
 use std::alloc::Global;
+use triple_table::TripleTable;
 use turtle_lex::{TextPlace, next_token};
 
 // How many brackets may be open within one that is: 256 may be open at once.
@@ -33,7 +35,7 @@ fn opening(alloc: Global, text: &[char], session: u32, first: u32) -> State
         labels: NameTable::new(alloc),
         session,
         next: first,
-        triples: Sequence::new(alloc),
+        triples: TripleTable::new(alloc),
     }
 }
 
@@ -50,7 +52,7 @@ fn read_document(alloc: Global, session: u32, first: u32, text: &[char]) -> Resu
 }
 
 // What a state has found: the triples, and the next number of a blank node.
-fn found_in(state: State) -> (Sequence<Triple>, u32)
+fn found_in(state: State) -> (TripleTable, u32)
     ensures { result ≡ (state.triples, state.next) }
 {
     let State { triples, next, .. } = state;
@@ -70,7 +72,7 @@ fn read_characters(
     session: u32,
     first: u32,
     text: &str,
-) -> Result<(Sequence<Triple>, u32), ReadFault>
+) -> Result<(TripleTable, u32), ReadFault>
     requires { first + length text.now < 2 ^ 32 }
     ensures reads { let reading = Document.found_in_text (chars text.now) session first in
         MatchResult result (λ found. reading ≡ Ok found) (λ fault. Refuses fault reading) }
@@ -81,23 +83,22 @@ fn read_characters(
     Ok(found_in(state))
 }
 
-// The triples of a text, each once, in their order. Blank nodes are numbered from `next` on.
+// The triples of a text in their order there. Blank nodes are numbered from `next` on.
 fn read_text(
     alloc: Global,
     session: u32,
     next: &mut u32,
     text: &str,
-) -> Result<Sequence<Triple>, ReadFault>
+) -> Result<TripleTable, ReadFault>
     requires { next.old + length text.now < 2 ^ 32 }
     ensures reads { let reading = text_read (chars text.now) session next.old in
-        MatchResult result (λ triples. reading ≡ Ok (triples, next.new)) (λ fault. Refuses fault reading) }
+        MatchResult result (λ table. reading ≡ Ok (with_each [] table, next.new)) (λ fault. Refuses fault reading) }
     ensures unchanged { OnErr result (next.new ≡ next.old) }
     ensures room { (next.old ≤ next.new) × (next.new ≤ next.old + length text.now) }
 {
     let (triples, free) = read_characters(alloc, session, *next, text)?;
-    let sorted = sorted_once(triples.into_vec())?;
     *next = free;
-    Ok(Sequence::from_vec(sorted))
+    Ok(triples)
 }
 
 // The line of the byte at a place.
@@ -113,6 +114,31 @@ fn line_of(bytes: &[u8], at: usize) -> u64
         }
     }
     line
+}
+
+/// The triples of a text of Turtle 1.1 by the numbers of their terms, in the order in which they were
+/// found. All else is as `read` has it.
+pub fn read_numbered(
+    alloc: Global,
+    session: u32,
+    next: &mut u32,
+    bytes: &[u8],
+) -> Result<TripleTable, ReadFault>
+    requires session { (1 ≤ session) × (session ≤ 64) }
+    requires next { 1 ≤ next.old }
+    requires room { next.old + length bytes.now < 2 ^ 32 }
+    ensures reads { let reading = reads bytes.now session next.old in
+        MatchResult result (λ table. reading ≡ Ok (with_each [] table, next.new)) (λ fault. Refuses fault reading) }
+    ensures unchanged { OnErr result (next.new ≡ next.old) }
+    ensures room { (next.old ≤ next.new) × (next.new ≤ next.old + length bytes.now) }
+{
+    match std::str::from_utf8(bytes) {
+        Ok(text) => read_text(alloc, session, next, text),
+        Err(error) => Err(ReadFault::Refusal {
+            line: line_of(bytes, error.valid_up_to()),
+            kind: RefusalKind::NotUtf8,
+        }),
+    }
 }
 
 /// The triples of a text of Turtle 1.1, each once, in their order. Blank nodes belong to the
@@ -134,11 +160,9 @@ pub fn read(
     ensures unchanged { OnErr result (next.new ≡ next.old) }
     ensures room { (next.old ≤ next.new) × (next.new ≤ next.old + length bytes.now) }
 {
-    match std::str::from_utf8(bytes) {
-        Ok(text) => read_text(alloc, session, next, text),
-        Err(error) => Err(ReadFault::Refusal {
-            line: line_of(bytes, error.valid_up_to()),
-            kind: RefusalKind::NotUtf8,
-        }),
-    }
+    let mut free = *next;
+    let table = read_numbered(alloc, session, &mut free, bytes)?;
+    let sorted = table.into_sorted()?;
+    *next = free;
+    Ok(sorted)
 }

@@ -35,7 +35,7 @@ fn next_triple(
     ensures moved { IfOk result (λ verb. Moved text.now 1 1 0 state.old state.new) }
 {
     let object = read_object(alloc, text, state, levels)?;
-    found(state, node.clone()?, predicate.clone()?, object)?;
+    found(state, node, &predicate, object)?;
     next_predicate(alloc, text, state, predicate)
 }
 

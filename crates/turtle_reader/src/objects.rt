@@ -87,7 +87,7 @@ fn after_value(
     ensures moved { IfOk result (λ read. Moved text.now (spare read) (spare read) 0 state.old state.new) }
     ensures brackets { OnOk result (brackets.new.levels + length brackets.new.frames ≡ brackets.old.levels + length brackets.old.frames) }
 {
-    found(state, node.clone()?, predicate.clone()?, term)?;
+    found(state, &node, &predicate, term)?;
     match next_predicate(alloc, text, state, predicate)? {
         Some(predicate) => {
             brackets.push(Frame::Properties { node, predicate })?;
@@ -108,7 +108,7 @@ fn close_list(alloc: Global, text: &[char], state: &mut State, last: Term) -> Re
     ensures moved { OnOk result (Moved text.now 1 1 0 state.old state.new) }
 {
     expect_close_parenthesis(text, state)?;
-    found(state, last, rdf_rest(alloc)?, rdf_nil(alloc)?)?;
+    found(state, &last, &rdf_rest(alloc)?, rdf_nil(alloc)?)?;
     Ok(())
 }
 
@@ -125,7 +125,7 @@ fn next_node(
     ensures moved { OnOk result (Moved text.now 0 0 1 state.old state.new) }
 {
     let node = fresh(state);
-    found(state, last, rdf_rest(alloc)?, node.clone()?)?;
+    found(state, &last, &rdf_rest(alloc)?, node.clone()?)?;
     Ok(node)
 }
 
@@ -149,7 +149,7 @@ fn after_member(
     ensures moved { IfOk result (λ read. Moved text.now (spare read) (spare read) 1 state.old state.new) }
     ensures brackets { OnOk result (brackets.new.levels + length brackets.new.frames ≡ brackets.old.levels + length brackets.old.frames) }
 {
-    found(state, last.clone()?, rdf_first(alloc)?, term)?;
+    found(state, &last, &rdf_first(alloc)?, term)?;
     if is_close_parenthesis_next(state) {
         close_list(alloc, text, state, last)?;
         return Ok(Some(first));

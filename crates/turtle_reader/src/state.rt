@@ -2,9 +2,8 @@
 ghost use Rattle.std.specs.Prelude.{◌≡◌};
 
 use crate::table::NameTable;
-use collections::Sequence;
-use rdf_model::Triple;
 use rdf_text::Text;
+use triple_table::TripleTable;
 use turtle_lex::{LexFault, Token};
 
 /// How far the reading of a text has come (Turtle section 7): the token ahead, or its fault; what
@@ -18,5 +17,5 @@ pub struct State {
     pub labels: NameTable<u32>,
     pub session: u32,
     pub next: u32,
-    pub triples: Sequence<Triple>,
+    pub triples: TripleTable,
 }

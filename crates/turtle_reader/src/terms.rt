@@ -10,7 +10,7 @@ use crate::names::{labelled, prefix_of, read_iri, refused, resolved_iri};
 use crate::state::State;
 use crate::tokens::{expect_prefix_name, next, unexpected};
 use rdf_lexical::{ReadFault, RefusalKind};
-use rdf_model::{Term, Triple};
+use rdf_model::Term;
 use rdf_text::Text;
 use std::alloc::{AllocError, Global};
 use turtle_lex::{Token, TokenKind};
@@ -37,18 +37,14 @@ pub fn fresh(state: &mut State) -> Term
 #[tactic(auto, unfolding(crate::specs::Grammar::found))]
 pub fn found(
     state: &mut State,
-    subject: Term,
-    predicate: Term,
+    subject: &Term,
+    predicate: &Term,
     object: Term,
 ) -> Result<(), AllocError>
-    ensures reads { OnOk result (Grammar.found subject predicate object state.old ≡ Ok (tt, state.new)) }
+    ensures reads { OnOk result (Grammar.found subject.now predicate.now object state.old ≡ Ok (tt, state.new)) }
     ensures moved { OnOk result ((text : List ℕ) → IsReady text state.old → Moved text 0 0 0 state.old state.new) }
 {
-    state.triples.push(Triple {
-        subject,
-        predicate,
-        object,
-    })?;
+    state.triples.push_terms(subject, predicate, object)?;
     Ok(())
 }
 
