@@ -1,11 +1,8 @@
 -- Terms that are kept, and what is numbered by them, as more terms come.
-use Rattle.std.proofs.Common.{◌≡◌, ◌∙◌, ℕ, zero, suc, ◌+◌, ◌<◌, List, [], ◌∷◌, ◌++◌, length, map, get_or, slice_get, position, Some, true, false, refl, sym, subst, ap, arith, length-append}
-use Rattle.std.specs.Prelude.{take}
+use Rattle.std.proofs.Common.{◌≡◌, ◌∙◌, ℕ, zero, suc, ◌<◌, List, [], ◌∷◌, ◌++◌, length, map, slice_get, Some, true, false, refl, sym, subst, ap, arith, length-append}
 use Rattle.std.specs.List.{AllByRecursion, IsDistinct}
 use Rattle.std.proofs.Math.ListN.{get_or-append}
 use Rattle.std.proofs.lemmas.Option.{get_or_from_slice_get, slice_get_within}
-use Rattle.std.proofs.lemmas.List.{take_more}
-use Rattle.std.proofs.lemmas.List.Quantifiers.{position-Some}
 use Rattle.std.specs.declared.cmp.Ordering.TheVariants.{Equal}
 use Rattle.std.specs.Cmp.{tied_itself}
 use Rattle.std.specs.Ordering.{is_eq, eq_by_cmp}
@@ -25,14 +22,6 @@ term_stored us t u n m e g h = record {
   within = subst (λ (k : ℕ). k < length us) (sym e) (slice_get_within us n u g);
   is = ap (term_at us) e ∙ get_or_from_slice_get us n u (Blank 0 0) g ∙ sym (term_tied t u h);
 }
-
-pub term_found : (us : List Term) (t : Term) (n m : ℕ) → m ≡ n → position (eq_by_cmp term_cmp t) us ≡ Some n → IsPlaceOf us m t
-term_found us t n m e h =
-    let found = position-Some (eq_by_cmp term_cmp t) us n (Blank 0 0) h in
-    record {
-      within = subst (λ (k : ℕ). k < length us) (sym e) found.0;
-      is = ap (term_at us) e ∙ sym (term_tied t (term_at us n) found.1);
-    }
 
 -- terms that are apart have a number each
 other_term : (t : Term) (ts : List Term) (n : ℕ) → AllByRecursion (λ u. eq_by_cmp term_cmp t u ≡ false) ts → n < length ts → t ≡ term_at ts n → ⊥

@@ -1,7 +1,7 @@
 -- The ranks of terms that are sorted.
-use Rattle.std.proofs.Common.{Bool, true, false, ◌≡◌, ◌∙◌, ℕ, zero, suc, ◌+◌, ◌<◌, List, [], ◌∷◌, ◌++◌, length, map, get_or, set, take, refl, sym, subst, ap, arith, inl, inr}
+use Rattle.std.proofs.Common.{Bool, true, false, ◌≡◌, ◌∙◌, ℕ, zero, suc, ◌+◌, ◌<◌, List, [], ◌∷◌, ◌++◌, length, get_or, set, take, refl, sym, subst, ap, arith, inl, inr}
 use Rattle.std.specs.Prelude.{◌⊎◌, ◌&&◌, ◌==◌}
-use Rattle.std.specs.List.{AllByRecursion, Contains}
+use Rattle.std.specs.List.{Contains}
 use Rattle.std.proofs.lemmas.Bool.{cases_eq, cases_lt, eq-eqb, eqb-true}
 use Rattle.std.proofs.lemmas.List.{get_or-map, get_or-set_same, get_or-set_other, length-map, take_more}
 use Rattle.std.specs.declared.cmp.Ordering.{Ordering}
@@ -182,8 +182,8 @@ tied Greater h = cc
 
 same_nat : (n m : ℕ) → (n == m) ≡ is_eq (nat_cmp n m)
 same_nat n m = one_bool (n == m) (is_eq (nat_cmp n m))
-  (λ h. subst (λ (k : ℕ). is_eq (nat_cmp n k) ≡ true) (eqb-true n m h) (ap is_eq (tied_itself nat_cmp_total n)))
-  (λ h. eq-eqb n m (nat_cmp-IsAntisymmetric n m (tied (nat_cmp n m) h)))
+    (λ h. subst (λ (k : ℕ). is_eq (nat_cmp n k) ≡ true) (eqb-true n m h) (ap is_eq (tied_itself nat_cmp_total n)))
+    (λ h. eq-eqb n m (nat_cmp-IsAntisymmetric n m (tied (nat_cmp n m) h)))
 
 both_eq : (o p : Ordering) → is_eq (ordering_then o p) ≡ is_eq o && is_eq p
 both_eq Less p = refl

@@ -1,5 +1,4 @@
 pub mod Hashes
 pub mod Orders
 pub mod Ranks
-pub mod Sought
 pub mod Tables

@@ -1,12 +1,12 @@
 //! Terms, each kept once, in the order of their first appearance.
-ghost use Rattle.std.specs.Prelude.{◌≡◌, ◌<◌, ◌^◌, [], IfOk, length};
+ghost use Rattle.std.specs.Prelude.{◌≡◌, [], IfOk, IsTrue};
 ghost use Rattle.rdf_model.specs.Numbers.{IsNumbering};
 ghost use Rattle.std.specs.Ordering.{eq_by_cmp};
 ghost use Rattle.rdf_model.specs.Terms.{term_cmp};
 ghost use Rattle.triple_table.specs.Tables.{HasGrown, IsPlaceOf, IsTripleOf};
 
 use crate::narrowed::narrowed;
-use indexmap::{Equivalent, IndexSet};
+use indexmap::IndexSet;
 use rdf_model::{Ids, Term};
 use std::alloc::{AllocError, Global};
 use std::hash::{Hash, Hasher};
@@ -54,44 +54,7 @@ impl Hash for KeptTerm {
     ghost respects_eq = { fed_alike };
 
     fn hash<H: Hasher>(&self, state: &mut H) {
-        SoughtTerm { term: &self.term }.hash(state);
-    }
-}
-
-// A term that is looked for among those that are kept.
-#[derive(Clone, Copy)]
-struct SoughtTerm<'a> {
-    term: &'a Term,
-}
-
-impl<'a> PartialEq for SoughtTerm<'a> {
-    ghost use Rattle.triple_table.specs.Sought.{same_sought, sought_laws};
-    ghost use Rattle.std.specs.Cmp.{partial_equiv_from_equiv};
-
-    ghost eq = { same_sought };
-
-    ghost laws = { partial_equiv_from_equiv sought_laws };
-
-    fn eq(&self, other: &SoughtTerm<'a>) -> bool {
-        *self.term == *other.term
-    }
-}
-
-impl<'a> Eq for SoughtTerm<'a> {
-    ghost use Rattle.triple_table.specs.Sought.{sought_laws};
-
-    ghost laws = { sought_laws };
-}
-
-impl<'a> Hash for SoughtTerm<'a> {
-    ghost use Rattle.triple_table.specs.Hashes.{term_writes, fed_alike};
-
-    ghost hash_input = { λ s. term_writes s.term.now };
-
-    ghost respects_eq = { λ x y. fed_alike x.term.now y.term.now };
-
-    fn hash<H: Hasher>(&self, state: &mut H) {
-        match self.term {
+        match &self.term {
             Term::Blank { session, number } => {
                 session.hash(state);
                 number.hash(state);
@@ -109,22 +72,6 @@ impl<'a> Hash for SoughtTerm<'a> {
                 }
             }
         }
-    }
-}
-
-impl<'a> Equivalent<KeptTerm> for SoughtTerm<'a> {
-    ghost use Rattle.std.specs.Cmp.{eq_by_cmp_equiv};
-    ghost use Rattle.rdf_model.specs.Orders.{term_total};
-    ghost use Rattle.triple_table.specs.Hashes.{fed_alike};
-
-    ghost equivalent = { λ q. eq_by_cmp term_cmp q.term.now };
-
-    ghost respects_hash = { λ q. fed_alike q.term.now };
-
-    ghost respects_eq = { λ q. (eq_by_cmp_equiv term_total).congr q.term.now };
-
-    fn equivalent(&self, key: &KeptTerm) -> bool {
-        *self.term == key.term
     }
 }
 
@@ -180,20 +127,32 @@ impl KeptTerms {
         Ok(narrowed(place)?)
     }
 
-    // The place of a term, of which a copy becomes the last one where it has none.
-    fn place_of(&mut self, term: &Term) -> Result<u32, AllocError>
-        ensures grown { HasGrown self.old self.new }
-        ensures place { IfOk result (λ place. IsPlaceOf self.new place term.now) }
+    // Whether a term stands at a place.
+    fn is_at(&self, place: u32, term: &Term) -> bool
+        ensures { IsTrue result → IsPlaceOf self.now place term.now }
     {
-        match self.seen.get_index_of(SoughtTerm { term }) {
-            Some(place) => Ok(narrowed(place)?),
-            None => self.place(term.clone()?),
+        match self.seen.get_index(place as usize) {
+            Some(kept) => *term == kept.term,
+            None => false,
         }
     }
 
-    // The numbers of the triple of three terms.
+    // The place of a term, which may be one that is told. Elsewhere it is looked for by a copy, which becomes the last term where
+    // there is none.
+    fn place_near(&mut self, near: u32, term: &Term) -> Result<u32, AllocError>
+        ensures grown { HasGrown self.old self.new }
+        ensures place { IfOk result (λ place. IsPlaceOf self.new place term.now) }
+    {
+        if self.is_at(near, term) {
+            return Ok(near);
+        }
+        self.place(term.clone()?)
+    }
+
+    // The numbers of the triple of three terms, of which the first two are often those of the numbers that are told.
     pub(crate) fn place_all(
         &mut self,
+        near: Ids,
         subject: &Term,
         predicate: &Term,
         object: Term,
@@ -201,8 +160,8 @@ impl KeptTerms {
         ensures grown { HasGrown self.old self.new }
         ensures ids { IfOk result (λ ids. IsTripleOf self.new ids (record { subject = subject.now; predicate = predicate.now; object = object })) }
     {
-        let subject = self.place_of(subject)?;
-        let predicate = self.place_of(predicate)?;
+        let subject = self.place_near(near.subject, subject)?;
+        let predicate = self.place_near(near.predicate, predicate)?;
         let object = self.place(object)?;
         Ok(Ids {
             subject,

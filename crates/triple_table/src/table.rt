@@ -44,6 +44,18 @@ impl Model for TripleTable {
     ghost invariant = { λ t. AreNumbered t.terms t.triples.items };
 }
 
+// The numbers of the last triple, or of none.
+fn last_of(triples: &[Ids]) -> Ids {
+    match triples.last() {
+        Some(ids) => *ids,
+        None => Ids {
+            subject: 0,
+            predicate: 0,
+            object: 0,
+        },
+    }
+}
+
 impl TripleTable {
     /// No triple. It takes no memory.
     pub fn new(alloc: Global) -> TripleTable
@@ -64,7 +76,8 @@ impl TripleTable {
         self.push_terms(&triple.subject, &triple.predicate, triple.object.clone()?)
     }
 
-    /// Adds the triple of three terms, as `push` does. The first two are copied only where they are new.
+    /// Adds the triple of three terms, as `push` does. Where the subject or the predicate is that of the triple before, it costs one
+    /// comparison, and no copy.
     pub fn push_terms(
         &mut self,
         subject: &Term,
@@ -74,7 +87,8 @@ impl TripleTable {
         ensures ok { OnOk result (self.new ≡ self.old ++ record { subject = subject.now; predicate = predicate.now; object = object } ∷ []) }
         ensures err { OnErr result (self.new ≡ self.old) }
     {
-        let ids = self.terms.place_all(subject, predicate, object)?;
+        let near = last_of(&self.triples);
+        let ids = self.terms.place_all(near, subject, predicate, object)?;
         self.triples.push(ids)?;
         Ok(())
     }

@@ -1,4 +1,4 @@
-use Rattle.std.proofs.Common.{◌≡◌, ◌∙◌, List, [], ◌∷◌, ◌++◌, ap, subst, sym}
+use Rattle.std.proofs.Common.{◌∙◌, List, [], ◌∷◌, ◌++◌, ap, subst, sym}
 use Rattle.collections.proofs.Kept.{always_on_err}
 use Rattle.rdf_model.specs.declared.ids.Ids.{Ids}
 use Rattle.rdf_model.specs.declared.triple.Triple.{Triple}
@@ -19,7 +19,7 @@ pub returns-in_err-push-clause-err : goal.returns-in_err-push-clause-err
 returns-in_err-push-clause-err c =
     let terms = c.place_all.new.self in
     always_on_err c.from_residual-in_err-push.result
-      (ap (λ (ids : List Ids). graph_of terms ids) c.in_err-push.ensures.items ∙ graph_grown c.self.inside.terms terms c.self.inside.triples.items c.place_all.ensures.grown c.self.invariant ∙ c.self.view_is)
+    (ap (λ (ids : List Ids). graph_of terms ids) c.in_err-push.ensures.items ∙ graph_grown c.self.inside.terms terms c.self.inside.triples.items c.place_all.ensures.grown c.self.invariant ∙ c.self.view_is)
 
 pub invariant_of-self-2 : goal.invariant_of-self-2
 invariant_of-self-2 c =
