@@ -1,6 +1,7 @@
 //! Dictionaries against lists of terms.
 ghost use Rattle.std.specs.Prelude.{◌<◌};
 
+use crate::rows::same;
 use collections::{Sequence, contains_item};
 use rdf_model::{ListNames, Names, Term, Text};
 use std::alloc::{AllocError, Global};
@@ -20,6 +21,19 @@ fn nodes(alloc: Global, numbers: &[u32]) -> Result<Vec<Term>, AllocError> {
     Ok(terms)
 }
 
+// The numbers are these, or none and the count that is too high.
+fn same_numbers(
+    rt: &impl Abort,
+    found: Result<Vec<u32>, NameFault>,
+    want: &[u32],
+    too_many: usize,
+) {
+    match found {
+        Ok(numbers) => same(rt, "numbers", numbers.as_slice(), want),
+        Err(fault) => same(rt, "a fault", fault, NameFault::Full { count: too_many }),
+    }
+}
+
 // Each row names a list, and has the numbers that it gets, or none and the count that is too high.
 #[test]
 fn terms_get_numbers(rt: HostRuntime) -> Result<(), Fail> {
@@ -34,10 +48,7 @@ fn terms_get_numbers(rt: HostRuntime) -> Result<(), Fail> {
     ];
     for (named, want, too_many) in rows {
         let terms = nodes(alloc, named)?;
-        match dict.name_all(&terms) {
-            Ok(numbers) => assert_eq!(rt; numbers.as_slice(), want),
-            Err(fault) => assert_eq!(rt; fault, NameFault::Full { count: too_many }),
-        }
+        same_numbers(&rt, dict.name_all(&terms), want, too_many);
     }
     Ok(())
 }
@@ -61,19 +72,18 @@ fn terms_get_numbers_at_once(rt: HostRuntime) -> Result<(), Fail> {
     ];
     for (named, want, too_many) in rows {
         let terms = nodes(rt.alloc(), named)?;
-        match numbers_at_once(rt.alloc(), 3, &terms) {
-            Ok(numbers) => assert_eq!(rt; numbers.as_slice(), want),
-            Err(fault) => assert_eq!(rt; fault, NameFault::Full { count: too_many }),
-        }
+        let found = numbers_at_once(rt.alloc(), 3, &terms);
+        same_numbers(&rt, found, want, too_many);
     }
     Ok(())
 }
 
 // The two answer alike for a number and for a term.
 fn same_names<N: Names>(rt: &impl Abort, names: &N, list: &ListNames, number: u32) {
-    assert_eq!(rt; names.count(), list.count());
-    assert_eq!(rt; names.term(number), list.term(number));
-    assert_eq!(rt; names.id(&node(number)), list.id(&node(number)));
+    let node = node(number);
+    same(rt, "count", names.count(), list.count());
+    same(rt, "a term", names.term(number), list.term(number));
+    same(rt, "a number", names.id(&node), list.id(&node));
 }
 
 // The two terms that have a number from the start.
@@ -98,7 +108,7 @@ fn name_in_both(
     if !contains_item(plain, &term) {
         plain.push(term.clone()?)?;
     }
-    assert!(rt; dict.name_all(&[term]).is_ok());
+    same(rt, "is named", dict.name_all(&[term]).is_ok(), true);
     Ok(())
 }
 
@@ -130,7 +140,7 @@ fn a_plain_list_agrees(rt: HostRuntime) -> Result<(), Fail> {
         seed = seed.wrapping_mul(1_664_525).wrapping_add(1_013_904_223);
         name_in_both(&rt, &mut dict, &mut plain, node((seed >> 8) % 400))?;
     }
-    assert_eq!(rt; share.count(), 2);
+    same(&rt, "count of the share", share.count(), 2);
     same_list(&rt, &named_at_once(&rt, rt.alloc(), &plain), plain.clone()?);
     same_list(&rt, &dict, plain);
     Ok(())

@@ -1,19 +1,10 @@
 //! Growing lists against vectors.
-use collections::ExactClone;
+use crate::pages::Number;
+use crate::rows::same;
 use growing_list::GrowingList;
 use std::alloc::AllocError;
 use std::process::Abort;
 use std::test::Fail;
-
-// One number as an item.
-#[derive(Clone, Copy, Debug, PartialEq, Eq)]
-struct Number(u32);
-
-impl ExactClone for Number {
-    ghost use Rattle.std.proofs.Common.{rules};
-
-    ghost clone_is_equal = { Prim.search rules };
-}
 
 // Adds a number to a list and to a plain vector.
 fn grow(
@@ -28,11 +19,11 @@ fn grow(
 
 // Both hold the same items at the same places.
 fn same_items(rt: &impl Abort, list: &GrowingList<Number>, plain: &[Number]) {
-    assert_eq!(rt; list.len(), plain.len());
+    same(rt, "length", list.len(), plain.len());
     for (at, number) in plain.iter().enumerate() {
-        assert_eq!(rt; list.get(at), Some(number));
+        same(rt, "an item", list.get(at), Some(number));
     }
-    assert!(rt; list.get(plain.len()).is_none());
+    same(rt, "behind the last", list.get(plain.len()), None);
 }
 
 // A list and a share of it, which is taken anew at times, grow apart as plain vectors do.
@@ -64,10 +55,10 @@ fn plain_vectors_agree(rt: HostRuntime) -> Result<(), Fail> {
 // A list has numbers at places, and ends behind the last.
 fn has_numbers(rt: &impl Abort, list: &GrowingList<Number>, numbers: &[(usize, u32)], len: usize) {
     for (at, number) in numbers {
-        assert_eq!(rt; list.get(*at), Some(&Number(*number)));
+        same(rt, "an item", list.get(*at), Some(&Number(*number)));
     }
-    assert_eq!(rt; list.len(), len);
-    assert!(rt; list.get(len).is_none());
+    same(rt, "length", list.len(), len);
+    same(rt, "behind the last", list.get(len), None);
 }
 
 // Shares that are taken before a block is full, where it is, and where there is a second, grow apart.

@@ -2,6 +2,7 @@
 ghost use Rattle.std.specs.Prelude.{◌<◌, IfSome, length};
 ghost use Rattle.rdf_model.specs.Numbers.{AsksForOne};
 
+use crate::rows::{same, same_lists};
 use collections::Sequence;
 use overlay_view::Overlay;
 use rdf_model::{Ids, ListGraph, Look, Triples};
@@ -70,9 +71,46 @@ fn same_found<R: Triples>(
 ) -> Result<(), AllocError>
     requires { AsksForOne look.now }
 {
-    assert_eq!(rt;
-        graph.find(alloc, look)?.as_slice(),
-        list.find(alloc, look)?.as_slice()
+    same_lists(
+        rt,
+        "a look",
+        graph.find(alloc, look),
+        list.find(alloc, look),
+    )
+}
+
+// All reads round a triple answer as those of a list do.
+fn same_as_list<R: Triples>(
+    rt: &impl Abort,
+    alloc: Global,
+    graph: &R,
+    list: &ListGraph,
+    triple: Ids,
+) -> Result<(), AllocError> {
+    let Ids {
+        subject,
+        predicate,
+        object,
+    } = triple;
+    same_found(rt, alloc, graph, list, &Look::Out(subject, predicate))?;
+    same_found(rt, alloc, graph, list, &Look::In(predicate, object))?;
+    same_lists(
+        rt,
+        "edges",
+        graph.edges(alloc, subject),
+        list.edges(alloc, subject),
+    )?;
+    same_lists(
+        rt,
+        "with a predicate",
+        graph.with_predicate(alloc, predicate),
+        list.with_predicate(alloc, predicate),
+    )?;
+    same(
+        rt,
+        "a triple",
+        graph.contains(triple),
+        list.contains(triple),
     );
     Ok(())
 }
@@ -86,23 +124,7 @@ fn same_reads<R: Triples>(
     triple: Ids,
 ) -> Result<(), AllocError> {
     let list = ListGraph::from_triples(Sequence::from_vec(plain.clone()?));
-    let Ids {
-        subject,
-        predicate,
-        object,
-    } = triple;
-    same_found(rt, alloc, graph, &list, &Look::Out(subject, predicate))?;
-    same_found(rt, alloc, graph, &list, &Look::In(predicate, object))?;
-    assert_eq!(rt;
-        graph.edges(alloc, subject)?.as_slice(),
-        list.edges(alloc, subject)?.as_slice()
-    );
-    assert_eq!(rt;
-        graph.with_predicate(alloc, predicate)?.as_slice(),
-        list.with_predicate(alloc, predicate)?.as_slice()
-    );
-    assert_eq!(rt; graph.contains(triple), list.contains(triple));
-    Ok(())
+    same_as_list(rt, alloc, graph, &list, triple)
 }
 
 fn fits(wanted: Option<u32>, number: u32) -> bool {
@@ -131,6 +153,10 @@ fn count_of(
     count
 }
 
+fn given(is_given: bool, number: u32) -> Option<u32> {
+    if is_given { Some(number) } else { None }
+}
+
 // The eight patterns round a triple find as many as there are.
 fn same_patterns(
     rt: &impl Abort,
@@ -138,27 +164,13 @@ fn same_patterns(
     plain: &Vec<Ids>,
     triple: Ids,
 ) -> Result<(), AllocError> {
-    for given in 0..8u32 {
-        let subject = if given % 2 == 1 {
-            Some(triple.subject)
-        } else {
-            None
-        };
-        let predicate = if given / 2 % 2 == 1 {
-            Some(triple.predicate)
-        } else {
-            None
-        };
-        let object = if given / 4 == 1 {
-            Some(triple.object)
-        } else {
-            None
-        };
+    for bits in 0..8u32 {
+        let subject = given(bits % 2 == 1, triple.subject);
+        let predicate = given(bits / 2 % 2 == 1, triple.predicate);
+        let object = given(bits / 4 == 1, triple.object);
         let found = index.find_pattern(subject, predicate, object)?;
-        assert_eq!(rt;
-            found.len() as u64,
-            u64::from(count_of(plain, subject, predicate, object))
-        );
+        let wanted = u64::from(count_of(plain, subject, predicate, object));
+        same(rt, "a pattern", found.len() as u64, wanted);
     }
     Ok(())
 }
@@ -185,8 +197,16 @@ fn same_at_once(
     let mut twice = plain.clone()?;
     twice.extend_from_slice(plain)?;
     let index = Index::from_triples(alloc, &twice)?;
-    assert_eq!(rt; index.len(), plain.len());
+    same(rt, "length at once", index.len(), plain.len());
     same_reads(rt, alloc, &index, plain, triple)
+}
+
+// A plain vector after two changes.
+fn after(plain: &Vec<Ids>, net: [NumberedChange; 2]) -> Result<Vec<Ids>, AllocError> {
+    let mut after = plain.clone()?;
+    change_plain(&mut after, net[0])?;
+    change_plain(&mut after, net[1])?;
+    Ok(after)
 }
 
 // A net of two changes over the index answers as a plain list after them.
@@ -198,9 +218,7 @@ fn same_overlay(
     net: [NumberedChange; 2],
     triple: Ids,
 ) -> Result<(), AllocError> {
-    let mut after = plain.clone()?;
-    change_plain(&mut after, net[0])?;
-    change_plain(&mut after, net[1])?;
+    let after = after(plain, net)?;
     let overlay = Overlay::new(alloc, index, &net)?;
     same_reads(rt, alloc, &overlay, &after, triple)
 }
@@ -214,8 +232,23 @@ fn change_both(
 ) -> Result<(), AllocError> {
     index.apply(&[change])?;
     change_plain(plain, change)?;
-    assert_eq!(rt; index.len(), plain.len());
+    same(rt, "length", index.len(), plain.len());
     Ok(())
+}
+
+// All that is asked round a triple before a change, which is a part of the net.
+fn same_round(
+    rt: &impl Abort,
+    alloc: Global,
+    index: &Index,
+    plain: &Vec<Ids>,
+    seed: u32,
+    change: NumberedChange,
+) -> Result<(), AllocError> {
+    let net = [change, change_of(next(seed), 4)];
+    same_index(rt, alloc, index, plain, triple_of(seed))?;
+    same_at_once(rt, alloc, plain, triple_of(seed))?;
+    same_overlay(rt, alloc, index, plain, net, triple_of(seed))
 }
 
 // A plain list answers as the index does, while it grows and while it shrinks, and as a net over it does.
@@ -228,10 +261,7 @@ fn a_plain_list_agrees(rt: HostRuntime) -> Result<(), Fail> {
         seed = next(seed);
         let change = change_of(seed, if round < 1500 { 6 } else { 2 });
         if round % 100 == 0 {
-            let net = [change, change_of(next(seed), 4)];
-            same_index(&rt, rt.alloc(), &index, &plain, triple_of(seed))?;
-            same_at_once(&rt, rt.alloc(), &plain, triple_of(seed))?;
-            same_overlay(&rt, rt.alloc(), &index, &plain, net, triple_of(seed))?;
+            same_round(&rt, rt.alloc(), &index, &plain, seed, change)?;
         }
         change_both(&rt, &mut index, &mut plain, change)?;
     }

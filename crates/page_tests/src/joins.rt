@@ -1,4 +1,5 @@
 //! Joins over an overlay and over an index, against tables and against all assignments in turn.
+use crate::rows::same;
 use bgp_query::{JoinFault, JoinPattern, Matcher, Part, select};
 use overlay_view::Overlay;
 use rdf_model::{Ids, Triples};
@@ -49,9 +50,9 @@ fn expect_rows<R: Matcher>(
 ) -> Result<(), AllocError> {
     match select(alloc, set, &patterns_of(alloc, codes)?) {
         Ok(found) => {
-            assert_eq!(rt; found.len(), rows.len());
+            same(rt, "rows", found.len(), rows.len());
             for (row, wanted) in found.iter().zip(rows.iter()) {
-                assert_eq!(rt; row.as_slice(), *wanted);
+                same(rt, "a row", row.as_slice(), *wanted);
             }
             Ok(())
         }
@@ -86,58 +87,44 @@ fn index_of(alloc: Global, edges: &[(u32, u32, u32)]) -> Result<Index, AllocErro
     Index::from_triples(alloc, &triples)
 }
 
-fn expect_table<R: Matcher>(rt: &impl Abort, alloc: Global, set: &R) -> Result<(), AllocError> {
+// Patterns, and the rows of their bindings.
+type Bindings = (&'static [(u32, u32, u32)], &'static [&'static [u32]]);
+
+const TABLE: [Bindings; 13] = [
     // chains
-    expect_rows(
-        rt,
-        alloc,
-        set,
+    (
         &[(0, 110, 1), (1, 110, 2)],
         &[&[1, 2, 3], &[1, 2, 4], &[2, 3, 1], &[3, 1, 2], &[5, 5, 5]],
-    )?;
-    expect_rows(
-        rt,
-        alloc,
-        set,
-        &[(101, 110, 0), (0, 110, 1), (1, 111, 2)],
-        &[&[2, 4, 4]],
-    )?;
+    ),
+    (&[(101, 110, 0), (0, 110, 1), (1, 111, 2)], &[&[2, 4, 4]]),
     // triangles
-    expect_rows(
-        rt,
-        alloc,
-        set,
+    (
         &[(0, 110, 1), (1, 110, 2), (2, 110, 0)],
         &[&[1, 2, 3], &[2, 3, 1], &[3, 1, 2], &[5, 5, 5]],
-    )?;
+    ),
     // a variable twice in a pattern
-    expect_rows(rt, alloc, set, &[(0, 110, 0)], &[&[5]])?;
-    expect_rows(rt, alloc, set, &[(0, 1, 0)], &[&[4, 11], &[5, 10]])?;
-    expect_rows(rt, alloc, set, &[(0, 110, 1), (1, 111, 1)], &[&[2, 4]])?;
+    (&[(0, 110, 0)], &[&[5]]),
+    (&[(0, 1, 0)], &[&[4, 11], &[5, 10]]),
+    (&[(0, 110, 1), (1, 111, 1)], &[&[2, 4]]),
     // predicates
-    expect_rows(rt, alloc, set, &[(101, 0, 102)], &[&[10], &[11]])?;
+    (&[(101, 0, 102)], &[&[10], &[11]]),
     // no variables
-    expect_rows(rt, alloc, set, &[(101, 110, 102)], &[&[]])?;
-    expect_rows(rt, alloc, set, &[(106, 110, 101)], &[])?;
-    expect_rows(rt, alloc, set, &[], &[&[]])?;
+    (&[(101, 110, 102)], &[&[]]),
+    (&[(106, 110, 101)], &[]),
+    (&[], &[&[]]),
     // a later pattern cuts a product
-    expect_rows(
-        rt,
-        alloc,
-        set,
-        &[(0, 110, 1), (2, 111, 3), (3, 110, 0)],
-        &[&[3, 1, 1, 2]],
-    )?;
+    (&[(0, 110, 1), (2, 111, 3), (3, 110, 0)], &[&[3, 1, 1, 2]]),
     // a pattern twice
-    expect_rows(
-        rt,
-        alloc,
-        set,
-        &[(0, 111, 1), (0, 111, 1)],
-        &[&[1, 2], &[4, 4]],
-    )?;
+    (&[(0, 111, 1), (0, 111, 1)], &[&[1, 2], &[4, 4]]),
     // variable 0 is missing
-    expect_rows(rt, alloc, set, &[(1, 110, 2)], &[])
+    (&[(1, 110, 2)], &[]),
+];
+
+fn expect_table<R: Matcher>(rt: &impl Abort, alloc: Global, set: &R) -> Result<(), AllocError> {
+    for (codes, rows) in TABLE {
+        expect_rows(rt, alloc, set, codes, rows)?;
+    }
+    Ok(())
 }
 
 #[test]
@@ -161,37 +148,44 @@ fn index_of_pairs(alloc: Global, count: u32) -> Result<Index, AllocError> {
     Index::from_triples(alloc, &triples)
 }
 
+// How many bindings there are over so many edges, or why there are none.
+fn count_of(
+    alloc: Global,
+    count: u32,
+    codes: &[(u32, u32, u32)],
+) -> Result<Result<usize, JoinFault>, AllocError> {
+    let index = index_of_pairs(alloc, count)?;
+    match select(alloc, &index, &patterns_of(alloc, codes)?) {
+        Ok(rows) => Ok(Ok(rows.len())),
+        Err(fault) => Ok(Err(fault)),
+    }
+}
+
+// Edges, patterns, and how many bindings there are, or why there are none.
+fn expect_count(
+    rt: &impl Abort,
+    alloc: Global,
+    count: u32,
+    codes: &[(u32, u32, u32)],
+    wanted: Result<usize, JoinFault>,
+) -> Result<(), AllocError> {
+    same(rt, "bindings", count_of(alloc, count, codes)?, wanted);
+    Ok(())
+}
+
 #[test]
 fn more_than_100000_are_too_many(rt: HostRuntime) -> Result<(), Fail> {
-    let alloc = rt.alloc();
-    let pairs = patterns_of(alloc, &[(0, 110, 1), (2, 110, 3)])?;
-    let most = index_of_pairs(alloc, 316)?;
-    match select(alloc, &most, &pairs) {
-        Ok(rows) => assert_eq!(&rt; rows.len(), 99856),
-        Err(_) => panic!(&rt; "99,856 are not answered"),
-    }
-    let more = index_of_pairs(alloc, 317)?;
-    match select(alloc, &more, &pairs) {
-        Ok(_) => panic!(&rt; "100,489 are answered"),
-        Err(fault) => assert_eq!(&rt; fault, JoinFault::TooMany),
-    }
+    let pairs = [(0, 110, 1), (2, 110, 3)];
+    expect_count(&rt, rt.alloc(), 316, &pairs, Ok(99_856))?;
+    expect_count(&rt, rt.alloc(), 317, &pairs, Err(JoinFault::TooMany))?;
     Ok(())
 }
 
 #[test]
 fn the_limit_is_100000(rt: HostRuntime) -> Result<(), Fail> {
-    let alloc = rt.alloc();
-    let edges = patterns_of(alloc, &[(0, 110, 1)])?;
-    let most = index_of_pairs(alloc, 100_000)?;
-    match select(alloc, &most, &edges) {
-        Ok(rows) => assert_eq!(&rt; rows.len(), 100_000),
-        Err(_) => panic!(&rt; "100,000 are not answered"),
-    }
-    let more = index_of_pairs(alloc, 100_001)?;
-    match select(alloc, &more, &edges) {
-        Ok(_) => panic!(&rt; "100,001 are answered"),
-        Err(fault) => assert_eq!(&rt; fault, JoinFault::TooMany),
-    }
+    let edges = [(0, 110, 1)];
+    expect_count(&rt, rt.alloc(), 100_000, &edges, Ok(100_000))?;
+    expect_count(&rt, rt.alloc(), 100_001, &edges, Err(JoinFault::TooMany))?;
     Ok(())
 }
 
@@ -241,9 +235,10 @@ fn same_as_by_trial(
     let rows = rows_by_trial(alloc, index, codes)?;
     match select(alloc, index, &patterns_of(alloc, codes)?) {
         Ok(found) => {
-            assert_eq!(rt; found.len(), rows.len());
+            same(rt, "rows", found.len(), rows.len());
             for (row, wanted) in found.iter().zip(rows.iter()) {
-                assert_eq!(rt; row.as_slice(), [wanted.0, wanted.1, wanted.2].as_slice());
+                let wanted = [wanted.0, wanted.1, wanted.2];
+                same(rt, "a row", row.as_slice(), wanted.as_slice());
             }
             Ok(())
         }

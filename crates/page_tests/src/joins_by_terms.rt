@@ -2,6 +2,7 @@
 ghost use Rattle.std.specs.Prelude.{IfOk, OnOk};
 ghost use Rattle.rdf_model.specs.Numbers.{AreNumbered};
 
+use crate::rows::same;
 use bgp_query::{JoinFault, JoinPattern, Part};
 use rdf_model::{Ids, Names, Term};
 use std::alloc::{AllocError, Global};
@@ -110,10 +111,10 @@ fn expect_rows(
     names.recall_numbering();
     match select_terms(alloc, names, index, &patterns_of(alloc, codes)?) {
         Ok(found) => {
-            assert_eq!(rt; found.len(), rows.len());
+            same(rt, "rows", found.len(), rows.len());
             for (row, wanted) in found.iter().zip(rows.iter()) {
                 let terms = nodes(alloc, wanted)?;
-                assert!(rt; row.as_slice() == terms.as_slice());
+                same(rt, "a row", row.as_slice(), terms.as_slice());
             }
             Ok(())
         }
@@ -198,7 +199,7 @@ fn pairs_of_edges(rt: &impl Abort, alloc: Global, count: u32) -> Result<usize, N
 #[test]
 fn more_than_100000_rows_of_terms_are_too_many(rt: HostRuntime) -> Result<(), Fail> {
     let alloc = rt.alloc();
-    assert_eq!(&rt; pairs_of_edges(&rt, alloc, 316)?, 99_856);
-    assert_eq!(&rt; pairs_of_edges(&rt, alloc, 317)?, 0);
+    same(&rt, "316 edges", pairs_of_edges(&rt, alloc, 316)?, 99_856);
+    same(&rt, "317 edges", pairs_of_edges(&rt, alloc, 317)?, 0);
     Ok(())
 }

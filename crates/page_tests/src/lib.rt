@@ -17,3 +17,5 @@ mod joins_by_terms;
 mod many;
 #[cfg(test)]
 mod pages;
+#[cfg(test)]
+mod rows;

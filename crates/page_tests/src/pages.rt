@@ -1,6 +1,7 @@
 //! Sets of keys against vectors.
 ghost use Rattle.std.specs.Prelude.{◌≡◌, IfOk};
 
+use crate::rows::{same, same_lists};
 use collections::ExactClone;
 use page_index::Pages;
 use std::alloc::{AllocError, Global};
@@ -9,7 +10,7 @@ use std::test::Fail;
 
 // One number as a key.
 #[derive(Clone, Copy, Debug, PartialEq, Eq, PartialOrd, Ord)]
-struct Number(u32);
+pub(crate) struct Number(pub(crate) u32);
 
 impl ExactClone for Number {
     ghost use Rattle.std.proofs.Common.{rules};
@@ -27,12 +28,28 @@ fn numbers(alloc: Global, keys: &[u32]) -> Result<Pages<Number>, AllocError> {
 
 fn is_list(rt: &impl Abort, pages: &Pages<Number>, want: &[u32]) -> Result<(), AllocError> {
     let keys = pages.keys()?;
-    assert_eq!(rt; keys.len(), want.len());
-    assert_eq!(rt; pages.len(), want.len());
+    same(rt, "keys", keys.len(), want.len());
+    same(rt, "length", pages.len(), want.len());
     for (key, number) in keys.iter().zip(want.iter()) {
-        assert_eq!(rt; key.0, *number);
+        same(rt, "a key", key.0, *number);
     }
     Ok(())
+}
+
+// Two keys are inserted one after another.
+fn inserted(
+    pages: &mut Pages<Number>,
+    first: u32,
+    second: u32,
+) -> Result<(bool, bool), AllocError> {
+    let is_new = pages.insert(Number(first))?;
+    Ok((is_new, pages.insert(Number(second))?))
+}
+
+// Two keys are removed one after another.
+fn removed(pages: &mut Pages<Number>, first: u32, second: u32) -> Result<(bool, bool), AllocError> {
+    let was_there = pages.remove(&Number(first))?;
+    Ok((was_there, pages.remove(&Number(second))?))
 }
 
 // Keys come and go in a set, and a share of it stays as it was.
@@ -40,18 +57,12 @@ fn is_list(rt: &impl Abort, pages: &Pages<Number>, want: &[u32]) -> Result<(), A
 fn a_share_stays(rt: HostRuntime) -> Result<(), Fail> {
     let mut pages = numbers(rt.alloc(), &[5, 2, 9, 7])?;
     let share = pages.share()?;
-    assert_eq!(rt;
-        (pages.insert(Number(5))?, pages.insert(Number(1))?),
-        (false, true)
-    );
-    assert_eq!(rt;
-        (pages.remove(&Number(7))?, pages.remove(&Number(7))?),
-        (true, false)
-    );
+    same(&rt, "inserted", inserted(&mut pages, 5, 1)?, (false, true));
+    same(&rt, "removed", removed(&mut pages, 7, 7)?, (true, false));
     is_list(&rt, &pages, &[1, 2, 5, 9])?;
     is_list(&rt, &share, &[2, 5, 7, 9])?;
     let part = share.range(&Number(3), &Number(9))?;
-    assert_eq!(rt; part.len(), 2);
+    same(&rt, "a range", part.len(), 2);
     Ok(())
 }
 
@@ -68,8 +79,7 @@ fn met(alloc: Global, pages: &Pages<Number>) -> Result<Vec<Number>, AllocError>
 
 // Both sets have the same keys.
 fn is_list_of(rt: &impl Abort, whole: &Pages<Number>, pages: &Pages<Number>) -> Result<(), Fail> {
-    assert_eq!(rt; whole.keys()?.as_slice(), pages.keys()?.as_slice());
-    Ok(())
+    Ok(same_lists(rt, "keys", whole.keys(), pages.keys())?)
 }
 
 #[test]
@@ -79,9 +89,9 @@ fn a_loop_meets_each_key(rt: HostRuntime) -> Result<(), Fail> {
         let _ = pages.insert(Number(number * 7 % 400))?;
     }
     let met = met(rt.alloc(), &pages)?;
-    assert_eq!(rt; met.len(), 400);
+    same(&rt, "length", met.len(), 400);
     for (key, number) in met.iter().zip(0..400u32) {
-        assert_eq!(rt; key.0, number);
+        same(&rt, "a key", key.0, number);
     }
     Ok(())
 }
@@ -108,14 +118,26 @@ fn change(pages: &mut Pages<Number>, number: u32) -> Result<(bool, bool), AllocE
     Ok((removed, added))
 }
 
+// The change has the same answers in both.
+fn same_change(
+    rt: &impl Abort,
+    whole: &mut Pages<Number>,
+    pages: &mut Pages<Number>,
+    number: u32,
+) -> Result<(), AllocError> {
+    let found = change(whole, number)?;
+    same(rt, "a change", found, change(pages, number)?);
+    Ok(())
+}
+
 // A set that is built at once goes on as one that grew by insertions.
 #[test]
 fn a_set_at_once_goes_on(rt: HostRuntime) -> Result<(), Fail> {
     let mut pages = mixed(rt.alloc())?;
     let mut whole = built_at_once(rt.alloc(), &pages)?;
     for number in 0..4000u32 {
-        assert_eq!(rt; change(&mut whole, number)?, change(&mut pages, number)?);
+        same_change(&rt, &mut whole, &mut pages, number)?;
     }
-    assert_eq!(rt; whole.len(), pages.len());
+    same(&rt, "length", whole.len(), pages.len());
     is_list_of(&rt, &whole, &pages)
 }
