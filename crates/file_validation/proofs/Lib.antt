@@ -1,5 +1,6 @@
 pub mod Asks
 pub mod NamedTriples
 mod Emptiness
+mod Members
 mod Verdicts
 pub mod Sharing

@@ -1,10 +1,12 @@
 -- Triples whose terms were named.
-use Rattle.std.proofs.Common.{◌≡◌, ◌∙◌, ◌<◌, ◌≤◌, ℕ, zero, suc, List, [], ◌∷◌, ◌++◌, length, take, ap, arith, inl, inr, refl, subst, sym}
+use Rattle.std.proofs.Common.{◌≡◌, ◌∙◌, ◌<◌, ◌≤◌, ℕ, zero, suc, List, [], ◌∷◌, ◌++◌, length, map, get_or, ap, arith, inl, inr, refl, subst, sym, length-append}
 use Rattle.std.specs.Prelude.{◌↔◌}
-use Rattle.std.specs.List.{All, Contains, flat_map}
+use Rattle.std.specs.List.{All, AllByRecursion, Contains, flat_map}
+use Rattle.std.proofs.Math.ListN.{get_or-append}
 use Rattle.std.proofs.lemmas.List.Elements.{All-contains_itself, Contains-append_left, Contains-append_right}
 use Rattle.collections.proofs.Members.{has_cases, has_equal, has_head, has_tail}
 use Rattle.rdf_model.specs.declared.term.Term.{Term}
+use Rattle.rdf_model.specs.declared.term.Term.TheVariants.{Blank}
 use Rattle.rdf_model.specs.declared.ids.Ids.{Ids}
 use Rattle.rdf_model.specs.declared.triple.Triple.{Triple}
 use Rattle.rdf_model.specs.Numbers.{AreNumbered, graph_of, term_at}
@@ -13,7 +15,7 @@ use Rattle.term_dict.specs.Names.{AreNumbersOf}
 use Rattle.parallel_validate.specs.Named.{AreNamedTriples, IsNamedTriple}
 use Rattle.parallel_validate.proofs.Members.{index_members, index_numbered}
 use Rattle.data_graph.specs.DataGraphs.{IsIndexOf}
-use Rattle.file_validation.specs.Numbering.{triples_in}
+use Rattle.file_validation.specs.Numbering.{IsBelow, renumbered}
 
 -- a term with a number is named
 placed : (named : List Term) (n : ℕ) (t : Term) → n < length named → term_at named n ≡ t → Contains named t
@@ -48,60 +50,54 @@ triples_named named ts f = all_of (IsNamedTriple named) ts (λ u c. (
   f u.object (among ts u u.object c (has_tail u.subject (u.predicate ∷ u.object ∷ []) u.object (has_tail u.predicate (u.object ∷ []) u.object (has_head u.object [])))),
 ))
 
--- the terms of two graphs, in turn, of which numbers were found
-pub shapes_named : (named asked : List Term) (ns : List ℕ) (gs ts : List Triple) → AreNumbersOf named asked ns → asked ≡ flat_map terms_of gs ++ flat_map terms_of ts → AreNamedTriples named ts
-shapes_named named asked ns gs ts a e = triples_named named ts (λ t c. numbered_named named asked ns a t (subst (λ (us : List Term). Contains us t) (sym e) (Contains-append_right (flat_map terms_of gs) (flat_map terms_of ts) t c)))
+-- the terms of the shapes behind others, of which numbers were found
+pub shapes_named : (named asked others : List Term) (ns : List ℕ) (ts : List Triple) → AreNumbersOf named asked ns → asked ≡ others ++ flat_map terms_of ts → AreNamedTriples named ts
+shapes_named named asked others ns ts a e = triples_named named ts (λ t c. numbered_named named asked ns a t (subst (λ (us : List Term). Contains us t) (sym e) (Contains-append_right others (flat_map terms_of ts) t c)))
 
--- the first terms have the first numbers
-pub first_numbers : (named xs ys : List Term) (ns : List ℕ) → AreNumbersOf named (xs ++ ys) ns → AreNumbersOf named xs (take (length xs) ns)
-first_numbers named [] ys ns a = tt
-first_numbers named (x ∷ xs) ys [] a = absurd a
-first_numbers named (x ∷ xs) ys (n ∷ ns) a = (a.0, first_numbers named xs ys ns a.1)
+-- the number of a place has the term of that place
+record IsNumberAt (named : List Term) (ns : List ℕ) (i : ℕ) (t : Term) : Type 0 where
+  there : i < length ns
+  within : get_or ns i 0 < length named
+  is : term_at named (get_or ns i 0) ≡ t
 
-pub prefix_bound : (named xs ys : List Term) (ns : List ℕ) → AreNumbersOf named (xs ++ ys) ns → length xs ≤ length ns
-prefix_bound named [] ys ns a = omega arith
-prefix_bound named (x ∷ xs) ys [] a = absurd a
-prefix_bound named (x ∷ xs) ys (n ∷ ns) a = let le = prefix_bound named xs ys ns a.1 in omega arith
+number_at : (named ts : List Term) (ns : List ℕ) (i : ℕ) → AreNumbersOf named ts ns → i < length ts → IsNumberAt named ns i (term_at ts i)
+number_at named [] ns i a l = absurd (omega arith)
+number_at named (t ∷ ts) [] i a l = absurd a
+number_at named (t ∷ ts) (n ∷ ns) zero a l = record { there = omega arith; within = a.0.within; is = a.0.is }
+number_at named (t ∷ ts) (n ∷ ns) (suc i) a l = let r = number_at named ts ns i a.1 (omega arith) in let lt = r.there in record { there = omega arith; within = r.within; is = r.is }
 
-same_triple : (t : Triple) (x p y : Term) → x ≡ t.subject → p ≡ t.predicate → y ≡ t.object → record { subject = x; predicate = p; object = y } ≡ t
-same_triple t x p y e f h =
-    subst (λ (o : Term). record { subject = x; predicate = p; object = o } ≡ t) (sym h)
-    (subst (λ (q : Term). record { subject = x; predicate = q; object = t.object } ≡ t) (sym f)
-    (subst (λ (s : Term). record { subject = s; predicate = t.predicate; object = t.object } ≡ t) (sym e) refl))
+-- the triples of places among the first terms, by the numbers of these
+module _ (named asked terms others : List Term) (ns : List ℕ) (a : AreNumbersOf named asked ns) (e : asked ≡ terms ++ others) where
+  at : (i : ℕ) → i < length terms → IsNumberAt named ns i (term_at terms i)
+  at i l =
+      let long = length-append terms others in
+      subst (λ (t : Term). IsNumberAt named ns i t) (get_or-append terms others (Blank 0 0) i l) (number_at named (terms ++ others) ns i (subst (λ (us : List Term). AreNumbersOf named us ns) e a) (omega arith))
 
-same_more : (t u : Triple) (ts us : List Triple) → t ≡ u → ts ≡ us → t ∷ ts ≡ u ∷ us
-same_more t u ts us e f = cc
+  pub all_below : (ids : List Ids) → AreNumbered terms ids → AllByRecursion (IsBelow (length ns)) ids
+  all_below [] n = tt
+  all_below (i ∷ ids) n = (((at i.subject n.0.0).there, (at i.predicate n.0.1).there, (at i.object n.0.2).there), all_below ids n.1)
 
--- the numbers of the terms of triples, three after three, are those of the triples
-pub numbered_triples : (named : List Term) (gs : List Triple) (ns : List ℕ) → AreNumbersOf named (flat_map terms_of gs) ns → AreNumbered named (triples_in ns) × (graph_of named (triples_in ns) ≡ gs)
-numbered_triples named [] [] a = (tt, refl)
-numbered_triples named [] (n ∷ ns) a = absurd a
-numbered_triples named (g ∷ gs) [] a = absurd a
-numbered_triples named (g ∷ gs) (x ∷ []) a = absurd a.1
-numbered_triples named (g ∷ gs) (x ∷ p ∷ []) a = absurd a.1.1
-numbered_triples named (g ∷ gs) (x ∷ p ∷ y ∷ ns) a =
-    let more = numbered_triples named gs ns a.1.1.1 in (
-      ((a.0.within, a.1.0.within, a.1.1.0.within), more.0),
-      same_more _ g _ gs (same_triple g _ _ _ a.0.is a.1.0.is a.1.1.0.is) more.1,
-    )
+  renumbered_numbered : (ids : List Ids) → AreNumbered terms ids → AreNumbered named (map (renumbered ns) ids)
+  renumbered_numbered [] n = tt
+  renumbered_numbered (i ∷ ids) n = (((at i.subject n.0.0).within, (at i.predicate n.0.1).within, (at i.object n.0.2).within), renumbered_numbered ids n.1)
 
--- the first numbers are those of the first terms
-module _ (named asked xs ys : List Term) (ns : List ℕ) (a : AreNumbersOf named asked ns) (e : asked ≡ xs ++ ys) where
-  all_numbers : AreNumbersOf named (xs ++ ys) ns
-  all_numbers = subst (λ (us : List Term). AreNumbersOf named us ns) e a
+  same_graph : (ids : List Ids) → AreNumbered terms ids → graph_of named (map (renumbered ns) ids) ≡ graph_of terms ids
+  same_graph [] n = refl
+  same_graph (i ∷ ids) n =
+      let s = (at i.subject n.0.0).is in
+      let p = (at i.predicate n.0.1).is in
+      let o = (at i.object n.0.2).is in
+      let rest = same_graph ids n.1 in
+      λ j. record { subject = s j; predicate = p j; object = o j } ∷ rest j
 
-  pub cut_bound : (n : ℕ) → n ≡ length xs → n ≤ length ns
-  cut_bound n is = subst (λ (k : ℕ). k ≤ length ns) (sym is) (prefix_bound named xs ys ns all_numbers)
+  -- an index of these stands for the graph
+  pub index_of_places : (graph : List Triple) (ids found index : List Ids) → AreNumbered terms ids → graph_of terms ids ≡ graph → found ≡ map (renumbered ns) ids
+      → ((i : Ids) → Contains index i ↔ Contains found i) → IsIndexOf named index graph
+  index_of_places graph ids found index n g f same = record {
+    numbered = index_numbered named found index (subst (λ (is : List Ids). AreNumbered named is) (sym f) (renumbered_numbered ids n)) same;
+    members = index_members named found index graph (ap (graph_of named) f ∙ same_graph ids n ∙ g) same;
+  }
 
-  pub cut_numbers : (n : ℕ) (cut : List ℕ) → n ≡ length xs → cut ≡ take n ns → AreNumbersOf named xs cut
-  cut_numbers n cut is f = subst (λ (ms : List ℕ). AreNumbersOf named xs ms) (sym (f ∙ ap (λ k. take k ns) is)) (first_numbers named xs ys ns all_numbers)
-
--- an index of their triples stands for the graph
-pub index_of_numbers : (named : List Term) (gs : List Triple) (ns : List ℕ) (ids index : List Ids) → AreNumbersOf named (flat_map terms_of gs) ns
-    → ids ≡ triples_in ns → ((i : Ids) → Contains index i ↔ Contains ids i) → IsIndexOf named index gs
-index_of_numbers named gs ns ids index a e same =
-    let numbered = numbered_triples named gs ns a in
-    record {
-      numbered = index_numbered named ids index (subst (λ (is : List Ids). AreNumbered named is) (sym e) numbered.0) same;
-      members = index_members named ids index gs (ap (graph_of named) e ∙ numbered.1) same;
-    }
+-- where what was read of the numbers is what they are
+pub below_as : (ns ms : List ℕ) (ids js : List Ids) → ms ≡ ns → js ≡ ids → AllByRecursion (IsBelow (length ns)) ids → AllByRecursion (IsBelow (length ms)) js
+below_as ns ms ids js e f a = subst (λ (is : List Ids). AllByRecursion (IsBelow (length ms)) is) (sym f) (subst (λ (ks : List ℕ). AllByRecursion (IsBelow (length ks)) ids) (sym e) a)

@@ -1,7 +1,8 @@
 //! The texts of the data and of the shapes, read.
-ghost use Rattle.std.specs.Prelude.{◌≡◌, ◌≤◌, ◌<◌, ◌^◌, length, IfOk, MatchResult};
+ghost use Rattle.std.specs.Prelude.{◌≡◌, ◌≤◌, ◌<◌, ◌^◌, [], length, IfOk, MatchResult};
 ghost use Rattle.collections.specs.Ordered.{IsAscending};
 ghost use Rattle.rdf_lexical.specs.Refusals.{Refuses};
+ghost use Rattle.rdf_model.specs.Graphs.{with_each};
 ghost use Rattle.rdf_model.specs.Terms.{triple_cmp};
 ghost use Rattle.shape_reader.specs.Asked.{AsksAll, AsksBeforeFault};
 ghost use Rattle.shape_reader.specs.Faults as reader;
@@ -16,7 +17,19 @@ use rdf_model::Triple;
 use shape_reader::{ShapeFault, read_shapes};
 use shapes_graph::ShapesGraph;
 use std::alloc::Global;
-use turtle_reader::read;
+use turtle_reader::{TripleTable, read, read_numbered};
+
+/// The triples of a Turtle text, by the numbers of their terms, as they were found. Its blank nodes belong to the session and are
+/// numbered from 1.
+pub(crate) fn table_of(alloc: Global, session: u32, text: &[u8]) -> Result<TripleTable, ReadFault>
+    requires session { (1 ≤ session) × (session ≤ 64) }
+    requires room { length text.now < 2 ^ 31 }
+    ensures { MatchResult result (λ table. IsRead session text.now (with_each [] table)) (λ fault. Refuses fault (reads text.now session 1)) }
+{
+    let mut next = 1;
+    let table = read_numbered(alloc, session, &mut next, text)?;
+    Ok(table)
+}
 
 /// The triples of a Turtle text, each once, in their order. Its blank nodes belong to the session and are numbered from 1.
 pub(crate) fn triples_of(

@@ -1,7 +1,8 @@
 //! The listing of two graphs, its explanation, and the verdict on evidence.
-ghost use Rattle.std.specs.Prelude.{◌≡◌, ◌<◌, ◌^◌, IfOk, length, string_bytes};
+ghost use Rattle.std.specs.Prelude.{◌≡◌, ◌<◌, ◌^◌, [], IfOk, length, string_bytes};
 ghost use Rattle.data_graph.specs.DataGraphs.{HaveClassWords};
 ghost use Rattle.graph_explanation.specs.Explanations.{IsExplanation};
+ghost use Rattle.rdf_model.specs.Graphs.{with_each};
 ghost use Rattle.rdf_model.specs.Numbers.{AreNumbered, graph_of};
 ghost use Rattle.shape_model.specs.Validation.{Listing};
 ghost use Rattle.parallel_validate.specs.Named.{AreNamedTriples};
@@ -13,7 +14,6 @@ use collections::Sequence;
 use evidence_verdict::{VerdictFault, verdict_over};
 use graph_explanation::explanation_over;
 use path_eval::ClassWords;
-use rdf_model::Triple;
 use shape_eval::Steps;
 use shape_model::ResultRow;
 use shapes_graph::ShapesGraph;
@@ -22,6 +22,7 @@ use std::marker::Brand;
 use std::sync::ledger::{Blank, Ledger};
 use std::thread::Threads;
 use threaded_listing::listing_by_threads;
+use turtle_reader::TripleTable;
 
 // The numbers of rdf:type and rdfs:subClassOf, which are named first.
 const CLASS_WORDS: ClassWords = ClassWords {
@@ -60,15 +61,15 @@ fn listing_in<L: Ledger, R: Threads + Sync>(
     Ok(rows)
 }
 
-/// The results of validating the graph by the shapes graph (SHACL section 3.6), each once, in the order of results. Threads
+/// The results of validating the graph of triples that were found by the shapes graph (SHACL section 3.6), each once, in the order of results. Threads
 /// share out the evaluations among each other.
 pub(crate) fn listing<R: Threads + Sync>(
     rt: &R,
     alloc: Global,
-    graph: &[Triple],
+    graph: TripleTable,
     shapes: &ShapesGraph,
 ) -> Result<Sequence<ResultRow>, AllocError>
-    ensures { IfOk result (λ rows. Listing graph.now shapes.now rows) }
+    ensures { IfOk result (λ rows. Listing (with_each [] graph) shapes.now rows) }
 {
     let numbered = numbered(alloc, graph, shapes.triples())?;
     let rows = listing_in::<Brand, R>(rt, alloc, &numbered, shapes, Blank::new(1))?;
@@ -107,10 +108,10 @@ fn explanation_in<L: Ledger>(
 /// The text that explains the validation of the graph by the shapes graph (SHACL section 3.6).
 pub(crate) fn explanation(
     alloc: Global,
-    graph: &[Triple],
+    graph: TripleTable,
     shapes: &ShapesGraph,
 ) -> Result<String, AllocError>
-    ensures { IfOk result (λ text. IsExplanation graph.now shapes.now (string_bytes text)) }
+    ensures { IfOk result (λ text. IsExplanation (with_each [] graph) shapes.now (string_bytes text)) }
 {
     let numbered = numbered(alloc, graph, shapes.triples())?;
     let text = explanation_in::<Brand>(alloc, &numbered, shapes, Blank::new(1))?;
@@ -155,12 +156,12 @@ fn verdict_in<L: Ledger>(
 /// The verdict on a text of evidence of results of validating the graph by the shapes graph (SHACL section 3.6).
 pub(crate) fn verdict(
     alloc: Global,
-    graph: &[Triple],
+    graph: TripleTable,
     shapes: &ShapesGraph,
     evidence: &[u8],
 ) -> Result<EvidenceVerdict, AllocError>
     requires { length evidence.now < 2 ^ 32 }
-    ensures { IfOk result (IsVerdict graph.now shapes.now evidence.now) }
+    ensures { IfOk result (IsVerdict (with_each [] graph) shapes.now evidence.now) }
 {
     let numbered = numbered(alloc, graph, shapes.triples())?;
     let verdict = verdict_in::<Brand>(alloc, &numbered, shapes, evidence, Blank::new(1))?;

@@ -1,19 +1,20 @@
 //! The three calls on two texts, and what they answer.
-ghost use Rattle.std.specs.Prelude.{◌≡◌, ◌<◌, ◌^◌, length, IfOk, MatchResult};
+ghost use Rattle.std.specs.Prelude.{◌≡◌, ◌<◌, ◌^◌, [], length, IfOk, MatchResult};
+ghost use Rattle.rdf_model.specs.Graphs.{with_each};
 ghost use Rattle.file_validation.specs.Asked.{AsksInVain, AsksOfText};
 ghost use Rattle.file_validation.specs.Validations.{AreRead, IsCause, IsExplained, IsExplanationOf, IsReported, IsValidation, IsVerdictOn};
 
 use crate::InputFault;
-use crate::reading::{shapes_of, triples_of};
+use crate::reading::{shapes_of, table_of, triples_of};
 use crate::results::{explanation, listing, verdict};
-use collections::Sequence;
 use outside::Maker;
 use rdf_lexical::ReadFault;
-use rdf_model::{Text, Triple};
+use rdf_model::Text;
 use report_writer::report;
 use shapes_graph::ShapesGraph;
 use std::alloc::{AllocError, Global};
 use std::thread::Threads;
+use turtle_reader::TripleTable;
 
 // The sessions of the blank nodes of the two texts.
 const DATA_SESSION: u32 = 1;
@@ -51,10 +52,10 @@ pub enum EvidenceVerdict {
 fn validation_of<R: Threads + Sync>(
     rt: &R,
     alloc: Global,
-    graph: &[Triple],
+    graph: TripleTable,
     shapes: &ShapesGraph,
 ) -> Result<Validation, AllocError>
-    ensures { IfOk result (IsReported graph.now shapes.now) }
+    ensures { IfOk result (IsReported (with_each [] graph) shapes.now) }
 {
     let rows = listing(rt, alloc, graph, shapes)?;
     let text = report(alloc, rows.as_slice(), shapes.shapes())?;
@@ -67,10 +68,10 @@ fn validation_of<R: Threads + Sync>(
 // The explanation of the validation of a graph by a shapes graph.
 fn explanation_of(
     alloc: Global,
-    graph: &[Triple],
+    graph: TripleTable,
     shapes: &ShapesGraph,
 ) -> Result<Explanation, AllocError>
-    ensures { IfOk result (IsExplained graph.now shapes.now) }
+    ensures { IfOk result (IsExplained (with_each [] graph) shapes.now) }
 {
     let text = explanation(alloc, graph, shapes)?;
     Ok(Explanation {
@@ -79,22 +80,22 @@ fn explanation_of(
     })
 }
 
-// The data graph and the shapes graph of two texts, the data read first.
+// The triples of the data, as they were found, and the shapes graph of two texts, the data read first.
 fn graphs_of<M: Maker>(
     alloc: Global,
     maker: &mut M,
     data_text: &[u8],
     shapes_text: &[u8],
-) -> Result<(Sequence<Triple>, ShapesGraph), InputFault>
+) -> Result<(TripleTable, ShapesGraph), InputFault>
     requires data { length data_text.now < 2 ^ 31 }
     requires shapes { length shapes_text.now < 2 ^ 31 }
-    ensures answer { MatchResult result (λ both. AreRead data_text.now shapes_text.now both.0 both.1) (IsCause data_text.now shapes_text.now (M.refused maker.old) (M.refused maker.new)) }
+    ensures answer { MatchResult result (λ both. AreRead data_text.now shapes_text.now (with_each [] both.0) both.1) (IsCause data_text.now shapes_text.now (M.refused maker.old) (M.refused maker.new)) }
     ensures refused { IfOk result (λ _. M.refused maker.new ≡ M.refused maker.old) }
     ensures asked { MatchResult result (λ _. AsksOfText shapes_text.now (M.asked maker.old) (M.asked maker.new))
         (λ fault. AsksInVain shapes_text.now fault (M.asked maker.old) (M.asked maker.new)) }
 {
-    let graph = match triples_of(alloc, DATA_SESSION, data_text) {
-        Ok(triples) => triples,
+    let graph = match table_of(alloc, DATA_SESSION, data_text) {
+        Ok(table) => table,
         Err(ReadFault::Refusal { line, kind }) => return Err(InputFault::Data { line, kind }),
         Err(ReadFault::Memory) => return Err(InputFault::Memory),
     };
@@ -131,7 +132,7 @@ pub fn validate<M: Maker, R: Threads + Sync>(
         Ok(both) => both,
         Err(fault) => return Err(fault),
     };
-    Ok(validation_of(rt, alloc, graph.as_slice(), &shapes_graph)?)
+    Ok(validation_of(rt, alloc, graph, &shapes_graph)?)
 }
 
 /// Explains the validation of a data graph by a shapes graph, both Turtle texts: the evidence of each of its results, in their
@@ -153,7 +154,7 @@ pub fn explain<M: Maker>(
         Ok(both) => both,
         Err(fault) => return Err(fault),
     };
-    Ok(explanation_of(alloc, graph.as_slice(), &shapes_graph)?)
+    Ok(explanation_of(alloc, graph, &shapes_graph)?)
 }
 
 /// Says whether a text is evidence of results of validating a data graph by a shapes graph, both Turtle texts. Each of its blocks
@@ -177,5 +178,5 @@ pub fn verify<M: Maker>(
         Ok(both) => both,
         Err(fault) => return Err(fault),
     };
-    Ok(verdict(alloc, graph.as_slice(), &shapes_graph, evidence_text)?)
+    Ok(verdict(alloc, graph, &shapes_graph, evidence_text)?)
 }

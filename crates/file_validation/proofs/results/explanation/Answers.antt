@@ -1,8 +1,10 @@
-use Rattle.std.proofs.Common.{List, string_bytes, subst}
+use Rattle.std.proofs.Common.{List, [], string_bytes, subst}
 use Rattle.rdf_model.specs.declared.triple.Triple.{Triple}
+use Rattle.rdf_model.specs.Graphs.{with_each}
 use Rattle.rdf_model.specs.Numbers.{graph_of}
 use Rattle.parallel_validate.specs.Named.{AreNamedTriples}
 use Rattle.graph_explanation.proofs.Members.{same_explanation}
+use Rattle.file_validation.proofs.Members.{in_graph}
 use Rattle.file_validation.proofs.results.explanation.Goals as goal
 
 pub explanation_in-requires-clause-shapes : goal.explanation_in-requires-clause-shapes
@@ -11,4 +13,5 @@ explanation_in-requires-clause-shapes c = subst (λ (ts : List Triple). AreNamed
 pub returns : goal.returns
 returns c =
     let numbered = c.in_ok-numbered.numbered in
-    same_explanation (graph_of numbered.names.terms numbered.triples) c.args.graph.now c.args.shapes.now c.in_ok-numbered.ensures.index.members (string_bytes c.in_ok-text.text) c.in_ok-text.ensures
+    let graph = graph_of numbered.names.terms numbered.triples in
+    same_explanation graph (with_each [] c.args.graph) c.args.shapes.now (in_graph graph c.args.graph c.in_ok-numbered.ensures.index.members) (string_bytes c.in_ok-text.text) c.in_ok-text.ensures

@@ -1,10 +1,12 @@
-use Rattle.std.proofs.Common.{List, subst, sym}
+use Rattle.std.proofs.Common.{List, [], subst, sym}
 use Rattle.rdf_model.specs.declared.triple.Triple.{Triple}
+use Rattle.rdf_model.specs.Graphs.{with_each}
 use Rattle.rdf_model.specs.Numbers.{graph_of}
 use Rattle.shape_model.specs.Validation.{Listing}
 use Rattle.shape_model.specs.declared.result_row.ResultRow.{ResultRow}
 use Rattle.parallel_validate.proofs.Members.{same_listing}
 use Rattle.parallel_validate.specs.Named.{AreNamedTriples}
+use Rattle.file_validation.proofs.Members.{in_graph}
 use Rattle.file_validation.proofs.results.listing.Goals as goal
 
 pub listing_in-requires-clause-shapes : goal.listing_in-requires-clause-shapes
@@ -15,5 +17,5 @@ returns g c =
     let numbered = c.in_ok-numbered.numbered in
     let graph = graph_of numbered.names.terms numbered.triples in
     let s = c.args.shapes.now in
-    subst (λ (found : List ResultRow). Listing c.args.graph.now s found) (sym c.from_vec.ensures)
-    (same_listing graph c.args.graph.now s c.in_ok-numbered.ensures.index.members _ c.in_ok-rows.ensures)
+    subst (λ (found : List ResultRow). Listing (with_each [] c.args.graph) s found) (sym c.from_vec.ensures)
+    (same_listing graph (with_each [] c.args.graph) s (in_graph graph c.args.graph c.in_ok-numbered.ensures.index.members) _ c.in_ok-rows.ensures)

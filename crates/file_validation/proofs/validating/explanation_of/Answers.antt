@@ -1,4 +1,5 @@
-use Rattle.std.proofs.Common.{List, ℕ, string_bytes, sym, subst}
+use Rattle.std.proofs.Common.{List, [], ℕ, string_bytes, sym, subst}
+use Rattle.rdf_model.specs.Graphs.{with_each}
 use Rattle.shape_model.specs.Validation.{NoResult}
 use Rattle.graph_explanation.specs.Explanations.{IsExplanation}
 use Rattle.graph_explanation.proofs.Members.{empty_where_none}
@@ -7,7 +8,7 @@ use Rattle.file_validation.proofs.validating.explanation_of.Goals as goal
 
 pub returns : goal.returns
 returns c =
-    let g = c.args.graph.now in
+    let g = with_each [] c.args.graph in
     let s = c.args.shapes.now in
     let text = string_bytes c.in_ok-text.text in
     record {
