@@ -1,14 +1,32 @@
 //! A store of RDF triples that guards its commits by shapes: the program.
 //!
-//! `main` makes the real files, standard output, the disk and the rest, and hands them with the words to `run`, whose contract
-//! is the promise of the program.
+//! `run` is the whole of it: from the words and the files to the bytes that the sink takes and the
+//! status, and what the disk of a log has then. Its contract is the promise of the program. `main` makes the real files,
+//! standard output, the disk and the rest, and hands them to `run`.
 //!
 //! Storey: commands.
 #![tactic(auto)]
 
+mod answer;
+#[cfg(test)]
+mod device_tests;
+#[cfg(test)]
+mod follow_rows;
+#[cfg(test)]
+mod held_tests;
+#[cfg(test)]
+mod log_rows;
+mod logged;
+mod request;
+mod run;
+mod status;
+#[cfg(test)]
+mod tests;
+
 use disk::HostDisk;
-pub use guard_commands::{Status, run};
 use outside::{HostFiles, HostSink, OpenGate, RegexMaker};
+pub use run::run_command as run;
+pub use status::Status;
 use std::alloc::{AllocError, Global};
 use std::env;
 use std::io::ErrorKind;
