@@ -8,7 +8,7 @@ use std::alloc::{AllocError, Global};
 use std::marker::Model;
 use std::sync::Arc;
 
-/// The number of items of a block that is full, which has as many chunks as a full chunk has items.
+/// The number of items of a block that is full, which has 256 full chunks.
 pub(crate) const FULL_BLOCK: usize = 16_384;
 
 // Chunks side by side, which lists may share. Contracts see their items in order.
