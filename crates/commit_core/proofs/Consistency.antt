@@ -325,6 +325,10 @@ module _ (b : State) (d e : NamedGraph) (m : Bounds) (cs : List Accepted) (gs : 
         subst (λ (y : RecordedStore). TakesStep o y accepting) (same_fields is)
         (takes (fields b d m cs gs n off h) o (accepted_state (fields b d m cs gs n off h).state e.triples e.shapes a) accepting view step)
 
+-- the names that a history has are those of the graph that a commit makes
+pub names_kept : (s o : RecordedStore) (e : NamedGraph) (x : Transaction) (names : List Term) → s ≡ o → names ≡ s.state.named → e ≡ committed_graph (data_of o) x → names ≡ e.terms
+names_kept s o e x names view same is = same ∙ (ap (λ (y : RecordedStore). y.state.named) view ∙ sym (ap (λ (g : NamedGraph). g.terms) is))
+
 -- a commit at which the log fails: s are the fields, o is the value that the contract speaks of
 module _ (s o : RecordedStore) (i : ℕ) (x : Transaction) (consistent : IsConsistent s) (view : s ≡ o) (running : o.state.stopped ≡ false) (opened : IsOpened o.state i) (fits : IsCommittable o.state x) (within : IsWithin o.limits o.state.graph o.state.commits x) (none : NoneBlocks o.limits.mode (data_of o) x) where
   abbrev failing : Event

@@ -9,4 +9,3 @@ pub mod Conditions
 pub mod Replaying
 pub mod RestoredParts
 pub mod LoggedCommits
-pub mod Taking

@@ -19,10 +19,15 @@ use Rattle.rdf_model.proofs.SameTerms.{equal_same, same_equal}
 use Rattle.shape_model.specs.Vocabulary.{rdf, rdf_type, sub_class_of}
 use Rattle.collections.specs.Ordered.{has_item, with_item, without_item}
 use Rattle.collections.proofs.Members.{has_cases, has_equal, has_tail, with_cases, without_old}
+use Rattle.store_model.specs.declared.event.NameKind.{NameKind}
 use Rattle.store_model.specs.Store.{AreNamed, NetNamed, StagedNamed, changed_triple, named_with, number_of, numbers_of, shapes_under, terms_of}
 use Rattle.term_dict.specs.Names.{AreNumbersOf, first_terms, with_terms}
 use Rattle.parallel_validate.specs.Named.{AreNamedTriples, IsNamedTriple}
-use Rattle.data_graph.specs.DataGraphs.{AreNamedChanges}
+use Rattle.data_graph.specs.DataGraphs.{AreNamedChanges, NamedGraph}
+use Rattle.event_history.specs.Named.{IsBeginning, terms_at}
+use Rattle.event_history.proofs.Naming.{begins_with, numbers_have, numbers_told}
+use Rattle.commit_core.specs.declared.naming.NamedTerms.{NamedTerms}
+use Rattle.commit_core.specs.Naming.{IsNaming}
 
 -- whether a term has a name
 abbrev has : List Term → Term → Bool
@@ -195,3 +200,20 @@ first_numbering = numbered_push (rdf_type ∷ []) sub_class_of (λ c. elim (has_
 pub no_items : {X : Type 0} (xs : List X) → length xs ≡ 0 → xs ≡ []
 no_items [] h = refl
 no_items (x ∷ xs) h = absurd (omega (arith, h))
+
+-- what a block that is named gives the history, whose names are those of the graph before it
+module _ (kind : NameKind) (graph : NamedGraph) (given terms : List Term) (n : NamedTerms) (is : IsNaming kind graph given terms n) where
+  pub block_begins : (names : List Term) → names ≡ graph.terms → IsBeginning names n.names.terms
+  block_begins names same =
+      let all : n.names.terms ≡ with_terms graph.terms terms = is.names_are ∙ ap (λ (g : NamedGraph). g.terms) is.graph_is in
+      subst (λ (us : List Term). IsBeginning us n.names.terms) (sym same) (subst (λ (us : List Term). IsBeginning graph.terms us) (sym all) (begins_with graph.terms terms))
+
+  block_numbers : AreNumbersOf n.names.terms terms n.kept
+  block_numbers =
+      subst (λ (us : List Term). AreNumbersOf us terms n.kept) (sym is.names_are) (subst (λ (ns : List ℕ). AreNumbersOf n.graph.terms terms ns) (sym is.kept_are) is.numbers_are)
+
+  pub block_told : terms_at n.names.terms n.kept ≡ terms
+  block_told = numbers_told n.names.terms terms n.kept block_numbers
+
+  pub block_has : AllByRecursion (λ i. i < length n.names.terms) n.kept
+  block_has = numbers_have n.names.terms terms n.kept block_numbers

@@ -1,7 +1,6 @@
 pub mod Commits
 pub mod Conditions
 pub mod Consistent
-pub mod Events
 pub mod Faults
 pub mod Logged
 pub mod Naming

@@ -17,12 +17,12 @@ ghost use Rattle.commit_core.specs.Work.{AnswerSteps, CommitSteps, IsByResults, 
 
 use crate::commit::{Acceptance, CheckedTransaction, Commit, Plan, Reasons};
 use crate::reasons::{find_reasons, has_held};
-use crate::room::Slip;
 use crate::store::{Core, slip, version_of};
 use collections::Sequence;
 use commit_log::{AppendFault, Log};
 use data_graph::DataGraph;
 use disk::Disk;
+use event_history::Slip;
 use rdf_model::Triple;
 use record_text::Record;
 use shape_eval::Steps;
@@ -149,7 +149,7 @@ impl Core {
             Err(AppendFault::Failed) => {
                 self.stopped = true;
                 self.history.push(
-                    slip.room,
+                    slip,
                     Event {
                         session,
                         action: Action::Commit(checked.into_transaction()),
@@ -164,7 +164,7 @@ impl Core {
                 let number = version_of(&self.commits);
                 let (again, recorded) = reasons.into_parts();
                 self.history.push(
-                    slip.room,
+                    slip,
                     Event {
                         session,
                         action: Action::Commit(checked.into_transaction()),

@@ -1,16 +1,22 @@
-//! The blank nodes of a block: those that it gives out, and the one for which it is refused.
-ghost use Rattle.std.specs.Prelude.{◌≡◌, [], ◌∷◌, IfOk, OnOk, not};
+//! A block whose terms are named: the blank nodes that it gives out, the one for which it is refused, and what naming makes.
+ghost use Rattle.std.specs.Prelude.{◌≡◌, ◌≤◌, ◌+◌, [], ◌∷◌, IfErr, IfOk, OnOk, length, not};
 ghost use Rattle.std.specs.List.{filter};
 ghost use Rattle.collections.specs.Ordered.{has_item};
 ghost use Rattle.rdf_model.specs.Terms.{term_cmp};
 ghost use Rattle.store_model.specs.Nodes;
 ghost use Rattle.store_model.specs.Nodes.{given_by, given_with, unknown_by};
-ghost use Rattle.commit_core.specs.Naming.{first_of};
+ghost use Rattle.term_dict.specs.Faults.{IsCause};
+ghost use Rattle.term_dict.specs.Names.{AreNumbersOf, with_terms};
+ghost use Rattle.data_graph.specs.DataGraphs.{names_of, with_names};
+ghost use Rattle.commit_core.specs.Naming.{IsNaming, first_of};
 
+use collections::Sequence;
+use data_graph::ValidatedGraph;
 use page_index::Pages;
 use rdf_model::Term;
 use std::alloc::{AllocError, Global};
 use store_model::NameKind;
+use term_dict::{Dict, NameFault};
 
 /// Why terms were not named.
 #[derive(Debug, Drop)]
@@ -111,4 +117,89 @@ pub(crate) fn unknown_node(
         NameKind::Fresh | NameKind::Known => Ok(None),
         NameKind::Attach => first_not_given(given, &given_too(&Pages::new(alloc), terms)?),
     }
+}
+
+/// The terms of a block as they are named: the graph with their names, the nodes that are given out then, a share of the names,
+/// and the numbers of the terms, for the answer and for the history.
+pub(crate) struct NamedTerms {
+    pub(crate) graph: ValidatedGraph,
+    pub(crate) given: Pages<Term>,
+    pub(crate) names: Dict,
+    pub(crate) numbers: Sequence<u32>,
+    pub(crate) kept: Sequence<u32>,
+}
+
+// Written by hand, so that what owns one calls it in place of having it written out.
+impl Drop for NamedTerms {
+    fn drop(self) {
+        let NamedTerms {
+            graph: _,
+            given: _,
+            names: _,
+            numbers: _,
+            kept: _,
+        } = self;
+    }
+}
+
+impl NamedTerms {
+    pub(crate) fn into_parts(
+        self,
+    ) -> (
+        ValidatedGraph,
+        Pages<Term>,
+        Dict,
+        Sequence<u32>,
+        Sequence<u32>,
+    )
+        ensures { result ≡ (self.graph, self.given, self.names, self.numbers, self.kept) }
+    {
+        let NamedTerms {
+            graph,
+            given,
+            names,
+            numbers,
+            kept,
+        } = self;
+        (graph, given, names, numbers, kept)
+    }
+}
+
+// The graph with names for the terms, and their numbers.
+fn with_numbers(
+    graph: &ValidatedGraph,
+    terms: &[Term],
+) -> Result<(ValidatedGraph, Vec<u32>), NameFault>
+    ensures graph { IfOk result (λ named. named.0 ≡ with_names graph.now terms.now) }
+    ensures fits { IfOk result (λ named. length (with_terms graph.now.terms terms.now) ≤ graph.now.limit + 2) }
+    ensures numbers { IfOk result (λ named. AreNumbersOf named.0.terms terms.now named.1.items) }
+    ensures cause { IfErr result (λ fault. IsCause fault (names_of graph.now) terms.now) }
+{
+    let mut named = graph.share()?;
+    let numbers = named.name_all(terms)?;
+    Ok((named, numbers))
+}
+
+/// Names the terms of a block of this kind in another graph.
+pub(crate) fn name_terms(
+    alloc: Global,
+    graph: &ValidatedGraph,
+    kind: NameKind,
+    given: &Pages<Term>,
+    terms: &[Term],
+) -> Result<NamedTerms, NameFault>
+    ensures named { IfOk result (IsNaming kind graph.now given.now terms.now) }
+    ensures cause { IfErr result (λ fault. IsCause fault (names_of graph.now) terms.now) }
+{
+    let given = given_after(kind, given, terms)?;
+    let (graph, numbers) = with_numbers(graph, terms)?;
+    let names = graph.names().share()?;
+    let kept = Vec::from_slice(alloc, &numbers)?;
+    Ok(NamedTerms {
+        graph,
+        given,
+        names,
+        numbers: Sequence::from_vec(numbers),
+        kept: Sequence::from_vec(kept),
+    })
 }

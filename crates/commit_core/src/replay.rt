@@ -87,7 +87,7 @@ impl Core {
     {
         let slip = slip(self.alloc)?;
         self.history.push(
-            slip.room,
+            slip,
             Event {
                 session,
                 action: Action::Begin,
@@ -103,7 +103,7 @@ impl Core {
     {
         let slip = slip(self.alloc)?;
         self.history.push(
-            slip.room,
+            slip,
             Event {
                 session,
                 action: Action::Head,

@@ -15,10 +15,9 @@ ghost use Rattle.commit_core.specs.Restored.{FitInTurn, IsRestoreFault, IsRestor
 ghost use Rattle.commit_core.specs.RestoredParts.{IsLastGraph, IsNamedStart, IsNamingFault, givens, with_names_of};
 
 use crate::bounds::Bounds;
-use crate::history::History;
 use crate::naming::give_all;
 use crate::outcome::Outcome;
-use crate::store::Core;
+use crate::store::{Core, new_history};
 use collections::{Sequence, sorted_once};
 use data_graph::{DataGraph, NumberHints};
 use page_index::Pages;
@@ -316,6 +315,8 @@ impl Core {
             return Err(RestoreFault::Blocked);
         }
         let commits = commits_of(alloc, &records)?;
+        let graph = outcome.into_graph();
+        let history = new_history(&graph)?;
         Ok(Core {
             alloc,
             bounds: Bounds {
@@ -323,12 +324,12 @@ impl Core {
                 mode: limits.mode,
             },
             records,
-            graph: outcome.into_graph(),
+            graph,
             commits,
             given,
             opened: 0,
             stopped: false,
-            history: History::new(),
+            history,
         })
     }
 

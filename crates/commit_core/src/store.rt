@@ -21,16 +21,15 @@ use crate::commit::{
     Acceptance, CheckedTransaction, Commit, Plan, Reasons, Refusal, accepting, refusing,
     stage_shapes,
 };
-use crate::history::{History, events_back, room_for, sessions_back};
-use crate::naming::{NamingFault, given_after, unknown_node};
+use crate::naming::{NamingFault, name_terms, unknown_node};
 use crate::outcome::Outcome;
 use crate::overtaking::find_overtaker;
 use crate::reasons::{find_reasons, has_held};
-use crate::room::Slip;
 use crate::snapshot::Snap;
 use blocking::pairs_block;
 use collections::Sequence;
 use data_graph::{DataGraph, NumberHints, ValidatedGraph};
+use event_history::{History, NamedBlock, Slip};
 use kept_rows::PairRows;
 use page_index::Pages;
 use rdf_model::{Change, Term, Triple};
@@ -38,7 +37,6 @@ use record_text::Record;
 use shape_eval::Steps;
 use shape_model::ResultRow;
 use std::alloc::{AllocError, Global};
-use std::boxed::Box;
 use std::marker::Model;
 use std::sync::ledger::Ledger;
 use store_model::{Accepted, Action, Event, Limits, NameKind, Overtaker, Reply, Transaction};
@@ -67,9 +65,14 @@ impl From<AllocError> for SessionFault {
 
 /// Makes room for one event.
 pub fn slip(alloc: Global) -> Result<Slip, AllocError> {
-    Ok(Slip {
-        room: Box::new(alloc, History::new())?,
-    })
+    Slip::new(alloc)
+}
+
+// A history without events, by the names of the graph.
+pub(crate) fn new_history(graph: &ValidatedGraph) -> Result<History, AllocError>
+    ensures { IfOk result (λ history. history ≡ record { events = []; names = graph.now.terms }) }
+{
+    Ok(History::new(graph.names().share()?))
 }
 
 pub(crate) fn version_of(commits: &[Accepted]) -> u64
@@ -106,15 +109,16 @@ pub struct Core {
 }
 
 impl Model for Core {
+    ghost use Rattle.std.specs.Prelude.{◌≡◌};
     ghost use Rattle.store_model.specs.Store.{RecordedStore};
     ghost use Rattle.commit_core.specs.Consistent.{IsConsistent};
     ghost use Rattle.commit_core.specs.Restored.{restored};
 
     ghost Value = { RecordedStore };
 
-    ghost view = { λ c. record { limits = record { terms = c.graph.limit; triples = c.bounds.triples; mode = c.bounds.mode }; start = restored c.records.items; state = record { graph = c.graph.triples; shapes = c.graph.shapes; commits = c.commits.items; named = c.graph.terms; given = c.given; opened = c.opened; stopped = c.stopped }; history = c.history } };
+    ghost view = { λ c. record { limits = record { terms = c.graph.limit; triples = c.bounds.triples; mode = c.bounds.mode }; start = restored c.records.items; state = record { graph = c.graph.triples; shapes = c.graph.shapes; commits = c.commits.items; named = c.graph.terms; given = c.given; opened = c.opened; stopped = c.stopped }; history = c.history.events } };
 
-    ghost invariant = { λ c. IsConsistent (record { limits = record { terms = c.graph.limit; triples = c.bounds.triples; mode = c.bounds.mode }; start = restored c.records.items; state = record { graph = c.graph.triples; shapes = c.graph.shapes; commits = c.commits.items; named = c.graph.terms; given = c.given; opened = c.opened; stopped = c.stopped }; history = c.history }) };
+    ghost invariant = { λ c. IsConsistent (record { limits = record { terms = c.graph.limit; triples = c.bounds.triples; mode = c.bounds.mode }; start = restored c.records.items; state = record { graph = c.graph.triples; shapes = c.graph.shapes; commits = c.commits.items; named = c.graph.terms; given = c.given; opened = c.opened; stopped = c.stopped }; history = c.history.events }) × (c.history.names ≡ c.graph.terms) };
 }
 
 // Written by hand, so that what owns a core calls it in place of having it written out.
@@ -141,6 +145,7 @@ impl Core {
         ensures { IfOk result (λ core. core ≡ record { limits = limits; start = empty_store; state = empty_store; history = [] }) }
     {
         let graph = ValidatedGraph::new(alloc, limits.terms)?;
+        let history = new_history(&graph)?;
         Ok(Core {
             alloc,
             bounds: Bounds {
@@ -153,7 +158,7 @@ impl Core {
             given: Pages::new(alloc),
             opened: 0,
             stopped: false,
-            history: History::new(),
+            history,
         })
     }
 
@@ -173,7 +178,7 @@ impl Core {
         let slip = slip(self.alloc)?;
         if self.opened >= MOST_SESSIONS {
             self.history.push(
-                slip.room,
+                slip,
                 Event {
                     session: 0,
                     action: Action::Open,
@@ -184,7 +189,7 @@ impl Core {
         }
         let session = self.opened + 1;
         self.history.push(
-            slip.room,
+            slip,
             Event {
                 session,
                 action: Action::Open,
@@ -212,7 +217,7 @@ impl Core {
         let slip = slip(self.alloc)?;
         let snap = self.newest()?;
         self.history.push(
-            slip.room,
+            slip,
             Event {
                 session,
                 action: Action::Begin,
@@ -232,7 +237,7 @@ impl Core {
         let slip = slip(self.alloc)?;
         let snap = self.newest()?;
         self.history.push(
-            slip.room,
+            slip,
             Event {
                 session,
                 action: Action::Head,
@@ -248,32 +253,32 @@ impl Core {
         slip: Slip,
         session: u32,
         kind: NameKind,
-        asked: Sequence<Term>,
+        terms: &[Term],
     ) -> Result<Vec<u32>, NamingFault>
         requires opened { IsOpened self.old.state session }
-        requires known { unknown_by kind self.old.state.given asked ≡ [] }
+        requires known { unknown_by kind self.old.state.given terms.now ≡ [] }
         ensures step { MatchResult result
-            (λ _. TakesStep self.old self.new (record { session = session; action = Action.Name kind asked; reply = Reply.Named }))
-            (λ fault. NamesNone fault self.old self.new session kind asked) }
-        ensures numbers { IfOk result (λ numbers. numbers.items ≡ numbers_of self.new.state.named asked) }
+            (λ _. TakesStep self.old self.new (record { session = session; action = Action.Name kind terms.now; reply = Reply.Named }))
+            (λ fault. NamesNone fault self.old self.new session kind terms.now) }
+        ensures numbers { IfOk result (λ numbers. numbers.items ≡ numbers_of self.new.state.named terms.now) }
     {
-        let given = given_after(kind, &self.given, asked.as_slice())?;
-        match self.graph.name_all(asked.as_slice()) {
-            Ok(numbers) => {
+        match name_terms(self.alloc, &self.graph, kind, &self.given, terms) {
+            Ok(named) => {
+                let (graph, given, names, numbers, kept) = named.into_parts();
+                let block = NamedBlock {
+                    session,
+                    kind,
+                    numbers: kept,
+                };
+                self.history.push_named(slip, block, names);
+                self.graph = graph;
                 self.given = given;
-                self.history.push(
-                    slip.room,
-                    Event {
-                        session,
-                        action: Action::Name(kind, asked),
-                        reply: Reply::Named,
-                    },
-                );
-                Ok(numbers)
+                Ok(numbers.into_vec())
             }
             Err(NameFault::Full { count }) => {
+                let asked = Sequence::copied_from(self.alloc, terms)?;
                 self.history.push(
-                    slip.room,
+                    slip,
                     Event {
                         session,
                         action: Action::Name(kind, asked),
@@ -302,13 +307,13 @@ impl Core {
         ensures numbers { IfOk result (λ numbers. numbers.items ≡ numbers_of self.new.state.named terms.now) }
     {
         let slip = slip(self.alloc)?;
-        let asked = Sequence::copied_from(self.alloc, terms)?;
         let Some(node) = unknown_node(self.alloc, kind, &self.given, terms)? else {
-            return self.name_known(slip, session, kind, asked);
+            return self.name_known(slip, session, kind, terms);
         };
+        let asked = Sequence::copied_from(self.alloc, terms)?;
         let reply = Reply::Unknown(node.clone()?);
         self.history.push(
-            slip.room,
+            slip,
             Event {
                 session,
                 action: Action::Name(kind, asked),
@@ -471,7 +476,7 @@ impl Core {
         ensures { TakesCommit self.old self.new session transaction reply }
     {
         self.history.push(
-            slip.room,
+            slip,
             Event {
                 session,
                 action: Action::Commit(transaction),
@@ -535,7 +540,7 @@ impl Core {
         let number = version_of(&self.commits);
         let (again, recorded) = reasons.into_parts();
         self.history.push(
-            slip.room,
+            slip,
             Event {
                 session,
                 action: Action::Commit(checked.into_transaction()),
@@ -652,7 +657,7 @@ impl Core {
         ensures { TakesStep self.old self.new (record { session = session; action = Action.Void; reply = Reply.Nothing }) }
     {
         self.history.push(
-            slip.room,
+            slip,
             Event {
                 session,
                 action: Action::Void,
@@ -665,9 +670,7 @@ impl Core {
     pub fn order(&self) -> Result<Vec<u32>, AllocError>
         ensures { IfOk result (λ v. v.items ≡ map (λ e. e.session) self.now.history) }
     {
-        let mut sessions = sessions_back(self.alloc, &self.history)?;
-        sessions.reverse();
-        Ok(sessions)
+        self.history.sessions(self.alloc)
     }
 
     /// The events of the history, in order. Where there is no memory for them, the core is handed
@@ -675,30 +678,34 @@ impl Core {
     pub fn into_events(self) -> Result<Vec<Event>, (Core, AllocError)>
         ensures { MatchResult result (λ events. events.items ≡ self.history) (λ fault. fault.0 ≡ self) }
     {
-        let Ok(room) = room_for(self.alloc, &self.history) else {
-            return Err((self, AllocError));
-        };
-        let mut events = events_back(self.into_history(), room);
-        events.reverse();
-        Ok(events)
-    }
-
-    // The history alone.
-    fn into_history(self) -> History
-        ensures { result ≡ self.history }
-    {
         let Core {
-            alloc: _,
-            bounds: _,
-            records: _,
-            graph: _,
-            commits: _,
-            given: _,
-            opened: _,
-            stopped: _,
+            alloc,
+            bounds,
+            records,
+            graph,
+            commits,
+            given,
+            opened,
+            stopped,
             history,
         } = self;
-        history
+        match history.into_events(alloc) {
+            Ok(events) => Ok(events),
+            Err((history, error)) => {
+                let core = Core {
+                    alloc,
+                    bounds,
+                    records,
+                    graph,
+                    commits,
+                    given,
+                    opened,
+                    stopped,
+                    history,
+                };
+                Err((core, error))
+            }
+        }
     }
 
     /// The results of validating the graph by its shapes graph (SHACL section 3.6), each once, in the order of results. None of

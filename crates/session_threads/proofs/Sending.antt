@@ -14,7 +14,7 @@ use mir.Syntax.{Sym, Ty}
 use mathlib.Core.List.{[], ◌∷◌}
 use Rattle.std.specs.contracts.alloc.Global as heap
 use Rattle.collections.specs.contracts.sequence.Sequence as sequence
-use Rattle.commit_core.proofs.history.History.TheLaws.TheKnot as history_knot
+use Rattle.event_history.proofs.row.KeptEvents.TheLaws.TheKnot as kept_knot
 use Rattle.page_tree.proofs.page.Entry.TheLaws.TheKnot as page_knot
 use Rattle.page_index.specs.contracts.pages.Pages as pages
 use Rattle.growing_list.specs.contracts.growing.GrowingList as growing
@@ -63,6 +63,10 @@ use Rattle.store_model.specs.contracts.commit.Verdict as verdict
 use Rattle.store_model.specs.contracts.commit.Transaction as transaction
 use Rattle.store_model.specs.contracts.event.Action as action
 use Rattle.store_model.specs.contracts.event.Event as event
+use Rattle.event_history.specs.contracts.kept.NamedBlock as named_block
+use Rattle.event_history.specs.contracts.kept.KeptEvent as kept_event
+use Rattle.event_history.specs.contracts.row.KeptEvents as kept_events
+use Rattle.event_history.specs.contracts.history.History as history
 use Rattle.store_model.proofs.commit.Accepted.TheSendSync as accepted_sent
 use Rattle.disk.specs.declared.device.Disk as disks
 use Rattle.commit_log.proofs.log.Log.TheSendSync as log_sent
@@ -75,7 +79,6 @@ use Rattle.bgp_query.specs.contracts.pattern.Part as part
 use Rattle.bgp_query.specs.contracts.pattern.JoinPattern as join_pattern
 use Rattle.collections.proofs.sequence.Sequence.TheSendSync as sequence_sent
 use Rattle.commit_core.specs.contracts.checked.CheckedNet as checked
-use Rattle.commit_core.specs.contracts.history.History as history
 use Rattle.commit_core.specs.contracts.snapshot.Snap as snap
 use Rattle.commit_core.specs.contracts.store.Core as core
 use Rattle.record_text.specs.contracts.record.Record as record_row
@@ -156,8 +159,17 @@ answer_send = search (triple_send, again_send, term_sent.the_send, row_sent.the_
 event_send : IsSend (event.the_field).row
 event_send = search (action_send, answer_send, crosses, sendable) depth 60 fits 20000
 
+named_block_send : IsSend (named_block.the_field).row
+named_block_send = search (sequence_sent.the_send, crosses, sendable) depth 60 fits 20000
+
+kept_event_send : IsSend (kept_event.the_field).row
+kept_event_send = search (event_send, named_block_send, crosses, sendable) depth 60 fits 20000
+
+kept_events_send : IsSend kept_events.the_row
+kept_events_send = search (kept_event_send, kept_knot.crosses, crosses, sendable) depth 60 fits 20000
+
 history_send : IsSend history.the_row
-history_send = search (event_send, history_knot.crosses, crosses, sendable) depth 60 fits 20000
+history_send = search (dict_send, kept_events_send, crosses, sendable) depth 60 fits 20000
 
 record_send : IsSend record_row.the_row
 record_send = search (triple_sent.the_send, sequence_sent.the_send, crosses, sendable) depth 60 fits 20000

@@ -2,21 +2,24 @@ use Rattle.std.proofs.Common.{ap, subst, ◌∙◌, length}
 use Rattle.record_text.specs.declared.record.Record.{Record}
 use Rattle.commit_core.specs.Logged.{IsAppended, IsFailed}
 use Rattle.commit_core.specs.Verdicts.{AreReasons}
-use Rattle.commit_core.proofs.Consistency.{at_fields, consistent_accepted, consistent_failed}
+use Rattle.commit_core.proofs.Consistency.{at_fields, consistent_accepted, consistent_failed, names_kept}
 use Rattle.commit_core.proofs.store.Core.accept_logged.Goals as goal
 
 pub invariant_of-self-in-Failed-1 : goal.invariant_of-self-in-Failed-1
 invariant_of-self-in-Failed-1 g c =
     let p = c.requires.plan in
-    rw (c.push.ensures, c.into_transaction.ensures, c.make_room.ensures.items) (consistent_failed _ _ _ _ c.self.invariant c.self.view_is c.requires.running c.requires.opened c.requires.committable p.0 p.1.0)
+    rw (c.push.ensures, c.into_transaction.ensures, c.make_room.ensures.items) (consistent_failed _ _ _ _ c.self.invariant.0 c.self.view_is c.requires.running c.requires.opened c.requires.committable p.0 p.1.0, c.self.invariant.1)
 
 pub invariant_of-self-in-Ok-append : goal.invariant_of-self-in-Ok-append
 invariant_of-self-in-Ok-append g c =
     let p = c.requires.plan in
     let why = at_fields _ _ (λ s. AreReasons s.state.commits c.args.checked.transaction c.args.reasons) c.self.view_is c.requires.reasons in
     let items = rw (c.into_parts-graph.ensures, c.make_room.ensures.items) at c.push_reserved.ensures.items in
-    rw (c.push-in-Ok-append.ensures, c.into_transaction-in-Ok-append.ensures, items, c.into_parts-graph.ensures, c.into_parts-again.ensures) (consistent_accepted _ c.self.inside.graph c.args.acceptance.graph _ _ _ _ _ _ _ _ _ _ _ _ c.self.invariant c.self.view_is c.requires.running c.requires.opened c.requires.committable (why.1 ∙ why.0) p.0 p.1.0 p.1.1 p.1.2 p.1.3
-    (c.version_of-number.ensures ∙ ap length (c.deref.ensures.value ∙ items)))
+    rw (c.push-in-Ok-append.ensures, c.into_transaction-in-Ok-append.ensures, items, c.into_parts-graph.ensures, c.into_parts-again.ensures) (
+      consistent_accepted _ c.self.inside.graph c.args.acceptance.graph _ _ _ _ _ _ _ _ _ _ _ _ c.self.invariant.0 c.self.view_is c.requires.running c.requires.opened c.requires.committable (why.1 ∙ why.0) p.0 p.1.0 p.1.1 p.1.2 p.1.3
+          (c.version_of-number.ensures ∙ ap length (c.deref.ensures.value ∙ items)),
+      names_kept _ _ _ c.args.checked.transaction _ c.self.view_is c.self.invariant.1 p.1.1,
+    )
 
 pub returns-in-Err-Failed-clause-log : goal.returns-in-Err-Failed-clause-log
 returns-in-Err-Failed-clause-log g c =

@@ -23,7 +23,7 @@ commit_by_plan-requires-clause-found g c =
     let x = c.args.checked.transaction in
     let commits : c.deref-2.result.now ≡ c.args.self.now.state.commits = c.deref-2.ensures.value ∙ ap (λ (s : RecordedStore). s.state.commits) c.self.view_is in
     let why = c.in-Ok-find_reasons.ensures.0 ∙ ap (λ (cs : List Accepted). again cs x.staged x.verdict) commits in
-    held c.args.self.now x c.args.checked.pairs c.in-Ok-find_reasons.reasons.answer c.has_held-held.result (subst (λ (s : RecordedStore). IsConsistent s) c.self.view_is c.self.invariant) c.requires.verdict why c.has_held-held.ensures.held
+    held c.args.self.now x c.args.checked.pairs c.in-Ok-find_reasons.reasons.answer c.has_held-held.result (subst (λ (s : RecordedStore). IsConsistent s) c.self.view_is c.self.invariant.0) c.requires.verdict why c.has_held-held.ensures.held
 
 pub returns-clause-steps : goal.returns-clause-steps
 returns-clause-steps g c =

@@ -5,7 +5,7 @@ use Rattle.commit_core.proofs.store.Core.open.Goals as goal
 
 pub invariant_of-result : goal.invariant_of-result
 invariant_of-result c =
-    rw (c.in_ok-graph.ensures, first_names, c.new-2.ensures.items, c.new-3.ensures.items, c.new-4.ensures, c.new-5.ensures) (IsConsistent-empty c.args.limits c.requires)
+    rw (c.in_ok-history.ensures, c.in_ok-graph.ensures, first_names, c.new-2.ensures.items, c.new-3.ensures.items, c.new-4.ensures) (IsConsistent-empty c.args.limits c.requires, refl)
 
 pub returns : goal.returns
-returns c = rw (c.in_ok-graph.ensures, first_names, c.new-2.ensures.items, c.new-3.ensures.items, c.new-4.ensures, c.new-5.ensures) refl
+returns c = rw (c.in_ok-history.ensures, c.in_ok-graph.ensures, first_names, c.new-2.ensures.items, c.new-3.ensures.items, c.new-4.ensures) refl

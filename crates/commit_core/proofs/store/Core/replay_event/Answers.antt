@@ -3,7 +3,8 @@ use Rattle.std.specs.Prelude.{MatchBool}
 use Rattle.store_model.specs.declared.event.Action.{Action}
 use Rattle.store_model.specs.declared.event.Reply.{Reply}
 use Rattle.store_model.specs.Store.{RecordedStore}
-use Rattle.commit_core.specs.Replaying.{IsWrongNext, RunsOn, newest_replied}
+use Rattle.event_history.specs.Replies.{newest_replied}
+use Rattle.commit_core.specs.Replaying.{IsWrongNext, RunsOn}
 use Rattle.commit_core.proofs.Replaying.{not_asked, replied}
 use Rattle.commit_core.proofs.store.Core.replay_event.Goals as goal
 

@@ -1,4 +1,4 @@
-use Rattle.std.proofs.Common.{◌∙◌, Bool, subst}
+use Rattle.std.proofs.Common.{◌∙◌, Bool, refl, subst}
 use Rattle.commit_core.specs.Outcomes.{TellsBlocking}
 use Rattle.commit_core.proofs.RestoredParts.{blocks, core_consistent, core_restored, shapes_ready, triples_ready}
 use Rattle.commit_core.proofs.store.Core.restore.Goals as goal
@@ -29,7 +29,7 @@ invariant_of-result g c =
     let commits = rw c.deref-3.ensures.value at c.in_ok-commits.ensures in
     let outcome = c.in_ok-outcome.ensures.outcome in
     let none = subst (λ (b : Bool). TellsBlocking c.args.limits.mode c.in_ok-filled.filled.triples c.in_ok-filled.filled.shapes b) c.if-blocks.false outcome.1 in
-    rw c.new.ensures (core_consistent c.args.limits c.args.records.items c.in_ok-triples.triples c.args.shapes c.in_ok-named.named c.in_ok-named.given last start c.requires.shapes c.in_ok-filled.filled c.in_ok-filled.ensures c.into_graph.result c.in_ok-commits.commits.items (c.into_graph.ensures ∙ outcome.0) commits none c.requires.small)
+    rw c.in_ok-history.ensures (core_consistent c.args.limits c.args.records.items c.in_ok-triples.triples c.args.shapes c.in_ok-named.named c.in_ok-named.given last start c.requires.shapes c.in_ok-filled.filled c.in_ok-filled.ensures c.into_graph-graph.result c.in_ok-commits.commits.items (c.into_graph-graph.ensures ∙ outcome.0) commits none c.requires.small, refl)
 
 pub returns-clause-store : goal.returns-clause-store
 returns-clause-store g c =
@@ -38,4 +38,4 @@ returns-clause-store g c =
     let commits = rw c.deref-3.ensures.value at c.in_ok-commits.ensures in
     let outcome = c.in_ok-outcome.ensures.outcome in
     let none = subst (λ (b : Bool). TellsBlocking c.args.limits.mode c.in_ok-filled.filled.triples c.in_ok-filled.filled.shapes b) c.if-blocks.false outcome.1 in
-    rw c.new.ensures (core_restored c.args.limits c.args.records.items c.in_ok-triples.triples c.args.shapes c.in_ok-named.named c.in_ok-named.given last start c.requires.shapes c.in_ok-filled.filled c.in_ok-filled.ensures c.into_graph.result c.in_ok-commits.commits.items (c.into_graph.ensures ∙ outcome.0) commits none)
+    rw c.in_ok-history.ensures (core_restored c.args.limits c.args.records.items c.in_ok-triples.triples c.args.shapes c.in_ok-named.named c.in_ok-named.given last start c.requires.shapes c.in_ok-filled.filled c.in_ok-filled.ensures c.into_graph-graph.result c.in_ok-commits.commits.items (c.into_graph-graph.ensures ∙ outcome.0) commits none)

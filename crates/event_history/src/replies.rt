@@ -1,6 +1,6 @@
 //! Replies compared.
 ghost use Rattle.std.specs.Prelude.{◌≡◌};
-ghost use Rattle.commit_core.specs.Replaying.{same_again, same_reply};
+ghost use Rattle.event_history.specs.Replies.{same_again, same_reply};
 
 use store_model::{Again, Reply};
 

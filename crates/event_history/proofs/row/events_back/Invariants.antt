@@ -1,11 +1,13 @@
 use Rattle.std.proofs.Common.{◌≡◌, ◌+◌, ◌++◌, length, reverse}
 use Rattle.std.specs.Vec.{vec_capacity}
-use Rattle.commit_core.proofs.Taking.{left}
-use Rattle.commit_core.proofs.history.events_back.Given as goal
+use Rattle.event_history.specs.Kept.{events_with}
+use Rattle.event_history.proofs.Taking.{left}
+use Rattle.event_history.proofs.row.events_back.Given as goal
 
 abbrev pub invariant-loop-rest : goal.invariant-loop-rest
 invariant-loop-rest l = record {
-  so_far : l.events.items ++ reverse (left l.rest) ≡ reverse l.fn.history;
+  so_far : l.events.items ++ events_with (reverse (left l.rest)) (reverse l.blocks.items) ≡ events_with (reverse l.fn.kept) (reverse l.fn.blocks.items);
+  blocks : length l.blocks.items ≡ length (left l.rest);
   room : length l.events.items + length (left l.rest) ≡ vec_capacity l.events;
 }
 

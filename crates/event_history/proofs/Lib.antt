@@ -1,0 +1,4 @@
+pub mod Comparing
+pub mod Telling
+pub mod Taking
+pub mod Naming

@@ -1,0 +1,4 @@
+pub mod Kept
+pub mod Named
+pub mod Replies
+pub mod Rows

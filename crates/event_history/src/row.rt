@@ -1,0 +1,170 @@
+//! Kept events in a row, the newest first.
+ghost use Rattle.std.specs.Prelude.{◌≡◌, [], ◌∷◌, ◌++◌, ◌<◌, length, map, reverse, IfOk, IfSome, MatchOption};
+ghost use Rattle.std.specs.List.{AllByRecursion};
+ghost use Rattle.std.specs.Vec.{vec_capacity};
+ghost use Rattle.event_history.specs.Kept.{HasTerms, events_with, session_of, terms_in};
+
+use crate::kept::KeptEvent;
+use collections::{Sequence, let_go};
+use rdf_model::Term;
+use std::alloc::{AllocError, Global};
+use std::boxed::Box;
+use std::marker::Model;
+use std::mem;
+use store_model::Event;
+use term_dict::Dict;
+
+/// Kept events. They take one more without memory, once there is room for it.
+#[cycle(kept)]
+pub struct KeptEvents {
+    pub(crate) newest: Link,
+}
+
+#[cycle(kept)]
+pub(crate) enum Link {
+    End,
+    After(KeptEvent, Box<KeptEvents>),
+}
+
+impl Model for KeptEvents {
+    ghost use Rattle.std.specs.Prelude.{List, length};
+    ghost use Rattle.event_history.specs.declared.kept.KeptEvent.{KeptEvent};
+
+    ghost Value = { List KeptEvent };
+
+    ghost use Rattle.event_history.specs.Rows.{kept_events};
+
+    ghost view = { λ k. kept_events k.newest };
+
+    ghost size = { length };
+
+    ghost use Rattle.std.proofs.Common.{arith, length-append};
+
+    ghost size_decreases = { λ a k. Prim.grind (arith, length-append) };
+}
+
+impl KeptEvents {
+    pub(crate) fn new() -> KeptEvents
+        ensures { result ≡ [] }
+    {
+        KeptEvents { newest: Link::End }
+    }
+
+    // Adds an event in the room that was made for it.
+    pub(crate) fn push(&mut self, room: Box<KeptEvents>, event: KeptEvent)
+        ensures { self.new ≡ self.old ++ event ∷ [] }
+    {
+        let mut room = room;
+        *room = mem::replace(self, KeptEvents { newest: Link::End });
+        *self = KeptEvents {
+            newest: Link::After(event, room),
+        };
+    }
+
+    // The newest event and those before it.
+    fn split_newest(self) -> Option<(KeptEvent, KeptEvents)>
+        ensures { MatchOption result (self ≡ []) (λ pair. self ≡ pair.1 ++ pair.0 ∷ []) }
+    {
+        let KeptEvents { newest } = self;
+        match newest {
+            Link::End => None,
+            Link::After(event, older) => Some((event, Box::into_inner(older))),
+        }
+    }
+
+    // All but the newest event.
+    fn before(self) -> Option<KeptEvents>
+        ensures { IfSome result (λ older. length older < length self) }
+    {
+        let KeptEvents { newest } = self;
+        match newest {
+            Link::End => None,
+            Link::After(event, older) => {
+                let_go(event);
+                Some(Box::into_inner(older))
+            }
+        }
+    }
+}
+
+// They can be many, so that they are let go event by event.
+impl Drop for KeptEvents {
+    fn drop(self) {
+        let mut rest = Some(self);
+        while let Some(kept) = rest {
+            rest = kept.before();
+        }
+    }
+}
+
+/// The sessions of the events, the newest first.
+pub(crate) fn sessions_back(alloc: Global, kept: &KeptEvents) -> Result<Vec<u32>, AllocError>
+    ensures { IfOk result (λ v. v.items ≡ reverse (map session_of kept.now)) }
+{
+    let mut sessions = Vec::new(alloc);
+    let mut at = kept;
+    while let Link::After(event, older) = &at.newest {
+        sessions.push(event.session())?;
+        at = older;
+    }
+    Ok(sessions)
+}
+
+/// The terms of each event's numbers, the newest first.
+pub(crate) fn terms_back(
+    alloc: Global,
+    names: &Dict,
+    kept: &KeptEvents,
+) -> Result<Vec<Sequence<Term>>, AllocError>
+    requires { AllByRecursion (HasTerms names.now.terms) kept.now }
+    ensures { IfOk result (λ v. v.items ≡ reverse (map (terms_in names.now.terms) kept.now)) }
+{
+    let mut blocks = Vec::new(alloc);
+    let mut at = kept;
+    while let Link::After(event, older) = &at.newest {
+        blocks.push(event.terms(alloc, names)?)?;
+        at = older;
+    }
+    Ok(blocks)
+}
+
+/// The terms of each event's numbers, in order, and room for all events.
+pub(crate) fn room_for(
+    alloc: Global,
+    names: &Dict,
+    kept: &KeptEvents,
+) -> Result<(Vec<Sequence<Term>>, Vec<Event>), AllocError>
+    requires { AllByRecursion (HasTerms names.now.terms) kept.now }
+    ensures terms { IfOk result (λ made. made.0.items ≡ map (terms_in names.now.terms) kept.now) }
+    ensures empty { IfOk result (λ made. made.1.items ≡ []) }
+    ensures room { IfOk result (λ made. vec_capacity made.1 ≡ length kept.now) }
+{
+    let mut blocks = terms_back(alloc, names, kept)?;
+    blocks.reverse();
+    let room = Vec::with_capacity(alloc, blocks.len())?;
+    Ok((blocks, room))
+}
+
+/// The events, the newest first, of terms in order, in the room that was made for them. It takes no memory.
+pub(crate) fn events_back(
+    kept: KeptEvents,
+    blocks: Vec<Sequence<Term>>,
+    room: Vec<Event>,
+) -> Vec<Event>
+    requires blocks { length blocks.items ≡ length kept }
+    requires empty { room.items ≡ [] }
+    requires room { vec_capacity room ≡ length kept }
+    ensures { result.items ≡ events_with (reverse kept) (reverse blocks.items) }
+{
+    let mut blocks = blocks;
+    let mut events = room;
+    let mut rest = kept.split_newest();
+    while let Some((event, older)) = rest {
+        match blocks.pop() {
+            Some(terms) => events.push_reserved(event.with_terms(terms)),
+            None => unreachable!(),
+        }
+        rest = older.split_newest();
+    }
+    events
+}
