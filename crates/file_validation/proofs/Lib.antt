@@ -2,5 +2,6 @@ pub mod Asks
 pub mod NamedTriples
 mod Emptiness
 mod Members
+mod TextReadings
 mod Verdicts
 pub mod Sharing

@@ -1,3 +1,4 @@
 pub mod Numbering
 pub mod Validations
+pub mod Readings
 pub mod Asked

@@ -1,7 +1,7 @@
 //! What the commands `validate`, `explain` and `verify` do with texts: the validation of one data graph by one shapes graph, both
 //! Turtle, with its report or with the evidence of its results.
 //!
-//! `validate` reads the data, then the shapes, compiles the shapes, lists the results (SHACL section 3.6) and writes the
+//! `validate` reads the data and the shapes beside each other, compiles the shapes, lists the results (SHACL section 3.6) and writes the
 //! report. It ensures that the report is byte for byte that of exactly those results, and for each fault its cause. `explain`
 //! writes the evidence of each result in place of the report, and `verify` says whether a text is evidence, block by block.
 //!

@@ -1,11 +1,14 @@
 //! The three calls on two texts, and what they answer.
-ghost use Rattle.std.specs.Prelude.{◌≡◌, ◌<◌, ◌^◌, [], length, IfOk, MatchResult};
+ghost use Rattle.std.specs.Prelude.{◌≡◌, ℕ, List, ◌<◌, ◌^◌, [], length, IfOk, MatchResult};
+ghost use Rattle.collections.specs.Ordered.{IsAscending};
 ghost use Rattle.rdf_model.specs.Graphs.{with_each};
+ghost use Rattle.rdf_model.specs.Terms.{triple_cmp};
 ghost use Rattle.file_validation.specs.Asked.{AsksInVain, AsksOfText};
+ghost use Rattle.file_validation.specs.Readings.{AreReadings, of_data, of_shapes};
 ghost use Rattle.file_validation.specs.Validations.{AreRead, IsCause, IsExplained, IsExplanationOf, IsReported, IsValidation, IsVerdictOn};
 
 use crate::InputFault;
-use crate::reading::{shapes_of, table_of, triples_of};
+use crate::reading::{TextReadings, readings_by_threads, readings_in_turn, shapes_of};
 use crate::results::{explanation, listing, verdict};
 use outside::Maker;
 use rdf_lexical::ReadFault;
@@ -15,11 +18,6 @@ use shapes_graph::ShapesGraph;
 use std::alloc::{AllocError, Global};
 use std::thread::Threads;
 use turtle_reader::TripleTable;
-
-// The sessions of the blank nodes of the two texts.
-const DATA_SESSION: u32 = 1;
-
-const SHAPES_SESSION: u32 = 2;
 
 /// The outcome of a validation.
 #[derive(Debug, Drop)]
@@ -80,38 +78,57 @@ fn explanation_of(
     })
 }
 
-// The triples of the data, as they were found, and the shapes graph of two texts, the data read first.
+// Why there is no graph of the data.
+fn data_fault(fault: ReadFault) -> InputFault
+    ensures { result ≡ of_data fault }
+{
+    match fault {
+        ReadFault::Refusal { line, kind } => InputFault::Data { line, kind },
+        ReadFault::Memory => InputFault::Memory,
+    }
+}
+
+// Why there are no shapes.
+fn shapes_fault(fault: ReadFault) -> InputFault
+    ensures { result ≡ of_shapes fault }
+{
+    match fault {
+        ReadFault::Refusal { line, kind } => InputFault::Shapes { line, kind },
+        ReadFault::Memory => InputFault::Memory,
+    }
+}
+
+// The triples of the data, as they were found, and the shapes graph of two texts that were read. The refusal of the data is told
+// before that of the shapes.
 fn graphs_of<M: Maker>(
     alloc: Global,
     maker: &mut M,
-    data_text: &[u8],
-    shapes_text: &[u8],
+    readings: TextReadings,
 ) -> Result<(TripleTable, ShapesGraph), InputFault>
-    requires data { length data_text.now < 2 ^ 31 }
-    requires shapes { length shapes_text.now < 2 ^ 31 }
-    ensures answer { MatchResult result (λ both. AreRead data_text.now shapes_text.now (with_each [] both.0) both.1) (IsCause data_text.now shapes_text.now (M.refused maker.old) (M.refused maker.new)) }
+    requires { IfOk readings.triples (IsAscending triple_cmp) }
+    ensures answer { (data_text shapes_text : List ℕ) → AreReadings data_text shapes_text readings
+        → MatchResult result (λ both. AreRead data_text shapes_text (with_each [] both.0) both.1) (IsCause data_text shapes_text (M.refused maker.old) (M.refused maker.new)) }
     ensures refused { IfOk result (λ _. M.refused maker.new ≡ M.refused maker.old) }
-    ensures asked { MatchResult result (λ _. AsksOfText shapes_text.now (M.asked maker.old) (M.asked maker.new))
-        (λ fault. AsksInVain shapes_text.now fault (M.asked maker.old) (M.asked maker.new)) }
+    ensures asked { (data_text shapes_text : List ℕ) → AreReadings data_text shapes_text readings
+        → MatchResult result (λ _. AsksOfText shapes_text (M.asked maker.old) (M.asked maker.new)) (λ fault. AsksInVain shapes_text fault (M.asked maker.old) (M.asked maker.new)) }
 {
-    let graph = match table_of(alloc, DATA_SESSION, data_text) {
+    let TextReadings { table, triples } = readings;
+    let table = match table {
         Ok(table) => table,
-        Err(ReadFault::Refusal { line, kind }) => return Err(InputFault::Data { line, kind }),
-        Err(ReadFault::Memory) => return Err(InputFault::Memory),
+        Err(fault) => return Err(data_fault(fault)),
     };
-    let triples = match triples_of(alloc, SHAPES_SESSION, shapes_text) {
+    let triples = match triples {
         Ok(triples) => triples,
-        Err(ReadFault::Refusal { line, kind }) => return Err(InputFault::Shapes { line, kind }),
-        Err(ReadFault::Memory) => return Err(InputFault::Memory),
+        Err(fault) => return Err(shapes_fault(fault)),
     };
     let shapes_graph = shapes_of(alloc, maker, triples)?;
-    Ok((graph, shapes_graph))
+    Ok((table, shapes_graph))
 }
 
 /// Validates a data graph by a shapes graph (SHACL section 3.4), both Turtle texts, and writes the report. Blank nodes of
 /// the data belong to session 1 and those of the shapes to session 2, each numbered from 1. The maker builds the patterns,
-/// shape by shape in the order of nodes, up to the first that it refuses. As many threads as there are processors share out the
-/// evaluations among each other.
+/// shape by shape in the order of nodes, up to the first that it refuses. The texts are read beside each other, and as many
+/// threads as there are processors share out the evaluations among each other.
 ///
 /// A fault tells its cause: the data is refused first, then the shapes, then a broken rule, then a pattern.
 pub fn validate<M: Maker, R: Threads + Sync>(
@@ -128,7 +145,8 @@ pub fn validate<M: Maker, R: Threads + Sync>(
     ensures asked { MatchResult result (λ _. AsksOfText shapes_text.now (M.asked maker.old) (M.asked maker.new))
         (λ fault. AsksInVain shapes_text.now fault (M.asked maker.old) (M.asked maker.new)) }
 {
-    let (graph, shapes_graph) = match graphs_of(alloc, maker, data_text, shapes_text) {
+    let readings = readings_by_threads(rt, alloc, data_text, shapes_text);
+    let (graph, shapes_graph) = match graphs_of(alloc, maker, readings) {
         Ok(both) => both,
         Err(fault) => return Err(fault),
     };
@@ -150,7 +168,8 @@ pub fn explain<M: Maker>(
     ensures asked { MatchResult result (λ _. AsksOfText shapes_text.now (M.asked maker.old) (M.asked maker.new))
         (λ fault. AsksInVain shapes_text.now fault (M.asked maker.old) (M.asked maker.new)) }
 {
-    let (graph, shapes_graph) = match graphs_of(alloc, maker, data_text, shapes_text) {
+    let readings = readings_in_turn(alloc, data_text, shapes_text);
+    let (graph, shapes_graph) = match graphs_of(alloc, maker, readings) {
         Ok(both) => both,
         Err(fault) => return Err(fault),
     };
@@ -174,7 +193,8 @@ pub fn verify<M: Maker>(
     ensures asked { MatchResult result (λ _. AsksOfText shapes_text.now (M.asked maker.old) (M.asked maker.new))
         (λ fault. AsksInVain shapes_text.now fault (M.asked maker.old) (M.asked maker.new)) }
 {
-    let (graph, shapes_graph) = match graphs_of(alloc, maker, data_text, shapes_text) {
+    let readings = readings_in_turn(alloc, data_text, shapes_text);
+    let (graph, shapes_graph) = match graphs_of(alloc, maker, readings) {
         Ok(both) => both,
         Err(fault) => return Err(fault),
     };

@@ -6,7 +6,7 @@ use Rattle.file_validation.proofs.validating.validate.Goals as goal
 
 pub returns-clause-answer : goal.returns-clause-answer
 returns-clause-answer g c =
-    let read = c.in-Ok.ensures.answer in
+    let read = c.in-Ok.ensures.answer c.args.data_text.now c.args.shapes_text.now c.readings_by_threads-readings.ensures.readings in
     record {
       graph = with_each [] c.in-Ok.both.0;
       shapes_graph = c.in-Ok.both.1;
@@ -19,4 +19,4 @@ returns-clause-answer g c =
 pub returns-in_err-validation_of-clause-asked : goal.returns-in_err-validation_of-clause-asked
 returns-in_err-validation_of-clause-asked g c =
     let p = err_from_is_err_and c.from_residual.result c.from_residual.ensures.1 in
-    rw (p.1, p.2) (asked_all c.args.shapes_text.now _ _ c.in-Ok.ensures.asked)
+    rw (p.1, p.2) (asked_all c.args.shapes_text.now _ _ (c.in-Ok.ensures.asked c.args.data_text.now c.args.shapes_text.now c.readings_by_threads-readings.ensures.readings))
