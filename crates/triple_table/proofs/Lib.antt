@@ -1,3 +1,5 @@
+mod Found
 mod Listed
-mod Places
+pub mod Places
 mod Ranking
+pub mod Sharing

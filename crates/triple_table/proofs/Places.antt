@@ -1,41 +1,69 @@
 -- Terms that are kept, and what is numbered by them, as more terms come.
-use Rattle.std.proofs.Common.{◌≡◌, ◌∙◌, ℕ, zero, suc, ◌<◌, List, [], ◌∷◌, ◌++◌, length, map, slice_get, Some, true, false, refl, sym, subst, ap, arith, length-append}
-use Rattle.std.specs.List.{AllByRecursion, IsDistinct}
+use Rattle.std.proofs.Common.{◌≡◌, ◌∙◌, ℕ, ◌<◌, Bool, List, [], ◌∷◌, ◌++◌, length, true, false, refl, sym, subst, ap, arith, inl, inr, length-append}
+use Rattle.std.specs.Prelude.{◌↔◌, ◌||◌, IsTrue, cond}
+use Rattle.std.specs.List.{Contains}
 use Rattle.std.proofs.Math.ListN.{get_or-append}
-use Rattle.std.proofs.lemmas.Option.{get_or_from_slice_get, slice_get_within}
-use Rattle.std.specs.declared.cmp.Ordering.TheVariants.{Equal}
+use Rattle.std.specs.declared.cmp.Ordering.{Ordering}
+use Rattle.std.specs.declared.cmp.Ordering.TheVariants.{Less, Equal, Greater}
 use Rattle.std.specs.Cmp.{tied_itself}
 use Rattle.std.specs.Ordering.{is_eq, eq_by_cmp}
+use Rattle.collections.specs.Ordered.{has_item}
+use Rattle.collections.proofs.Members.{has_cases, has_equal, has_tail}
 use Rattle.rdf_model.specs.declared.ids.Ids.{Ids}
 use Rattle.rdf_model.specs.declared.term.Term.{Term}
 use Rattle.rdf_model.specs.declared.term.Term.TheVariants.{Blank}
 use Rattle.rdf_model.specs.declared.triple.Triple.{Triple}
-use Rattle.rdf_model.specs.Numbers.{AreNumbered, IsNumbering, graph_of, term_at, triple_at}
-use Rattle.rdf_model.specs.Orders.{term_total}
+use Rattle.rdf_model.specs.Numbers.{AreNumbered, graph_of, term_at, triple_at}
+use Rattle.rdf_model.specs.Orders.{term_exact, term_total}
 use Rattle.rdf_model.specs.Terms.{term_cmp}
-use Rattle.triple_table.specs.Hashes.{term_tied}
-use Rattle.triple_table.specs.Tables.{HasGrown, IsPlaceOf, IsTripleOf}
+use Rattle.triple_table.specs.Tables.{HasGrown, IsPlaceOf, IsTripleOf, with_term}
+use Rattle.triple_table.proofs.Ranking.{get_or-other}
 
--- the place at which a term was found
-pub term_stored : (us : List Term) (t u : Term) (n m : ℕ) → m ≡ n → slice_get us n ≡ Some u → eq_by_cmp term_cmp t u ≡ true → IsPlaceOf us m t
-term_stored us t u n m e g h = record {
-  within = subst (λ (k : ℕ). k < length us) (sym e) (slice_get_within us n u g);
-  is = ap (term_at us) e ∙ get_or_from_slice_get us n u (Blank 0 0) g ∙ sym (term_tied t u h);
-}
+-- the test of two terms
+tied : (o : Ordering) → is_eq o ≡ true → o ≡ Equal
+tied Less h = cc
+tied Equal h = refl
+tied Greater h = cc
 
--- terms that are apart have a number each
-other_term : (t : Term) (ts : List Term) (n : ℕ) → AllByRecursion (λ u. eq_by_cmp term_cmp t u ≡ false) ts → n < length ts → t ≡ term_at ts n → ⊥
-other_term t [] n a l e = absurd (omega arith)
-other_term t (u ∷ ts) zero a l e = let k : term_cmp t u ≡ Equal = subst (λ (w : Term). term_cmp t w ≡ Equal) e (tied_itself term_total t) in let q = ap is_eq k in let r = a.0 in cc (q, r)
-other_term t (u ∷ ts) (suc n) a l e = other_term t ts n a.1 (omega arith) e
+same_of : (t u : Term) → eq_by_cmp term_cmp t u ≡ true → t ≡ u
+same_of t u h = term_exact t u (tied (term_cmp t u) h)
 
-pub numbering_distinct : (ts : List Term) → IsDistinct (eq_by_cmp term_cmp) ts → IsNumbering ts
-unfolding IsDistinct
-numbering_distinct [] d n m p q e = absurd (omega arith)
-numbering_distinct (t ∷ ts) d zero zero p q e = refl
-numbering_distinct (t ∷ ts) d zero (suc m) p q e = absurd (other_term t ts m d.0 (omega arith) e)
-numbering_distinct (t ∷ ts) d (suc n) zero p q e = absurd (other_term t ts n d.0 (omega arith) (sym e))
-numbering_distinct (t ∷ ts) d (suc n) (suc m) p q e = ap suc (numbering_distinct ts d.1 n m (omega arith) (omega arith) e)
+same_itself : (t u : Term) → t ≡ u → eq_by_cmp term_cmp t u ≡ true
+same_itself t u e = ap is_eq (subst (λ (w : Term). term_cmp t w ≡ Equal) e (tied_itself term_total t))
+
+-- whether a term stands at a number, by the term that does
+pub is_there : (us : List Term) (n : ℕ) (t u : Term) (b : Bool) → n < length us → u ≡ term_at us n → b ≡ eq_by_cmp term_cmp u t → IsTrue b ↔ IsPlaceOf us n t
+is_there us n t u b l at e = (
+  λ h. record { within = l; is = sym at ∙ same_of u t (sym e ∙ h) },
+  λ p. e ∙ same_itself u t (at ∙ p.is),
+)
+
+-- a term among others
+or_true : (b : Bool) → (b || true) ≡ true
+or_true true = refl
+or_true false = refl
+
+has_true : (t : Term) (us : List Term) → Contains us t → has_item term_cmp t us ≡ true
+has_true t [] c = absurd (omega arith)
+has_true t (u ∷ us) c = elim (has_cases u us t c) [
+  | inl e ↦ ap (λ b. b || has_item term_cmp t us) (same_itself u t e)
+  | inr d ↦ ap (λ b. is_eq (term_cmp u t) || b) (has_true t us d) ∙ or_true (is_eq (term_cmp u t))
+]
+
+has_false : (t : Term) (us : List Term) → (Contains us t → ⊥) → has_item term_cmp t us ≡ false
+has_false t [] n = refl
+has_false t (u ∷ us) n = elim (is_eq (term_cmp u t)) as (λ b. is_eq (term_cmp u t) ≡ b → (b || has_item term_cmp t us) ≡ false) [
+  | true ↦ λ h. absurd (n (has_equal u us t (same_of u t h)))
+  | false ↦ λ h. has_false t us (λ c. n (has_tail u us t c))
+] refl
+
+pub with_old : (us : List Term) (t : Term) (n : ℕ) → IsPlaceOf us n t → us ≡ with_term us t
+with_old us t n p =
+    let c : Contains us t = (n, p.within, get_or-other us n t (Blank 0 0) p.within ∙ p.is) in
+    sym (ap (λ b. cond b us (us ++ t ∷ [])) (has_true t us c))
+
+pub with_new : (us vs : List Term) (t : Term) → (Contains us t → ⊥) → vs ≡ us ++ t ∷ [] → vs ≡ with_term us t
+with_new us vs t n e = e ∙ sym (ap (λ b. cond b us (us ++ t ∷ [])) (has_false t us n))
 
 append_nil : (us : List Term) → us ++ [] ≡ us
 append_nil [] = refl
@@ -45,8 +73,19 @@ append_append : (us vs ws : List Term) → (us ++ vs) ++ ws ≡ us ++ (vs ++ ws)
 append_append [] vs ws = refl
 append_append (u ∷ us) vs ws = ap (λ (xs : List Term). u ∷ xs) (append_append us vs ws)
 
-pub grown_not : (us : List Term) → HasGrown us us
+grown_not : (us : List Term) → HasGrown us us
 grown_not us = ([], sym (append_nil us))
+
+pub grown_with : (us vs : List Term) (t : Term) → vs ≡ with_term us t → HasGrown us vs
+grown_with us vs t e =
+    let more : HasGrown us (with_term us t) = elim (has_item term_cmp t us) as (λ b. HasGrown us (cond b us (us ++ t ∷ []))) [
+      | true ↦ grown_not us
+      | false ↦ (t ∷ [], refl)
+    ] in
+    subst (λ (ws : List Term). HasGrown us ws) (sym e) more
+
+pub grown_same : (us vs : List Term) → vs ≡ us → HasGrown us vs
+grown_same us vs e = subst (λ (ws : List Term). HasGrown us ws) (sym e) (grown_not us)
 
 pub grown_twice : (us vs ws : List Term) → HasGrown us vs → HasGrown vs ws → HasGrown us ws
 grown_twice us vs ws g h = (g.0 ++ h.0, h.1 ∙ ap (λ (xs : List Term). xs ++ h.0) g.1 ∙ append_append us g.0 h.0)
@@ -89,7 +128,3 @@ numbered_more us vs (k ∷ ids) i t g a p = ((longer us vs k.subject g a.0.0, lo
 pub graph_more : (us vs : List Term) (ids : List Ids) (i : Ids) (t : Triple) → HasGrown us vs → AreNumbered us ids → IsTripleOf vs i t → graph_of vs (ids ++ i ∷ []) ≡ graph_of us ids ++ t ∷ []
 graph_more us vs [] i t g a p = ap (λ (u : Triple). u ∷ []) p.is
 graph_more us vs (k ∷ ids) i t g a p = let head = triple_stays us vs k g a.0 in let tail = graph_more us vs ids i t g a.1 p in λ j. head j ∷ tail j
-
-pub map_same : (us : List Term) → map (λ (t : Term). t) us ≡ us
-map_same [] = refl
-map_same (u ∷ us) = ap (λ (vs : List Term). u ∷ vs) (map_same us)

@@ -2,15 +2,17 @@
 //!
 //! A `TripleTable` keeps each term once, with the place of its first appearance as its number, and its triples as three
 //! numbers. Contracts see the list of the triples. It gives them sorted, comparing numbers in place of texts, or as they are, with
-//! the terms beside them.
+//! the terms beside them, which find a term by its hash and may get more.
 //!
 //! Storey: texts.
 #![tactic(auto)]
 
-mod kept;
+mod hashed;
 mod narrowed;
+mod numbered;
 mod placed;
 mod ranks;
 mod table;
 
+pub use numbered::NumberedTerms;
 pub use table::TripleTable;

@@ -6,7 +6,6 @@ ghost use Rattle.rdf_model.specs.Numbers.{AreNumbered, IsNumbering, graph_of, te
 ghost use Rattle.rdf_model.specs.Terms.{triple_cmp};
 ghost use Rattle.triple_table.specs.Ranks.{AreRanks, AreWithin, IsBelow, IsRanking, ids_cmp, placed_from, ranked, terms_of};
 
-use crate::kept::KeptTerm;
 use crate::narrowed::narrowed;
 use crate::placed::PlacedTerm;
 use collections::{Sequence, sorted_once};
@@ -21,16 +20,13 @@ struct Ranking<'a> {
 }
 
 // The terms with their places.
-fn placed_of<'a>(alloc: Global, terms: &'a [KeptTerm]) -> Result<Vec<PlacedTerm<'a>>, AllocError>
+fn placed_of<'a>(alloc: Global, terms: &'a [Term]) -> Result<Vec<PlacedTerm<'a>>, AllocError>
     ensures { IfOk result (λ placed. placed.items ≡ placed_from 0 terms.now) }
 {
     let mut placed = Vec::with_capacity(alloc, terms.len())?;
-    for (place, kept) in terms.iter().enumerate() {
+    for (place, term) in terms.iter().enumerate() {
         let place = narrowed(place)?;
-        placed.push(PlacedTerm {
-            term: kept.term(),
-            place,
-        })?;
+        placed.push(PlacedTerm { term, place })?;
     }
     Ok(placed)
 }
@@ -49,7 +45,7 @@ fn ranks_of(alloc: Global, sorted: &[PlacedTerm], count: usize) -> Result<Vec<u3
 }
 
 // The terms in their order, and their ranks.
-fn ranking_of<'a>(alloc: Global, terms: &'a [KeptTerm]) -> Result<Ranking<'a>, AllocError>
+fn ranking_of<'a>(alloc: Global, terms: &'a [Term]) -> Result<Ranking<'a>, AllocError>
     requires { IsNumbering terms.now }
     ensures { IfOk result (λ ranking. IsRanking terms.now (terms_of ranking.sorted.items) ranking.ranks.items) }
 {
@@ -125,7 +121,7 @@ fn triples_of(
 // The triples of the numbers of terms, each once, in their order.
 pub(crate) fn sorted_triples(
     alloc: Global,
-    terms: &[KeptTerm],
+    terms: &[Term],
     triples: &[Ids],
 ) -> Result<Sequence<Triple>, AllocError>
     requires numbering { IsNumbering terms.now }

@@ -5,7 +5,7 @@ ghost use Rattle.collections.specs.Listings.{IsListing};
 ghost use Rattle.rdf_model.specs.Numbers.{AreNumbered, IsNumbering, graph_of};
 ghost use Rattle.rdf_model.specs.Terms.{triple_cmp};
 
-use crate::kept::KeptTerms;
+use crate::numbered::NumberedTerms;
 use crate::ranks::sorted_triples;
 use collections::Sequence;
 use rdf_model::{Ids, Term, Triple};
@@ -17,7 +17,7 @@ use std::marker::Model;
 #[derive(Debug)]
 pub struct TripleTable {
     alloc: Global,
-    terms: KeptTerms,
+    terms: NumberedTerms,
     triples: Vec<Ids>,
 }
 
@@ -63,21 +63,14 @@ impl TripleTable {
     {
         TripleTable {
             alloc,
-            terms: KeptTerms::new(alloc),
+            terms: NumberedTerms::new(alloc),
             triples: Vec::new(alloc),
         }
     }
 
-    /// Adds a triple. It fails for want of memory, or of numbers for the terms, and the triples are then as they were.
-    pub fn push(&mut self, triple: Triple) -> Result<(), AllocError>
-        ensures ok { OnOk result (self.new ≡ self.old ++ triple ∷ []) }
-        ensures err { OnErr result (self.new ≡ self.old) }
-    {
-        self.push_terms(&triple.subject, &triple.predicate, triple.object.clone()?)
-    }
-
-    /// Adds the triple of three terms, as `push` does. Where the subject or the predicate is that of the triple before, it costs one
-    /// comparison, and no copy.
+    /// Adds the triple of three terms. It fails for want of memory, or of numbers for the terms, and the triples are then as they
+    /// were. A term that is there is not copied, and where the subject or the predicate is that of the triple before, it costs one
+    /// comparison.
     pub fn push_terms(
         &mut self,
         subject: &Term,
@@ -102,20 +95,22 @@ impl TripleTable {
             terms,
             triples,
         } = self;
+        terms.recall_numbering();
         sorted_triples(alloc, terms.terms(), &triples)
     }
 
-    /// The terms, each once, and the triples by the places of their terms.
-    pub fn into_parts(self) -> Result<(Vec<Term>, Vec<Ids>), AllocError>
-        ensures graph { IfOk result (λ parts. graph_of parts.0.items parts.1.items ≡ self) }
-        ensures numbered { IfOk result (λ parts. AreNumbered parts.0.items parts.1.items) }
-        ensures numbering { IfOk result (λ parts. IsNumbering parts.0.items) }
+    /// The terms, each once, and the triples by the numbers of their terms.
+    pub fn into_terms(self) -> (NumberedTerms, Vec<Ids>)
+        ensures graph { graph_of result.0 result.1.items ≡ self }
+        ensures numbered { AreNumbered result.0 result.1.items }
+        ensures numbering { IsNumbering result.0 }
     {
         let TripleTable {
             alloc: _,
             terms,
             triples,
         } = self;
-        Ok((terms.into_vec()?, triples))
+        terms.recall_numbering();
+        (terms, triples)
     }
 }

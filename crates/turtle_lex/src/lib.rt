@@ -21,6 +21,6 @@ mod token;
 mod words;
 
 pub use lexer::next_token;
-pub use meanings::{local_name, split_name, token_text};
+pub use meanings::{local_name, push_local_name, split_name, token_text};
 pub use rdf_lexical::{Quotes, RefusalKind, iri_text, plain_text, string_value};
 pub use token::{LexFault, TextPlace, Token, TokenKind};

@@ -1,5 +1,5 @@
 //! What the characters of tokens stand for.
-ghost use Rattle.std.specs.Prelude.{◌≡◌, ◌≤◌, IfOk, length};
+ghost use Rattle.std.specs.Prelude.{◌≡◌, ◌≤◌, ◌++◌, IfOk, OnOk, length, string_bytes};
 ghost use Rattle.turtle_lex.specs.Meanings;
 
 use crate::token::Token;
@@ -15,12 +15,11 @@ pub fn token_text(characters: &[char], token: Token) -> &[char]
     front(behind(characters, token.start.at), length)
 }
 
-/// The local name that a PN_LOCAL stands for, by its characters: what a backslash stands before is
+/// Puts behind a text the local name that a PN_LOCAL stands for, by its characters: what a backslash stands before is
 /// meant without it, and `%` with its digits stays (Turtle section 6.3).
-pub fn local_name(alloc: Global, characters: &[char]) -> Result<Text, AllocError>
-    ensures { IfOk result (λ name. name ≡ Meanings.local_text characters.now) }
+pub fn push_local_name(text: &mut String, characters: &[char]) -> Result<(), AllocError>
+    ensures { OnOk result (string_bytes text.new ≡ string_bytes text.old ++ Meanings.local_text characters.now) }
 {
-    let mut text = String::new(alloc);
     let mut rest = characters;
     while let [character, after @ ..] = rest {
         if *character != '\\' {
@@ -28,6 +27,15 @@ pub fn local_name(alloc: Global, characters: &[char]) -> Result<Text, AllocError
         }
         rest = after;
     }
+    Ok(())
+}
+
+/// The local name that a PN_LOCAL stands for, by its characters, as `push_local_name` has it.
+pub fn local_name(alloc: Global, characters: &[char]) -> Result<Text, AllocError>
+    ensures { IfOk result (λ name. name ≡ Meanings.local_text characters.now) }
+{
+    let mut text = String::new(alloc);
+    push_local_name(&mut text, characters)?;
     Text::from_string(text)
 }
 

@@ -13,7 +13,7 @@ use rdf_lexical::{ReadFault, RefusalKind, behind};
 use rdf_model::Term;
 use rdf_text::Text;
 use std::alloc::{AllocError, Global};
-use turtle_lex::{Token, TokenKind, iri_text, local_name, plain_text, split_name, token_text};
+use turtle_lex::{Token, TokenKind, iri_text, plain_text, push_local_name, split_name, token_text};
 
 /// The refusal of a token, of this kind.
 pub fn refused(token: Token, kind: RefusalKind) -> ReadFault
@@ -70,16 +70,6 @@ pub fn resolved_iri(
     }
 }
 
-// Two texts, one after the other.
-fn joined(alloc: Global, first: &Text, second: &Text) -> Result<Text, AllocError>
-    ensures { IfOk result (λ text. text ≡ first.now ++ second.now) }
-{
-    let mut text = String::new(alloc);
-    text.push_str(first.as_str())?;
-    text.push_str(second.as_str())?;
-    Text::from_string(text)
-}
-
 /// The prefix of a PNAME_NS or PNAME_LN.
 pub fn prefix_of(alloc: Global, text: &[char], token: Token) -> Result<Name, AllocError>
     ensures { IfOk result (λ prefix. prefix ≡ Terms.prefix_of text.now token) }
@@ -90,20 +80,16 @@ pub fn prefix_of(alloc: Global, text: &[char], token: Token) -> Result<Name, All
     })
 }
 
-// The local name of a PNAME_LN; of a PNAME_NS an empty one.
-fn local_of(alloc: Global, text: &[char], token: Token) -> Result<Text, AllocError>
-    ensures { IfOk result (λ local. local ≡ Terms.local_of text.now token) }
-{
-    let (_, local) = split_name(token_text(text, token));
-    local_name(alloc, local)
-}
-
-// The IRI of a name whose prefix stands for this one.
+// The IRI of a name whose prefix stands for this one: the local name of a PNAME_LN behind it, of a PNAME_NS nothing.
 fn named_iri(alloc: Global, text: &[char], iri: &Text, token: Token) -> Result<Text, AllocError>
     ensures { IfOk result (λ named. named ≡ iri.now ++ Terms.local_of text.now token) }
 {
-    let local = local_of(alloc, text, token)?;
-    joined(alloc, iri, &local)
+    let (_, local) = split_name(token_text(text, token));
+    let room = iri.as_str().len().saturating_add(local.len());
+    let mut named = String::with_capacity(alloc, room)?;
+    named.push_str(iri.as_str())?;
+    push_local_name(&mut named, local)?;
+    Text::from_string(named)
 }
 
 // The IRI of a PNAME_NS or PNAME_LN.
