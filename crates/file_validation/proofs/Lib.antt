@@ -3,4 +3,3 @@ pub mod NamedTriples
 mod Emptiness
 mod Members
 mod Verdicts
-pub mod Sharing
