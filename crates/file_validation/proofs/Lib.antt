@@ -4,4 +4,3 @@ mod Emptiness
 mod Members
 mod TextReadings
 mod Verdicts
-pub mod Sharing

@@ -1,42 +1,71 @@
-//! A data graph by numbers for its terms, which are named at once with those of a shapes graph.
-ghost use Rattle.std.specs.Prelude.{◌≡◌, IfOk, length, map};
-ghost use Rattle.std.specs.List.{AllByRecursion};
-ghost use Rattle.file_validation.specs.Numbering.{IsBelow, IsNumberedGraph, renumbered};
+//! A data graph by the numbers that its terms were read with, and the terms of a shapes graph behind them.
+ghost use Rattle.std.specs.Prelude.{◌≡◌, IfOk, OnOk, codes};
+ghost use Rattle.path_eval.specs.Instances.{AreClassWords};
+ghost use Rattle.parallel_validate.specs.Named.{AreNamedTriples, IsNamedTriple};
+ghost use Rattle.triple_table.specs.Tables.{HasGrown, IsPlaceOf};
+ghost use Rattle.file_validation.specs.Numbering.{IsNumberedGraph};
 
-use rdf_model::{Ids, Triple};
+use path_eval::ClassWords;
+use rdf_model::{Term, Text, Triple};
 use std::alloc::{AllocError, Global};
-use store_model::push_all_terms;
-use term_dict::Dict;
 use triple_index::Index;
+use triple_table::NumberedTerms;
 use turtle_reader::TripleTable;
+use vocabulary::{RDF_TYPE, RDFS_SUB_CLASS_OF};
 
-// How many terms may be named beside rdf:type and rdfs:subClassOf: 2^32 - 1 have numbers.
-const MOST_TERMS: usize = 4_294_967_293;
-
-/// A data graph by the numbers of its terms.
+/// A data graph by the numbers of its terms, with the numbers of rdf:type and rdfs:subClassOf.
 #[derive(Drop)]
 pub(crate) struct NumberedGraph {
-    pub(crate) names: Dict,
+    pub(crate) names: NumberedTerms,
+    pub(crate) words: ClassWords,
     pub(crate) triples: Index,
 }
 
-// The triples by the numbers of their places.
-fn triples_by(alloc: Global, triples: &[Ids], numbers: &[u32]) -> Result<Vec<Ids>, AllocError>
-    requires { AllByRecursion (IsBelow (length numbers.now)) triples.now }
-    ensures { IfOk result (λ found. found.items ≡ map (renumbered numbers.now) triples.now) }
+// The number of an IRI.
+fn add_iri(alloc: Global, names: &mut NumberedTerms, iri: &str) -> Result<u32, AllocError>
+    ensures grown { OnOk result (HasGrown names.old names.new) }
+    ensures number { IfOk result (λ number. IsPlaceOf names.new number (Term.Iri iri.now)) }
 {
-    let mut found = Vec::with_capacity(alloc, triples.len())?;
-    for triple in triples {
-        found.push(Ids {
-            subject: numbers[triple.subject as usize],
-            predicate: numbers[triple.predicate as usize],
-            object: numbers[triple.object as usize],
-        })?;
-    }
-    Ok(found)
+    let term = Term::Iri(Text::new(alloc, iri)?);
+    Ok(names.add(&term)?)
 }
 
-/// A data graph, as its triples were found, by numbers for its terms and those of a shapes graph, which are all named at once. It
+// The numbers of rdf:type and rdfs:subClassOf.
+fn add_words(alloc: Global, names: &mut NumberedTerms) -> Result<ClassWords, AllocError>
+    ensures grown { OnOk result (HasGrown names.old names.new) }
+    ensures words { IfOk result (AreClassWords names.new) }
+{
+    let rdf_type = add_iri(alloc, names, RDF_TYPE)?;
+    let sub_class_of = add_iri(alloc, names, RDFS_SUB_CLASS_OF)?;
+    Ok(ClassWords {
+        rdf_type,
+        sub_class_of,
+    })
+}
+
+// Adds the terms of a triple.
+fn add_triple(names: &mut NumberedTerms, triple: &Triple) -> Result<(), AllocError>
+    ensures grown { OnOk result (HasGrown names.old names.new) }
+    ensures named { OnOk result (IsNamedTriple names.new triple.now) }
+{
+    let _ = names.add(&triple.subject)?;
+    let _ = names.add(&triple.predicate)?;
+    let _ = names.add(&triple.object)?;
+    Ok(())
+}
+
+// Adds the terms of triples.
+fn add_triples(names: &mut NumberedTerms, triples: &[Triple]) -> Result<(), AllocError>
+    ensures grown { OnOk result (HasGrown names.old names.new) }
+    ensures named { OnOk result (AreNamedTriples names.new triples.now) }
+{
+    for triple in triples {
+        add_triple(names, triple)?;
+    }
+    Ok(())
+}
+
+/// A data graph, as its triples were found, by the numbers of its terms, behind which the terms of a shapes graph have theirs. It
 /// fails for want of memory, or of numbers for the terms.
 pub(crate) fn numbered(
     alloc: Global,
@@ -45,16 +74,12 @@ pub(crate) fn numbered(
 ) -> Result<NumberedGraph, AllocError>
     ensures { IfOk result (IsNumberedGraph graph shapes.now) }
 {
-    let (mut terms, triples) = graph.into_parts()?;
-    push_all_terms(&mut terms, shapes)?;
-    match Dict::from_terms(alloc, MOST_TERMS, &terms) {
-        Ok((names, numbers)) => {
-            let triples = triples_by(alloc, &triples, &numbers)?;
-            Ok(NumberedGraph {
-                names,
-                triples: Index::from_triples(alloc, &triples)?,
-            })
-        }
-        Err(_) => Err(AllocError),
-    }
+    let (mut names, triples) = graph.into_terms();
+    let words = add_words(alloc, &mut names)?;
+    add_triples(&mut names, shapes)?;
+    Ok(NumberedGraph {
+        names,
+        words,
+        triples: Index::from_triples(alloc, &triples)?,
+    })
 }

@@ -1,10 +1,10 @@
 //! The listing of two graphs, its explanation, and the verdict on evidence.
 ghost use Rattle.std.specs.Prelude.{◌≡◌, ◌<◌, ◌^◌, [], IfOk, length, string_bytes};
-ghost use Rattle.data_graph.specs.DataGraphs.{HaveClassWords};
 ghost use Rattle.graph_explanation.specs.Explanations.{IsExplanation};
 ghost use Rattle.rdf_model.specs.Graphs.{with_each};
 ghost use Rattle.rdf_model.specs.Numbers.{AreNumbered, graph_of};
 ghost use Rattle.shape_model.specs.Validation.{Listing};
+ghost use Rattle.path_eval.specs.Instances.{AreClassWords};
 ghost use Rattle.parallel_validate.specs.Named.{AreNamedTriples};
 ghost use Rattle.file_validation.specs.Validations.{IsVerdict};
 
@@ -13,7 +13,6 @@ use crate::naming::{NumberedGraph, numbered};
 use collections::Sequence;
 use evidence_verdict::{VerdictFault, verdict_over};
 use graph_explanation::explanation_over;
-use path_eval::ClassWords;
 use shape_eval::Steps;
 use shape_model::ResultRow;
 use shapes_graph::ShapesGraph;
@@ -24,12 +23,6 @@ use std::thread::Threads;
 use threaded_listing::listing_by_threads;
 use turtle_reader::TripleTable;
 
-// The numbers of rdf:type and rdfs:subClassOf, which are named first.
-const CLASS_WORDS: ClassWords = ClassWords {
-    rdf_type: 0,
-    sub_class_of: 1,
-};
-
 // The results, in an own ledger of evaluations.
 fn listing_in<L: Ledger, R: Threads + Sync>(
     rt: &R,
@@ -38,13 +31,13 @@ fn listing_in<L: Ledger, R: Threads + Sync>(
     shapes: &ShapesGraph,
     blank: Blank,
 ) -> Result<Vec<ResultRow>, AllocError>
-    requires words { HaveClassWords graph.now.names.terms }
-    requires graph { AreNumbered graph.now.names.terms graph.now.triples }
-    requires shapes { AreNamedTriples graph.now.names.terms shapes.now }
+    requires words { AreClassWords graph.now.names graph.now.words }
+    requires graph { AreNumbered graph.now.names graph.now.triples }
+    requires shapes { AreNamedTriples graph.now.names shapes.now }
     requires name { blank.name ≡ L.name }
     requires parts { blank.parts ≡ L.parts }
     requires some { 0 < L.parts }
-    ensures { IfOk result (λ rows. Listing (graph_of graph.now.names.terms graph.now.triples) shapes.now rows.items) }
+    ensures { IfOk result (λ rows. Listing (graph_of graph.now.names graph.now.triples) shapes.now rows.items) }
 {
     let mut steps = Steps::<L>::begin(blank);
     let names = &graph.names;
@@ -54,7 +47,7 @@ fn listing_in<L: Ledger, R: Threads + Sync>(
         alloc,
         &graph.triples,
         names,
-        CLASS_WORDS,
+        graph.words,
         shapes,
         &mut steps,
     )?;
@@ -83,13 +76,13 @@ fn explanation_in<L: Ledger>(
     shapes: &ShapesGraph,
     blank: Blank,
 ) -> Result<String, AllocError>
-    requires words { HaveClassWords graph.now.names.terms }
-    requires graph { AreNumbered graph.now.names.terms graph.now.triples }
-    requires shapes { AreNamedTriples graph.now.names.terms shapes.now }
+    requires words { AreClassWords graph.now.names graph.now.words }
+    requires graph { AreNumbered graph.now.names graph.now.triples }
+    requires shapes { AreNamedTriples graph.now.names shapes.now }
     requires name { blank.name ≡ L.name }
     requires parts { blank.parts ≡ L.parts }
     requires some { 0 < L.parts }
-    ensures { IfOk result (λ text. IsExplanation (graph_of graph.now.names.terms graph.now.triples) shapes.now (string_bytes text)) }
+    ensures { IfOk result (λ text. IsExplanation (graph_of graph.now.names graph.now.triples) shapes.now (string_bytes text)) }
 {
     let mut steps = Steps::<L>::begin(blank);
     let names = &graph.names;
@@ -98,7 +91,7 @@ fn explanation_in<L: Ledger>(
         alloc,
         &graph.triples,
         names,
-        CLASS_WORDS,
+        graph.words,
         shapes,
         &mut steps,
     )?;
@@ -126,14 +119,14 @@ fn verdict_in<L: Ledger>(
     evidence: &[u8],
     blank: Blank,
 ) -> Result<EvidenceVerdict, AllocError>
-    requires words { HaveClassWords graph.now.names.terms }
-    requires graph { AreNumbered graph.now.names.terms graph.now.triples }
-    requires shapes { AreNamedTriples graph.now.names.terms shapes.now }
+    requires words { AreClassWords graph.now.names graph.now.words }
+    requires graph { AreNumbered graph.now.names graph.now.triples }
+    requires shapes { AreNamedTriples graph.now.names shapes.now }
     requires evidence { length evidence.now < 2 ^ 32 }
     requires name { blank.name ≡ L.name }
     requires parts { blank.parts ≡ L.parts }
     requires some { 0 < L.parts }
-    ensures { IfOk result (IsVerdict (graph_of graph.now.names.terms graph.now.triples) shapes.now evidence.now) }
+    ensures { IfOk result (IsVerdict (graph_of graph.now.names graph.now.triples) shapes.now evidence.now) }
 {
     let mut steps = Steps::<L>::begin(blank);
     let names = &graph.names;
@@ -142,7 +135,7 @@ fn verdict_in<L: Ledger>(
         alloc,
         &graph.triples,
         names,
-        CLASS_WORDS,
+        graph.words,
         shapes,
         evidence,
         &mut steps,

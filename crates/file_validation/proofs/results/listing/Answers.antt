@@ -10,12 +10,12 @@ use Rattle.file_validation.proofs.Members.{in_graph}
 use Rattle.file_validation.proofs.results.listing.Goals as goal
 
 pub listing_in-requires-clause-shapes : goal.listing_in-requires-clause-shapes
-listing_in-requires-clause-shapes g c κs within = subst (λ (ts : List Triple). AreNamedTriples c.in_ok-numbered.numbered.names.terms ts) c.triples.ensures c.in_ok-numbered.ensures.named
+listing_in-requires-clause-shapes g c κs within = subst (λ (ts : List Triple). AreNamedTriples c.in_ok-numbered.numbered.names ts) c.triples.ensures c.in_ok-numbered.ensures.named
 
 pub returns : goal.returns
 returns g c =
     let numbered = c.in_ok-numbered.numbered in
-    let graph = graph_of numbered.names.terms numbered.triples in
+    let graph = graph_of numbered.names numbered.triples in
     let s = c.args.shapes.now in
     subst (λ (found : List ResultRow). Listing (with_each [] c.args.graph) s found) (sym c.from_vec.ensures)
     (same_listing graph (with_each [] c.args.graph) s (in_graph graph c.args.graph c.in_ok-numbered.ensures.index.members) _ c.in_ok-rows.ensures)
