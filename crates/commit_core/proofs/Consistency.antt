@@ -35,7 +35,7 @@ use Rattle.commit_core.specs.declared.commit.Refusal.{Refusal}
 use Rattle.commit_core.specs.Commits.{IsWithin, NoneBlocks, Refuses, committed_graph, data_of}
 use Rattle.commit_core.specs.Consistent.{IsConsistent, IsSoundState}
 use Rattle.commit_core.specs.Naming.{first_of}
-use Rattle.commit_core.specs.Verdicts.{IsAtHead}
+use Rattle.snapshot_store.specs.Named.{IsAtHead}
 use Rattle.term_dict.specs.Names.{with_terms}
 use Rattle.term_dict.specs.Faults.{IsCause}
 use Rattle.term_dict.specs.declared.fault.NameFault.TheVariants as dictionary_faults

@@ -1,8 +1,9 @@
 -- Each name stands once, and what is named stays named.
-use Rattle.std.proofs.Common.{get_or, ◌≡◌, ◌∙◌, ℕ, zero, suc, ◌+◌, ◌<◌, Bool, true, false, ◌||◌, cond, List, [], ◌∷◌, ◌++◌, length, Option, Some, None, refl, sym, ap, subst, arith, inl, inr, length-append}
+use Rattle.std.proofs.Common.{get_or, ◌≡◌, ◌∙◌, ℕ, zero, suc, ◌+◌, ◌<◌, Bool, true, false, ◌||◌, cond, List, [], ◌∷◌, ◌++◌, length, Option, Some, None, refl, sym, ap, subst, arith, inl, inr, append_assoc, length-append}
 use Rattle.std.specs.Prelude.{MatchOption, if◌then◌else◌, is_some}
 use Rattle.std.proofs.lemmas.Bool.{cases_lt}
 use Rattle.std.proofs.Math.ListN.{get_or-append}
+use Rattle.std.proofs.lemmas.List.{append-nil}
 use Rattle.std.proofs.Math.Seq.{get_or-append_seam}
 use Rattle.std.specs.List.{All, AllByRecursion, Contains}
 use Rattle.std.proofs.lemmas.List.Elements.{All-contains, All-contains_itself, Contains-append_left}
@@ -197,9 +198,12 @@ first_numbering = numbered_push (rdf_type ∷ []) sub_class_of (λ c. elim (has_
   | inr d ↦ absurd (omega arith)
 ]) (numbered_push [] rdf_type (λ c. absurd (omega arith)) (λ n m ln lm e. absurd (omega arith)))
 
-pub no_items : {X : Type 0} (xs : List X) → length xs ≡ 0 → xs ≡ []
-no_items [] h = refl
-no_items (x ∷ xs) h = absurd (omega (arith, h))
+-- names that come first
+pub begins_same : (first names : List Term) → names ≡ first → IsBeginning first names
+begins_same first names e = ([], e ∙ sym (append-nil first))
+
+begins_then : (first names more : List Term) → IsBeginning first names → IsBeginning names more → IsBeginning first more
+begins_then first names more a b = (a.0 ++ b.0, b.1 ∙ ap (λ (us : List Term). us ++ b.0) a.1 ∙ append_assoc first a.0 b.0)
 
 -- what a block that is named gives the history, whose names are those of the graph before it
 module _ (kind : NameKind) (graph : NamedGraph) (given terms : List Term) (n : NamedTerms) (is : IsNaming kind graph given terms n) where
@@ -207,6 +211,10 @@ module _ (kind : NameKind) (graph : NamedGraph) (given terms : List Term) (n : N
   block_begins names same =
       let all : n.names.terms ≡ with_terms graph.terms terms = is.names_are ∙ ap (λ (g : NamedGraph). g.terms) is.graph_is in
       subst (λ (us : List Term). IsBeginning us n.names.terms) (sym same) (subst (λ (us : List Term). IsBeginning graph.terms us) (sym all) (begins_with graph.terms terms))
+
+  pub block_follows : (first : List Term) → IsBeginning first graph.terms → IsBeginning first n.graph.terms
+  block_follows first b =
+      begins_then first graph.terms n.graph.terms b (subst (λ (us : List Term). IsBeginning graph.terms us) (sym (ap (λ (g : NamedGraph). g.terms) is.graph_is)) (begins_with graph.terms terms))
 
   block_numbers : AreNumbersOf n.names.terms terms n.kept
   block_numbers =

@@ -2,15 +2,16 @@
 use Rattle.std.proofs.Common.{◌≡◌, ◌∙◌, ℕ, zero, suc, ◌+◌, ◌^◌, ◌<◌, ◌≤◌, true, false, cond, List, [], ◌∷◌, ◌++◌, length, get_or, take, drop, map, Option, Some, None, refl, sym, ap, subst, arith, inl, inr, append-nil, append_assoc, length-append}
 use Rattle.std.specs.Prelude.{◌⊎◌, MatchOption}
 use Rattle.std.specs.Borrow.{Bor}
-use Rattle.std.specs.List.{Contains, flat_map}
-use Rattle.std.proofs.lemmas.List.{take_all, take_more}
+use Rattle.std.specs.List.{All, Contains, flat_map}
+use Rattle.std.proofs.lemmas.List.{map-append, take_all, take_more}
 use Rattle.std.proofs.lemmas.List.Elements.{All-contains, Contains-append_cases, Contains-append_left, Contains-append_right}
 use Rattle.rdf_model.specs.declared.term.Term.{Term}
 use Rattle.rdf_model.specs.declared.triple.Triple.{Triple}
 use Rattle.rdf_model.specs.declared.change.Change.{Change}
 use Rattle.rdf_model.specs.declared.change.Change.TheVariants.{Add}
 use Rattle.rdf_model.specs.Graphs.{after, with_each}
-use Rattle.rdf_model.specs.Numbers.{IsNumbering}
+use Rattle.rdf_model.specs.declared.ids.Ids.{Ids}
+use Rattle.rdf_model.specs.Numbers.{AreNumbered, IsNumbering, graph_of, triple_at}
 use Rattle.rdf_model.specs.Orders.{triple_exact, triple_total}
 use Rattle.rdf_model.specs.Terms.{term_cmp, triple_cmp}
 use Rattle.collections.specs.Listings.{IsListing}
@@ -27,13 +28,13 @@ use Rattle.store_model.proofs.Nodes.{ascending-given_with}
 use Rattle.term_dict.specs.Names.{first_terms, with_terms}
 use Rattle.parallel_validate.specs.Named.{AreNamedTriples, IsNamedTriple}
 use Rattle.data_graph.specs.DataGraphs.{AreNamedChanges, NamedGraph, with_changes, with_shapes}
-use Rattle.data_graph.proofs.Listed.{after_added}
+use Rattle.data_graph.proofs.Listed.{after_added, one_listing}
 use Rattle.commit_core.specs.Consistent.{IsConsistent, IsSoundState}
 use Rattle.commit_core.specs.Outcomes.{HasBlocking}
 use Rattle.commit_core.specs.Restored.{FitInTurn, IsFirstMisfit, IsRestoreFault, IsRestored, accepted_by, fits_record, graph_after, record_terms, restored, restored_from, shapes_terms, with_record, without_each}
 use Rattle.commit_core.specs.declared.restoring.RestoreFault.{RestoreFault}
 use Rattle.commit_core.specs.declared.restoring.RestoreFault.TheVariants.{Misfit, TooLarge, Blocked, Memory}
-use Rattle.commit_core.specs.RestoredParts.{IsLastGraph, IsNamedStart, IsNamingFault, givens, graphs, names, shapes_after, staged_in, with_names_of}
+use Rattle.commit_core.specs.RestoredParts.{IsLastGraph, IsNamedRecord, IsNamedStart, IsNamingFault, givens, graphs, names, shapes_after, staged_in, with_names_of}
 use Rattle.commit_core.proofs.NamedTerms.{all_of, first_names, first_numbering, has_name, names_stay, numbered_with, same_names, triple_stays, triples_stay}
 
 -- its parts
@@ -306,31 +307,41 @@ state_is rs g shapes cs ns gs eg es ec en ev =
     let off = sym k.stopped in
     λ i. record { graph = eg i; shapes = es i; commits = ec i; named = en i; given = ev i; opened = eo i; stopped = off i }
 
--- the changed triples of a record, sorted
-pub changed_is : (removed added all ts : List Triple) → IsAscending triple_cmp removed → all ≡ removed ++ added → IsListing triple_cmp (Contains all) ts → ts ≡ with_each removed added
-changed_is removed added all ts a e l = same_lists triple_cmp triple_total ts (with_each removed added) l.ascending (ascends_with removed added a) (λ t. (
-  λ c. into removed added t (Contains-append_cases removed added t (subst (λ (us : List Triple). Contains us t) e ((l.members t).0 c))),
-  λ c. (l.members t).1 (subst (λ (us : List Triple). Contains us t) (sym e) (out t (of_with removed added t c))),
-))
-  where
-    old : (g us : List Triple) (t : Triple) → Contains g t → Contains (with_each g us) t
-    old g [] t c = c
-    old g (u ∷ us) t c = old (with_item triple_cmp u g) us t (with_old triple_cmp u g t c)
+-- the terms of what each record changed are named
+removed_named : (named : List Term) (r : Record) → AreNamedTriples (named_with named (record_terms r)) r.removed
+removed_named named r = triples_named named (record_terms r) r.removed (λ u c. Contains-append_left (flat_map terms_of r.removed) (flat_map terms_of r.added ++ shapes_terms r.shapes) u c)
 
-    own : (g us : List Triple) (t : Triple) → Contains us t → Contains (with_each g us) t
-    own g [] t c = absurd (omega arith)
-    own g (u ∷ us) t c = elim (has_cases u us t c) [
-      | inl d ↦ old (with_item triple_cmp u g) us t (subst (λ (x : Triple). Contains (with_item triple_cmp u g) x) d (with_new triple_cmp triple_total triple_exact u g))
-      | inr d ↦ own (with_item triple_cmp u g) us t d
-    ]
+records_stay : (s : State) (rs : List Record) (ts : List Triple) → AreNamedTriples s.named ts → AreNamedTriples (restored_from s rs).named ts
+records_stay s [] ts a = a
+records_stay s (r ∷ rs) ts a = records_stay (with_record s r) rs ts (triples_stay s.named (record_terms r) ts a)
 
-    into : (g us : List Triple) (t : Triple) → Contains g t ⊎ Contains us t → Contains (with_each g us) t
-    into g us t (inl c) = old g us t c
-    into g us t (inr c) = own g us t c
+each_record : (s : State) (rs : List Record) (i : ℕ) (d : Record) → i < length rs → IsNamedRecord (restored_from s rs).named (get_or rs i d)
+each_record s [] i d lt = absurd (omega arith)
+each_record s (r ∷ rs) zero d lt = (records_stay (with_record s r) rs r.removed (removed_named s.named r), records_stay (with_record s r) rs r.added (added_named s.named r))
+each_record s (r ∷ rs) (suc i) d lt = each_record (with_record s r) rs i d (omega (arith, lt))
 
-    out : (t : Triple) → Contains removed t ⊎ Contains added t → Contains (removed ++ added) t
-    out t (inl c) = Contains-append_left removed added t c
-    out t (inr c) = Contains-append_right removed added t c
+pub records_named : (named : List Term) (rs : List Record) → named ≡ (restored rs).named → All (IsNamedRecord named) rs
+records_named named rs e i d lt = subst (λ (ns : List Term). IsNamedRecord ns (get_or rs i d)) (sym e) (each_record empty_store rs i d lt)
+
+-- the changed triples of a record, by number
+numbered_both : (named : List Term) (xs ys : List Ids) → AreNumbered named xs → AreNumbered named ys → AreNumbered named (xs ++ ys)
+numbered_both named [] ys a b = b
+numbered_both named (x ∷ xs) ys a b = (a.0, numbered_both named xs ys a.1 b)
+
+pub both_numbered : (named : List Term) (xs ys zs : List Ids) (ts us : List Triple) → zs ≡ xs ++ ys → AreNumbered named xs × (graph_of named xs ≡ ts) → AreNumbered named ys × (graph_of named ys ≡ us) → AreNumbered named zs × (graph_of named zs ≡ ts ++ us)
+both_numbered named xs ys zs ts us e a b = (
+  subst (λ (is : List Ids). AreNumbered named is) (sym e) (numbered_both named xs ys a.0 b.0),
+  ap (graph_of named) e ∙ map-append (triple_at named) xs ys ∙ (λ i. a.1 i ++ b.1 i),
+)
+
+each_append : (g ts us : List Triple) → with_each g (ts ++ us) ≡ with_each (with_each g ts) us
+each_append g [] us = refl
+each_append g (t ∷ ts) us = each_append (with_item triple_cmp t g) ts us
+
+pub recorded : (named : List Term) (ids : List Ids) (r : Record) → IsAscending triple_cmp r.removed → graph_of named ids ≡ r.removed ++ r.added → with_each [] (graph_of named ids) ≡ with_each r.removed r.added
+recorded named ids r a e =
+    ap (with_each []) e ∙ each_append [] r.removed r.added
+    ∙ ap (λ (ts : List Triple). with_each ts r.added) (sym (one_listing r.removed r.removed (record { ascending = a; members = λ t. (λ c. c, λ c. c) })))
 
 -- too many names, at one of the records
 left_of : (rs : List Record) (i : ℕ) (d : Record) → i < length rs → drop i rs ≡ get_or rs i d ∷ drop (suc i) rs

@@ -1,7 +1,10 @@
 -- What a commit is answered, and what it plans.
-use Rattle.std.specs.Prelude.{◌≡◌, ◌<◌, ◌≤◌, ℕ, true, false, List, length, Some, None}
+use Rattle.std.specs.Prelude.{◌≡◌, ◌<◌, ◌≤◌, ℕ, true, false, List, [], length, Some, None}
 use Rattle.rdf_model.specs.declared.triple.Triple.{Triple}
-use Rattle.rdf_model.specs.Graphs.{after, differing}
+use Rattle.rdf_model.specs.declared.change.Change.{Change}
+use Rattle.rdf_model.specs.declared.ids.Ids.{Ids}
+use Rattle.rdf_model.specs.Graphs.{after, differing, with_each}
+use Rattle.rdf_model.specs.Numbers.{AreNumbered, graph_of}
 use Rattle.shape_model.specs.declared.result_row.ResultRow.{ResultRow}
 use Rattle.shape_model.specs.Validation.{Listing}
 use Rattle.store_model.specs.declared.event.BlockMode.{BlockMode}
@@ -68,8 +71,12 @@ Refuses mode graph shapes x p = (p.shapes ≡ shapes_under shapes x.staged) × L
 abbrev pub NoneBlocks : BlockMode → NamedGraph → Transaction → Type 0
 NoneBlocks mode g x = (rows : List ResultRow) × Listing (after g.triples x.net) (shapes_under g.shapes x.staged) rows × (has_blocking mode (shapes_under g.shapes x.staged) rows ≡ false)
 
+-- the triples of the numbers are those that are in exactly one of the graph and the graph after the changes, and each number has a term
+abbrev pub AreChanged : NamedGraph → List Change → List Ids → Type 0
+AreChanged g net ids = (with_each [] (graph_of g.terms ids) ≡ differing g.triples (after g.triples net)) × AreNumbered g.terms ids
+
 abbrev pub Accepts : BlockMode → NamedGraph → Transaction → Acceptance → Type 0
-Accepts mode g x p = NoneBlocks mode g x × (p.graph ≡ committed_graph g x) × (p.accepted.changed ≡ differing g.triples (after g.triples x.net)) × (p.accepted.staged ≡ is_staged x.staged)
+Accepts mode g x p = NoneBlocks mode g x × (p.graph ≡ committed_graph g x) × AreChanged g x.net p.changed.items × (p.staged ≡ is_staged x.staged)
 
 -- what its listing makes of a commit that nothing overtook and that is within the limit
 abbrev pub IsJudged : BlockMode → NamedGraph → Transaction → Plan → Type 0

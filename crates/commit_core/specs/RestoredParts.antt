@@ -7,6 +7,7 @@ use Rattle.record_text.specs.declared.record.Record.{Record}
 use Rattle.store_model.specs.Nodes.{given_with}
 use Rattle.store_model.specs.Store.{shapes_under}
 use Rattle.term_dict.specs.Names.{with_terms}
+use Rattle.parallel_validate.specs.Named.{AreNamedTriples}
 use Rattle.data_graph.specs.DataGraphs.{NamedGraph}
 use Rattle.store_model.specs.declared.event.Limits.{Limits}
 use Rattle.commit_core.specs.declared.restoring.RestoreFault.{RestoreFault}
@@ -37,6 +38,10 @@ staged_in (Some entry) = shapes_under [] entry.now.shapes
 -- the data graph where the terms of the records are named
 abbrev pub with_names_of : NamedGraph → List Record → NamedGraph
 with_names_of g records = record { triples = g.triples; shapes = g.shapes; terms = names g.terms records; limit = g.limit }
+
+-- the terms of what a record changed are named
+abbrev pub IsNamedRecord : List Term → Record → Type 0
+IsNamedRecord names r = AreNamedTriples names r.removed × AreNamedTriples names r.added
 
 -- each record fits, and this is the graph that they lead to, within the limit
 abbrev pub IsLastGraph : Limits → List Record → List Triple → Type 0

@@ -1,5 +1,5 @@
 -- What a check beside the store found, and what a commit asks of it.
-use Rattle.std.specs.Prelude.{◌≡◌, ◌≤◌, ◌++◌, ℕ, List, Option, Some, None}
+use Rattle.std.specs.Prelude.{◌≡◌, ◌++◌, List, Option, Some, None}
 use Rattle.rdf_model.specs.declared.change.Change.{Change}
 use Rattle.rdf_model.specs.declared.look.Look.{Look}
 use Rattle.rdf_model.specs.declared.term.Term.{Term}
@@ -44,11 +44,6 @@ IsVerdict s net verdict pairs = IsVerdictIn s.limits s.start s.history net verdi
 
 abbrev pub AreOfVerdict : RecordedStore → List Change → Option Verdict → List PairRows → Type 0
 AreOfVerdict s net verdict pairs = AreOfVerdictIn s.limits s.start s.history net verdict pairs
-
--- the head of a verdict is a version up to this one
-abbrev pub IsAtHead : ℕ → Option Verdict → Type 0
-IsAtHead n None = Unit {0}
-IsAtHead n (Some verdict) = verdict.head ≤ n
 
 -- why the transaction is evaluated, twice
 abbrev pub AreReasons : List Accepted → Transaction → Reasons → Type 0

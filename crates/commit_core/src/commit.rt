@@ -7,11 +7,11 @@ ghost use Rattle.data_graph.specs.DataGraphs.{with_shapes};
 use collections::Sequence;
 use data_graph::{DataGraph, NumberHints, ValidatedGraph};
 use kept_rows::PairRows;
-use rdf_model::Triple;
+use rdf_model::{Ids, Triple};
 use shape_model::ResultRow;
 use shapes_graph::ShapesGraph;
 use std::alloc::{AllocError, Global};
-use store_model::{Accepted, Again, Overtaker, Transaction};
+use store_model::{Again, Overtaker, Transaction};
 
 /// A transaction with the pairs that its verdict found, each with its results; where it has no verdict, they count for
 /// nothing.
@@ -162,10 +162,12 @@ impl Refusal {
     }
 }
 
-/// A commit whose graph has no result that blocks: the next graph with its shapes and its results, and the commit as it is kept.
+/// A commit whose graph has no result that blocks: the next graph with its shapes and its results, the numbers of the triples that it
+/// changes, in any order and maybe more than once, and whether it stages shapes.
 pub struct Acceptance {
     pub graph: ValidatedGraph,
-    pub accepted: Accepted,
+    pub changed: Vec<Ids>,
+    pub staged: bool,
 }
 
 // Written by hand, so that what owns one calls it in place of having it written out.
@@ -173,18 +175,23 @@ impl Drop for Acceptance {
     fn drop(self) {
         let Acceptance {
             graph: _,
-            accepted: _,
+            changed: _,
+            staged: _,
         } = self;
     }
 }
 
 impl Acceptance {
-    /// The next graph, and the commit as it is kept.
-    pub fn into_parts(self) -> (ValidatedGraph, Accepted)
-        ensures { result ≡ (self.graph, self.accepted) }
+    /// The next graph, the numbers of what it changes, and whether it stages shapes.
+    pub fn into_parts(self) -> (ValidatedGraph, Vec<Ids>, bool)
+        ensures { result ≡ (self.graph, self.changed, self.staged) }
     {
-        let Acceptance { graph, accepted } = self;
-        (graph, accepted)
+        let Acceptance {
+            graph,
+            changed,
+            staged,
+        } = self;
+        (graph, changed, staged)
     }
 }
 
@@ -233,20 +240,18 @@ pub fn refusing(alloc: Global, graph: &ValidatedGraph) -> Result<Refusal, AllocE
     })
 }
 
-/// The plan of a commit whose graph, after its changes, has no result that blocks: these triples are in exactly one of the graph
-/// before and that one. It takes no memory.
+/// The plan of a commit whose graph, after its changes, has no result that blocks: the triples of these numbers are in exactly one
+/// of the graph before and that one. It takes no memory.
 pub fn accepting(
     next: ValidatedGraph,
-    changed: Vec<Triple>,
+    changed: Vec<Ids>,
     staged: &Option<ShapesGraph>,
 ) -> Acceptance
-    ensures { (result.graph ≡ next) × (result.accepted.changed ≡ changed.items) × (result.accepted.staged ≡ is_staged staged.now) }
+    ensures { (result.graph ≡ next) × (result.changed.items ≡ changed.items) × (result.staged ≡ is_staged staged.now) }
 {
     Acceptance {
         graph: next,
-        accepted: Accepted {
-            changed: Sequence::from_vec(changed),
-            staged: stages_shapes(staged),
-        },
+        changed,
+        staged: stages_shapes(staged),
     }
 }

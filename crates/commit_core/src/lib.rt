@@ -17,7 +17,6 @@ mod commit;
 mod logging;
 mod naming;
 mod outcome;
-mod overtaking;
 mod reasons;
 mod replay;
 mod restoring;

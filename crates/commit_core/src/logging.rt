@@ -1,23 +1,21 @@
 //! A commit that is appended to a log before it is answered.
-ghost use Rattle.std.specs.Prelude.{false, ◌≡◌, ◌<◌, IfOk, OnOk, MatchBool, List, not};
-ghost use Rattle.std.specs.Vec.{vec_capacity, vec_len};
+ghost use Rattle.std.specs.Prelude.{false, ◌≡◌, IfOk, MatchBool, List, not};
 ghost use Rattle.std.specs.List.{filter};
 ghost use Rattle.collections.specs.Ordered.{has_item};
-ghost use Rattle.rdf_model.specs.Graphs.{after, differing};
 ghost use Rattle.rdf_model.specs.Terms.{triple_cmp};
 ghost use Rattle.disk.specs.Crashes.{Throughout};
 ghost use Rattle.commit_log.specs.Log.{IsSameLater, OpensOneOf};
 ghost use Rattle.record_text.specs.declared.record.Record.{Record as RecordData};
 ghost use Rattle.record_text.specs.Records.{IsReadableRecord};
 ghost use Rattle.store_model.specs.Store.{IsCommittable, IsOpened, version};
-ghost use Rattle.commit_core.specs.Commits.{Answers, IsPlan, data_of};
+ghost use Rattle.commit_core.specs.Commits.{Answers, AreChanged, IsPlan, data_of};
 ghost use Rattle.commit_core.specs.Logged.{IsBeside, IsInStep, IsLoggable, IsRecordOf, LogsCommit, logged, record_of};
 ghost use Rattle.commit_core.specs.Verdicts.{AreOfVerdict, AreReasons, IsHeld};
 ghost use Rattle.commit_core.specs.Work.{AnswerSteps, CommitSteps, IsByResults, is_no};
 
 use crate::commit::{Acceptance, CheckedTransaction, Commit, Plan, Reasons};
 use crate::reasons::{find_reasons, has_held};
-use crate::store::{Core, slip, version_of};
+use crate::store::{Core, room_for, slip};
 use collections::Sequence;
 use commit_log::{AppendFault, Log};
 use data_graph::DataGraph;
@@ -29,7 +27,7 @@ use shape_eval::Steps;
 use shapes_graph::ShapesGraph;
 use std::alloc::{AllocError, Global};
 use std::sync::ledger::Ledger;
-use store_model::{Accepted, Action, Event, Overtaker, Reply, Transaction};
+use store_model::{Action, Event, Overtaker, Reply, Transaction};
 
 // Those of the triples that are in the graph, and those that aren't.
 fn parted(
@@ -83,15 +81,6 @@ fn record_of_changes(
     })
 }
 
-// Makes room for one commit.
-fn make_room(commits: &mut Vec<Accepted>) -> Result<(), AllocError>
-    ensures items { commits.new.items ≡ commits.old.items }
-    ensures room { OnOk result (vec_len commits.new < vec_capacity commits.new) }
-{
-    commits.reserve(1)?;
-    Ok(())
-}
-
 impl Core {
     // The record of a commit that is accepted.
     fn record_of_commit(
@@ -100,18 +89,16 @@ impl Core {
         acceptance: &Acceptance,
     ) -> Result<Record, AllocError>
         requires loggable { IsLoggable transaction.now }
-        requires changed { acceptance.now.accepted.changed ≡ differing self.now.state.graph (after self.now.state.graph transaction.now.net) }
+        requires changed { AreChanged (data_of self.now) transaction.now.net acceptance.now.changed.items }
         ensures is { IfOk result (λ entry. entry ≡ record_of self.now.state.graph (version self.now.state) transaction.now) }
         ensures readable { IfOk result IsReadableRecord }
     {
         self.recall_consistent();
-        record_of_changes(
-            self.alloc,
-            version_of(&self.commits) + 1,
-            self.graph.graph(),
-            acceptance.accepted.changed.as_slice(),
-            &transaction.staged,
-        )
+        let number = self.commits.version() + 1;
+        let graph = self.graph.graph();
+        let changed = graph.triples_of(&acceptance.changed)?;
+        let entry = record_of_changes(self.alloc, number, graph, &changed, &transaction.staged)?;
+        Ok(entry)
     }
 
     // Appends the record of a commit, then puts the next graphs in place, and records the commit that makes them. Where the log
@@ -140,7 +127,7 @@ impl Core {
         let Ok(entry) = self.record_of_commit(&checked.transaction, &acceptance) else {
             return Commit::Memory(checked);
         };
-        let Ok(()) = make_room(&mut self.commits) else {
+        let Ok(names) = room_for(&mut self.commits, &self.graph) else {
             return Commit::Memory(checked);
         };
         match log.append(self.alloc, &entry) {
@@ -159,9 +146,9 @@ impl Core {
                 Commit::LogFault
             }
             Ok(()) => {
-                let (graph, accepted) = acceptance.into_parts();
-                self.commits.push_reserved(accepted);
-                let number = version_of(&self.commits);
+                let (graph, changed, staged) = acceptance.into_parts();
+                self.commits.push_reserved(names, changed, staged);
+                let number = self.commits.version();
                 let (again, recorded) = reasons.into_parts();
                 self.history.push(
                     slip,
@@ -247,12 +234,12 @@ impl Core {
             return Commit::Memory(checked);
         };
         if self.stopped {
-            let version = version_of(&self.commits);
+            let version = self.commits.version();
             let reply = Reply::Stopped(version);
             self.refuse(slip, session, checked.into_transaction(), reply);
             return Commit::Stopped { version };
         }
-        let Ok(reasons) = find_reasons(self.alloc, &self.commits, &checked.transaction) else {
+        let Ok(reasons) = find_reasons(&self.commits, &checked.transaction) else {
             return Commit::Memory(checked);
         };
         self.commit_logged_by_plan(slip, session, checked, reasons, log, steps)

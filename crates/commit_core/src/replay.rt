@@ -9,7 +9,7 @@ ghost use Rattle.commit_core.specs.Replaying.{IsReplayed, IsReplayFault, IsWrong
 use crate::asking::may_commit;
 use crate::commit::{CheckedTransaction, Commit};
 use crate::naming::NamingFault;
-use crate::store::{Core, MOST_SESSIONS, SessionFault, slip, version_of};
+use crate::store::{Core, MOST_SESSIONS, SessionFault, slip};
 use collections::let_go;
 use rdf_model::Term;
 use shape_eval::Steps;
@@ -64,7 +64,7 @@ impl Core {
             Action::Begin | Action::Head | Action::Name(_, _) => is_opened(self.opened, session),
             Action::Commit(transaction) => {
                 is_opened(self.opened, session)
-                    && may_commit(version_of(&self.commits), self.graph.names(), transaction)
+                    && may_commit(self.commits.version(), self.graph.names(), transaction)
             }
             Action::Void => session <= self.opened,
         }
@@ -91,7 +91,7 @@ impl Core {
             Event {
                 session,
                 action: Action::Begin,
-                reply: Reply::Version(version_of(&self.commits)),
+                reply: Reply::Version(self.commits.version()),
             },
         );
         Ok(())
@@ -107,7 +107,7 @@ impl Core {
             Event {
                 session,
                 action: Action::Head,
-                reply: Reply::Version(version_of(&self.commits)),
+                reply: Reply::Version(self.commits.version()),
             },
         );
         Ok(())

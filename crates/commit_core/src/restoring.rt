@@ -1,7 +1,8 @@
 //! A store restored from the records of a log.
-ghost use Rattle.std.specs.Prelude.{◌≡◌, ◌≤◌, ◌<◌, ◌+◌, ◌^◌, ◌++◌, [], IfErr, IfOk, MatchOption, MatchResult, OnOk, length, map, not};
-ghost use Rattle.std.specs.List.{list_all};
+ghost use Rattle.std.specs.Prelude.{◌≡◌, ◌≤◌, ◌<◌, ◌+◌, ◌^◌, ◌∷◌, ◌++◌, [], IfErr, IfOk, MatchOption, MatchResult, OnOk, length, map, not};
+ghost use Rattle.std.specs.List.{All, list_all};
 ghost use Rattle.rdf_model.specs.Graphs.{with_each};
+ghost use Rattle.rdf_model.specs.Numbers.{AreNumbered, graph_of};
 ghost use Rattle.rdf_model.specs.Terms.{triple_cmp};
 ghost use Rattle.collections.specs.Ordered.{IsAscending, has_item};
 ghost use Rattle.parallel_validate.specs.Counting.{GrowsByCount, IsTargetPair};
@@ -12,23 +13,25 @@ ghost use Rattle.term_dict.specs.Faults.{IsCause};
 ghost use Rattle.parallel_validate.specs.Named.{AreNamedTriples};
 ghost use Rattle.data_graph.specs.DataGraphs.{names_of, with_names};
 ghost use Rattle.commit_core.specs.Restored.{FitInTurn, IsRestoreFault, IsRestored, accepted_by, fits_record, graph_after, record_terms, restored, shapes_terms, without_each};
-ghost use Rattle.commit_core.specs.RestoredParts.{IsLastGraph, IsNamedStart, IsNamingFault, givens, with_names_of};
+ghost use Rattle.commit_core.specs.RestoredParts.{IsLastGraph, IsNamedRecord, IsNamedStart, IsNamingFault, givens, with_names_of};
 
 use crate::bounds::Bounds;
 use crate::naming::give_all;
 use crate::outcome::Outcome;
 use crate::store::{Core, new_history};
-use collections::{Sequence, sorted_once};
+use collections::Sequence;
 use data_graph::{DataGraph, NumberHints};
 use page_index::Pages;
-use rdf_model::{Change, Term, Triple};
+use parallel_validate::number_triple;
+use rdf_model::{Change, Ids, Term, Triple};
 use record_text::Record;
 use shape_eval::Steps;
 use shapes_graph::ShapesGraph;
+use snapshot_store::Commits;
 use std::alloc::{AllocError, Global};
 use std::sync::ledger::Ledger;
-use store_model::{Accepted, Limits, push_all_terms};
-use term_dict::NameFault;
+use store_model::{Limits, push_all_terms};
+use term_dict::{Dict, NameFault};
 
 /// Why no store was restored.
 #[derive(Clone, Copy, Debug, PartialEq, Eq)]
@@ -220,37 +223,57 @@ fn named_graph(
     }
 }
 
-// The triples that a record changed.
-fn changed_by(alloc: Global, entry: &Record) -> Result<Vec<Triple>, AllocError>
-    requires { IsAscending triple_cmp entry.now.removed }
-    ensures { IfOk result (λ changed. changed.items ≡ with_each entry.now.removed entry.now.added) }
+// The triples by the numbers of their terms.
+fn numbers_of(alloc: Global, names: &Dict, triples: &[Triple]) -> Result<Vec<Ids>, AllocError>
+    requires { AreNamedTriples names.now.terms triples.now }
+    ensures { IfOk result (λ ids. AreNumbered names.now.terms ids.items × (graph_of names.now.terms ids.items ≡ triples.now)) }
 {
-    let mut changed = Sequence::copied_from(alloc, entry.removed.as_slice())?.into_vec();
-    let mut added = Sequence::copied_from(alloc, entry.added.as_slice())?.into_vec();
+    let mut ids = Vec::with_capacity(alloc, triples.len())?;
+    for triple in triples {
+        ids.push(number_triple(names, triple))?;
+    }
+    Ok(ids)
+}
+
+// The numbers of the triples that a record changed.
+fn changed_by(alloc: Global, names: &Dict, entry: &Record) -> Result<Vec<Ids>, AllocError>
+    requires { IsNamedRecord names.now.terms entry.now }
+    ensures { IfOk result (λ changed. AreNumbered names.now.terms changed.items × (graph_of names.now.terms changed.items ≡ entry.now.removed ++ entry.now.added)) }
+{
+    let mut changed = numbers_of(alloc, names, entry.removed.as_slice())?;
+    let mut added = numbers_of(alloc, names, entry.added.as_slice())?;
     changed.append(&mut added)?;
-    Ok(sorted_once(changed)?)
+    Ok(changed)
 }
 
-// The commit of a record, as a store keeps it.
-fn accepted_of(alloc: Global, entry: &Record) -> Result<Accepted, AllocError>
-    requires { IsAscending triple_cmp entry.now.removed }
-    ensures { IfOk result (λ accepted. accepted ≡ accepted_by entry.now) }
+// Adds the commit of a record, as a store keeps it.
+fn add_commit(
+    alloc: Global,
+    names: &Dict,
+    commits: &mut Commits,
+    entry: &Record,
+) -> Result<(), AllocError>
+    requires removed { IsAscending triple_cmp entry.now.removed }
+    requires named { IsNamedRecord names.now.terms entry.now }
+    requires names { commits.old.names ≡ names.now.terms }
+    ensures { OnOk result ((commits.new.commits ≡ commits.old.commits ++ accepted_by entry.now ∷ []) × (commits.new.names ≡ names.now.terms)) }
 {
-    let changed = changed_by(alloc, entry)?;
-    Ok(Accepted {
-        changed: Sequence::from_vec(changed),
-        staged: entry.shapes.is_some(),
-    })
+    let changed = changed_by(alloc, names, entry)?;
+    let share = names.share()?;
+    commits.make_room()?;
+    commits.push_reserved(share, changed, entry.shapes.is_some());
+    Ok(())
 }
 
-// The commits of the records.
-fn commits_of(alloc: Global, records: &[Record]) -> Result<Vec<Accepted>, AllocError>
-    requires { AreRecordsFrom 1 records.now }
-    ensures { IfOk result (λ commits. commits.items ≡ (restored records.now).commits) }
+// The commits of the records, by the numbers of their terms.
+fn commits_of(alloc: Global, names: &Dict, records: &[Record]) -> Result<Commits, AllocError>
+    requires numbered { AreRecordsFrom 1 records.now }
+    requires named { All (IsNamedRecord names.now.terms) records.now }
+    ensures { IfOk result (λ commits. (commits.commits ≡ (restored records.now).commits) × (commits.names ≡ names.now.terms)) }
 {
-    let mut commits = Vec::new(alloc);
+    let mut commits = Commits::new(alloc, names.share()?);
     for entry in records {
-        commits.push(accepted_of(alloc, entry)?)?;
+        add_commit(alloc, names, &mut commits, entry)?;
     }
     Ok(commits)
 }
@@ -314,7 +337,7 @@ impl Core {
         if blocks {
             return Err(RestoreFault::Blocked);
         }
-        let commits = commits_of(alloc, &records)?;
+        let commits = commits_of(alloc, named.names(), &records)?;
         let graph = outcome.into_graph();
         let history = new_history(&graph)?;
         Ok(Core {

@@ -1,15 +1,14 @@
 //! The store with its history, step by step.
-ghost use Rattle.std.specs.Prelude.{false, ◌≡◌, ◌+◌, ◌≤◌, ◌<◌, ◌^◌, [], ◌∷◌, ◌++◌, MatchBool, length, map, IfOk, OnOk, OnErr, MatchResult};
+ghost use Rattle.std.specs.Prelude.{false, ◌≡◌, ◌+◌, ◌≤◌, ◌<◌, ◌^◌, [], MatchBool, length, map, IfOk, OnOk, OnErr, MatchResult};
 ghost use Rattle.store_model.specs.Store.{RecordedStore, empty_store, Step, TakesStep, IsOpened, IsCommittable, NetNamed, numbers_of, version};
 ghost use Rattle.store_model.specs.Snapshots.{snapshot_of};
 ghost use Rattle.store_model.specs.Nodes.{unknown_by};
-ghost use Rattle.rdf_model.specs.Graphs.{after, differing};
 ghost use Rattle.parallel_validate.specs.Counting.{GrowsByCount};
 ghost use Rattle.parallel_validate.specs.Verdicts.{IsEvaluated};
 ghost use Rattle.shape_model.specs.Validation.{Listing};
 ghost use Rattle.data_graph.specs.DataGraphs.{with_changes};
 ghost use Rattle.data_graph.specs.Pairs.{IsAfterCheck};
-ghost use Rattle.commit_core.specs.Commits.{Answers, HasNoFault, IsJudged, IsPlan, IsRefusal, TakesCommit, committed_graph, data_of};
+ghost use Rattle.commit_core.specs.Commits.{Answers, AreChanged, HasNoFault, IsJudged, IsPlan, IsRefusal, TakesCommit, committed_graph, data_of};
 ghost use Rattle.commit_core.specs.Verdicts.{AreOfVerdict, AreReasons, IsHeld};
 ghost use Rattle.commit_core.specs.Work.{AnswerSteps, CommitSteps, IsByResults, PlanSteps, ResultSteps};
 ghost use Rattle.commit_core.specs.Consistent.{IsConsistent};
@@ -23,7 +22,6 @@ use crate::commit::{
 };
 use crate::naming::{NamingFault, name_terms, unknown_node};
 use crate::outcome::Outcome;
-use crate::overtaking::find_overtaker;
 use crate::reasons::{find_reasons, has_held};
 use crate::snapshot::Snap;
 use blocking::pairs_block;
@@ -32,15 +30,16 @@ use data_graph::{DataGraph, NumberHints, ValidatedGraph};
 use event_history::{History, NamedBlock, Slip};
 use kept_rows::PairRows;
 use page_index::Pages;
-use rdf_model::{Change, Term, Triple};
+use rdf_model::{Change, Ids, Term};
 use record_text::Record;
 use shape_eval::Steps;
 use shape_model::ResultRow;
+use snapshot_store::Commits;
 use std::alloc::{AllocError, Global};
 use std::marker::Model;
 use std::sync::ledger::Ledger;
-use store_model::{Accepted, Action, Event, Limits, NameKind, Overtaker, Reply, Transaction};
-use term_dict::NameFault;
+use store_model::{Action, Event, Limits, NameKind, Overtaker, Reply, Transaction};
+use term_dict::{Dict, NameFault};
 
 pub(crate) const MOST_SESSIONS: u32 = 64;
 
@@ -75,18 +74,23 @@ pub(crate) fn new_history(graph: &ValidatedGraph) -> Result<History, AllocError>
     Ok(History::new(graph.names().share()?))
 }
 
-pub(crate) fn version_of(commits: &[Accepted]) -> u64
-    ensures { result ≡ length commits.now }
+// No commit, by the names of the graph.
+fn new_commits(alloc: Global, graph: &ValidatedGraph) -> Result<Commits, AllocError>
+    ensures { IfOk result (λ commits. (commits.commits ≡ []) × (commits.names ≡ graph.now.terms)) }
 {
-    commits.len() as u64
+    let names = graph.names().share()?;
+    Ok(Commits::new(alloc, names))
 }
 
-fn add_commit(commits: &mut Vec<Accepted>, accepted: Accepted) -> Result<(), AllocError>
-    ensures ok { OnOk result (commits.new.items ≡ commits.old.items ++ accepted ∷ []) }
-    ensures err { OnErr result (commits.new.items ≡ commits.old.items) }
+// Room for one commit, and the names of its terms.
+pub(crate) fn room_for(commits: &mut Commits, graph: &ValidatedGraph) -> Result<Dict, AllocError>
+    ensures same { (commits.new.commits ≡ commits.old.commits) × (commits.new.names ≡ commits.old.names) }
+    ensures room { OnOk result (length commits.new.commits < commits.new.room) }
+    ensures names { IfOk result (λ names. names.terms ≡ graph.now.terms) }
 {
-    commits.push(accepted)?;
-    Ok(())
+    commits.make_room()?;
+    let names = graph.names().share()?;
+    Ok(names)
 }
 
 /// The store with its history. It begins empty, or at what the records of a log restore. Contracts see its limits, the state
@@ -99,7 +103,7 @@ pub struct Core {
     pub(crate) records: Vec<Record>,
     // With its results, by the pairs that give them.
     pub(crate) graph: ValidatedGraph,
-    pub(crate) commits: Vec<Accepted>,
+    pub(crate) commits: Commits,
     // The blank nodes that were given out.
     pub(crate) given: Pages<Term>,
     pub(crate) opened: u32,
@@ -113,12 +117,13 @@ impl Model for Core {
     ghost use Rattle.store_model.specs.Store.{RecordedStore};
     ghost use Rattle.commit_core.specs.Consistent.{IsConsistent};
     ghost use Rattle.commit_core.specs.Restored.{restored};
+    ghost use Rattle.event_history.specs.Named.{IsBeginning};
 
     ghost Value = { RecordedStore };
 
-    ghost view = { λ c. record { limits = record { terms = c.graph.limit; triples = c.bounds.triples; mode = c.bounds.mode }; start = restored c.records.items; state = record { graph = c.graph.triples; shapes = c.graph.shapes; commits = c.commits.items; named = c.graph.terms; given = c.given; opened = c.opened; stopped = c.stopped }; history = c.history.events } };
+    ghost view = { λ c. record { limits = record { terms = c.graph.limit; triples = c.bounds.triples; mode = c.bounds.mode }; start = restored c.records.items; state = record { graph = c.graph.triples; shapes = c.graph.shapes; commits = c.commits.commits; named = c.graph.terms; given = c.given; opened = c.opened; stopped = c.stopped }; history = c.history.events } };
 
-    ghost invariant = { λ c. IsConsistent (record { limits = record { terms = c.graph.limit; triples = c.bounds.triples; mode = c.bounds.mode }; start = restored c.records.items; state = record { graph = c.graph.triples; shapes = c.graph.shapes; commits = c.commits.items; named = c.graph.terms; given = c.given; opened = c.opened; stopped = c.stopped }; history = c.history.events }) × (c.history.names ≡ c.graph.terms) };
+    ghost invariant = { λ c. IsConsistent (record { limits = record { terms = c.graph.limit; triples = c.bounds.triples; mode = c.bounds.mode }; start = restored c.records.items; state = record { graph = c.graph.triples; shapes = c.graph.shapes; commits = c.commits.commits; named = c.graph.terms; given = c.given; opened = c.opened; stopped = c.stopped }; history = c.history.events }) × (c.history.names ≡ c.graph.terms) × IsBeginning c.commits.names c.graph.terms };
 }
 
 // Written by hand, so that what owns a core calls it in place of having it written out.
@@ -146,6 +151,7 @@ impl Core {
     {
         let graph = ValidatedGraph::new(alloc, limits.terms)?;
         let history = new_history(&graph)?;
+        let commits = new_commits(alloc, &graph)?;
         Ok(Core {
             alloc,
             bounds: Bounds {
@@ -154,7 +160,7 @@ impl Core {
             },
             records: Vec::new(alloc),
             graph,
-            commits: Vec::new(alloc),
+            commits,
             given: Pages::new(alloc),
             opened: 0,
             stopped: false,
@@ -204,7 +210,7 @@ impl Core {
     fn newest(&self) -> Result<Snap, AllocError>
         ensures { IfOk result (λ snap. snap ≡ snapshot_of self.now.limits.mode self.now.state) }
     {
-        Snap::sharing(version_of(&self.commits), self.bounds.mode, &self.graph)
+        Snap::sharing(self.commits.version(), self.bounds.mode, &self.graph)
     }
 
     /// The newest snapshot, at which a transaction begins.
@@ -407,14 +413,14 @@ impl Core {
     fn judge<L: Ledger>(
         &self,
         next: DataGraph,
-        changed: Vec<Triple>,
+        changed: Vec<Ids>,
         checked: &CheckedTransaction,
         held: bool,
         steps: &mut Steps<L>,
     ) -> Result<Plan, AllocError>
         requires committable { IsCommittable self.now.state checked.now.transaction }
         requires next { next ≡ with_changes (data_of self.now) checked.now.transaction.net }
-        requires changed { changed.items ≡ differing self.now.state.graph (after self.now.state.graph checked.now.transaction.net) }
+        requires changed { AreChanged (data_of self.now) checked.now.transaction.net changed.items }
         requires found { MatchBool held (IsHeld self.now checked.now.transaction checked.now.pairs) (Unit {0}) }
         ensures judged { IfOk result (IsJudged self.now.limits.mode (data_of self.now) checked.now.transaction) }
         ensures steps { IfOk result (PlanSteps held self.now.state checked.now.transaction steps.old steps.new) }
@@ -449,7 +455,7 @@ impl Core {
     {
         let transaction = &checked.transaction;
         let finds = transaction.finds.as_slice();
-        if let Some(overtaker) = find_overtaker(&self.commits, transaction.base, finds)? {
+        if let Some(overtaker) = self.commits.overtaker(transaction.base, finds)? {
             let triple = overtaker.triple.clone()?;
             return Ok(Plan::Overtaken(overtaker, triple));
         }
@@ -533,11 +539,12 @@ impl Core {
         ensures by_results { IsByResults reasons.answer result }
         ensures no_fault { HasNoFault result }
     {
-        let (graph, accepted) = acceptance.into_parts();
-        let Ok(()) = add_commit(&mut self.commits, accepted) else {
+        let Ok(names) = room_for(&mut self.commits, &self.graph) else {
             return Commit::Memory(checked);
         };
-        let number = version_of(&self.commits);
+        let (graph, changed, staged) = acceptance.into_parts();
+        self.commits.push_reserved(names, changed, staged);
+        let number = self.commits.version();
         let (again, recorded) = reasons.into_parts();
         self.history.push(
             slip,
@@ -617,12 +624,12 @@ impl Core {
             return Commit::Memory(checked);
         };
         if self.stopped {
-            let version = version_of(&self.commits);
+            let version = self.commits.version();
             let reply = Reply::Stopped(version);
             self.refuse(slip, session, checked.into_transaction(), reply);
             return Commit::Stopped { version };
         }
-        let Ok(reasons) = find_reasons(self.alloc, &self.commits, &checked.transaction) else {
+        let Ok(reasons) = find_reasons(&self.commits, &checked.transaction) else {
             return Commit::Memory(checked);
         };
         let held = has_held(&reasons.answer);
@@ -645,7 +652,7 @@ impl Core {
         let Ok(slip) = slip(self.alloc) else {
             return Commit::Memory(checked);
         };
-        let Ok(reasons) = find_reasons(self.alloc, &self.commits, &checked.transaction) else {
+        let Ok(reasons) = find_reasons(&self.commits, &checked.transaction) else {
             return Commit::Memory(checked);
         };
         self.commit_by_plan(slip, session, checked, reasons, false, steps)
@@ -720,7 +727,7 @@ impl Core {
     pub fn version(&self) -> u64
         ensures { result ≡ version self.now.state }
     {
-        version_of(&self.commits)
+        self.commits.version()
     }
 
     /// Whether its log failed.

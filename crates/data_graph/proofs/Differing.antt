@@ -1,8 +1,7 @@
 -- All triples that are in exactly one of a graph and the graph after changes are triples of the changes.
-use Rattle.std.proofs.Common.{◌≡◌, ◌∙◌, Bool, true, false, not, ◌&&◌, ◌||◌, cond, List, [], ◌∷◌, get_or, refl, sym, ap, subst, arith, inl, inr}
+use Rattle.std.proofs.Common.{◌≡◌, ◌∙◌, Bool, true, false, not, ◌&&◌, ◌||◌, cond, List, [], ◌∷◌, refl, sym, ap, subst, arith, inl, inr}
 use Rattle.std.specs.Prelude.{◌↔◌, filter, map}
-use Rattle.std.specs.List.{All, AllByRecursion, Contains}
-use Rattle.std.proofs.lemmas.List.Elements.{Contains-get_or}
+use Rattle.std.specs.List.{AllByRecursion, Contains}
 use Rattle.rdf_model.specs.declared.change.Change.{Change}
 use Rattle.rdf_model.specs.declared.change.Change.TheVariants.{Add, Remove}
 use Rattle.rdf_model.specs.declared.ids.Ids.{Ids}
@@ -21,7 +20,7 @@ use Rattle.store_model.specs.Store.{changed_triple}
 use Rattle.store_model.proofs.Differing.{ascending-differing, member-differing}
 use Rattle.triple_index.proofs.Matching.{keeps, kept_of}
 use Rattle.parallel_validate.specs.Named.{IsNumbered}
-use Rattle.parallel_validate.proofs.Members.{numbered_at}
+use Rattle.parallel_validate.proofs.Members.{all_numbered, numbered_at}
 use Rattle.triple_index.specs.Changes.{after_ids}
 use Rattle.triple_index.specs.Keys.{ids_cmp}
 use Rattle.triple_index.specs.declared.change.NumberedChange.{NumberedChange}
@@ -29,7 +28,7 @@ use Rattle.triple_index.specs.declared.change.NumberedChange.TheVariants.{Add as
 use Rattle.data_graph.specs.DataGraphs.{IsNumberedChange, KeepsIndex, change_at, triples_at}
 use Rattle.data_graph.specs.Nets.{ids_changed, in_one, in_one_set, is_in_one, is_in_one_set}
 use Rattle.data_graph.proofs.Changing.{index_after}
-use Rattle.data_graph.proofs.Listed.{ascends, listed_after, numbered_after, stands_there}
+use Rattle.data_graph.proofs.Listed.{ascends, listed_after, listing, numbered_after, stands_there}
 use Rattle.data_graph.proofs.Tests.{ids_test, ids_there, to_list, to_test}
 
 in_map : {X Y : Type 0} (f : X → Y) (xs : List X) (x : X) → Contains xs x → Contains (map f xs) (f x)
@@ -139,13 +138,11 @@ module _ (terms : List Term) (numbering : IsNumbering terms) where
         λ k. (x k && not (y k)) || (y k && not (x k)))
         ∙ ap (filter (is_in_one (triples_at terms ids) (triples_at terms later))) (all_changed cs)
 
-    pub found_numbered : (found : List Ids) → found ≡ in_one_set ids later cs → All (IsNumbered terms) found
-    found_numbered found e k d lt =
-        let i = get_or found k d in
-        let there = subst (λ (is : List Ids). Contains is i) e (Contains-get_or found k d lt) in
-        numbered_at terms (map ids_changed cs) i (ids_numbered cs n) (kept_of (is_in_one_set ids later) (map ids_changed cs) i there).0
+    pub found_numbered : (found : List Ids) → found ≡ in_one_set ids later cs → AreNumbered terms found
+    found_numbered found e = all_numbered terms found (λ i there.
+        numbered_at terms (map ids_changed cs) i (ids_numbered cs n) (kept_of (is_in_one_set ids later) (map ids_changed cs) i (subst (λ (is : List Ids). Contains is i) e there)).0)
 
-    pub numbers_differing : (found : List Ids) (read ts : List Triple) → found ≡ in_one_set ids later cs → read ≡ graph_of terms found → IsListing triple_cmp (Contains read) ts
-        → ts ≡ differing (triples_at terms ids) (triples_at terms later)
-    numbers_differing found read ts f r listed =
-        net_differing (triples_at terms ids) (triples_at terms later) (map (change_at terms) cs) read ts (ascends terms ids) (listed_after terms ids later (map (change_at terms) cs) a kept_index) (r ∙ (ap (graph_of terms) f ∙ numbers_in_one)) listed
+    pub numbers_differing : (found : List Ids) → found ≡ in_one_set ids later cs → triples_at terms found ≡ differing (triples_at terms ids) (triples_at terms later)
+    numbers_differing found f =
+        net_differing (triples_at terms ids) (triples_at terms later) (map (change_at terms) cs) (graph_of terms found) (triples_at terms found) (ascends terms ids) (listed_after terms ids later (map (change_at terms) cs) a kept_index)
+        (ap (graph_of terms) f ∙ numbers_in_one) (listing (graph_of terms found))

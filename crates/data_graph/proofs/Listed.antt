@@ -62,6 +62,9 @@ only ts w c = elim (each_cases ts [] w c) [ inl d ↦ d | inr d ↦ absurd (omeg
 pub listing : (ts : List Triple) → IsListing triple_cmp (Contains ts) (with_each [] ts)
 listing ts = record { ascending = each_ascends ts [] tt; members = λ w. (only ts w, each_new ts [] w) }
 
+pub one_listing : (ts us : List Triple) → IsListing triple_cmp (Contains ts) us → us ≡ with_each [] ts
+one_listing ts us l = same_lists triple_cmp triple_total us (with_each [] ts) l.ascending (each_ascends ts [] tt) (λ w. (λ c. each_new ts [] w ((l.members w).0 c), λ c. (l.members w).1 (only ts w c)))
+
 -- a list that ascends is the set of its triples, and the graph that is made by adding them
 ascending_each : (ts : List Triple) → IsAscending triple_cmp ts → with_each [] ts ≡ ts
 ascending_each ts a = same_lists triple_cmp triple_total (with_each [] ts) ts (each_ascends ts [] tt) a (λ w. (only ts w, each_new ts [] w))

@@ -8,48 +8,14 @@ ghost use Rattle.rdf_model.specs.Terms.{triple_cmp};
 ghost use Rattle.store_model.specs.Finds.{found};
 ghost use Rattle.parallel_validate.specs.Named.{IsNamedTriple, IsNumbered};
 ghost use Rattle.data_graph.specs.DataGraphs.{triples_at};
-ghost use Rattle.data_graph.specs.Finding.{AllAskAlike, AsksAlike, AsksForNone, IsAsked, NoneIsAsked};
+ghost use Rattle.data_graph.specs.Finding.{IsAsked};
 
 use collections::sorted_once;
+use numbered_patterns::NumberedPattern;
 use rdf_model::{Ids, Names, Pattern, Term, Triple, Triples};
 use std::alloc::{AllocError, Global};
 use term_dict::Dict;
 use triple_index::Index;
-
-// The numbers of the terms that a pattern gives; `None` stands for any.
-#[derive(Clone, Copy)]
-struct AskedNumbers {
-    subject: Option<u32>,
-    predicate: Option<u32>,
-    object: Option<u32>,
-}
-
-// The number that is asked for, which may be any; `None` where a term is given that has none.
-fn asked_number(names: &Dict, given: &Option<Term>) -> Option<Option<u32>>
-    ensures { MatchOption result (AsksForNone names.now.terms given.now) (λ asked. AsksAlike names.now.terms given.now asked) }
-{
-    match given {
-        None => Some(None),
-        Some(term) => {
-            names.recall_numbering();
-            match names.id(term) {
-                Some(number) => Some(Some(number)),
-                None => None,
-            }
-        }
-    }
-}
-
-// The numbers that are asked for; `None` where a term is given that has none.
-fn asked_numbers(names: &Dict, pattern: &Pattern) -> Option<AskedNumbers>
-    ensures { MatchOption result (NoneIsAsked names.now.terms pattern.now) (λ asked. AllAskAlike names.now.terms pattern.now asked.subject asked.predicate asked.object) }
-{
-    Some(AskedNumbers {
-        subject: asked_number(names, &pattern.subject)?,
-        predicate: asked_number(names, &pattern.predicate)?,
-        object: asked_number(names, &pattern.object)?,
-    })
-}
 
 // The numbers of the triples that the pattern asks for, in any order.
 fn ids_asked(
@@ -61,7 +27,7 @@ fn ids_asked(
     requires { AreNumbered names.now.terms index.now }
     ensures { IfOk result (λ ids. (i : IdsData) → Contains ids.items i ↔ IsAsked names.now.terms index.now pattern.now i) }
 {
-    match asked_numbers(names, pattern) {
+    match NumberedPattern::of(names, pattern) {
         None => Ok(Vec::new(alloc)),
         Some(asked) => Ok(index.find_pattern(asked.subject, asked.predicate, asked.object)?),
     }
@@ -104,6 +70,19 @@ pub(crate) fn read_triples(
         triples.push(read_triple(names, *numbers)?)?;
     }
     Ok(triples)
+}
+
+/// The triples of numbers, ascending, each once.
+pub(crate) fn sorted_triples(
+    alloc: Global,
+    names: &Dict,
+    ids: &[Ids],
+) -> Result<Vec<Triple>, AllocError>
+    requires { AreNumbered names.now.terms ids.now }
+    ensures { IfOk result (λ triples. triples.items ≡ triples_at names.now.terms ids.now) }
+{
+    let triples = read_triples(alloc, names, ids)?;
+    Ok(sorted_once(triples)?)
 }
 
 // The numbers of the triple's terms, where all have one.

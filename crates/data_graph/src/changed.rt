@@ -1,4 +1,4 @@
-//! The triples that changes of a graph put in or take out.
+//! The triples that changes of a graph put in or take out, by number.
 ghost use Rattle.std.specs.Prelude.{◌≡◌, IfOk};
 ghost use Rattle.std.specs.List.{AllByRecursion};
 ghost use Rattle.collections.specs.Ordered.{has_item};
@@ -9,9 +9,7 @@ ghost use Rattle.triple_index.specs.Keys.{ids_cmp};
 ghost use Rattle.data_graph.specs.DataGraphs.{IsNumberedChange, triples_at};
 ghost use Rattle.data_graph.specs.Nets.{ids_changed, in_one_set, is_in_one_set};
 
-use crate::by_number::read_triples;
-use collections::sorted_once;
-use rdf_model::{Ids, Triple, Triples};
+use rdf_model::{Ids, Triples};
 use std::alloc::{AllocError, Global};
 use term_dict::Dict;
 use triple_index::{Index, NumberedChange};
@@ -61,23 +59,23 @@ fn changed_in(
     Ok(found)
 }
 
-/// The triples that are in exactly one of two graphs, ascending, where the second is the first after the changes. It looks
-/// at no triple but theirs.
-pub(crate) fn triples_differing(
+/// The numbers of the triples that are in exactly one of two graphs, where the second is the first after the changes: in any
+/// order, and some maybe more than once. It looks at no triple but theirs, and reads no term.
+pub(crate) fn ids_differing(
     alloc: Global,
     names: &Dict,
     index: &Index,
     later: &Index,
     changes: &[NumberedChange],
-) -> Result<Vec<Triple>, AllocError>
+) -> Result<Vec<Ids>, AllocError>
     requires index { AreNumbered names.now.terms index.now }
     requires changes { AllByRecursion (IsNumberedChange names.now.terms) changes.now }
     requires later { later.now ≡ after_ids index.now changes.now }
-    ensures { IfOk result (λ v. v.items ≡ differing (triples_at names.now.terms index.now) (triples_at names.now.terms later.now)) }
+    ensures differing { IfOk result (λ ids. triples_at names.now.terms ids.items ≡ differing (triples_at names.now.terms index.now) (triples_at names.now.terms later.now)) }
+    ensures numbered { IfOk result (λ ids. AreNumbered names.now.terms ids.items) }
 {
     names.recall_numbering();
     index.recall_ascending();
     let found = changed_in(alloc, index, later, changes)?;
-    let triples = read_triples(alloc, names, &found)?;
-    Ok(sorted_once(triples)?)
+    Ok(found)
 }

@@ -1,7 +1,7 @@
 //! A data graph with its shapes graph and numbers for the terms of both.
 ghost use Rattle.std.specs.Prelude.{◌≡◌, ◌+◌, ◌<◌, ◌≤◌, ◌^◌, [], IfErr, IfOk, OnErr, OnOk, length};
-ghost use Rattle.rdf_model.specs.Graphs.{after, differing};
-ghost use Rattle.rdf_model.specs.Numbers.{AreNumbered};
+ghost use Rattle.rdf_model.specs.Graphs.{after, differing, with_each};
+ghost use Rattle.rdf_model.specs.Numbers.{AreNumbered, graph_of};
 ghost use Rattle.rdf_model.specs.Terms.{triple_cmp};
 ghost use Rattle.collections.specs.Ordered.{IsAscending, has_item};
 ghost use Rattle.std.specs.List.{AllByRecursion};
@@ -20,8 +20,8 @@ ghost use Rattle.data_graph.specs.DataGraphs.{AreNamedChanges, IsIndexOf, names_
 
 use crate::asked::list_after_asked;
 use crate::at_once::set_after;
-use crate::by_number::{found_by_number, has_triple};
-use crate::changed::triples_differing;
+use crate::by_number::{found_by_number, has_triple, sorted_triples};
+use crate::changed::ids_differing;
 use crate::changes::{NumberedCheck, PairedChanges, check_by_number, paired_changes};
 use crate::hints::NumberHints;
 use crate::numbering::{CLASS_WORDS, index_after, kept_by, number_changed, number_changes};
@@ -31,7 +31,7 @@ use bound_shapes::BoundShapes;
 use collections::{Sequence, both};
 use kept_rows::{KeptRows, PairRows};
 use parallel_validate::is_without_shapes;
-use rdf_model::{Change, Pattern, Term, Triple};
+use rdf_model::{Change, Ids, Pattern, Term, Triple};
 use shape_eval::Steps;
 use shapes_graph::ShapesGraph;
 use std::alloc::{AllocError, Global};
@@ -173,29 +173,33 @@ impl DataGraph {
         self.with_numbers(numbers)
     }
 
-    /// The graph after the changes, as `after` makes it, and the triples that are in exactly one of this graph and that one,
-    /// ascending.
+    /// The graph after the changes, as `after` makes it, and the numbers of the triples that are in exactly one of this graph and
+    /// that one, in any order, and some maybe more than once.
     pub fn after_with_changed(
         &self,
         net: &[Change],
         hints: &NumberHints,
-    ) -> Result<(DataGraph, Vec<Triple>), AllocError>
+    ) -> Result<(DataGraph, Vec<Ids>), AllocError>
         requires { AreNamedChanges self.now.terms net.now }
-        ensures { IfOk result (λ made. (made.0 ≡ with_changes self.now net.now) × (made.1.items ≡ differing self.now.triples (after self.now.triples net.now))) }
+        ensures next { IfOk result (λ made. made.0 ≡ with_changes self.now net.now) }
+        ensures changed { IfOk result (λ made. (with_each [] (graph_of self.now.terms made.1.items) ≡ differing self.now.triples (after self.now.triples net.now)) × AreNumbered self.now.terms made.1.items) }
     {
         self.names.recall_numbering();
         self.numbers.recall_ascending();
         let changes = number_changes(self.alloc, &self.names, net, hints)?;
         let numbers = set_after(self.alloc, &self.numbers, &changes)?;
-        let changed = triples_differing(
-            self.alloc,
-            &self.names,
-            &self.numbers,
-            &numbers,
-            &changes,
-        )?;
+        let changed = ids_differing(self.alloc, &self.names, &self.numbers, &numbers, &changes)?;
         let next = self.with_numbers(numbers)?;
         Ok((next, changed))
+    }
+
+    /// The triples of these numbers, ascending, each once.
+    pub fn triples_of(&self, ids: &[Ids]) -> Result<Vec<Triple>, AllocError>
+        requires { AreNumbered self.now.terms ids.now }
+        ensures { IfOk result (λ triples. triples.items ≡ with_each [] (graph_of self.now.terms ids.now)) }
+    {
+        let triples = sorted_triples(self.alloc, &self.names, ids)?;
+        Ok(triples)
     }
 
     /// Puts another shapes graph in the place of the one that is there. All its terms are named; its shapes are bound

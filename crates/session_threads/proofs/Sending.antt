@@ -67,7 +67,8 @@ use Rattle.event_history.specs.contracts.kept.NamedBlock as named_block
 use Rattle.event_history.specs.contracts.kept.KeptEvent as kept_event
 use Rattle.event_history.specs.contracts.row.KeptEvents as kept_events
 use Rattle.event_history.specs.contracts.history.History as history
-use Rattle.store_model.proofs.commit.Accepted.TheSendSync as accepted_sent
+use Rattle.snapshot_store.specs.contracts.kept.KeptCommit as kept_commit
+use Rattle.snapshot_store.specs.contracts.commits.Commits as commits
 use Rattle.disk.specs.declared.device.Disk as disks
 use Rattle.commit_log.proofs.log.Log.TheSendSync as log_sent
 use Rattle.turn_lock.proofs.turns.Pass.TheSendSync as pass_sent
@@ -171,11 +172,17 @@ kept_events_send = search (kept_event_send, kept_knot.crosses, crosses, sendable
 history_send : IsSend history.the_row
 history_send = search (dict_send, kept_events_send, crosses, sendable) depth 60 fits 20000
 
+kept_commit_send : IsSend (kept_commit.the_field).row
+kept_commit_send = search (sequence_sent.the_send, crosses, sendable) depth 60 fits 20000
+
+commits_send : IsSend commits.the_row
+commits_send = search (dict_send, kept_commit_send, crosses, sendable) depth 60 fits 20000
+
 record_send : IsSend record_row.the_row
 record_send = search (triple_sent.the_send, sequence_sent.the_send, crosses, sendable) depth 60 fits 20000
 
 core_send : IsSend core.the_row
-core_send = search (record_send, validated_graph_send, shapes_send, given_send, accepted_sent.the_send, history_send, crosses, sendable) depth 60 fits 20000
+core_send = search (record_send, validated_graph_send, shapes_send, given_send, commits_send, history_send, crosses, sendable) depth 60 fits 20000
 
 log_send : (D : RattleType) (d : disks.Ghosts D.Denot) → IsSend D → IsSend (log_row.the_row D d)
 log_send D d sent = search (log_sent.the_send, sent, crosses, sendable) depth 60 fits 20000

@@ -10,7 +10,7 @@ use store_model::push_terms;
 pub fn terms_in(alloc: Global, triples: &[Triple]) -> Result<Vec<Term>, AllocError>
     ensures { IfOk result (λ v. v.items ≡ parts_of triples.now) }
 {
-    let mut terms = Vec::new(alloc);
+    let mut terms = Vec::with_capacity(alloc, triples.len().saturating_mul(3))?;
     for triple in triples {
         push_terms(&mut terms, triple)?;
     }

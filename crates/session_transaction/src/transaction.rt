@@ -92,7 +92,7 @@ fn changes_for(
 ) -> Result<Vec<Change>, AllocError>
     ensures { IfOk result (λ v. v.items ≡ changes_of kind triples.now) }
 {
-    let mut changes = Vec::new(alloc);
+    let mut changes = Vec::with_capacity(alloc, triples.len())?;
     for triple in triples {
         changes.push(kind.of(triple.clone()?))?;
     }
@@ -104,6 +104,9 @@ pub(crate) fn appended<T: Drop>(list: Sequence<T>, more: Vec<T>) -> (Sequence<T>
     ensures { MatchBool result.1 (result.0 ≡ list ++ more.items) (result.0 ≡ list) }
 {
     let mut items = list.into_vec();
+    if items.is_empty() {
+        return (Sequence::from_vec(more), true);
+    }
     let mut more = more;
     let grew = items.append(&mut more).is_ok();
     (Sequence::from_vec(items), grew)

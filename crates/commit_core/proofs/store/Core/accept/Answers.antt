@@ -1,21 +1,45 @@
-use Rattle.std.proofs.Common.{ap, sym, ◌∙◌, length}
+use Rattle.std.proofs.Common.{◌≡◌, ◌∙◌, List, [], sym, ap, length, subst}
+use Rattle.rdf_model.specs.declared.term.Term.{Term}
+use Rattle.rdf_model.specs.Graphs.{with_each}
+use Rattle.rdf_model.specs.Numbers.{AreNumbered, graph_of}
+use Rattle.store_model.specs.Store.{RecordedStore}
+use Rattle.event_history.specs.Named.{IsBeginning}
+use Rattle.snapshot_store.specs.Named.{NamedCommits}
 use Rattle.commit_core.specs.Verdicts.{AreReasons}
 use Rattle.commit_core.proofs.Consistency.{at_fields, consistent_accepted, names_kept, takes_accepted}
+use Rattle.commit_core.proofs.NamedTerms.{begins_same}
 use Rattle.commit_core.proofs.store.Core.accept.Goals as goal
+
+pub invariant_of-self : goal.invariant_of-self
+invariant_of-self c = rw (c.room_for.ensures.same.0, c.room_for.ensures.same.1) c.self.invariant
+
+pub push_reserved-requires-clause-more : goal.push_reserved-requires-clause-more
+push_reserved-requires-clause-more c = rw c.room_for.ensures.same.1 (subst (λ (ts : List Term). IsBeginning c.self.inside.commits.names ts) (sym c.in-Ok.ensures.names) c.self.invariant.2)
+
+pub push_reserved-requires-clause-numbered : goal.push_reserved-requires-clause-numbered
+push_reserved-requires-clause-numbered c =
+    let names = c.in-Ok.ensures.names ∙ ap (λ (s : RecordedStore). s.state.named) c.self.view_is in
+    rw c.into_parts-graph.ensures (subst (λ (ts : List Term). AreNumbered ts c.args.acceptance.changed.items) (sym names) c.requires.plan.1.2.1)
 
 pub invariant_of-self-2 : goal.invariant_of-self-2
 invariant_of-self-2 c =
     let p = c.requires.plan in
     let why = at_fields _ _ (λ s. AreReasons s.state.commits c.args.checked.transaction c.args.reasons) c.self.view_is c.requires.reasons in
-    rw (c.push.ensures, c.into_transaction.ensures, c.in-Ok.ensures.ok, c.into_parts-graph.ensures, c.into_parts-again.ensures) (
-      consistent_accepted _ c.self.inside.graph c.args.acceptance.graph _ _ _ _ _ _ _ _ _ _ _ _ c.self.invariant.0 c.self.view_is c.requires.running c.requires.opened c.requires.committable (why.1 ∙ why.0) p.0 p.1.0 p.1.1 p.1.2 p.1.3
-          (c.version_of-number.ensures ∙ ap length (c.deref.ensures.value ∙ (rw c.into_parts-graph.ensures at c.in-Ok.ensures.ok))),
+    let names = c.in-Ok.ensures.names ∙ ap (λ (s : RecordedStore). s.state.named) c.self.view_is in
+    let changed = ap (λ (ts : List Term). with_each [] (graph_of ts c.args.acceptance.changed.items)) names ∙ p.1.2.0 in
+    let count = rw (c.into_parts-graph.ensures, c.room_for.ensures.same.0) at (c.version-number.ensures.count ∙ ap (λ (k : NamedCommits). length k.commits) c.push_reserved.ensures) in
+    rw (c.push.ensures, c.into_transaction.ensures, c.push_reserved.ensures, c.room_for.ensures.same.0, c.into_parts-graph.ensures, c.into_parts-again.ensures) (
+      consistent_accepted _ c.self.inside.graph c.args.acceptance.graph _ _ _ _ _ _ _ _ _ _ _ _ c.self.invariant.0 c.self.view_is c.requires.running c.requires.opened c.requires.committable (why.1 ∙ why.0) p.0 p.1.0 p.1.1 changed p.1.3 count,
       names_kept _ _ _ c.args.checked.transaction _ c.self.view_is c.self.invariant.1 p.1.1,
+      begins_same _ _ (sym (names_kept _ _ _ c.args.checked.transaction _ c.self.view_is c.in-Ok.ensures.names p.1.1)),
     )
 
 pub returns-clause-answer : goal.returns-clause-answer
 returns-clause-answer c =
     let p = c.requires.plan in
     let why = at_fields _ _ (λ s. AreReasons s.state.commits c.args.checked.transaction c.args.reasons) c.self.view_is c.requires.reasons in
-    rw (c.push.ensures, c.into_transaction.ensures, c.in-Ok.ensures.ok, c.into_parts-graph.ensures, c.into_parts-again.ensures, sym why.1) (takes_accepted _ c.self.inside.graph c.args.acceptance.graph _ _ _ _ _ _ _ _ _ _ _ _ c.self.invariant.0 c.self.view_is c.requires.running c.requires.opened c.requires.committable (why.1 ∙ why.0) p.0 p.1.0 p.1.1 p.1.2 p.1.3
-    (c.version_of-number.ensures ∙ ap length (c.deref.ensures.value ∙ (rw c.into_parts-graph.ensures at c.in-Ok.ensures.ok))))
+    let names = c.in-Ok.ensures.names ∙ ap (λ (s : RecordedStore). s.state.named) c.self.view_is in
+    let changed = ap (λ (ts : List Term). with_each [] (graph_of ts c.args.acceptance.changed.items)) names ∙ p.1.2.0 in
+    let count = rw (c.into_parts-graph.ensures, c.room_for.ensures.same.0) at (c.version-number.ensures.count ∙ ap (λ (k : NamedCommits). length k.commits) c.push_reserved.ensures) in
+    rw (c.push.ensures, c.into_transaction.ensures, c.push_reserved.ensures, c.room_for.ensures.same.0, c.into_parts-graph.ensures, c.into_parts-again.ensures, sym why.1) (
+    takes_accepted _ c.self.inside.graph c.args.acceptance.graph _ _ _ _ _ _ _ _ _ _ _ _ c.self.invariant.0 c.self.view_is c.requires.running c.requires.opened c.requires.committable (why.1 ∙ why.0) p.0 p.1.0 p.1.1 changed p.1.3 count)

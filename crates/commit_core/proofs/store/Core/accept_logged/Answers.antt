@@ -1,24 +1,45 @@
-use Rattle.std.proofs.Common.{ap, subst, ◌∙◌, length}
+use Rattle.std.proofs.Common.{◌≡◌, ◌∙◌, List, [], sym, ap, length, subst}
+use Rattle.rdf_model.specs.declared.term.Term.{Term}
+use Rattle.rdf_model.specs.Graphs.{with_each}
+use Rattle.rdf_model.specs.Numbers.{AreNumbered, graph_of}
+use Rattle.store_model.specs.Store.{RecordedStore}
+use Rattle.event_history.specs.Named.{IsBeginning}
+use Rattle.snapshot_store.specs.Named.{NamedCommits}
 use Rattle.record_text.specs.declared.record.Record.{Record}
 use Rattle.commit_core.specs.Logged.{IsAppended, IsFailed}
 use Rattle.commit_core.specs.Verdicts.{AreReasons}
 use Rattle.commit_core.proofs.Consistency.{at_fields, consistent_accepted, consistent_failed, names_kept}
+use Rattle.commit_core.proofs.NamedTerms.{begins_same}
 use Rattle.commit_core.proofs.store.Core.accept_logged.Goals as goal
 
 pub invariant_of-self-in-Failed-1 : goal.invariant_of-self-in-Failed-1
 invariant_of-self-in-Failed-1 g c =
     let p = c.requires.plan in
-    rw (c.push.ensures, c.into_transaction.ensures, c.make_room.ensures.items) (consistent_failed _ _ _ _ c.self.invariant.0 c.self.view_is c.requires.running c.requires.opened c.requires.committable p.0 p.1.0, c.self.invariant.1)
+    rw (c.push.ensures, c.into_transaction.ensures, c.room_for.ensures.same.0, c.room_for.ensures.same.1) (
+      consistent_failed _ _ _ _ c.self.invariant.0 c.self.view_is c.requires.running c.requires.opened c.requires.committable p.0 p.1.0,
+      c.self.invariant.1,
+      c.self.invariant.2,
+    )
+
+pub push_reserved-requires-clause-more : goal.push_reserved-requires-clause-more
+push_reserved-requires-clause-more g c = rw c.room_for.ensures.same.1 (subst (λ (ts : List Term). IsBeginning c.self.inside.commits.names ts) (sym c.in-Ok-room_for.ensures.names) c.self.invariant.2)
+
+pub push_reserved-requires-clause-numbered : goal.push_reserved-requires-clause-numbered
+push_reserved-requires-clause-numbered g c =
+    let names = c.in-Ok-room_for.ensures.names ∙ ap (λ (s : RecordedStore). s.state.named) c.self.view_is in
+    rw c.into_parts-graph.ensures (subst (λ (ts : List Term). AreNumbered ts c.args.acceptance.changed.items) (sym names) c.requires.plan.1.2.1)
 
 pub invariant_of-self-in-Ok-append : goal.invariant_of-self-in-Ok-append
 invariant_of-self-in-Ok-append g c =
     let p = c.requires.plan in
     let why = at_fields _ _ (λ s. AreReasons s.state.commits c.args.checked.transaction c.args.reasons) c.self.view_is c.requires.reasons in
-    let items = rw (c.into_parts-graph.ensures, c.make_room.ensures.items) at c.push_reserved.ensures.items in
-    rw (c.push-in-Ok-append.ensures, c.into_transaction-in-Ok-append.ensures, items, c.into_parts-graph.ensures, c.into_parts-again.ensures) (
-      consistent_accepted _ c.self.inside.graph c.args.acceptance.graph _ _ _ _ _ _ _ _ _ _ _ _ c.self.invariant.0 c.self.view_is c.requires.running c.requires.opened c.requires.committable (why.1 ∙ why.0) p.0 p.1.0 p.1.1 p.1.2 p.1.3
-          (c.version_of-number.ensures ∙ ap length (c.deref.ensures.value ∙ items)),
+    let names = c.in-Ok-room_for.ensures.names ∙ ap (λ (s : RecordedStore). s.state.named) c.self.view_is in
+    let changed = ap (λ (ts : List Term). with_each [] (graph_of ts c.args.acceptance.changed.items)) names ∙ p.1.2.0 in
+    let count = rw (c.into_parts-graph.ensures, c.room_for.ensures.same.0) at (c.version-number.ensures.count ∙ ap (λ (k : NamedCommits). length k.commits) c.push_reserved.ensures) in
+    rw (c.push-in-Ok-append.ensures, c.into_transaction-in-Ok-append.ensures, c.push_reserved.ensures, c.room_for.ensures.same.0, c.into_parts-graph.ensures, c.into_parts-again.ensures) (
+      consistent_accepted _ c.self.inside.graph c.args.acceptance.graph _ _ _ _ _ _ _ _ _ _ _ _ c.self.invariant.0 c.self.view_is c.requires.running c.requires.opened c.requires.committable (why.1 ∙ why.0) p.0 p.1.0 p.1.1 changed p.1.3 count,
       names_kept _ _ _ c.args.checked.transaction _ c.self.view_is c.self.invariant.1 p.1.1,
+      begins_same _ _ (sym (names_kept _ _ _ c.args.checked.transaction _ c.self.view_is c.in-Ok-room_for.ensures.names p.1.1)),
     )
 
 pub returns-in-Err-Failed-clause-log : goal.returns-in-Err-Failed-clause-log

@@ -8,4 +8,5 @@ invariant_of-self c =
       consistent_begin _ _ _ _ c.self.invariant.0 c.self.view_is c.requires
           (c.number.ensures ∙ (ap (λ n. n.number) c.in_ok-snap.ensures ∙ sym (ap (λ s. length s.state.commits) c.self.view_is))),
       c.self.invariant.1,
+      c.self.invariant.2,
     )

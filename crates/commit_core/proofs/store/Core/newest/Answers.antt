@@ -1,4 +1,4 @@
 use Rattle.commit_core.proofs.store.Core.newest.Goals as goal
 
 pub sharing-requires : goal.sharing-requires
-sharing-requires c = rw (c.version_of.ensures, c.deref.ensures.value) c.self.invariant.0.sound
+sharing-requires c = rw c.version.ensures.count c.self.invariant.0.sound

@@ -1,9 +1,8 @@
 use Rattle.std.proofs.Common.{rules, ◌≡◌, ◌∙◌, List, ap, subst, sym}
 use Rattle.rdf_model.specs.declared.change.Change.{Change}
-use Rattle.rdf_model.specs.Graphs.{after, differing}
 use Rattle.store_model.specs.Store.{RecordedStore}
 use Rattle.data_graph.specs.DataGraphs.{AreNamedChanges, NamedGraph, with_changes}
-use Rattle.commit_core.specs.Commits.{data_of}
+use Rattle.commit_core.specs.Commits.{AreChanged, data_of}
 use Rattle.commit_core.proofs.NamedTerms.{net_named}
 use Rattle.commit_core.proofs.Planning.{judged_result}
 use Rattle.commit_core.proofs.store.Core.plan.Goals as goal
@@ -17,16 +16,16 @@ after_with_changed-requires g c =
 
 pub judge-requires-clause-next : goal.judge-requires-clause-next
 judge-requires-clause-next g c =
-    c.in_ok-next.ensures.0 ∙ ap (λ (d : NamedGraph). with_changes d c.as_slice.result.now) c.graph.ensures ∙ ap (λ (cs : List Change). with_changes c.self.inside.graph cs) c.as_slice.ensures
+    c.in_ok-next.ensures.next ∙ ap (λ (d : NamedGraph). with_changes d c.as_slice.result.now) c.graph.ensures ∙ ap (λ (cs : List Change). with_changes c.self.inside.graph cs) c.as_slice.ensures
     ∙ ap (λ (s : RecordedStore). with_changes (data_of s) c.args.checked.now.transaction.net) c.self.view_is
 
 pub judge-requires-clause-changed : goal.judge-requires-clause-changed
 judge-requires-clause-changed g c =
     let changed = c.in_ok-next.changed.items in
     let net = c.args.checked.now.transaction.net in
-    let told = subst (λ (d : NamedGraph). changed ≡ differing d.triples (after d.triples c.as_slice.result.now)) c.graph.ensures c.in_ok-next.ensures.1 in
-    let own = subst (λ (cs : List Change). changed ≡ differing c.self.inside.graph.triples (after c.self.inside.graph.triples cs)) c.as_slice.ensures told in
-    subst (λ (s : RecordedStore). changed ≡ differing s.state.graph (after s.state.graph net)) c.self.view_is own
+    let told = subst (λ (d : NamedGraph). AreChanged d c.as_slice.result.now changed) c.graph.ensures c.in_ok-next.ensures.changed in
+    let own = subst (λ (cs : List Change). AreChanged c.self.inside.graph cs changed) c.as_slice.ensures told in
+    subst (λ (s : RecordedStore). AreChanged (data_of s) net changed) c.self.view_is own
 
 pub returns-clause-plan : goal.returns-clause-plan
 returns-clause-plan g c = judged_result c.args.self.now.limits (data_of c.args.self.now) c.args.self.now.state.commits c.args.checked.now.transaction _ (search rules, search rules) c.judge.ensures.judged

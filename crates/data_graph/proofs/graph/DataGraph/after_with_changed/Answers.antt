@@ -13,15 +13,15 @@ use Rattle.data_graph.proofs.graph.DataGraph.after_with_changed.Goals as goal
 pub number_changes-requires : goal.number_changes-requires
 number_changes-requires c = subst (λ (d : NamedGraph). AreNamedChanges d.terms c.args.net.now) (sym c.self.view_is) c.requires
 
-pub triples_differing-requires-clause-index : goal.triples_differing-requires-clause-index
-triples_differing-requires-clause-index c = c.self.invariant.1
+pub ids_differing-requires-clause-index : goal.ids_differing-requires-clause-index
+ids_differing-requires-clause-index c = c.self.invariant.1
 
-pub triples_differing-requires-clause-changes : goal.triples_differing-requires-clause-changes
-triples_differing-requires-clause-changes c =
+pub ids_differing-requires-clause-changes : goal.ids_differing-requires-clause-changes
+ids_differing-requires-clause-changes c =
     subst (λ (cs : List NumberedChange). AllByRecursion (IsNumberedChange c.self.inside.names.terms) cs) (sym c.deref-2.ensures.value) c.in_ok-changes.ensures.0
 
-pub triples_differing-requires-clause-later : goal.triples_differing-requires-clause-later
-triples_differing-requires-clause-later c = c.in_ok-numbers.ensures ∙ ap (after_ids c.self.inside.numbers) (c.deref.ensures.value ∙ sym c.deref-2.ensures.value)
+pub ids_differing-requires-clause-later : goal.ids_differing-requires-clause-later
+ids_differing-requires-clause-later c = c.in_ok-numbers.ensures ∙ ap (after_ids c.self.inside.numbers) (c.deref.ensures.value ∙ sym c.deref-2.ensures.value)
 
 pub with_numbers-requires : goal.with_numbers-requires
 with_numbers-requires c =
@@ -35,8 +35,8 @@ with_numbers-requires c =
     let whole = subst (λ (ds : List Change). KeepsIndex terms ids ds later) c.in_ok-changes.ensures.1 kept in
     subst (λ (d : NamedGraph). AreNumbered d.terms later) c.self.view_is (numbered_after terms ids later net c.self.invariant.1 whole)
 
-pub returns : goal.returns
-returns c =
+pub returns-clause-next : goal.returns-clause-next
+returns-clause-next c =
     let terms = c.self.inside.names.terms in
     let ids = c.self.inside.numbers in
     let net = c.args.net.now in
@@ -48,7 +48,21 @@ returns c =
     let x = c.args.self.now in
     let listed = listed_after terms ids later net c.self.invariant.1 whole in
     let own : triples_at x.terms later ≡ after x.triples net = subst (λ (d : NamedGraph). triples_at d.terms later ≡ after d.triples net) c.self.view_is listed in
-    let changed = c.in_ok-changed.ensures ∙ ap (differing (triples_at terms ids)) listed in (
-      c.in_ok-next.ensures ∙ (λ k. record { triples = own k; shapes = x.shapes; terms = x.terms; limit = x.limit }),
-      changed ∙ ap (λ (d : NamedGraph). differing d.triples (after d.triples net)) c.self.view_is,
+    c.in_ok-next.ensures ∙ (λ k. record { triples = own k; shapes = x.shapes; terms = x.terms; limit = x.limit })
+
+pub returns-clause-changed : goal.returns-clause-changed
+returns-clause-changed c =
+    let terms = c.self.inside.names.terms in
+    let ids = c.self.inside.numbers in
+    let net = c.args.net.now in
+    let cs = c.in_ok-changes.changes.items in
+    let later = c.in_ok-numbers.numbers in
+    let found = c.in_ok-changed.changed.items in
+    let l : later ≡ after_ids ids cs = c.in_ok-numbers.ensures ∙ ap (after_ids ids) c.deref.ensures.value in
+    let kept = kept_index terms c.recall_numbering.ensures ids later cs c.self.invariant.1 c.recall_ascending.ensures c.in_ok-changes.ensures.0 l in
+    let whole = subst (λ (ds : List Change). KeepsIndex terms ids ds later) c.in_ok-changes.ensures.1 kept in
+    let listed = listed_after terms ids later net c.self.invariant.1 whole in
+    let changed : triples_at terms found ≡ differing (triples_at terms ids) (after (triples_at terms ids) net) = c.in_ok-changed.ensures.differing ∙ ap (differing (triples_at terms ids)) listed in (
+      subst (λ (d : NamedGraph). triples_at d.terms found ≡ differing d.triples (after d.triples net)) c.self.view_is changed,
+      subst (λ (d : NamedGraph). AreNumbered d.terms found) c.self.view_is c.in_ok-changed.ensures.numbered,
     )

@@ -1,0 +1,4 @@
+pub mod Asking
+pub mod Looking
+pub mod Sooner
+pub mod Telling

@@ -1,0 +1,4 @@
+pub mod Asking
+pub mod First
+pub mod Kept
+pub mod Named
