@@ -9,3 +9,4 @@ pub mod Conditions
 pub mod Replaying
 pub mod RestoredParts
 pub mod LoggedCommits
+pub mod Accepting

@@ -1,5 +1,6 @@
 -- What a commit is answered, and what it plans.
-use Rattle.std.specs.Prelude.{◌≡◌, ◌<◌, ◌≤◌, ℕ, true, false, List, [], length, Some, None}
+use Rattle.std.specs.Prelude.{◌≡◌, ◌<◌, ◌≤◌, ℕ, true, false, List, [], length, map, Some, None}
+use Rattle.std.specs.List.{AllByRecursion}
 use Rattle.rdf_model.specs.declared.triple.Triple.{Triple}
 use Rattle.rdf_model.specs.declared.change.Change.{Change}
 use Rattle.rdf_model.specs.declared.ids.Ids.{Ids}
@@ -16,6 +17,8 @@ use Rattle.store_model.specs.declared.event.Reply.{Reply}
 use Rattle.store_model.specs.declared.event.Reply.TheVariants as replies
 use Rattle.store_model.specs.Blocking.{has_blocking}
 use Rattle.store_model.specs.Store.{RecordedStore, TakesStep, is_staged, overtaker, shapes_under}
+use Rattle.triple_index.specs.Changes.{IsNumberedChange, change_at}
+use Rattle.triple_index.specs.declared.change.NumberedChange.{NumberedChange}
 use Rattle.data_graph.specs.DataGraphs.{NamedGraph, with_changes, with_shapes}
 use Rattle.commit_core.specs.declared.commit.CheckedTransaction.{CheckedTransaction}
 use Rattle.commit_core.specs.declared.commit.Commit.{Commit}
@@ -75,8 +78,12 @@ NoneBlocks mode g x = (rows : List ResultRow) × Listing (after g.triples x.net)
 abbrev pub AreChanged : NamedGraph → List Change → List Ids → Type 0
 AreChanged g net ids = (with_each [] (graph_of g.terms ids) ≡ differing g.triples (after g.triples net)) × AreNumbered g.terms ids
 
+-- the changes are those of the numbers, and each number has a term
+abbrev pub AreNumberedChanges : NamedGraph → List Change → List NumberedChange → Type 0
+AreNumberedChanges g net numbered = (map (change_at g.terms) numbered ≡ net) × AllByRecursion (IsNumberedChange g.terms) numbered
+
 abbrev pub Accepts : BlockMode → NamedGraph → Transaction → Acceptance → Type 0
-Accepts mode g x p = NoneBlocks mode g x × (p.graph ≡ committed_graph g x) × AreChanged g x.net p.changed.items × (p.staged ≡ is_staged x.staged)
+Accepts mode g x p = NoneBlocks mode g x × (p.graph ≡ committed_graph g x) × AreChanged g x.net p.changed.items × (p.staged ≡ is_staged x.staged) × AreNumberedChanges g x.net p.net.items
 
 -- what its listing makes of a commit that nothing overtook and that is within the limit
 abbrev pub IsJudged : BlockMode → NamedGraph → Transaction → Plan → Type 0

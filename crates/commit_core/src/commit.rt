@@ -7,11 +7,12 @@ ghost use Rattle.data_graph.specs.DataGraphs.{with_shapes};
 use collections::Sequence;
 use data_graph::{DataGraph, NumberHints, ValidatedGraph};
 use kept_rows::PairRows;
-use rdf_model::{Ids, Triple};
+use rdf_model::{Ids, Net, Triple};
 use shape_model::ResultRow;
 use shapes_graph::ShapesGraph;
 use std::alloc::{AllocError, Global};
 use store_model::{Again, Overtaker, Transaction};
+use triple_index::NumberedChange;
 
 /// A transaction with the pairs that its verdict found, each with its results; where it has no verdict, they count for
 /// nothing.
@@ -55,6 +56,15 @@ impl CheckedTransaction {
             pairs,
         } = self;
         (transaction, hints, pairs)
+    }
+
+    // The transaction alone, but for its changes, which are let go.
+    pub(crate) fn without_changes(self, alloc: Global) -> Transaction
+        ensures { result ≡ record self.transaction { net = [] } }
+    {
+        let mut transaction = self.into_transaction();
+        transaction.net = Net::new(alloc);
+        transaction
     }
 
     /// The transaction alone.
@@ -163,11 +173,12 @@ impl Refusal {
 }
 
 /// A commit whose graph has no result that blocks: the next graph with its shapes and its results, the numbers of the triples that it
-/// changes, in any order and maybe more than once, and whether it stages shapes.
+/// changes, in any order and maybe more than once, whether it stages shapes, and its changes by the numbers of their terms.
 pub struct Acceptance {
     pub graph: ValidatedGraph,
     pub changed: Vec<Ids>,
     pub staged: bool,
+    pub net: Vec<NumberedChange>,
 }
 
 // Written by hand, so that what owns one calls it in place of having it written out.
@@ -177,21 +188,23 @@ impl Drop for Acceptance {
             graph: _,
             changed: _,
             staged: _,
+            net: _,
         } = self;
     }
 }
 
 impl Acceptance {
-    /// The next graph, the numbers of what it changes, and whether it stages shapes.
-    pub fn into_parts(self) -> (ValidatedGraph, Vec<Ids>, bool)
-        ensures { result ≡ (self.graph, self.changed, self.staged) }
+    /// The next graph, the numbers of what it changes, whether it stages shapes, and its changes by number.
+    pub fn into_parts(self) -> (ValidatedGraph, Vec<Ids>, bool, Vec<NumberedChange>)
+        ensures { result ≡ (self.graph, self.changed, self.staged, self.net) }
     {
         let Acceptance {
             graph,
             changed,
             staged,
+            net,
         } = self;
-        (graph, changed, staged)
+        (graph, changed, staged, net)
     }
 }
 
@@ -241,17 +254,19 @@ pub fn refusing(alloc: Global, graph: &ValidatedGraph) -> Result<Refusal, AllocE
 }
 
 /// The plan of a commit whose graph, after its changes, has no result that blocks: the triples of these numbers are in exactly one
-/// of the graph before and that one. It takes no memory.
+/// of the graph before and that one, and these are its changes by number. It takes no memory.
 pub fn accepting(
     next: ValidatedGraph,
     changed: Vec<Ids>,
+    net: Vec<NumberedChange>,
     staged: &Option<ShapesGraph>,
 ) -> Acceptance
-    ensures { (result.graph ≡ next) × (result.changed.items ≡ changed.items) × (result.staged ≡ is_staged staged.now) }
+    ensures { (result.graph ≡ next) × (result.changed.items ≡ changed.items) × (result.staged ≡ is_staged staged.now) × (result.net.items ≡ net.items) }
 {
     Acceptance {
         graph: next,
         changed,
         staged: stages_shapes(staged),
+        net,
     }
 }

@@ -20,7 +20,7 @@ use collections::Sequence;
 use commit_log::{AppendFault, Log};
 use data_graph::DataGraph;
 use disk::Disk;
-use event_history::Slip;
+use event_history::{AcceptedCommit, Slip};
 use rdf_model::Triple;
 use record_text::Record;
 use shape_eval::Steps;
@@ -146,15 +146,16 @@ impl Core {
                 Commit::LogFault
             }
             Ok(()) => {
-                let (graph, changed, staged) = acceptance.into_parts();
+                let (graph, changed, staged, net) = acceptance.into_parts();
                 self.commits.push_reserved(names, changed, staged);
                 let number = self.commits.version();
                 let (again, recorded) = reasons.into_parts();
-                self.history.push(
+                self.history.push_accepted(
                     slip,
-                    Event {
+                    AcceptedCommit {
                         session,
-                        action: Action::Commit(checked.into_transaction()),
+                        transaction: checked.without_changes(self.alloc),
+                        net: Sequence::from_vec(net),
                         reply: Reply::Done(number, recorded),
                     },
                 );

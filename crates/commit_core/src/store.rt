@@ -8,7 +8,7 @@ ghost use Rattle.parallel_validate.specs.Verdicts.{IsEvaluated};
 ghost use Rattle.shape_model.specs.Validation.{Listing};
 ghost use Rattle.data_graph.specs.DataGraphs.{with_changes};
 ghost use Rattle.data_graph.specs.Pairs.{IsAfterCheck};
-ghost use Rattle.commit_core.specs.Commits.{Answers, AreChanged, HasNoFault, IsJudged, IsPlan, IsRefusal, TakesCommit, committed_graph, data_of};
+ghost use Rattle.commit_core.specs.Commits.{Answers, AreChanged, AreNumberedChanges, HasNoFault, IsJudged, IsPlan, IsRefusal, TakesCommit, committed_graph, data_of};
 ghost use Rattle.commit_core.specs.Verdicts.{AreOfVerdict, AreReasons, IsHeld};
 ghost use Rattle.commit_core.specs.Work.{AnswerSteps, CommitSteps, IsByResults, PlanSteps, ResultSteps};
 ghost use Rattle.commit_core.specs.Consistent.{IsConsistent};
@@ -27,7 +27,7 @@ use crate::snapshot::Snap;
 use blocking::pairs_block;
 use collections::Sequence;
 use data_graph::{DataGraph, NumberHints, ValidatedGraph};
-use event_history::{History, NamedBlock, Slip};
+use event_history::{AcceptedCommit, History, NamedBlock, Slip};
 use kept_rows::PairRows;
 use page_index::Pages;
 use rdf_model::{Change, Ids, Term};
@@ -40,6 +40,7 @@ use std::marker::Model;
 use std::sync::ledger::Ledger;
 use store_model::{Action, Event, Limits, NameKind, Overtaker, Reply, Transaction};
 use term_dict::{Dict, NameFault};
+use triple_index::NumberedChange;
 
 pub(crate) const MOST_SESSIONS: u32 = 64;
 
@@ -408,12 +409,13 @@ impl Core {
         self.evaluated(next, checked, steps)
     }
 
-    // What a commit that nothing overtook and whose graph is within the limit is going to do; it changes these triples. The listing
-    // is made only where a result blocks.
+    // What a commit that nothing overtook and whose graph is within the limit is going to do; it changes these triples, by these
+    // changes. The listing is made only where a result blocks.
     fn judge<L: Ledger>(
         &self,
         next: DataGraph,
         changed: Vec<Ids>,
+        net: Vec<NumberedChange>,
         checked: &CheckedTransaction,
         held: bool,
         steps: &mut Steps<L>,
@@ -421,6 +423,7 @@ impl Core {
         requires committable { IsCommittable self.now.state checked.now.transaction }
         requires next { next ≡ with_changes (data_of self.now) checked.now.transaction.net }
         requires changed { AreChanged (data_of self.now) checked.now.transaction.net changed.items }
+        requires net { AreNumberedChanges (data_of self.now) checked.now.transaction.net net.items }
         requires found { MatchBool held (IsHeld self.now checked.now.transaction checked.now.pairs) (Unit {0}) }
         ensures judged { IfOk result (IsJudged self.now.limits.mode (data_of self.now) checked.now.transaction) }
         ensures steps { IfOk result (PlanSteps held self.now.state checked.now.transaction steps.old steps.new) }
@@ -437,7 +440,7 @@ impl Core {
         }
         let validated = outcome.into_graph();
         validated.recall_listing();
-        Ok(Plan::Accept(accepting(validated, changed, staged)))
+        Ok(Plan::Accept(accepting(validated, changed, net, staged)))
     }
 
     // What the commit of the transaction does to this store; a verdict may have held.
@@ -459,7 +462,7 @@ impl Core {
             let triple = overtaker.triple.clone()?;
             return Ok(Plan::Overtaken(overtaker, triple));
         }
-        let (next, changed) = self
+        let (next, changed, net) = self
             .graph
             .graph()
             .after_with_changed(transaction.net.as_slice(), &checked.hints)?;
@@ -467,7 +470,7 @@ impl Core {
         if count > self.bounds.triples {
             return Ok(Plan::TooLarge(count));
         }
-        self.judge(next, changed, checked, held, steps)
+        self.judge(next, changed, net, checked, held, steps)
     }
 
     // Records a commit that changes nothing.
@@ -542,15 +545,16 @@ impl Core {
         let Ok(names) = room_for(&mut self.commits, &self.graph) else {
             return Commit::Memory(checked);
         };
-        let (graph, changed, staged) = acceptance.into_parts();
+        let (graph, changed, staged, net) = acceptance.into_parts();
         self.commits.push_reserved(names, changed, staged);
         let number = self.commits.version();
         let (again, recorded) = reasons.into_parts();
-        self.history.push(
+        self.history.push_accepted(
             slip,
-            Event {
+            AcceptedCommit {
                 session,
-                action: Action::Commit(checked.into_transaction()),
+                transaction: checked.without_changes(self.alloc),
+                net: Sequence::from_vec(net),
                 reply: Reply::Done(number, recorded),
             },
         );

@@ -15,12 +15,12 @@ use Rattle.rdf_model.specs.Orders.{triple_exact, triple_total}
 use Rattle.rdf_model.specs.Terms.{triple_cmp}
 use Rattle.parallel_validate.specs.Named.{IsNumbered}
 use Rattle.parallel_validate.proofs.Members.{all_numbered, in_graph, numbered_at, of_graph}
-use Rattle.triple_index.specs.Changes.{after_ids}
+use Rattle.triple_index.specs.Changes.{IsNumberedChange, after_ids, change_at}
 use Rattle.triple_index.specs.IdsOrder.{ids_exact, ids_total}
 use Rattle.triple_index.specs.Keys.{ids_cmp}
 use Rattle.triple_index.specs.declared.change.NumberedChange.{NumberedChange}
 use Rattle.triple_index.specs.declared.change.NumberedChange.TheVariants.{Add, Remove}
-use Rattle.data_graph.specs.DataGraphs.{IsIndexOf, IsNumberedChange, change_at}
+use Rattle.data_graph.specs.DataGraphs.{IsIndexOf}
 
 -- the same as IsIndexOf, triple by triple
 record Fits (terms : List Term) (ids : List Ids) (g : List Triple) : Type 0 where

@@ -21,11 +21,11 @@ use Rattle.store_model.proofs.Differing.{ascending-differing, member-differing}
 use Rattle.triple_index.proofs.Matching.{keeps, kept_of}
 use Rattle.parallel_validate.specs.Named.{IsNumbered}
 use Rattle.parallel_validate.proofs.Members.{all_numbered, numbered_at}
-use Rattle.triple_index.specs.Changes.{after_ids}
+use Rattle.triple_index.specs.Changes.{IsNumberedChange, after_ids, change_at}
 use Rattle.triple_index.specs.Keys.{ids_cmp}
 use Rattle.triple_index.specs.declared.change.NumberedChange.{NumberedChange}
 use Rattle.triple_index.specs.declared.change.NumberedChange.TheVariants.{Add as Added, Remove as Removed}
-use Rattle.data_graph.specs.DataGraphs.{IsNumberedChange, KeepsIndex, change_at, triples_at}
+use Rattle.data_graph.specs.DataGraphs.{KeepsIndex, triples_at}
 use Rattle.data_graph.specs.Nets.{ids_changed, in_one, in_one_set, is_in_one, is_in_one_set}
 use Rattle.data_graph.proofs.Changing.{index_after}
 use Rattle.data_graph.proofs.Listed.{ascends, listed_after, listing, numbered_after, stands_there}

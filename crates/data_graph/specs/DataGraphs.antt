@@ -4,18 +4,15 @@ use Rattle.collections.specs.Ordered.{IsAscending}
 use Rattle.rdf_model.specs.Terms.{triple_cmp}
 use Rattle.std.specs.List.{All, Contains}
 use Rattle.rdf_model.specs.declared.change.Change.{Change}
-use Rattle.rdf_model.specs.declared.change.Change.TheVariants as changes
 use Rattle.rdf_model.specs.declared.ids.Ids.{Ids}
 use Rattle.rdf_model.specs.declared.term.Term.{Term}
 use Rattle.rdf_model.specs.declared.triple.Triple.{Triple}
 use Rattle.rdf_model.specs.Graphs.{after, with_each}
-use Rattle.rdf_model.specs.Numbers.{AreNumbered, graph_of, triple_at}
+use Rattle.rdf_model.specs.Numbers.{AreNumbered, graph_of}
 use Rattle.store_model.specs.Store.{changed_triple}
 use Rattle.path_eval.specs.Instances.{AreClassWords}
 use Rattle.term_dict.specs.Names.{Named, with_terms}
-use Rattle.parallel_validate.specs.Named.{IsNamedTriple, IsNumbered}
-use Rattle.triple_index.specs.declared.change.NumberedChange.{NumberedChange}
-use Rattle.triple_index.specs.declared.change.NumberedChange.TheVariants.{Add, Remove}
+use Rattle.parallel_validate.specs.Named.{IsNamedTriple}
 
 -- the triples of numbers, each put into its place
 abbrev pub triples_at : List Term → List Ids → List Triple
@@ -54,15 +51,6 @@ pub record IsIndexOf (terms : List Term) (ids : List Ids) (g : List Triple) : Ty
 -- the terms of the triples that are added or removed are named
 abbrev pub AreNamedChanges : List Term → List Change → Type 0
 AreNamedChanges terms net = All (λ c. IsNamedTriple terms (changed_triple c)) net
-
--- a change of numbers that have terms, and the change of triples that it stands for
-abbrev pub IsNumberedChange : List Term → NumberedChange → Type 0
-IsNumberedChange terms (Add i) = IsNumbered terms i
-IsNumberedChange terms (Remove i) = IsNumbered terms i
-
-abbrev pub change_at : List Term → NumberedChange → Change
-change_at terms (Add i) = changes.Add (triple_at terms i)
-change_at terms (Remove i) = changes.Remove (triple_at terms i)
 
 -- after changes the numbers later are the index of each graph after them whose index the numbers ids were
 abbrev pub KeepsIndex : List Term → List Ids → List Change → List Ids → Type 0

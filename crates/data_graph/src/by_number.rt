@@ -1,9 +1,9 @@
 //! The triples that a pattern asks for, by the numbers of their terms.
-ghost use Rattle.std.specs.Prelude.{◌≡◌, ◌↔◌, ◌<◌, IfOk, MatchOption, length};
+ghost use Rattle.std.specs.Prelude.{◌≡◌, ◌↔◌, IfOk, MatchOption};
 ghost use Rattle.std.specs.List.{All, Contains};
 ghost use Rattle.collections.specs.Ordered.{has_item};
 ghost use Rattle.rdf_model.specs.declared.ids.Ids.{Ids as IdsData};
-ghost use Rattle.rdf_model.specs.Numbers.{AreNumbered, graph_of, term_at, triple_at};
+ghost use Rattle.rdf_model.specs.Numbers.{AreNumbered, graph_of, triple_at};
 ghost use Rattle.rdf_model.specs.Terms.{triple_cmp};
 ghost use Rattle.store_model.specs.Finds.{found};
 ghost use Rattle.parallel_validate.specs.Named.{IsNamedTriple, IsNumbered};
@@ -11,8 +11,8 @@ ghost use Rattle.data_graph.specs.DataGraphs.{triples_at};
 ghost use Rattle.data_graph.specs.Finding.{IsAsked};
 
 use collections::sorted_once;
-use numbered_patterns::NumberedPattern;
-use rdf_model::{Ids, Names, Pattern, Term, Triple, Triples};
+use numbered_patterns::{NumberedPattern, read_triple};
+use rdf_model::{Ids, Names, Pattern, Triple, Triples};
 use std::alloc::{AllocError, Global};
 use term_dict::Dict;
 use triple_index::Index;
@@ -31,29 +31,6 @@ fn ids_asked(
         None => Ok(Vec::new(alloc)),
         Some(asked) => Ok(index.find_pattern(asked.subject, asked.predicate, asked.object)?),
     }
-}
-
-/// A clone of the term of a number.
-pub(crate) fn read_term(names: &Dict, number: u32) -> Result<Term, AllocError>
-    requires { number < length names.now.terms }
-    ensures { IfOk result (λ term. term ≡ term_at names.now.terms number) }
-{
-    match names.term(number) {
-        Some(term) => term.clone(),
-        None => unreachable!(),
-    }
-}
-
-// The triple of three numbers.
-fn read_triple(names: &Dict, ids: Ids) -> Result<Triple, AllocError>
-    requires { IsNumbered names.now.terms ids }
-    ensures { IfOk result (λ triple. triple ≡ triple_at names.now.terms ids) }
-{
-    Ok(Triple {
-        subject: read_term(names, ids.subject)?,
-        predicate: read_term(names, ids.predicate)?,
-        object: read_term(names, ids.object)?,
-    })
 }
 
 /// The triples of numbers, in their order.

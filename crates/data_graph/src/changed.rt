@@ -4,9 +4,9 @@ ghost use Rattle.std.specs.List.{AllByRecursion};
 ghost use Rattle.collections.specs.Ordered.{has_item};
 ghost use Rattle.rdf_model.specs.Graphs.{differing};
 ghost use Rattle.rdf_model.specs.Numbers.{AreNumbered};
-ghost use Rattle.triple_index.specs.Changes.{after_ids};
+ghost use Rattle.triple_index.specs.Changes.{IsNumberedChange, after_ids};
 ghost use Rattle.triple_index.specs.Keys.{ids_cmp};
-ghost use Rattle.data_graph.specs.DataGraphs.{IsNumberedChange, triples_at};
+ghost use Rattle.data_graph.specs.DataGraphs.{triples_at};
 ghost use Rattle.data_graph.specs.Nets.{ids_changed, in_one_set, is_in_one_set};
 
 use rdf_model::{Ids, Triples};

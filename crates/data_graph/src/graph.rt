@@ -1,5 +1,5 @@
 //! A data graph with its shapes graph and numbers for the terms of both.
-ghost use Rattle.std.specs.Prelude.{◌≡◌, ◌+◌, ◌<◌, ◌≤◌, ◌^◌, [], IfErr, IfOk, OnErr, OnOk, length};
+ghost use Rattle.std.specs.Prelude.{◌≡◌, ◌+◌, ◌<◌, ◌≤◌, ◌^◌, [], IfErr, IfOk, OnErr, OnOk, length, map};
 ghost use Rattle.rdf_model.specs.Graphs.{after, differing, with_each};
 ghost use Rattle.rdf_model.specs.Numbers.{AreNumbered, graph_of};
 ghost use Rattle.rdf_model.specs.Terms.{triple_cmp};
@@ -11,6 +11,7 @@ ghost use Rattle.store_model.specs.Store.{AreNamed, looked_at};
 ghost use Rattle.parallel_validate.specs.Verdicts.{IsEvaluated};
 ghost use Rattle.term_dict.specs.Faults.{IsCause};
 ghost use Rattle.term_dict.specs.Names.{AreNumbersOf, first_terms, with_terms};
+ghost use Rattle.triple_index.specs.Changes.{IsNumberedChange, change_at};
 ghost use Rattle.parallel_validate.specs.Counting.{GrowsByCount, IsTargetPair};
 ghost use Rattle.parallel_validate.specs.Named.{AreNamedTriples};
 ghost use Rattle.change_laws.specs.Pairs.{IsCheckFootprint};
@@ -38,7 +39,7 @@ use std::alloc::{AllocError, Global};
 use std::marker::Model;
 use std::sync::ledger::Ledger;
 use term_dict::{Dict, NameFault};
-use triple_index::Index;
+use triple_index::{Index, NumberedChange};
 
 /// A data graph with the shapes graph by which it is validated, and numbers for the terms of both. Contracts see its triples,
 /// those of its shapes graph, the terms by their numbers, and how many may be named beside the two first. It keeps its triples
@@ -173,16 +174,17 @@ impl DataGraph {
         self.with_numbers(numbers)
     }
 
-    /// The graph after the changes, as `after` makes it, and the numbers of the triples that are in exactly one of this graph and
-    /// that one, in any order, and some maybe more than once.
+    /// The graph after the changes, as `after` makes it; the numbers of the triples that are in exactly one of this graph and that
+    /// one, in any order, and some maybe more than once; and the changes by the numbers of their terms, in their order.
     pub fn after_with_changed(
         &self,
         net: &[Change],
         hints: &NumberHints,
-    ) -> Result<(DataGraph, Vec<Ids>), AllocError>
+    ) -> Result<(DataGraph, Vec<Ids>, Vec<NumberedChange>), AllocError>
         requires { AreNamedChanges self.now.terms net.now }
         ensures next { IfOk result (λ made. made.0 ≡ with_changes self.now net.now) }
         ensures changed { IfOk result (λ made. (with_each [] (graph_of self.now.terms made.1.items) ≡ differing self.now.triples (after self.now.triples net.now)) × AreNumbered self.now.terms made.1.items) }
+        ensures net { IfOk result (λ made. (map (change_at self.now.terms) made.2.items ≡ net.now) × AllByRecursion (IsNumberedChange self.now.terms) made.2.items) }
     {
         self.names.recall_numbering();
         self.numbers.recall_ascending();
@@ -190,7 +192,7 @@ impl DataGraph {
         let numbers = set_after(self.alloc, &self.numbers, &changes)?;
         let changed = ids_differing(self.alloc, &self.names, &self.numbers, &numbers, &changes)?;
         let next = self.with_numbers(numbers)?;
-        Ok((next, changed))
+        Ok((next, changed, changes))
     }
 
     /// The triples of these numbers, ascending, each once.

@@ -3,7 +3,7 @@ ghost use Rattle.std.specs.Prelude.{◌≡◌, IfOk, length, map};
 ghost use Rattle.path_eval.specs.Naming.{IsBoundLook, look_of};
 ghost use Rattle.parallel_validate.specs.Verdicts.{AreBoundLooks};
 
-use crate::by_number::read_term;
+use numbered_patterns::read_term;
 use rdf_model::{Look, Term};
 use std::alloc::{AllocError, Global};
 use term_dict::Dict;

@@ -7,7 +7,8 @@ ghost use Rattle.parallel_validate.specs.Counting.{GrowsByCount, IsTargetPair};
 ghost use Rattle.bound_shapes.specs.Bound.{IsBoundTo};
 ghost use Rattle.kept_rows.specs.Laws.{KeepsResults};
 ghost use Rattle.parallel_validate.specs.Named.{IsNamedTriple};
-ghost use Rattle.data_graph.specs.DataGraphs.{AreNamedChanges, IsNumberedChange, KeepsIndex, change_at};
+ghost use Rattle.triple_index.specs.Changes.{IsNumberedChange, change_at};
+ghost use Rattle.data_graph.specs.DataGraphs.{AreNamedChanges, KeepsIndex};
 
 use crate::asked::triple_of;
 use crate::at_once::set_after;

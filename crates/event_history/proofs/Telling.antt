@@ -3,14 +3,23 @@ use Rattle.std.proofs.Common.{◌≡◌, ◌∙◌, ℕ, ◌<◌, List, [], ◌�
 use Rattle.std.proofs.Math.ListN.{get_or-append}
 use Rattle.std.proofs.lemmas.List.{map-append, reverse-append, reverse-reverse}
 use Rattle.std.specs.List.{AllByRecursion}
+use Rattle.rdf_model.specs.declared.ids.Ids.{Ids}
+use Rattle.rdf_model.specs.declared.change.Change.{Change}
+use Rattle.rdf_model.specs.declared.change.Change.TheVariants as changes
+use Rattle.rdf_model.specs.declared.triple.Triple.{Triple}
 use Rattle.rdf_model.specs.declared.term.Term.{Term}
 use Rattle.rdf_model.specs.declared.term.Term.TheVariants as terms
+use Rattle.rdf_model.specs.Numbers.{triple_at}
 use Rattle.store_model.specs.declared.event.Event.{Event}
 use Rattle.store_model.specs.declared.event.Reply.{Reply}
+use Rattle.triple_index.specs.Changes.{IsNumbered, IsNumberedChange, change_at}
+use Rattle.triple_index.specs.declared.change.NumberedChange.{NumberedChange}
+use Rattle.triple_index.specs.declared.change.NumberedChange.TheVariants.{Add, Remove}
 use Rattle.event_history.specs.declared.kept.KeptEvent.{KeptEvent}
-use Rattle.event_history.specs.declared.kept.KeptEvent.TheVariants.{Whole, Block}
-use Rattle.event_history.specs.Kept.{HasTerms, events_with, reply_of, session_of, terms_in, told}
-use Rattle.event_history.specs.Named.{IsBeginning, named_block, terms_at}
+use Rattle.event_history.specs.declared.kept.KeptEvent.TheVariants.{Whole, Block, Accepted}
+use Rattle.event_history.specs.declared.kept.Meaning.{Meaning}
+use Rattle.event_history.specs.Kept.{HasTerms, events_with, meaning, reply_of, session_of, told}
+use Rattle.event_history.specs.Named.{IsBeginning, accepted_commit, named_block, net_at, terms_at}
 use Rattle.event_history.specs.Replies.{newest_replied, same_reply}
 use Rattle.event_history.proofs.Comparing.{newest_of}
 
@@ -22,9 +31,28 @@ terms_more names more (n ∷ ns) h =
     let rest = terms_more names more ns h.1 in
     λ i. first i ∷ rest i
 
+triple_more : (names more : List Term) (i : Ids) → IsNumbered names i → triple_at (names ++ more) i ≡ triple_at names i
+triple_more names more i h =
+    let s = get_or-append names more (terms.Blank 0 0) i.subject h.0 in
+    let p = get_or-append names more (terms.Blank 0 0) i.predicate h.1.0 in
+    let o = get_or-append names more (terms.Blank 0 0) i.object h.1.1 in
+    λ k. record { subject = s k; predicate = p k; object = o k }
+
+change_more : (names more : List Term) (c : NumberedChange) → IsNumberedChange names c → change_at (names ++ more) c ≡ change_at names c
+change_more names more (Add i) h = ap (λ (t : Triple). changes.Add t) (triple_more names more i h)
+change_more names more (Remove i) h = ap (λ (t : Triple). changes.Remove t) (triple_more names more i h)
+
+net_more : (names more : List Term) (cs : List NumberedChange) → AllByRecursion (IsNumberedChange names) cs → net_at (names ++ more) cs ≡ net_at names cs
+net_more names more [] h = refl
+net_more names more (c ∷ cs) h =
+    let first = change_more names more c h.0 in
+    let rest = net_more names more cs h.1 in
+    λ i. first i ∷ rest i
+
 told_more : (names more : List Term) (k : KeptEvent) → HasTerms names k → told (names ++ more) k ≡ told names k
 told_more names more (Whole e) h = refl
 told_more names more (Block b) h = ap (named_block b.session b.kind) (terms_more names more b.numbers h)
+told_more names more (Accepted c) h = ap (accepted_commit c) (net_more names more c.net h)
 
 all_told_more : (names more : List Term) (ks : List KeptEvent) → AllByRecursion (HasTerms names) ks → map (told (names ++ more)) ks ≡ map (told names) ks
 all_told_more names more [] h = refl
@@ -37,9 +65,23 @@ have_more : (names more : List Term) (ns : List ℕ) → AllByRecursion (λ n. n
 have_more names more [] h = tt
 have_more names more (n ∷ ns) h = ((let l = length-append names more in let w = h.0 in omega (arith, l, w)), have_more names more ns h.1)
 
+number_more : (names more : List Term) (i : Ids) → IsNumbered names i → IsNumbered (names ++ more) i
+number_more names more i h =
+    let l = length-append names more in
+    let s = h.0 in
+    let p = h.1.0 in
+    let o = h.1.1 in
+    (omega (arith, l, s), omega (arith, l, p), omega (arith, l, o))
+
+changes_have_more : (names more : List Term) (cs : List NumberedChange) → AllByRecursion (IsNumberedChange names) cs → AllByRecursion (IsNumberedChange (names ++ more)) cs
+changes_have_more names more [] h = tt
+changes_have_more names more (Add i ∷ cs) h = (number_more names more i h.0, changes_have_more names more cs h.1)
+changes_have_more names more (Remove i ∷ cs) h = (number_more names more i h.0, changes_have_more names more cs h.1)
+
 has_more : (names more : List Term) (k : KeptEvent) → HasTerms names k → HasTerms (names ++ more) k
 has_more names more (Whole e) h = tt
 has_more names more (Block b) h = have_more names more b.numbers h
+has_more names more (Accepted c) h = changes_have_more names more c.net h
 
 all_have_more : (names more : List Term) (ks : List KeptEvent) → AllByRecursion (HasTerms names) ks → AllByRecursion (HasTerms (names ++ more)) ks
 all_have_more names more [] h = tt
@@ -69,6 +111,7 @@ told_later names later ks js k b e h =
 reply_told : (names : List Term) (k : KeptEvent) → (told names k).reply ≡ reply_of k
 reply_told names (Whole e) = refl
 reply_told names (Block b) = refl
+reply_told names (Accepted c) = refl
 
 pub newest_told : (names : List Term) (ks : List KeptEvent) (k : KeptEvent) (r : Reply) → newest_replied (map (told names) (ks ++ k ∷ [])) r ≡ same_reply (reply_of k) r
 newest_told names ks k r =
@@ -79,12 +122,14 @@ pub sessions_told : (names : List Term) (ks : List KeptEvent) → map session_of
 sessions_told names [] = refl
 sessions_told names (Whole e ∷ ks) = ap (λ (ns : List ℕ). e.session ∷ ns) (sessions_told names ks)
 sessions_told names (Block b ∷ ks) = ap (λ (ns : List ℕ). b.session ∷ ns) (sessions_told names ks)
+sessions_told names (Accepted c ∷ ks) = ap (λ (ns : List ℕ). c.session ∷ ns) (sessions_told names ks)
 
--- each event with the terms of its numbers
-with_own : (names : List Term) (ks : List KeptEvent) → events_with ks (map (terms_in names) ks) ≡ map (told names) ks
+-- each event with what its numbers stand for
+with_own : (names : List Term) (ks : List KeptEvent) → events_with ks (map (meaning names) ks) ≡ map (told names) ks
 with_own names [] = refl
 with_own names (Whole e ∷ ks) = ap (λ (es : List Event). e ∷ es) (with_own names ks)
 with_own names (Block b ∷ ks) = ap (λ (es : List Event). named_block b.session b.kind (terms_at names b.numbers) ∷ es) (with_own names ks)
+with_own names (Accepted c ∷ ks) = ap (λ (es : List Event). accepted_commit c (net_at names c.net) ∷ es) (with_own names ks)
 
 module _ {X Y : Type 0} (f : X → Y) where
   pub map_reverse : (xs : List X) → map f (reverse xs) ≡ reverse (map f xs)
@@ -94,12 +139,12 @@ module _ {X Y : Type 0} (f : X → Y) where
       ∙ sym (reverse-append (f x ∷ []) (map f xs))
 
 -- the events, told the newest first
-pub all_told : (names : List Term) (ks : List KeptEvent) (blocks : List (List Term)) (es : List Event) → blocks ≡ map (terms_in names) ks → es ≡ events_with (reverse ks) (reverse blocks) → reverse es ≡ map (told names) ks
-all_told names ks blocks es b e =
-    ap reverse (e ∙ ap (λ (bs : List (List Term)). events_with (reverse ks) (reverse bs)) b ∙ ap (events_with (reverse ks)) (sym (map_reverse (terms_in names) ks)) ∙ with_own names (reverse ks) ∙ map_reverse (told names) ks)
+pub all_told : (names : List Term) (ks : List KeptEvent) (read : List Meaning) (es : List Event) → read ≡ map (meaning names) ks → es ≡ events_with (reverse ks) (reverse read) → reverse es ≡ map (told names) ks
+all_told names ks read es b e =
+    ap reverse (e ∙ ap (λ (ms : List Meaning). events_with (reverse ks) (reverse ms)) b ∙ ap (events_with (reverse ks)) (sym (map_reverse (meaning names) ks)) ∙ with_own names (reverse ks) ∙ map_reverse (told names) ks)
     ∙ reverse-reverse (map (told names) ks)
 
--- the terms of one event more
+-- what the numbers of one event more stand for
 all_front : (names : List Term) (ks : List KeptEvent) (k : KeptEvent) → AllByRecursion (HasTerms names) (ks ++ k ∷ []) → AllByRecursion (HasTerms names) ks
 all_front names [] k h = tt
 all_front names (l ∷ ks) k h = (h.0, all_front names ks k h.1)
@@ -107,8 +152,8 @@ all_front names (l ∷ ks) k h = (h.0, all_front names ks k h.1)
 pub fewer_have : (names : List Term) (ks js : List KeptEvent) (k : KeptEvent) → js ≡ ks ++ k ∷ [] → AllByRecursion (HasTerms names) js → AllByRecursion (HasTerms names) ks
 fewer_have names ks js k e h = all_front names ks k (subst (λ (ls : List KeptEvent). AllByRecursion (HasTerms names) ls) e h)
 
-pub more_terms : (names : List Term) (ks js : List KeptEvent) (k : KeptEvent) (bs cs all : List (List Term)) → js ≡ ks ++ k ∷ [] → cs ≡ bs ++ terms_in names k ∷ [] → bs ++ reverse (map (terms_in names) js) ≡ all → cs ++ reverse (map (terms_in names) ks) ≡ all
-more_terms names ks js k bs cs all e c so_far =
-    let f = terms_in names in
+pub more_meanings : (names : List Term) (ks js : List KeptEvent) (k : KeptEvent) (bs cs all : List Meaning) → js ≡ ks ++ k ∷ [] → cs ≡ bs ++ meaning names k ∷ [] → bs ++ reverse (map (meaning names) js) ≡ all → cs ++ reverse (map (meaning names) ks) ≡ all
+more_meanings names ks js k bs cs all e c so_far =
+    let f = meaning names in
     let last : reverse (map f js) ≡ f k ∷ reverse (map f ks) = ap (λ (ls : List KeptEvent). reverse (map f ls)) e ∙ ap reverse (map-append f ks (k ∷ [])) ∙ reverse-append (map f ks) (f k ∷ []) in
-    ap (λ (ds : List (List Term)). ds ++ reverse (map f ks)) c ∙ append_assoc bs (f k ∷ []) (reverse (map f ks)) ∙ ap (λ (ds : List (List Term)). bs ++ ds) (sym last) ∙ so_far
+    ap (λ (ds : List Meaning). ds ++ reverse (map f ks)) c ∙ append_assoc bs (f k ∷ []) (reverse (map f ks)) ∙ ap (λ (ds : List Meaning). bs ++ ds) (sym last) ∙ so_far

@@ -1,10 +1,11 @@
 //! The history of a store.
 ghost use Rattle.std.specs.Prelude.{◌≡◌, ◌<◌, [], ◌∷◌, ◌++◌, length, map, IfOk, MatchResult};
 ghost use Rattle.std.specs.List.{AllByRecursion};
-ghost use Rattle.event_history.specs.Named.{IsBeginning, named_block, terms_at};
+ghost use Rattle.triple_index.specs.Changes.{IsNumberedChange};
+ghost use Rattle.event_history.specs.Named.{IsBeginning, accepted_commit, named_block, net_at, terms_at};
 ghost use Rattle.event_history.specs.Replies.{newest_replied};
 
-use crate::kept::{KeptEvent, NamedBlock};
+use crate::kept::{AcceptedCommit, KeptEvent, NamedBlock};
 use crate::row::{KeptEvents, Link, events_back, room_for, sessions_back};
 use crate::slip::Slip;
 use std::alloc::{AllocError, Global};
@@ -12,8 +13,8 @@ use std::marker::Model;
 use store_model::{Event, Reply};
 use term_dict::Dict;
 
-/// A history of events, with the names by whose numbers it keeps the terms of named blocks. It takes one more event without memory,
-/// once there is room for it. Contracts see the events, the oldest first, and the names.
+/// A history of events, with the names by whose numbers it keeps the terms of named blocks and of accepted commits. It takes one
+/// more event without memory, once there is room for it. Contracts see the events, the oldest first, and the names.
 pub struct History {
     names: Dict,
     kept: KeptEvents,
@@ -68,6 +69,14 @@ impl History {
         self.kept.push(slip.room, KeptEvent::Block(block));
     }
 
+    /// Adds the event of a commit that was accepted, in the room that was made for it.
+    pub fn push_accepted(&mut self, slip: Slip, commit: AcceptedCommit)
+        requires { AllByRecursion (IsNumberedChange self.old.names) commit.net }
+        ensures { self.new ≡ record { events = self.old.events ++ accepted_commit commit (net_at self.old.names commit.net) ∷ []; names = self.old.names } }
+    {
+        self.kept.push(slip.room, KeptEvent::Accepted(commit));
+    }
+
     /// Whether the newest event has this reply.
     pub fn newest_has(&self, reply: &Reply) -> bool
         ensures { result ≡ newest_replied self.now.events reply.now }
@@ -91,11 +100,11 @@ impl History {
     pub fn into_events(self, alloc: Global) -> Result<Vec<Event>, (History, AllocError)>
         ensures { MatchResult result (λ events. events.items ≡ self.events) (λ fault. fault.0 ≡ self) }
     {
-        let Ok((blocks, room)) = room_for(alloc, &self.names, &self.kept) else {
+        let Ok((read, room)) = room_for(alloc, &self.names, &self.kept) else {
             return Err((self, AllocError));
         };
         let History { names: _, kept } = self;
-        let mut events = events_back(kept, blocks, room);
+        let mut events = events_back(kept, read, room);
         events.reverse();
         Ok(events)
     }

@@ -1,7 +1,9 @@
-//! The history of a store: its events, the oldest first, with those of named blocks by the numbers of their terms.
+//! The history of a store: its events, the oldest first, with those of named blocks and of accepted commits by the numbers of their
+//! terms.
 //!
-//! A `History` takes each event without memory, once there is a `Slip` for it. A block that was named is kept by the numbers of
-//! its terms in a share of the store's names, and its terms are told when the events are asked for. Contracts see the events
+//! A `History` takes each event without memory, once there is a `Slip` for it. A block that was named and the
+//! changes of a commit that was accepted are kept by the numbers of their terms in a share of the store's names, and the terms are told
+//! when the events are asked for. Contracts see the events
 //! whole, and the names.
 //!
 //! Storey: store.
@@ -14,5 +16,5 @@ mod row;
 mod slip;
 
 pub use history::History;
-pub use kept::NamedBlock;
+pub use kept::{AcceptedCommit, NamedBlock};
 pub use slip::Slip;

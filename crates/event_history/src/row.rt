@@ -2,11 +2,10 @@
 ghost use Rattle.std.specs.Prelude.{◌≡◌, [], ◌∷◌, ◌++◌, ◌<◌, length, map, reverse, IfOk, IfSome, MatchOption};
 ghost use Rattle.std.specs.List.{AllByRecursion};
 ghost use Rattle.std.specs.Vec.{vec_capacity};
-ghost use Rattle.event_history.specs.Kept.{HasTerms, events_with, session_of, terms_in};
+ghost use Rattle.event_history.specs.Kept.{HasTerms, events_with, meaning, session_of};
 
-use crate::kept::KeptEvent;
-use collections::{Sequence, let_go};
-use rdf_model::Term;
+use crate::kept::{KeptEvent, Meaning};
+use collections::let_go;
 use std::alloc::{AllocError, Global};
 use std::boxed::Box;
 use std::marker::Model;
@@ -110,58 +109,54 @@ pub(crate) fn sessions_back(alloc: Global, kept: &KeptEvents) -> Result<Vec<u32>
     Ok(sessions)
 }
 
-/// The terms of each event's numbers, the newest first.
-pub(crate) fn terms_back(
+/// What each event's numbers stand for, the newest first.
+pub(crate) fn meanings_back(
     alloc: Global,
     names: &Dict,
     kept: &KeptEvents,
-) -> Result<Vec<Sequence<Term>>, AllocError>
+) -> Result<Vec<Meaning>, AllocError>
     requires { AllByRecursion (HasTerms names.now.terms) kept.now }
-    ensures { IfOk result (λ v. v.items ≡ reverse (map (terms_in names.now.terms) kept.now)) }
+    ensures { IfOk result (λ v. v.items ≡ reverse (map (meaning names.now.terms) kept.now)) }
 {
-    let mut blocks = Vec::new(alloc);
+    let mut read = Vec::new(alloc);
     let mut at = kept;
     while let Link::After(event, older) = &at.newest {
-        blocks.push(event.terms(alloc, names)?)?;
+        read.push(event.meaning(alloc, names)?)?;
         at = older;
     }
-    Ok(blocks)
+    Ok(read)
 }
 
-/// The terms of each event's numbers, in order, and room for all events.
+/// What each event's numbers stand for, in order, and room for all events.
 pub(crate) fn room_for(
     alloc: Global,
     names: &Dict,
     kept: &KeptEvents,
-) -> Result<(Vec<Sequence<Term>>, Vec<Event>), AllocError>
+) -> Result<(Vec<Meaning>, Vec<Event>), AllocError>
     requires { AllByRecursion (HasTerms names.now.terms) kept.now }
-    ensures terms { IfOk result (λ made. made.0.items ≡ map (terms_in names.now.terms) kept.now) }
+    ensures read { IfOk result (λ made. made.0.items ≡ map (meaning names.now.terms) kept.now) }
     ensures empty { IfOk result (λ made. made.1.items ≡ []) }
     ensures room { IfOk result (λ made. vec_capacity made.1 ≡ length kept.now) }
 {
-    let mut blocks = terms_back(alloc, names, kept)?;
-    blocks.reverse();
-    let room = Vec::with_capacity(alloc, blocks.len())?;
-    Ok((blocks, room))
+    let mut read = meanings_back(alloc, names, kept)?;
+    read.reverse();
+    let room = Vec::with_capacity(alloc, read.len())?;
+    Ok((read, room))
 }
 
-/// The events, the newest first, of terms in order, in the room that was made for them. It takes no memory.
-pub(crate) fn events_back(
-    kept: KeptEvents,
-    blocks: Vec<Sequence<Term>>,
-    room: Vec<Event>,
-) -> Vec<Event>
-    requires blocks { length blocks.items ≡ length kept }
+/// The events, the newest first, of what their numbers stand for in order, in the room that was made for them. It takes no memory.
+pub(crate) fn events_back(kept: KeptEvents, read: Vec<Meaning>, room: Vec<Event>) -> Vec<Event>
+    requires read { length read.items ≡ length kept }
     requires empty { room.items ≡ [] }
     requires room { vec_capacity room ≡ length kept }
-    ensures { result.items ≡ events_with (reverse kept) (reverse blocks.items) }
+    ensures { result.items ≡ events_with (reverse kept) (reverse read.items) }
 {
-    let mut blocks = blocks;
+    let mut read = read;
     let mut events = room;
     let mut rest = kept.split_newest();
     while let Some((event, older)) = rest {
-        match blocks.pop() {
-            Some(terms) => events.push_reserved(event.with_terms(terms)),
+        match read.pop() {
+            Some(meaning) => events.push_reserved(event.with_meaning(meaning)),
             None => unreachable!(),
         }
         rest = older.split_newest();

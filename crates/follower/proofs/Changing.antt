@@ -13,12 +13,12 @@ use Rattle.rdf_model.specs.Graphs.{after}
 use Rattle.rdf_model.specs.Numbers.{AreNumbered, IsNumbering, graph_of, triple_at}
 use Rattle.rdf_model.specs.Orders.{triple_exact, triple_total}
 use Rattle.rdf_model.specs.Terms.{triple_cmp}
-use Rattle.triple_index.specs.Changes.{after_ids}
+use Rattle.triple_index.specs.Changes.{IsNumbered, IsNumberedChange, after_ids, change_at}
 use Rattle.triple_index.specs.IdsOrder.{ids_exact, ids_total}
 use Rattle.triple_index.specs.Keys.{ids_cmp}
 use Rattle.triple_index.specs.declared.change.NumberedChange.{NumberedChange}
 use Rattle.triple_index.specs.declared.change.NumberedChange.TheVariants.{Add, Remove}
-use Rattle.follower.specs.Numbered.{IsIndexOf, IsNumbered, IsNumberedChange, change_at}
+use Rattle.follower.specs.Numbered.{IsIndexOf}
 use Rattle.follower.proofs.Members.{all_numbered, in_graph, numbered_at, of_graph, same_ids}
 
 -- the same as IsIndexOf, triple by triple

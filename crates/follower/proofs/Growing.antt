@@ -12,7 +12,8 @@ use Rattle.rdf_model.specs.declared.triple.Triple.{Triple}
 use Rattle.rdf_model.specs.Numbers.{AreNumbered, graph_of, triple_at}
 use Rattle.rdf_model.specs.Terms.{term_cmp}
 use Rattle.term_dict.specs.Names.{with_terms}
-use Rattle.follower.specs.Numbered.{AreNamedTriples, IsIndexOf, IsNamedRecord, IsNumbered}
+use Rattle.triple_index.specs.Changes.{IsNumbered}
+use Rattle.follower.specs.Numbered.{AreNamedTriples, IsIndexOf, IsNamedRecord}
 use Rattle.record_text.specs.declared.record.Record.{Record}
 
 same_triple : (terms : List Term) (u : Term) (i : Ids) → IsNumbered terms i → triple_at (terms ++ u ∷ []) i ≡ triple_at terms i

@@ -6,7 +6,7 @@ use Rattle.rdf_model.specs.declared.ids.Ids.{Ids}
 use Rattle.rdf_model.specs.declared.term.Term.{Term}
 use Rattle.rdf_model.specs.declared.triple.Triple.{Triple}
 use Rattle.rdf_model.specs.Numbers.{AreNumbered, IsNumbering, graph_of, triple_at}
-use Rattle.follower.specs.Numbered.{IsNumbered}
+use Rattle.triple_index.specs.Changes.{IsNumbered}
 
 -- the triples of numbers that stand in a list are those of its graph
 pub in_graph : (terms : List Term) (ids : List Ids) (i : Ids) → Contains ids i → Contains (graph_of terms ids) (triple_at terms i)

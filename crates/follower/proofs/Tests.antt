@@ -15,7 +15,7 @@ use Rattle.rdf_model.specs.Orders.{triple_exact, triple_total}
 use Rattle.rdf_model.specs.Terms.{triple_cmp}
 use Rattle.collections.specs.Ordered.{has_item}
 use Rattle.collections.proofs.Members.{has_cases, has_equal, has_tail}
-use Rattle.follower.specs.Numbered.{IsNumbered}
+use Rattle.triple_index.specs.Changes.{IsNumbered}
 use Rattle.follower.proofs.Members.{in_graph, numbered_at, of_graph, same_ids}
 
 tied : (o : Ordering) → is_eq o ≡ true → o ≡ Equal

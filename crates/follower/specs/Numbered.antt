@@ -1,17 +1,16 @@
 -- Records by the numbers of their terms.
-use Rattle.std.specs.Prelude.{◌≡◌, ◌↔◌, ◌<◌, List, length, map}
+use Rattle.std.specs.Prelude.{◌≡◌, ◌↔◌, List, map}
 use Rattle.std.specs.List.{All, AllByRecursion, Contains}
 use Rattle.collections.specs.Ordered.{IsAscending}
 use Rattle.rdf_model.specs.declared.change.Change.{Change}
-use Rattle.rdf_model.specs.declared.change.Change.TheVariants as changes
 use Rattle.rdf_model.specs.declared.ids.Ids.{Ids}
 use Rattle.rdf_model.specs.declared.term.Term.{Term}
 use Rattle.rdf_model.specs.declared.triple.Triple.{Triple}
-use Rattle.rdf_model.specs.Numbers.{AreNumbered, graph_of, triple_at}
+use Rattle.rdf_model.specs.Numbers.{AreNumbered, graph_of}
 use Rattle.rdf_model.specs.Terms.{triple_cmp}
 use Rattle.record_text.specs.declared.record.Record.{Record}
 use Rattle.triple_index.specs.declared.change.NumberedChange.{NumberedChange}
-use Rattle.triple_index.specs.declared.change.NumberedChange.TheVariants.{Add, Remove}
+use Rattle.triple_index.specs.Changes.{IsNumberedChange, change_at}
 use Rattle.follower.specs.Records.{data_after}
 
 -- each number of the triples has a term, and read as terms they have just the members of the graph
@@ -28,19 +27,6 @@ AreNamedTriples terms ts = All (IsNamedTriple terms) ts
 
 abbrev pub IsNamedRecord : List Term → Record → Type 0
 IsNamedRecord terms r = AreNamedTriples terms r.removed × AreNamedTriples terms r.added
-
--- each of the three numbers has a term; not seen by any caller
-abbrev pub IsNumbered : List Term → Ids → Type 0
-IsNumbered terms i = (i.subject < length terms) × (i.predicate < length terms) × (i.object < length terms)
-
--- a change of numbers that have terms, and the change of triples that it stands for; not seen by any caller
-abbrev pub IsNumberedChange : List Term → NumberedChange → Type 0
-IsNumberedChange terms (Add i) = IsNumbered terms i
-IsNumberedChange terms (Remove i) = IsNumbered terms i
-
-abbrev pub change_at : List Term → NumberedChange → Change
-change_at terms (Add i) = changes.Add (triple_at terms i)
-change_at terms (Remove i) = changes.Remove (triple_at terms i)
 
 -- the changes of numbers stand for these changes; not seen by any caller
 abbrev pub StandFor : List Term → List NumberedChange → List Change → Type 0

@@ -3,7 +3,8 @@ ghost use Rattle.std.specs.Prelude.{◌≡◌, ◌<◌, IfOk, length, map};
 ghost use Rattle.std.specs.List.{Contains};
 ghost use Rattle.rdf_model.specs.declared.change.Change.TheVariants.{Add, Remove};
 ghost use Rattle.rdf_model.specs.Numbers.{AreNumbered, term_at, triple_at};
-ghost use Rattle.follower.specs.Numbered.{AreNamedTriples, IsNamedRecord, IsNamedTriple, IsNumbered, KeepsIndex, StandFor};
+ghost use Rattle.triple_index.specs.Changes.{IsNumbered};
+ghost use Rattle.follower.specs.Numbered.{AreNamedTriples, IsNamedRecord, IsNamedTriple, KeepsIndex, StandFor};
 ghost use Rattle.follower.specs.Records.{changes_of};
 
 use rdf_model::{Ids, Names, Term, Triple};

@@ -9,7 +9,8 @@ use Rattle.rdf_model.specs.Matching.{is_found, matches}
 use Rattle.rdf_model.specs.Numbers.{triple_at}
 use Rattle.triple_index.specs.Patterns.{matches_ids}
 use Rattle.numbered_patterns.specs.declared.pattern.NumberedPattern.{NumberedPattern}
-use Rattle.numbered_patterns.specs.Asked.{AllAskAlike, HaveTerms, NoneIsAsked}
+use Rattle.triple_index.specs.Changes.{IsNumbered}
+use Rattle.numbered_patterns.specs.Asked.{AllAskAlike, NoneIsAsked}
 use Rattle.snapshot_store.specs.Asking.{AskAlike, AsksBesides, is_asked}
 
 pub or_false : (a : Bool) → (a || false) ≡ a

@@ -19,7 +19,7 @@ use Rattle.rdf_model.specs.declared.term.Term.{Term}
 use Rattle.rdf_model.specs.Matching.{is_read, is_read_by, same_term}
 use Rattle.rdf_model.specs.Numbers.{IsNumbering, term_at, triple_at}
 use Rattle.numbered_patterns.proofs.Asking.{none_alike, one_alike}
-use Rattle.numbered_patterns.specs.Asked.{HaveTerms}
+use Rattle.triple_index.specs.Changes.{IsNumbered}
 use Rattle.snapshot_store.specs.declared.looks.LookNumbers.{LookNumbers}
 use Rattle.snapshot_store.specs.Asking.{AddsNumber, AddsPair, AreSorted, IsNumberAlike, IsPairAlike, IsUnnamed, LookAlike, LookSame, LooksBesides, NoneIsPaired, is_looked_at}
 use Rattle.snapshot_store.proofs.Asking.{any_push, or_false}

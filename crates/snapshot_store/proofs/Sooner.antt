@@ -21,7 +21,7 @@ use Rattle.rdf_model.specs.Terms.{triple_cmp}
 use Rattle.store_model.specs.Store.{first_matching, first_read}
 use Rattle.store_model.proofs.SetMembers.{ascending-filter}
 use Rattle.triple_index.proofs.Matching.{keeps, kept_of}
-use Rattle.numbered_patterns.specs.Asked.{HaveTerms}
+use Rattle.triple_index.specs.Changes.{IsNumbered}
 use Rattle.snapshot_store.specs.First.{IsFirst, first_at, first_in, sooner}
 
 -- the first of a set with one triple more
@@ -37,12 +37,12 @@ each_push : (g ts : List Triple) (t : Triple) → with_each g (ts ++ t ∷ []) �
 each_push g [] t = refl
 each_push g (u ∷ us) t = each_push (with_item triple_cmp u g) us t
 
-pub numbered_at : (terms : List Term) (ids : List Ids) (k : ℕ) (d : Ids) → AreNumbered terms ids → k < length ids → HaveTerms terms (get_or ids k d)
+pub numbered_at : (terms : List Term) (ids : List Ids) (k : ℕ) (d : Ids) → AreNumbered terms ids → k < length ids → IsNumbered terms (get_or ids k d)
 numbered_at terms [] k d a lt = absurd (omega arith)
 numbered_at terms (i ∷ ids) zero d a lt = a.0
 numbered_at terms (i ∷ ids) (suc k) d a lt = numbered_at terms ids k d a.1 (omega arith)
 
-pub first_more : (terms : List Term) (ids more : List Ids) (i : Ids) (first : Option Ids) (next : Ids) → more ≡ ids ++ i ∷ [] → IsFirst terms ids first → HaveTerms terms next → Some (triple_at terms next) ≡ sooner (triple_at terms i) (first_at terms first) → IsFirst terms more (Some next)
+pub first_more : (terms : List Term) (ids more : List Ids) (i : Ids) (first : Option Ids) (next : Ids) → more ≡ ids ++ i ∷ [] → IsFirst terms ids first → IsNumbered terms next → Some (triple_at terms next) ≡ sooner (triple_at terms i) (first_at terms first) → IsFirst terms more (Some next)
 first_more terms ids more i first next e f n s =
     let g = with_each [] (graph_of terms ids) in
     let whole : with_each [] (graph_of terms more) ≡ with_item triple_cmp (triple_at terms i) g =
@@ -92,7 +92,7 @@ module _ (q : Triple → Bool) where
         | false ↦ λ f. ap (λ (h : List Triple). with_each h (filter q ts)) (with_other g a t f)
       ] refl)
 
-  module _ (terms : List Term) (p : Ids → Bool) (same : (i : Ids) → HaveTerms terms i → p i ≡ q (triple_at terms i)) where
+  module _ (terms : List Term) (p : Ids → Bool) (same : (i : Ids) → IsNumbered terms i → p i ≡ q (triple_at terms i)) where
     filter_graph : (ids : List Ids) → AreNumbered terms ids → graph_of terms (filter p ids) ≡ filter q (graph_of terms ids)
     filter_graph [] a = refl
     filter_graph (i ∷ ids) a =

@@ -11,7 +11,7 @@ use Rattle.rdf_model.specs.Graphs.{with_each}
 use Rattle.rdf_model.specs.Numbers.{AreNumbered, graph_of, triple_at}
 use Rattle.store_model.specs.declared.commit.Accepted.{Accepted}
 use Rattle.event_history.specs.Named.{IsBeginning}
-use Rattle.numbered_patterns.specs.Asked.{HaveTerms}
+use Rattle.triple_index.specs.Changes.{IsNumbered}
 use Rattle.snapshot_store.specs.declared.kept.KeptCommit.{KeptCommit}
 use Rattle.snapshot_store.specs.Kept.{HasTerms, told}
 
@@ -20,7 +20,7 @@ module _ (names more : List Term) where
   below_more : (n : ℕ) → n < length names → n < length (names ++ more)
   below_more n lt = let l = length-append names more in omega (arith, l, lt)
 
-  triple_more : (i : Ids) → HaveTerms names i → triple_at (names ++ more) i ≡ triple_at names i
+  triple_more : (i : Ids) → IsNumbered names i → triple_at (names ++ more) i ≡ triple_at names i
   triple_more i h =
       let subject = get_or-append names more (Blank 0 0) i.subject h.0 in
       let predicate = get_or-append names more (Blank 0 0) i.predicate h.1 in

@@ -12,7 +12,7 @@ use Rattle.rdf_model.specs.Matching.{is_found, is_read, is_read_by, matches, sam
 use Rattle.rdf_model.specs.Numbers.{term_at, triple_at}
 use Rattle.triple_index.specs.Patterns.{matches_ids}
 use Rattle.numbered_patterns.specs.declared.pattern.NumberedPattern.{NumberedPattern}
-use Rattle.numbered_patterns.specs.Asked.{HaveTerms}
+use Rattle.triple_index.specs.Changes.{IsNumbered}
 use Rattle.snapshot_store.specs.declared.looks.LookNumbers.{LookNumbers}
 
 abbrev pub is_asked : List NumberedPattern → Ids → Bool
@@ -20,11 +20,11 @@ is_asked ps i = list_any (λ p. matches_ids p.subject p.predicate p.object i) ps
 
 -- triples of numbers are asked for where a pattern asks for the triples that they stand for
 abbrev pub AskAlike : List Term → List Pattern → List NumberedPattern → Type 0
-AskAlike terms ps asked = (i : Ids) → HaveTerms terms i → is_asked asked i ≡ is_found ps (triple_at terms i)
+AskAlike terms ps asked = (i : Ids) → IsNumbered terms i → is_asked asked i ≡ is_found ps (triple_at terms i)
 
 -- one pattern is asked for besides
 abbrev pub AsksBesides : List Term → Pattern → List NumberedPattern → List NumberedPattern → Type 0
-AsksBesides terms p before later = (i : Ids) → HaveTerms terms i → is_asked later i ≡ (is_asked before i || matches p (triple_at terms i))
+AsksBesides terms p before later = (i : Ids) → IsNumbered terms i → is_asked later i ≡ (is_asked before i || matches p (triple_at terms i))
 
 -- a number that has a term is this one where its term is t, and a pair of such numbers is this one where their terms are t and u
 abbrev pub IsNumberAlike : List Term → Term → ℕ → Type 0
@@ -53,11 +53,11 @@ is_looked_at l i = has_item pair_cmp (i.subject, i.predicate) l.out.items || has
 
 -- triples of numbers are looked at where a look reads the triples that they stand for
 abbrev pub LookAlike : List Term → List (Look Term) → LookNumbers → Type 0
-LookAlike terms looks l = (i : Ids) → HaveTerms terms i → is_looked_at l i ≡ is_read looks (triple_at terms i)
+LookAlike terms looks l = (i : Ids) → IsNumbered terms i → is_looked_at l i ≡ is_read looks (triple_at terms i)
 
 -- one look is at them besides
 abbrev pub LooksBesides : List Term → Look Term → LookNumbers → LookNumbers → Type 0
-LooksBesides terms look before later = (i : Ids) → HaveTerms terms i → is_looked_at later i ≡ (is_looked_at before i || is_read_by look (triple_at terms i))
+LooksBesides terms look before later = (i : Ids) → IsNumbered terms i → is_looked_at later i ≡ (is_looked_at before i || is_read_by look (triple_at terms i))
 
 -- they are at the same triples
 abbrev pub LookSame : LookNumbers → LookNumbers → Type 0

@@ -7,7 +7,7 @@ use Rattle.rdf_model.specs.declared.triple.Triple.{Triple}
 use Rattle.rdf_model.specs.Graphs.{with_each}
 use Rattle.rdf_model.specs.Numbers.{graph_of, triple_at}
 use Rattle.rdf_model.specs.Terms.{triple_cmp}
-use Rattle.numbered_patterns.specs.Asked.{HaveTerms}
+use Rattle.triple_index.specs.Changes.{IsNumbered}
 
 abbrev pub first_in : List Triple → Option Triple
 first_in [] = None
@@ -24,7 +24,7 @@ first_at terms (Some i) = Some (triple_at terms i)
 
 abbrev pub IsNumberedIfSome : List Term → Option Ids → Type 0
 IsNumberedIfSome terms None = Unit {0}
-IsNumberedIfSome terms (Some i) = HaveTerms terms i
+IsNumberedIfSome terms (Some i) = IsNumbered terms i
 
 -- the numbers are those of the first triple in order, if there is one
 pub record IsFirst (terms : List Term) (ids : List Ids) (first : Option Ids) : Type 0 where

@@ -3,9 +3,10 @@ ghost use Rattle.std.specs.Prelude.{◌≡◌, ◌<◌, [], IfOk, MatchOption, S
 ghost use Rattle.rdf_model.specs.Graphs.{with_each};
 ghost use Rattle.rdf_model.specs.Numbers.{AreNumbered, graph_of, term_at, triple_at};
 ghost use Rattle.rdf_model.specs.Terms.{term_cmp, triple_cmp};
-ghost use Rattle.numbered_patterns.specs.Asked.{HaveTerms};
+ghost use Rattle.triple_index.specs.Changes.{IsNumbered};
 ghost use Rattle.snapshot_store.specs.First.{IsFirst, IsNumberedIfSome, first_at, first_in, sooner};
 
+use numbered_patterns::read_triple;
 use rdf_model::{Ids, Names, Term, Triple};
 use std::alloc::AllocError;
 use std::cmp::Ordering;
@@ -31,8 +32,8 @@ fn term_order(names: &Dict, first: u32, second: u32) -> Ordering
 
 // How the triples of two triples of numbers stand to each other.
 fn triple_order(names: &Dict, first: Ids, second: Ids) -> Ordering
-    requires first { HaveTerms names.now.terms first }
-    requires second { HaveTerms names.now.terms second }
+    requires first { IsNumbered names.now.terms first }
+    requires second { IsNumbered names.now.terms second }
     ensures { result ≡ triple_cmp (triple_at names.now.terms first) (triple_at names.now.terms second) }
 {
     term_order(names, first.subject, second.subject)
@@ -43,8 +44,8 @@ fn triple_order(names: &Dict, first: Ids, second: Ids) -> Ordering
 // The first of the triples so far, and one more.
 fn sooner_of(names: &Dict, first: Option<Ids>, triple: Ids) -> Ids
     requires first { IsNumberedIfSome names.now.terms first }
-    requires triple { HaveTerms names.now.terms triple }
-    ensures numbered { HaveTerms names.now.terms result }
+    requires triple { IsNumbered names.now.terms triple }
+    ensures numbered { IsNumbered names.now.terms result }
     ensures sooner { Some (triple_at names.now.terms result) ≡ sooner (triple_at names.now.terms triple) (first_at names.now.terms first) }
 {
     match first {
@@ -67,17 +68,6 @@ fn first_number(names: &Dict, triples: &[Ids]) -> Option<Ids>
         first = Some(sooner_of(names, first, *triple));
     }
     first
-}
-
-fn read_triple(names: &Dict, ids: Ids) -> Result<Triple, AllocError>
-    requires { HaveTerms names.now.terms ids }
-    ensures { IfOk result (λ triple. triple ≡ triple_at names.now.terms ids) }
-{
-    Ok(Triple {
-        subject: term_of(names, ids.subject).clone()?,
-        predicate: term_of(names, ids.predicate).clone()?,
-        object: term_of(names, ids.object).clone()?,
-    })
 }
 
 /// The first of the triples, if there is one.

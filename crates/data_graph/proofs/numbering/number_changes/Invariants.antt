@@ -1,7 +1,7 @@
 use Rattle.std.proofs.Common.{◌≡◌, take}
 use Rattle.std.specs.Prelude.{map}
 use Rattle.std.specs.List.{AllByRecursion}
-use Rattle.data_graph.specs.DataGraphs.{IsNumberedChange, change_at}
+use Rattle.triple_index.specs.Changes.{IsNumberedChange, change_at}
 use Rattle.data_graph.proofs.numbering.number_changes.Given as goal
 
 abbrev pub invariant-loop-place : goal.invariant-loop-place

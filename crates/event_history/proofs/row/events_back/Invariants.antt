@@ -6,8 +6,8 @@ use Rattle.event_history.proofs.row.events_back.Given as goal
 
 abbrev pub invariant-loop-rest : goal.invariant-loop-rest
 invariant-loop-rest l = record {
-  so_far : l.events.items ++ events_with (reverse (left l.rest)) (reverse l.blocks.items) ≡ events_with (reverse l.fn.kept) (reverse l.fn.blocks.items);
-  blocks : length l.blocks.items ≡ length (left l.rest);
+  so_far : l.events.items ++ events_with (reverse (left l.rest)) (reverse l.read.items) ≡ events_with (reverse l.fn.kept) (reverse l.fn.read.items);
+  read : length l.read.items ≡ length (left l.rest);
   room : length l.events.items + length (left l.rest) ≡ vec_capacity l.events;
 }
 

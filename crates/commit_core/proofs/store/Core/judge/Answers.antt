@@ -6,7 +6,8 @@ use Rattle.store_model.specs.Blocking.{has_blocking}
 use Rattle.store_model.specs.Store.{StagedNamed, shapes_under}
 use Rattle.data_graph.specs.DataGraphs.{NamedGraph, with_shapes}
 use Rattle.data_graph.specs.Pairs.{HasListing}
-use Rattle.commit_core.specs.Commits.{AreChanged, committed_graph, data_of}
+use Rattle.triple_index.specs.declared.change.NumberedChange.{NumberedChange}
+use Rattle.commit_core.specs.Commits.{AreChanged, AreNumberedChanges, committed_graph, data_of}
 use Rattle.commit_core.specs.Outcomes.{TellsBlocking}
 use Rattle.commit_core.proofs.Outcomes.{blocking_listed, none_listed}
 use Rattle.commit_core.proofs.store.Core.judge.Goals as goal
@@ -48,4 +49,4 @@ returns-clause-judged g c =
     let listed : HasListing own.triples own.shapes = subst (λ (d : NamedGraph). HasListing d.triples d.shapes) next c.recall_listing.ensures in
     let told : TellsBlocking mode own.triples own.shapes outcome.blocks = subst (λ (d : NamedGraph). TellsBlocking mode d.triples d.shapes outcome.blocks) staged c.in_ok-outcome.ensures.outcome.1 in
     let none = none_listed mode own.triples own.shapes listed.0 outcome.blocks told c.if-blocks.false listed.1 in
-    ((listed.0, listed.1, none), e.0 ∙ next, subst (λ (ids : List Ids). AreChanged (data_of c.args.self.now) x.net ids) (sym e.1) c.requires.changed, e.2)
+    ((listed.0, listed.1, none), e.0 ∙ next, subst (λ (ids : List Ids). AreChanged (data_of c.args.self.now) x.net ids) (sym e.1) c.requires.changed, e.2, subst (λ (ns : List NumberedChange). AreNumberedChanges (data_of c.args.self.now) x.net ns) (sym e.3) c.requires.net)

@@ -2,7 +2,7 @@ use Rattle.std.proofs.Common.{rules, ◌≡◌, ◌∙◌, List, ap, subst, sym}
 use Rattle.rdf_model.specs.declared.change.Change.{Change}
 use Rattle.store_model.specs.Store.{RecordedStore}
 use Rattle.data_graph.specs.DataGraphs.{AreNamedChanges, NamedGraph, with_changes}
-use Rattle.commit_core.specs.Commits.{AreChanged, data_of}
+use Rattle.commit_core.specs.Commits.{AreChanged, AreNumberedChanges, data_of}
 use Rattle.commit_core.proofs.NamedTerms.{net_named}
 use Rattle.commit_core.proofs.Planning.{judged_result}
 use Rattle.commit_core.proofs.store.Core.plan.Goals as goal
@@ -26,6 +26,14 @@ judge-requires-clause-changed g c =
     let told = subst (λ (d : NamedGraph). AreChanged d c.as_slice.result.now changed) c.graph.ensures c.in_ok-next.ensures.changed in
     let own = subst (λ (cs : List Change). AreChanged c.self.inside.graph cs changed) c.as_slice.ensures told in
     subst (λ (s : RecordedStore). AreChanged (data_of s) net changed) c.self.view_is own
+
+pub judge-requires-clause-net : goal.judge-requires-clause-net
+judge-requires-clause-net g c =
+    let numbered = c.in_ok-next.net.items in
+    let net = c.args.checked.now.transaction.net in
+    let told = subst (λ (d : NamedGraph). AreNumberedChanges d c.as_slice.result.now numbered) c.graph.ensures c.in_ok-next.ensures.net in
+    let own = subst (λ (cs : List Change). AreNumberedChanges c.self.inside.graph cs numbered) c.as_slice.ensures told in
+    subst (λ (s : RecordedStore). AreNumberedChanges (data_of s) net numbered) c.self.view_is own
 
 pub returns-clause-plan : goal.returns-clause-plan
 returns-clause-plan g c = judged_result c.args.self.now.limits (data_of c.args.self.now) c.args.self.now.state.commits c.args.checked.now.transaction _ (search rules, search rules) c.judge.ensures.judged

@@ -1,11 +1,11 @@
-use Rattle.std.proofs.Common.{◌≡◌, ◌∙◌, List, subst, sym, ap}
+use Rattle.std.proofs.Common.{◌≡◌, ◌∙◌, List, map, subst, sym, ap}
 use Rattle.std.specs.List.{AllByRecursion}
 use Rattle.rdf_model.specs.declared.change.Change.{Change}
 use Rattle.rdf_model.specs.Graphs.{after, differing}
 use Rattle.rdf_model.specs.Numbers.{AreNumbered}
-use Rattle.triple_index.specs.Changes.{after_ids}
+use Rattle.triple_index.specs.Changes.{IsNumberedChange, after_ids, change_at}
 use Rattle.triple_index.specs.declared.change.NumberedChange.{NumberedChange}
-use Rattle.data_graph.specs.DataGraphs.{AreNamedChanges, IsNumberedChange, KeepsIndex, NamedGraph, triples_at}
+use Rattle.data_graph.specs.DataGraphs.{AreNamedChanges, KeepsIndex, NamedGraph, triples_at}
 use Rattle.data_graph.proofs.Differing.{kept_index}
 use Rattle.data_graph.proofs.Listed.{listed_after, numbered_after}
 use Rattle.data_graph.proofs.graph.DataGraph.after_with_changed.Goals as goal
@@ -65,4 +65,11 @@ returns-clause-changed c =
     let changed : triples_at terms found ≡ differing (triples_at terms ids) (after (triples_at terms ids) net) = c.in_ok-changed.ensures.differing ∙ ap (differing (triples_at terms ids)) listed in (
       subst (λ (d : NamedGraph). triples_at d.terms found ≡ differing d.triples (after d.triples net)) c.self.view_is changed,
       subst (λ (d : NamedGraph). AreNumbered d.terms found) c.self.view_is c.in_ok-changed.ensures.numbered,
+    )
+
+pub returns-clause-net : goal.returns-clause-net
+returns-clause-net c =
+    let cs = c.in_ok-changes.changes.items in (
+      subst (λ (d : NamedGraph). map (change_at d.terms) cs ≡ c.args.net.now) c.self.view_is c.in_ok-changes.ensures.1,
+      subst (λ (d : NamedGraph). AllByRecursion (IsNumberedChange d.terms) cs) c.self.view_is c.in_ok-changes.ensures.0,
     )

@@ -1,16 +1,16 @@
 use Rattle.std.proofs.Common.{◌≡◌, ◌∙◌, List, [], ◌∷◌, ◌++◌, sym, ap}
 use Rattle.event_history.specs.declared.kept.KeptEvent.{KeptEvent}
-use Rattle.event_history.specs.Kept.{terms_in}
+use Rattle.event_history.specs.Kept.{meaning}
 use Rattle.event_history.specs.Rows.{kept_events}
-use Rattle.event_history.proofs.Telling.{fewer_have, more_terms}
-use Rattle.event_history.proofs.row.terms_back.Goals as goal
+use Rattle.event_history.proofs.Telling.{fewer_have, more_meanings}
+use Rattle.event_history.proofs.row.meanings_back.Goals as goal
 
 pub loop-at-preserved : goal.loop-at-preserved
 loop-at-preserved c =
     let names = c.args.names.now.terms in
     let split : c.loop-at.at.now ≡ c.deref-at.result.now ++ c.in-After.event ∷ [] = sym c.at.view_is ∙ ap kept_events c.in-After.is ∙ ap (λ (ks : List KeptEvent). ks ++ c.in-After.event ∷ []) (sym c.deref-at.ensures) in
-    let more : c.push.new.self.items ≡ c.loop-at.blocks.items ++ terms_in names c.in-After.event ∷ [] = rw c.in_ok-terms.ensures at c.in_ok-push.ensures.items in
+    let more : c.push.new.self.items ≡ c.loop-at.read.items ++ meaning names c.in-After.event ∷ [] = rw c.in_ok-meaning.ensures at c.in_ok-push.ensures.items in
     record {
-      so_far = more_terms names _ _ _ _ _ _ split more c.loop-at.invariant.so_far;
+      so_far = more_meanings names _ _ _ _ _ _ split more c.loop-at.invariant.so_far;
       terms = fewer_have names _ _ _ split c.loop-at.invariant.terms;
     }
