@@ -7,8 +7,8 @@ use Rattle.collections.specs.Ordered.{IsAscending}
 use Rattle.collections.proofs.Members.{has_cases, has_equal, has_tail, below}
 use Rattle.rdf_model.specs.declared.ids.Ids.{Ids}
 use Rattle.triple_index.specs.declared.key.Key.{Key}
-use Rattle.triple_index.specs.declared.pattern.Order.{Order}
-use Rattle.triple_index.specs.declared.pattern.Order.TheVariants.{Subjects, Predicates, Objects}
+use Rattle.triple_index.specs.declared.order.Order.{Order}
+use Rattle.triple_index.specs.declared.order.Order.TheVariants.{Subjects, Predicates, Objects}
 use Rattle.triple_index.specs.declared.prefix.Prefix.{Prefix}
 use Rattle.triple_index.specs.Keys.{key_cmp, ids_of}
 use Rattle.triple_index.specs.Orders.{key_total}

@@ -9,19 +9,12 @@ ghost use Rattle.triple_index.specs.Patterns.{IsMatch, ListsOnce, begins_with, f
 
 use crate::index::Index;
 use crate::key::Key;
+use crate::order::Order;
 use crate::prefix::Prefix;
 use crate::run::keys_with;
 use page_index::Pages;
 use rdf_model::Ids;
 use std::alloc::{AllocError, Global};
-
-// The three orders.
-#[derive(Clone, Copy)]
-pub(crate) enum Order {
-    Subjects,
-    Predicates,
-    Objects,
-}
 
 // Numbers that are asked for; `None` stands for any.
 #[derive(Clone, Copy)]
