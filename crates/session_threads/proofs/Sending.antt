@@ -64,6 +64,7 @@ use Rattle.store_model.specs.contracts.commit.Transaction as transaction
 use Rattle.store_model.specs.contracts.event.Action as action
 use Rattle.store_model.specs.contracts.event.Event as event
 use Rattle.event_history.specs.contracts.kept.NamedBlock as named_block
+use Rattle.event_history.specs.contracts.kept.AcceptedCommit as accepted_commit
 use Rattle.event_history.specs.contracts.kept.KeptEvent as kept_event
 use Rattle.event_history.specs.contracts.row.KeptEvents as kept_events
 use Rattle.event_history.specs.contracts.history.History as history
@@ -163,8 +164,11 @@ event_send = search (action_send, answer_send, crosses, sendable) depth 60 fits 
 named_block_send : IsSend (named_block.the_field).row
 named_block_send = search (sequence_sent.the_send, crosses, sendable) depth 60 fits 20000
 
+accepted_commit_send : IsSend (accepted_commit.the_field).row
+accepted_commit_send = search (transaction_send, answer_send, sequence_sent.the_send, crosses, sendable) depth 60 fits 20000
+
 kept_event_send : IsSend (kept_event.the_field).row
-kept_event_send = search (event_send, named_block_send, crosses, sendable) depth 60 fits 20000
+kept_event_send = search (event_send, named_block_send, accepted_commit_send, crosses, sendable) depth 60 fits 20000
 
 kept_events_send : IsSend kept_events.the_row
 kept_events_send = search (kept_event_send, kept_knot.crosses, crosses, sendable) depth 60 fits 20000
