@@ -147,9 +147,7 @@ impl Snap {
         ensures steps { OnOk result (GrowsByCount (IsEvaluated self.now.graph self.now.shapes net.now) steps.old steps.new) }
         ensures counted { steps.old ≤ steps.new }
     {
-        let graph = self.graph.graph();
-        let next = graph.after(net, hints)?;
-        let found = graph.paired_after(net, hints, &next, steps)?;
+        let found = self.graph.graph().paired_after(net, hints, steps)?;
         let (pairs, looks) = found.into_parts();
         Ok(CheckedNet {
             verdict: Verdict {

@@ -309,16 +309,15 @@ impl DataGraph {
     }
 
     /// The pairs that the changes touch, and all looks that were made, those by which it was found what they touch with them. All
-    /// terms of the looks are named.
+    /// terms of the changes are named, and so are those of the looks. The graph after the changes is made only where there are
+    /// shapes.
     pub fn paired_after<L: Ledger>(
         &self,
         net: &[Change],
         hints: &NumberHints,
-        next: &DataGraph,
         steps: &mut Steps<L>,
     ) -> Result<PairedChanges, AllocError>
-        requires net { AreNamedChanges self.now.terms net.now }
-        requires next { next.now ≡ with_changes self.now net.now }
+        requires { AreNamedChanges self.now.terms net.now }
         ensures checks { IfOk result (λ found. ChecksPairs self.now.terms self.now.triples self.now.shapes net.now found.pairs) }
         ensures looks { IfOk result (λ found. IsCheckFootprint self.now.triples self.now.shapes net.now found.looks) }
         ensures named { IfOk result (λ found. AllByRecursion (λ look. AreNamed self.now.terms (looked_at look)) found.looks) }
@@ -328,7 +327,8 @@ impl DataGraph {
         if is_without_shapes(self.shapes.graph()) {
             return Ok(PairedChanges::empty(self.alloc));
         }
-        let checked = self.checked_after(net, hints, next, steps)?;
+        let next = self.after(net, hints)?;
+        let checked = self.checked_after(net, hints, &next, steps)?;
         Ok(paired_changes(self.alloc, &self.names, checked)?)
     }
 }

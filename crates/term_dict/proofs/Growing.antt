@@ -4,6 +4,7 @@ use Rattle.std.specs.Prelude.{◌||◌, cond}
 use Rattle.std.specs.List.{AllByRecursion, Contains}
 use Rattle.std.proofs.Math.ListN.{get_or-append}
 use Rattle.std.proofs.Math.Seq.{get_or-append_seam, take-suc}
+use Rattle.std.proofs.lemmas.List.{get_or-take, length-take-le}
 use Rattle.std.specs.declared.cmp.Ordering.{Ordering}
 use Rattle.std.specs.declared.cmp.Ordering.TheVariants.{Less, Equal, Greater}
 use Rattle.std.specs.Ordering.{is_eq}
@@ -12,6 +13,7 @@ use Rattle.collections.specs.Ordered.{has_item}
 use Rattle.collections.proofs.Members.{has_cases, has_equal, has_tail}
 use Rattle.rdf_model.specs.declared.term.Term.{Term}
 use Rattle.rdf_model.specs.declared.term.Term.TheVariants.{Blank}
+use Rattle.rdf_model.specs.Numbers.{IsNumbering, term_at}
 use Rattle.rdf_model.specs.Terms.{term_cmp}
 use Rattle.rdf_model.specs.Matching.{same_term}
 use Rattle.rdf_model.specs.Orders.{term_exact, term_total}
@@ -126,3 +128,16 @@ same_of t u e = term_exact t u (of_eq (term_cmp t u) e)
 
 pub other_of : (t u : Term) → same_term t u ≡ false → t ≡ u → ⊥
 other_of t u e s = let k : term_cmp t u ≡ Equal = subst (λ (w : Term). term_cmp t w ≡ Equal) s (tied_itself term_total t) in let l = ap is_eq k in cc (e, l)
+
+-- one step along a list of which no term stands twice
+pub met_next : (ts met more : List Term) (n : ℕ) (t : Term) → IsNumbering ts → n < length ts → t ≡ term_at ts n → met ≡ take n ts → more ≡ with_term met t → more ≡ take (n + 1) ts
+met_next ts met more n t apart lt is m e =
+    let own : t ≡ get_or ts n t = is ∙ get_or-other ts n (Blank 0 0) t lt in
+    let long : length (take n ts) ≡ n = length-take-le n ts (omega (arith, lt)) in
+    let absent : Contains (take n ts) t → ⊥ = λ c.
+    let below : c.0 < n = (let inside = c.1 in omega (arith, long, inside)) in
+    let within : c.0 < length ts = omega (arith, below, lt) in
+    let same : term_at ts c.0 ≡ term_at ts n = get_or-other ts c.0 (Blank 0 0) t within ∙ sym (get_or-take n ts c.0 t below) ∙ c.2 ∙ is in
+    let equal : c.0 ≡ n = apart c.0 n within lt same in
+    absurd (omega (arith, below, equal)) in
+    e ∙ ap (λ (us : List Term). with_term us t) m ∙ sym (with_new_term t (take n ts) (take (n + 1) ts) absent (take_more ts n t lt own))

@@ -136,7 +136,7 @@ impl<'a> MetTerms<'a> {
     }
 
     // The place of a term, which becomes the last one where it has none.
-    fn place(&mut self, term: &'a Term) -> Result<usize, AllocError>
+    pub(crate) fn place(&mut self, term: &'a Term) -> Result<usize, AllocError>
         ensures terms { OnOk result (self.new ≡ with_term self.old term.now) }
         ensures number { IfOk result (λ number. IsNumberOf self.new term.now number) }
     {
@@ -145,7 +145,7 @@ impl<'a> MetTerms<'a> {
     }
 
     // The places of terms, in their order.
-    fn place_all(&mut self, terms: &'a [Term]) -> Result<Vec<usize>, AllocError>
+    pub(crate) fn place_all(&mut self, terms: &'a [Term]) -> Result<Vec<usize>, AllocError>
         ensures terms { OnOk result (self.new ≡ with_terms self.old terms.now) }
         ensures numbers { IfOk result (λ numbers. AreNumbersOf self.new terms.now numbers.items) }
     {

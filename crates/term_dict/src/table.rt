@@ -11,7 +11,7 @@ ghost use Rattle.term_dict.specs.Names.{AreNumbersOf, IsNumberOf, with_term, wit
 ghost use Rattle.term_dict.specs.Tables.{IsNext, IsNoneFrom, NoneHashed};
 
 use crate::entry::{ByHash, NamedTerm};
-use crate::met::{MetTerm, hash_of, met_of};
+use crate::met::{MetTerm, MetTerms, hash_of, met_of};
 use growing_list::GrowingList;
 use page_index::Pages;
 use rdf_model::Term;
@@ -263,9 +263,40 @@ fn numbers_at(alloc: Global, numbers: &[usize], places: &[usize]) -> Result<Vec<
     Ok(found)
 }
 
-// The table with each of the terms, and their numbers. A term is looked up once, however often it stands
+// The terms of a table, as they are met in the order of their numbers.
+fn met_again<'a>(alloc: Global, table: &'a TermTable) -> Result<MetTerms<'a>, AllocError>
+    ensures { IfOk result (λ met. met ≡ table.now) }
+{
+    table.recall_numbering();
+    let mut met = MetTerms::new(alloc);
+    for number in 0..table.len() {
+        match table.term(number) {
+            Some(term) => {
+                let _ = met.place(term)?;
+            }
+            None => unreachable!(),
+        }
+    }
+    Ok(met)
+}
+
+// The table with each of the terms, built at once, and their numbers.
+fn rebuilt_with<'a>(
+    alloc: Global,
+    table: &'a TermTable,
+    terms: &'a [Term],
+) -> Result<(TermTable, Vec<usize>), AllocError>
+    ensures table { IfOk result (λ next. next.0 ≡ with_terms table.now terms.now) }
+    ensures numbers { IfOk result (λ next. AreNumbersOf next.0 terms.now next.1.items) }
+{
+    let mut met = met_again(alloc, table)?;
+    let numbers = met.place_all(terms)?;
+    Ok((table_of(alloc, met.terms())?, numbers))
+}
+
+// The table with each of the terms, put into it one by one, and their numbers. A term is looked up once, however often it stands
 // in the list.
-pub(crate) fn with_all(
+fn extended_with(
     alloc: Global,
     table: TermTable,
     terms: &[Term],
@@ -277,4 +308,20 @@ pub(crate) fn with_all(
     let (next, numbers) = with_met(alloc, table, met.terms())?;
     let found = numbers_at(alloc, &numbers, &places)?;
     Ok((next, found))
+}
+
+// The table with each of the terms, and their numbers. Where the table has no more terms than the list, it is built anew at once,
+// which takes less time than to put the terms into its pages one by one.
+pub(crate) fn with_all(
+    alloc: Global,
+    table: TermTable,
+    terms: &[Term],
+) -> Result<(TermTable, Vec<usize>), AllocError>
+    ensures table { IfOk result (λ next. next.0 ≡ with_terms table terms.now) }
+    ensures numbers { IfOk result (λ next. AreNumbersOf next.0 terms.now next.1.items) }
+{
+    if table.len() <= terms.len() {
+        return rebuilt_with(alloc, &table, terms);
+    }
+    extended_with(alloc, table, terms)
 }
