@@ -1,6 +1,8 @@
 -- Labels that are numbered one by one have the numbers of all of them.
 use Rattle.std.proofs.Common.{◌≡◌, ◌∙◌, ℕ, ◌+◌, Bool, true, false, cond, not, ◌&&◌, ◌||◌, List, [], ◌∷◌, ◌++◌, map, length, Result, Ok, Err, refl, sym, ap, subst, append_assoc, filter, arith}
-use Rattle.std.proofs.lemmas.List.{append-nil}
+use Rattle.std.proofs.lemmas.List.{append-nil, nil_from_length}
+use Rattle.std.proofs.lemmas.Str.{chars-nil}
+use Rattle.std.specs.Str.{chars}
 use Rattle.std.specs.Prelude.{Option, Some, MatchResult, bytes_eq}
 use Rattle.std.specs.List.{list_any, position_or_len}
 use Rattle.std.proofs.lemmas.Slice.Eq.{bytes_eq-Decides}
@@ -12,7 +14,7 @@ use Rattle.rdf_model.specs.declared.triple.Triple.{Triple}
 use Rattle.rdf_model.specs.Graphs.{with_each}
 use Rattle.rdf_lexical.specs.declared.refusal.RefusalKind.{RefusalKind}
 use Rattle.rdf_lexical.specs.declared.refusal.ReadFault.{ReadFault}
-use Rattle.rdf_lexical.specs.declared.refusal.ReadFault.TheVariants.{Refusal, Memory}
+use Rattle.rdf_lexical.specs.declared.refusal.ReadFault.TheVariants.{Memory}
 use Rattle.ntriples_text.specs.declared.statement.Node.{Node}
 use Rattle.ntriples_text.specs.declared.statement.Node.TheVariants.{Labelled, Plain}
 use Rattle.ntriples_text.specs.declared.statement.LabelKind.{LabelKind}
@@ -20,7 +22,6 @@ use Rattle.ntriples_text.specs.declared.statement.Statement.{Statement}
 use Rattle.rdf_lexical.specs.Refusals.{Refuses}
 use Rattle.ntriples_text.specs.Blanks.{node_labels, statement_labels, all_labels, once, term_of, triple_of}
 use Rattle.ntriples_text.specs.Document.{lines, lines_from, numbered, with_labels, with_statement, with_line}
-use Rattle.std.specs.Str.{chars}
 use Rattle.ntriples_text.specs.Laws.{LabelsStayApart}
 use Rattle.ntriples_text.specs.Progress.{Found, with_more, triples_after, going_on}
 
@@ -202,21 +203,19 @@ numbered_found s f (Ok ss) ts known h =
     ∙ ap (λ (k : Texts). Ok (with_each [] ts, f + length k)) last))
 numbered_found s f (Err e) ts known h = cc
 
-pub numbered_fault : (s f : ℕ) (r : Result (List Statement) (ℕ × RefusalKind)) (e : ReadFault) → Refuses e (going_on s f [] [] r) → Refuses e (numbered s f r)
-numbered_fault s f r Memory h = tt
-numbered_fault s f (Ok ss) (Refusal n k) h = cc
-numbered_fault s f (Err e) (Refusal n k) h = ap (numbered s f) (let h' : Err e ≡ Err (n, k) = cc in h')
+-- where no character is left, all has been found
+pub nothing_left : (labels : LabelKind) (s f n : ℕ) (ts : List Triple) (known : Texts) (rest : List ℕ) (r : Found) → length rest ≡ 0 → going_on s f ts known (lines_from labels n (lines (chars rest))) ≡ r → r ≡ Ok (ts, known)
+nothing_left labels s f n ts known rest r empty h =
+    sym h
+    ∙ (ap (λ cs. going_on s f ts known (lines_from labels n (lines cs))) (ap chars (nil_from_length rest empty) ∙ chars-nil)
+    ∙ ap (λ us. Ok (us, known)) (append-nil ts))
 
-pub read_all : (labels : LabelKind) (s f n : ℕ) (text cs : List ℕ) (ts out : List Triple) (known : Texts) → cs ≡ chars text → going_on s f [] [] (lines_from labels 1 (lines cs)) ≡ Ok (ts, known) → out ≡ with_each [] ts → n ≡ length known
-    → numbered s f (lines_from labels 1 (lines (chars text))) ≡ Ok (out, f + n)
-read_all labels s f n text cs ts out known hc hr ho hn =
-    ap (λ xs. numbered s f (lines_from labels 1 (lines xs))) (sym hc)
-    ∙ (numbered_found s f (lines_from labels 1 (lines cs)) ts known hr
+pub read_all : (labels : LabelKind) (s f n : ℕ) (cs : List ℕ) (ts out : List Triple) (known : Texts) → going_on s f [] [] (lines_from labels 1 (lines cs)) ≡ Ok (ts, known) → out ≡ with_each [] ts → n ≡ length known
+    → numbered s f (lines_from labels 1 (lines cs)) ≡ Ok (out, f + n)
+read_all labels s f n cs ts out known hr ho hn =
+    numbered_found s f (lines_from labels 1 (lines cs)) ts known hr
     ∙ (ap (λ us. Ok (us, f + length known)) (sym ho)
-    ∙ ap (λ m. Ok (out, f + m)) (sym hn)))
-
-pub fault_all : (labels : LabelKind) (s f : ℕ) (text cs : List ℕ) (e : ReadFault) → cs ≡ chars text → Refuses e (going_on s f [] [] (lines_from labels 1 (lines cs))) → Refuses e (numbered s f (lines_from labels 1 (lines (chars text))))
-fault_all labels s f text cs e hc h = subst (λ (xs : List ℕ). Refuses e (numbered s f (lines_from labels 1 (lines xs)))) hc (numbered_fault s f (lines_from labels 1 (lines cs)) e h)
+    ∙ ap (λ m. Ok (out, f + m)) (sym hn))
 
 -- labels of a text have places, each its own
 known_of : (ls known : Texts) (l : List ℕ) → is_known ls l ≡ true → is_known (with_more known ls) l ≡ true

@@ -14,26 +14,26 @@ use crate::labels::Labels;
 use crate::line_fault::LineFault;
 use crate::numbering::Numbering;
 use crate::statement::{LabelKind, Statement};
-use crate::text_line::{number_after, split_line};
-use collections::{Sequence, sorted_once};
+use crate::text_line::{number_after, take_line};
+use collections::Sequence;
 use rdf_lexical::{ReadFault, RefusalKind};
 use rdf_model::{Term, Triple};
 use std::alloc::{AllocError, Global};
+use triple_table::TripleTable;
 
 // Adds the triple of a statement.
 fn add_statement(
     numbering: &mut Numbering,
-    triples: &mut Sequence<Triple>,
+    table: &mut TripleTable,
     statement: Statement,
 ) -> Result<(), ReadFault>
     requires { numbering.old.first + length numbering.old.labels + 1 < 2 ^ 32 }
-    ensures added { (more : Result (List StatementData) (ℕ × KindData)) → let rest = going_on numbering.old.session numbering.old.first triples.old numbering.old.labels (with_statement statement more) in
-        MatchResult result (λ _. rest ≡ going_on numbering.old.session numbering.old.first triples.new numbering.new.labels more) (λ fault. fault ≡ ReadFault.Memory) }
+    ensures added { (more : Result (List StatementData) (ℕ × KindData)) → let rest = going_on numbering.old.session numbering.old.first table.old numbering.old.labels (with_statement statement more) in
+        MatchResult result (λ _. rest ≡ going_on numbering.old.session numbering.old.first table.new numbering.new.labels more) (λ fault. fault ≡ ReadFault.Memory) }
     ensures same { OnOk result ((numbering.new.session ≡ numbering.old.session) × (numbering.new.first ≡ numbering.old.first)) }
     ensures room { OnOk result (length numbering.new.labels ≤ length numbering.old.labels + 2) }
 {
-    let triple = numbering.triple(statement)?;
-    triples.push(triple)?;
+    numbering.push_triple(table, statement)?;
     Ok(())
 }
 
@@ -44,16 +44,16 @@ fn add_line(
     number: u64,
     line: &[char],
     numbering: &mut Numbering,
-    triples: &mut Sequence<Triple>,
+    table: &mut TripleTable,
 ) -> Result<(), ReadFault>
     requires { numbering.old.first + length numbering.old.labels + length line.now < 2 ^ 32 }
-    ensures added { (more : Result (List StatementData) (ℕ × KindData)) → let rest = going_on numbering.old.session numbering.old.first triples.old numbering.old.labels (with_line number (Grammar.line labels line.now) more) in
-        MatchResult result (λ _. rest ≡ going_on numbering.old.session numbering.old.first triples.new numbering.new.labels more) (λ fault. Refuses fault rest) }
+    ensures added { (more : Result (List StatementData) (ℕ × KindData)) → let rest = going_on numbering.old.session numbering.old.first table.old numbering.old.labels (with_line number (Grammar.line labels line.now) more) in
+        MatchResult result (λ _. rest ≡ going_on numbering.old.session numbering.old.first table.new numbering.new.labels more) (λ fault. Refuses fault rest) }
     ensures same { OnOk result ((numbering.new.session ≡ numbering.old.session) × (numbering.new.first ≡ numbering.old.first)) }
     ensures room { OnOk result (length numbering.new.labels ≤ length numbering.old.labels + length line.now) }
 {
     match read_line(alloc, labels, line) {
-        Ok(Some(statement)) => add_statement(numbering, triples, statement),
+        Ok(Some(statement)) => add_statement(numbering, table, statement),
         Ok(None) => Ok(()),
         Err(LineFault::Refused(kind)) => Err(ReadFault::Refusal { line: number, kind }),
         Err(LineFault::Memory) => Err(ReadFault::Memory),
@@ -64,51 +64,26 @@ fn add_line(
 fn read_lines(
     alloc: Global,
     labels: LabelKind,
-    text: &[char],
-    numbering: &mut Numbering,
-) -> Result<Sequence<Triple>, ReadFault>
-    requires labels { numbering.old.labels ≡ [] }
-    requires room { numbering.old.first + length text.now < 2 ^ 32 }
-    ensures read { let reading = going_on numbering.old.session numbering.old.first [] [] (lines_from labels 1 (lines text.now)) in
-        MatchResult result (λ triples. reading ≡ Ok (triples, numbering.new.labels)) (λ fault. Refuses fault reading) }
-    ensures room { OnOk result (length numbering.new.labels ≤ length text.now) }
-    ensures same { OnOk result (numbering.new.first ≡ numbering.old.first) }
-{
-    let mut triples = Sequence::new(alloc);
-    let mut rest = text;
-    let mut number = 1;
-    while !rest.is_empty() {
-        let (line, after) = split_line(rest);
-        add_line(alloc, labels, number, line, numbering, &mut triples)?;
-        number = number_after(number, line);
-        rest = after;
-    }
-    Ok(triples)
-}
-
-// The characters of a text.
-fn characters_of(alloc: Global, text: &str) -> Result<Vec<char>, AllocError>
-    ensures { IfOk result (λ v. (v.items ≡ chars text.now) × (length v.items ≤ length text.now)) }
-{
-    Ok(text.chars().collect(alloc)?)
-}
-
-// The triples of a text, in their order there. Its labels are added to the numbering.
-fn read_all_lines(
-    alloc: Global,
-    labels: LabelKind,
     text: &str,
     numbering: &mut Numbering,
-) -> Result<Sequence<Triple>, ReadFault>
+) -> Result<TripleTable, ReadFault>
     requires labels { numbering.old.labels ≡ [] }
     requires room { numbering.old.first + length text.now < 2 ^ 32 }
     ensures read { let reading = going_on numbering.old.session numbering.old.first [] [] (lines_from labels 1 (lines (chars text.now))) in
-        MatchResult result (λ triples. reading ≡ Ok (triples, numbering.new.labels)) (λ fault. Refuses fault reading) }
+        MatchResult result (λ table. reading ≡ Ok (table, numbering.new.labels)) (λ fault. Refuses fault reading) }
     ensures room { OnOk result (length numbering.new.labels ≤ length text.now) }
     ensures same { OnOk result (numbering.new.first ≡ numbering.old.first) }
 {
-    let characters = characters_of(alloc, text)?;
-    read_lines(alloc, labels, &characters, numbering)
+    let mut table = TripleTable::new(alloc);
+    let mut line = Vec::new(alloc);
+    let mut rest = text;
+    let mut number = 1;
+    while !rest.is_empty() {
+        rest = take_line(rest, &mut line)?;
+        add_line(alloc, labels, number, &line, numbering, &mut table)?;
+        number = number_after(number, &line);
+    }
+    Ok(table)
 }
 
 // The triples of a text, each once, in their order. Blank nodes are numbered from `next` on.
@@ -130,10 +105,10 @@ fn read_text(
         first: *next,
         labels: Labels::new(alloc),
     };
-    let triples = read_all_lines(alloc, labels, text, &mut numbering)?;
-    let sorted = sorted_once(triples.into_vec())?;
+    let table = read_lines(alloc, labels, text, &mut numbering)?;
+    let sorted = table.into_sorted()?;
     *next += numbering.labels.len() as u32;
-    Ok(Sequence::from_vec(sorted))
+    Ok(sorted)
 }
 
 // The line of the byte at a place.
@@ -208,6 +183,13 @@ pub fn read_named(alloc: Global, bytes: &[u8]) -> Result<Sequence<Triple>, ReadF
 {
     let mut next = 1;
     read_by(alloc, LabelKind::OfStore, 1, &mut next, bytes)
+}
+
+// The characters of a text.
+fn characters_of(alloc: Global, text: &str) -> Result<Vec<char>, AllocError>
+    ensures { IfOk result (λ v. v.items ≡ chars text.now) }
+{
+    Ok(text.chars().collect(alloc)?)
 }
 
 // The term that the text is alone.

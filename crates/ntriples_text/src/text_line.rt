@@ -1,22 +1,28 @@
 //! The lines of a text.
-ghost use Rattle.std.specs.Prelude.{◌≡◌, ◌+◌, ◌<◌, ◌^◌, ◌∷◌, length};
+ghost use Rattle.std.specs.Prelude.{◌≡◌, ◌+◌, ◌<◌, ◌≤◌, ◌^◌, ◌∷◌, length, IfOk, OnOk};
+ghost use Rattle.std.specs.Str.{chars};
 ghost use Rattle.ntriples_text.specs.Document;
 
 use rdf_lexical::is_line_end;
+use std::alloc::AllocError;
 
-/// The first line of a text, with the character that ends it, and the text after it.
-pub fn split_line(text: &[char]) -> (&[char], &[char])
+/// Reads the first line of a text, with the character that ends it, into a buffer in place of what it held. The text after
+/// the line comes back.
+pub fn take_line<'a>(text: &'a str, line: &mut Vec<char>) -> Result<&'a str, AllocError>
     requires { 0 < length text.now }
-    ensures lines { Document.lines text.now ≡ result.0.now ∷ Document.lines result.1.now }
-    ensures line { 0 < length result.0.now }
-    ensures rest { length result.0.now + length result.1.now ≡ length text.now }
+    ensures lines { IfOk result (λ rest. Document.lines (chars text.now) ≡ line.new.items ∷ Document.lines (chars rest.now)) }
+    ensures line { OnOk result (0 < length line.new.items) }
+    ensures rest { IfOk result (λ rest. length line.new.items + length rest.now ≤ length text.now) }
 {
-    for (i, character) in text.iter().enumerate() {
-        if is_line_end(*character) {
-            return text.split_at(i + 1);
+    line.clear();
+    let mut rest = text.chars();
+    while let Some(character) = rest.next() {
+        line.push(character)?;
+        if is_line_end(character) {
+            return Ok(rest.as_str());
         }
     }
-    text.split_at(text.len())
+    Ok("")
 }
 
 /// The number of the line after this one, by LF.
