@@ -94,18 +94,23 @@ fn tell(rt: &HostRuntime, what: &str, start: Instant, count: u64) -> io::Result<
 }
 
 fn named(alloc: Global, terms: &[Term]) -> Result<(Dict, Vec<u32>), AllocError> {
-    match Dict::from_terms(alloc, 1_000_000, terms) {
-        Ok(made) => Ok(made),
+    let mut dict = Dict::new(alloc, 1_000_000)?;
+    match dict.name_all(terms) {
+        Ok(numbers) => Ok((dict, numbers)),
         Err(_) => Err(AllocError),
     }
 }
 
 fn named_singly(alloc: Global, terms: &[Term]) -> Result<(Dict, Vec<u32>), AllocError> {
     let mut dict = Dict::new(alloc, 1_000_000)?;
-    match dict.name_all(terms) {
-        Ok(numbers) => Ok((dict, numbers)),
-        Err(_) => Err(AllocError),
+    let mut numbers = Vec::new(alloc);
+    for one in terms.chunks(1) {
+        match dict.name_all(one) {
+            Ok(more) => numbers.extend_from_slice(&more)?,
+            Err(_) => return Err(AllocError),
+        }
     }
+    Ok((dict, numbers))
 }
 
 fn indexed_singly(alloc: Global, triples: &[Ids]) -> Result<Index, AllocError> {

@@ -57,8 +57,8 @@ fn terms_get_numbers(rt: HostRuntime) -> Result<(), Fail> {
 fn numbers_at_once(alloc: Global, limit: usize, terms: &[Term]) -> Result<Vec<u32>, NameFault>
     requires { limit < 1000 }
 {
-    let (_, numbers) = Dict::from_terms(alloc, limit, terms)?;
-    Ok(numbers)
+    let mut dict = Dict::new(alloc, limit)?;
+    dict.name_all(terms)
 }
 
 // Each row is a list that is named at once, with the numbers that it gets, or none and the count that is too high.
@@ -123,8 +123,11 @@ fn same_list(rt: &impl Abort, dict: &Dict, plain: Vec<Term>) {
 
 // A dictionary that names the terms at once.
 fn named_at_once(rt: &impl Abort, alloc: Global, terms: &[Term]) -> Dict {
-    match Dict::from_terms(alloc, 2000, terms) {
-        Ok((dict, _)) => dict,
+    let Ok(mut dict) = Dict::new(alloc, 2000) else {
+        panic!(rt; "there is no memory")
+    };
+    match dict.name_all(terms) {
+        Ok(_) => dict,
         Err(_) => panic!(rt; "the terms are not named"),
     }
 }

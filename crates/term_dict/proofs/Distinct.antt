@@ -20,8 +20,8 @@ use Rattle.term_dict.specs.Entries.{entry, entry_cmp, entries_from}
 use Rattle.term_dict.specs.Hashes.{term_hash}
 use Rattle.term_dict.specs.Orders.{entry_total}
 use Rattle.term_dict.specs.Tables.{AreOne}
-use Rattle.term_dict.specs.Names.{IsNumberOf, first_terms, with_term, with_terms}
-use Rattle.term_dict.proofs.Growing.{first_named, longer, take_more, two_first}
+use Rattle.term_dict.specs.Names.{IsNumberOf, with_term}
+use Rattle.term_dict.proofs.Growing.{take_more}
 use Rattle.term_dict.proofs.Places.{entries_push}
 
 -- one step along a list of terms
@@ -132,16 +132,3 @@ met_number us t u n g e = let same : t ≡ u = term_exact t u (tied (term_cmp t 
     at [] n g = cc
     at (v ∷ us) zero g = record { within = omega arith; is = cc g }
     at (v ∷ us) (suc n) g = let i = at us n g in record { within = (let w = i.within in omega arith); is = i.is }
-
--- terms that are met after the first two
-pub record IsFirstNamed (ts met : List Term) : Type 0 where
-  pub is : met ≡ with_terms first_terms ts
-  pub long : 2 ≤ length met
-
-pub first_met : (ts fs met : List Term) → fs ≡ first_terms → met ≡ with_terms (with_terms [] fs) ts → IsFirstNamed ts met
-first_met ts fs met f m =
-    let is : met ≡ with_terms first_terms ts = m ∙ ap (λ (us : List Term). with_terms us ts) (ap (with_terms []) f ∙ first_named) in
-    let same : length met ≡ length (with_terms first_terms ts) = ap length is in
-    let more = longer first_terms ts in
-    let two = two_first in
-    record { is = is; long = omega arith }

@@ -6,8 +6,7 @@ ghost use Rattle.term_dict.specs.Faults.{IsCause};
 ghost use Rattle.term_dict.specs.Names.{AreNumbersOf, first_terms, named_with, with_terms};
 
 use crate::fault::NameFault;
-use crate::met::met_in;
-use crate::table::{TermTable, table_of, with_all};
+use crate::table::{TermTable, with_all};
 use rdf_model::{Names, Term, Text};
 use std::alloc::{AllocError, Global};
 use std::marker::Model;
@@ -67,40 +66,6 @@ fn narrowed(alloc: Global, numbers: &[usize]) -> Result<Vec<u32>, AllocError>
     Ok(narrow)
 }
 
-// The table of the first two terms and of those of a list, within a limit, and the numbers of the latter.
-fn table_within(
-    alloc: Global,
-    limit: usize,
-    first: &[Term],
-    terms: &[Term],
-) -> Result<(TermTable, Vec<usize>), NameFault>
-    requires { first.now ≡ first_terms }
-    ensures table { IfOk result (λ named. (named.0 ≡ with_terms first_terms terms.now) × (length named.0 ≤ limit + 2)) }
-    ensures numbers { IfOk result (λ named. AreNumbersOf named.0 terms.now named.1.items) }
-    ensures cause { IfErr result (λ fault. IsCause fault (record { terms = first_terms; limit = limit }) terms.now) }
-{
-    let (met, numbers) = met_in(alloc, first, terms)?;
-    let named = met.len() - 2;
-    if named > limit {
-        return Err(NameFault::Full { count: named });
-    }
-    Ok((table_of(alloc, met.terms())?, numbers))
-}
-
-// The table of the first two terms and these, within the limit, and the numbers of these.
-fn new_table(
-    alloc: Global,
-    limit: usize,
-    terms: &[Term],
-) -> Result<(TermTable, Vec<usize>), NameFault>
-    ensures table { IfOk result (λ named. (named.0 ≡ with_terms first_terms terms.now) × (length named.0 ≤ limit + 2)) }
-    ensures numbers { IfOk result (λ named. AreNumbersOf named.0 terms.now named.1.items) }
-    ensures cause { IfErr result (λ fault. IsCause fault (record { terms = first_terms; limit = limit }) terms.now) }
-{
-    let first = first_two(alloc)?;
-    table_within(alloc, limit, &first, terms)
-}
-
 impl Dict {
     /// A dictionary of rdf:type and rdfs:subClassOf, which have the numbers 0 and 1, that names as many
     /// terms beside them as the limit says.
@@ -115,31 +80,6 @@ impl Dict {
             limit,
             table,
         })
-    }
-
-    /// A dictionary of rdf:type and rdfs:subClassOf, which have the numbers 0 and 1, and of the terms of a
-    /// list, as `name_all` would name them in a new one; and the numbers of the terms, in their order. Its
-    /// pages are built at once.
-    pub fn from_terms(
-        alloc: Global,
-        limit: usize,
-        terms: &[Term],
-    ) -> Result<(Dict, Vec<u32>), NameFault>
-        requires { limit + 2 < 2 ^ 32 }
-        ensures ok { IfOk result (λ named. named.0 ≡ named_with (record { terms = first_terms; limit = limit }) terms.now) }
-        ensures numbers { IfOk result (λ named. AreNumbersOf named.0.terms terms.now named.1.items) }
-        ensures cause { IfErr result (λ fault. IsCause fault (record { terms = first_terms; limit = limit }) terms.now) }
-    {
-        let (table, numbers) = new_table(alloc, limit, terms)?;
-        let numbers = narrowed(alloc, &numbers)?;
-        Ok((
-            Dict {
-                alloc,
-                limit,
-                table,
-            },
-            numbers,
-        ))
     }
 
     /// The numbers of the terms, in their order. Each term that is new gets the next number, in the order

@@ -1,5 +1,5 @@
 //! Terms that were met, each once, by the order of their first appearance.
-ghost use Rattle.std.specs.Prelude.{◌≡◌, [], IfOk, OnOk, length};
+ghost use Rattle.std.specs.Prelude.{◌≡◌, [], IfOk, OnOk};
 ghost use Rattle.std.specs.List.{IsDistinct};
 ghost use Rattle.std.specs.Ordering.{eq_by_cmp};
 ghost use Rattle.rdf_model.specs.Terms.{term_cmp};
@@ -121,12 +121,6 @@ impl<'a> MetTerms<'a> {
         }
     }
 
-    pub(crate) fn len(&self) -> usize
-        ensures { result ≡ length self.now }
-    {
-        self.seen.len()
-    }
-
     // The terms in their order.
     pub(crate) fn terms(&self) -> &[MetTerm<'a>]
         ensures terms { result.now ≡ self.now }
@@ -168,19 +162,4 @@ pub(crate) fn met_of<'a>(
     let mut met = MetTerms::new(alloc);
     let places = met.place_all(terms)?;
     Ok((met, places))
-}
-
-// The terms of two lists, and the places of those of the second.
-pub(crate) fn met_in<'a>(
-    alloc: Global,
-    first: &'a [Term],
-    terms: &'a [Term],
-) -> Result<(MetTerms<'a>, Vec<usize>), AllocError>
-    ensures terms { IfOk result (λ met. met.0 ≡ with_terms (with_terms [] first.now) terms.now) }
-    ensures numbers { IfOk result (λ met. AreNumbersOf met.0 terms.now met.1.items) }
-{
-    let mut met = MetTerms::new(alloc);
-    let _ = met.place_all(first)?;
-    let numbers = met.place_all(terms)?;
-    Ok((met, numbers))
 }

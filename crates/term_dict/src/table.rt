@@ -219,7 +219,7 @@ fn entries_of(
 }
 
 // The table of terms, no two of which are equal.
-pub(crate) fn table_of(alloc: Global, terms: &[MetTerm]) -> Result<TermTable, AllocError>
+fn table_of(alloc: Global, terms: &[MetTerm]) -> Result<TermTable, AllocError>
     requires { IsDistinct (eq_by_cmp term_cmp) terms.now }
     ensures { IfOk result (λ table. table ≡ terms.now) }
 {

@@ -1,4 +1,4 @@
-use Rattle.std.proofs.Common.{◌≡◌, ◌∙◌, ◌<◌, ◌≤◌, length, take, ap, arith}
+use Rattle.std.proofs.Common.{◌≡◌, ◌∙◌, length, take, ap, arith}
 use Rattle.std.proofs.Math.Seq.{take-length}
 use Rattle.term_dict.proofs.Growing.{met_next}
 use Rattle.term_dict.proofs.table.met_again.Goals as goal

@@ -1,4 +1,4 @@
-use Rattle.std.proofs.Common.{◌≡◌, ◌∙◌, List, ap, subst, sym}
+use Rattle.std.proofs.Common.{◌∙◌, List, ap, subst, sym}
 use Rattle.rdf_model.specs.declared.term.Term.{Term}
 use Rattle.term_dict.specs.Names.{AreNumbersOf, with_terms}
 use Rattle.term_dict.proofs.table.rebuilt_with.Goals as goal
