@@ -4,7 +4,6 @@ use Rattle.std.proofs.Math.ListN.{get_or-append}
 use Rattle.std.proofs.lemmas.List.{map-append, reverse-append, reverse-reverse}
 use Rattle.std.specs.List.{AllByRecursion}
 use Rattle.rdf_model.specs.declared.ids.Ids.{Ids}
-use Rattle.rdf_model.specs.declared.change.Change.{Change}
 use Rattle.rdf_model.specs.declared.change.Change.TheVariants as changes
 use Rattle.rdf_model.specs.declared.triple.Triple.{Triple}
 use Rattle.rdf_model.specs.declared.term.Term.{Term}
@@ -34,8 +33,8 @@ terms_more names more (n ∷ ns) h =
 triple_more : (names more : List Term) (i : Ids) → IsNumbered names i → triple_at (names ++ more) i ≡ triple_at names i
 triple_more names more i h =
     let s = get_or-append names more (terms.Blank 0 0) i.subject h.0 in
-    let p = get_or-append names more (terms.Blank 0 0) i.predicate h.1.0 in
-    let o = get_or-append names more (terms.Blank 0 0) i.object h.1.1 in
+    let p = get_or-append names more (terms.Blank 0 0) i.predicate h.1 in
+    let o = get_or-append names more (terms.Blank 0 0) i.object h.2 in
     λ k. record { subject = s k; predicate = p k; object = o k }
 
 change_more : (names more : List Term) (c : NumberedChange) → IsNumberedChange names c → change_at (names ++ more) c ≡ change_at names c
@@ -69,8 +68,8 @@ number_more : (names more : List Term) (i : Ids) → IsNumbered names i → IsNu
 number_more names more i h =
     let l = length-append names more in
     let s = h.0 in
-    let p = h.1.0 in
-    let o = h.1.1 in
+    let p = h.1 in
+    let o = h.2 in
     (omega (arith, l, s), omega (arith, l, p), omega (arith, l, o))
 
 changes_have_more : (names more : List Term) (cs : List NumberedChange) → AllByRecursion (IsNumberedChange names) cs → AllByRecursion (IsNumberedChange (names ++ more)) cs
