@@ -38,7 +38,7 @@ invariant_of-self-2 c =
     let changed = ap (λ (ts : List Term). with_each [] (graph_of ts c.args.acceptance.changed.items)) names ∙ p.1.2.0 in
     let count = rw (c.into_parts-graph.ensures, c.room_for.ensures.same.0) at (c.version-number.ensures.count ∙ ap (λ (k : NamedCommits). length k.commits) c.push_reserved.ensures) in
     let named = c.self.invariant.1 ∙ ap (λ (s : RecordedStore). s.state.named) c.self.view_is in
-    let net = ap (net_at c.self.inside.history.names) (rw c.into_parts-graph.ensures c.from_vec.ensures) ∙ ap (λ (ts : List Term). net_at ts c.args.acceptance.net.items) named ∙ p.1.4.0 in
+    let net = ap (net_at c.self.inside.history.names) (rw c.into_parts-graph.ensures at c.from_vec.ensures) ∙ ap (λ (ts : List Term). net_at ts c.args.acceptance.net.items) named ∙ p.1.4.0 in
     let told = told_commit c.args.session c.args.checked.transaction _ _ c.self.inside.history.names _ c.without_changes.ensures net in
     let history = c.push_accepted.ensures ∙ ap (λ (e : Event). record { events = c.self.inside.history.events ++ e ∷ []; names = c.self.inside.history.names }) told in
     rw (history, c.push_reserved.ensures, c.room_for.ensures.same.0, c.into_parts-graph.ensures, c.into_parts-again.ensures) (
@@ -55,7 +55,7 @@ returns-clause-answer c =
     let changed = ap (λ (ts : List Term). with_each [] (graph_of ts c.args.acceptance.changed.items)) names ∙ p.1.2.0 in
     let count = rw (c.into_parts-graph.ensures, c.room_for.ensures.same.0) at (c.version-number.ensures.count ∙ ap (λ (k : NamedCommits). length k.commits) c.push_reserved.ensures) in
     let named = c.self.invariant.1 ∙ ap (λ (s : RecordedStore). s.state.named) c.self.view_is in
-    let net = ap (net_at c.self.inside.history.names) (rw c.into_parts-graph.ensures c.from_vec.ensures) ∙ ap (λ (ts : List Term). net_at ts c.args.acceptance.net.items) named ∙ p.1.4.0 in
+    let net = ap (net_at c.self.inside.history.names) (rw c.into_parts-graph.ensures at c.from_vec.ensures) ∙ ap (λ (ts : List Term). net_at ts c.args.acceptance.net.items) named ∙ p.1.4.0 in
     let told = told_commit c.args.session c.args.checked.transaction _ _ c.self.inside.history.names _ c.without_changes.ensures net in
     let history = c.push_accepted.ensures ∙ ap (λ (e : Event). record { events = c.self.inside.history.events ++ e ∷ []; names = c.self.inside.history.names }) told in
     rw (history, c.push_reserved.ensures, c.room_for.ensures.same.0, c.into_parts-graph.ensures, c.into_parts-again.ensures, sym why.1) (

@@ -12,7 +12,7 @@ use Rattle.record_text.specs.declared.record.Record.{Record}
 use Rattle.commit_core.specs.Logged.{IsAppended, IsFailed}
 use Rattle.commit_core.specs.Verdicts.{AreReasons}
 use Rattle.commit_core.proofs.Accepting.{told_commit}
-use Rattle.commit_core.proofs.Consistency.{at_fields, consistent_accepted, consistent_failed, names_kept}
+use Rattle.commit_core.proofs.Consistency.{at_fields, consistent_accepted, consistent_failed, names_kept, takes_accepted}
 use Rattle.commit_core.proofs.NamedTerms.{begins_same}
 use Rattle.commit_core.proofs.store.Core.accept_logged.Goals as goal
 
@@ -46,7 +46,7 @@ invariant_of-self-in-Ok-append g c =
     let changed = ap (λ (ts : List Term). with_each [] (graph_of ts c.args.acceptance.changed.items)) names ∙ p.1.2.0 in
     let count = rw (c.into_parts-graph.ensures, c.room_for.ensures.same.0) at (c.version-number.ensures.count ∙ ap (λ (k : NamedCommits). length k.commits) c.push_reserved.ensures) in
     let named = c.self.invariant.1 ∙ ap (λ (s : RecordedStore). s.state.named) c.self.view_is in
-    let net = ap (net_at c.self.inside.history.names) (rw c.into_parts-graph.ensures c.from_vec.ensures) ∙ ap (λ (ts : List Term). net_at ts c.args.acceptance.net.items) named ∙ p.1.4.0 in
+    let net = ap (net_at c.self.inside.history.names) (rw c.into_parts-graph.ensures at c.from_vec.ensures) ∙ ap (λ (ts : List Term). net_at ts c.args.acceptance.net.items) named ∙ p.1.4.0 in
     let told = told_commit c.args.session c.args.checked.transaction _ _ c.self.inside.history.names _ c.without_changes.ensures net in
     let history = c.push_accepted.ensures ∙ ap (λ (e : Event). record { events = c.self.inside.history.events ++ e ∷ []; names = c.self.inside.history.names }) told in
     rw (history, c.push_reserved.ensures, c.room_for.ensures.same.0, c.into_parts-graph.ensures, c.into_parts-again.ensures) (
@@ -54,6 +54,20 @@ invariant_of-self-in-Ok-append g c =
       names_kept _ _ _ c.args.checked.transaction _ c.self.view_is c.self.invariant.1 p.1.1,
       begins_same _ _ (sym (names_kept _ _ _ c.args.checked.transaction _ c.self.view_is c.in-Ok-room_for.ensures.names p.1.1)),
     )
+
+pub returns-in-Ok-append-clause-answer : goal.returns-in-Ok-append-clause-answer
+returns-in-Ok-append-clause-answer g c =
+    let p = c.requires.plan in
+    let why = at_fields _ _ (λ s. AreReasons s.state.commits c.args.checked.transaction c.args.reasons) c.self.view_is c.requires.reasons in
+    let names = c.in-Ok-room_for.ensures.names ∙ ap (λ (s : RecordedStore). s.state.named) c.self.view_is in
+    let changed = ap (λ (ts : List Term). with_each [] (graph_of ts c.args.acceptance.changed.items)) names ∙ p.1.2.0 in
+    let count = rw (c.into_parts-graph.ensures, c.room_for.ensures.same.0) at (c.version-number.ensures.count ∙ ap (λ (k : NamedCommits). length k.commits) c.push_reserved.ensures) in
+    let named = c.self.invariant.1 ∙ ap (λ (s : RecordedStore). s.state.named) c.self.view_is in
+    let net = ap (net_at c.self.inside.history.names) (rw c.into_parts-graph.ensures at c.from_vec.ensures) ∙ ap (λ (ts : List Term). net_at ts c.args.acceptance.net.items) named ∙ p.1.4.0 in
+    let told = told_commit c.args.session c.args.checked.transaction _ _ c.self.inside.history.names _ c.without_changes.ensures net in
+    let history = c.push_accepted.ensures ∙ ap (λ (e : Event). record { events = c.self.inside.history.events ++ e ∷ []; names = c.self.inside.history.names }) told in
+    rw (history, c.push_reserved.ensures, c.room_for.ensures.same.0, c.into_parts-graph.ensures, c.into_parts-again.ensures, sym why.1) (
+    takes_accepted _ c.self.inside.graph c.args.acceptance.graph _ _ _ _ _ _ _ _ _ _ _ _ c.self.invariant.0 c.self.view_is c.requires.running c.requires.opened c.requires.committable (why.1 ∙ why.0) p.0 p.1.0 p.1.1 changed p.1.3 count)
 
 pub returns-in-Err-Failed-clause-log : goal.returns-in-Err-Failed-clause-log
 returns-in-Err-Failed-clause-log g c =
