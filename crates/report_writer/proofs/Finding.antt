@@ -2,7 +2,7 @@
 use Rattle.std.proofs.Common.{Bor, ◌≡◌, ◌∙◌, Bool, true, false, List, [], ◌∷◌, cond, refl, sym, ap, subst, arith, inl, inr}
 use Rattle.std.specs.Prelude.{Option, Some, None}
 use Rattle.std.specs.List.{Contains, find}
-use Rattle.std.specs.Option.{IsSome, option_copied}
+use Rattle.std.specs.Option.{IsSome, option_copied, option_map}
 use Rattle.collections.proofs.Members.{has_cases, has_equal, has_head, has_tail}
 use Rattle.rdf_model.specs.declared.term.Term.{Term}
 use Rattle.rdf_model.specs.Matching.{same_term}
@@ -49,13 +49,12 @@ finds shapes n r i e =
     first_found (has_node n) shapes c.0 c.1 (equal_same c.0.node n (ap (λ (s : ReadShape). s.node) c.2 ∙ e))
 
 -- the shape that is found is the one that is found as it is read
-pub found_read : (shapes : List (Shape Term)) (n : Term) (c : Shape Term) → find (has_node n) shapes ≡ Some c → find (λ r. same_term r.node n) (read_shapes shapes) ≡ Some (as_read c)
-found_read [] n c e = cc
-found_read (d ∷ shapes) n c e =
-    elim (same_term d.node n) as (λ b. cond b (Some d) (find (has_node n) shapes) ≡ Some c → cond b (Some (as_read d)) (find (λ r. same_term r.node n) (read_shapes shapes)) ≡ Some (as_read c)) [
-      | true ↦ λ k. let same : d ≡ c = cc in ap (λ (s : Shape Term). Some (as_read s)) same
-      | false ↦ λ k. found_read shapes n c k
-    ] e
+pub found_read : (shapes : List (Shape Term)) (n : Term) → option_map as_read (find (has_node n) shapes) ≡ find (λ r. same_term r.node n) (read_shapes shapes)
+found_read [] n = refl
+found_read (d ∷ shapes) n = elim (same_term d.node n) as (λ b. option_map as_read (cond b (Some d) (find (has_node n) shapes)) ≡ cond b (Some (as_read d)) (find (λ r. same_term r.node n) (read_shapes shapes))) [
+  | true ↦ refl
+  | false ↦ found_read shapes n
+]
 
 -- one of the shapes with the node is found
 pub is_there : (shapes : List ReadShape) (n : Term) (c : ReadShape) → Contains shapes c → c.node ≡ n → (d : ReadShape) × (find (λ r. same_term r.node n) shapes ≡ Some d) × Contains shapes d × (d.node ≡ n)

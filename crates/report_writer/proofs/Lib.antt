@@ -5,6 +5,8 @@ pub mod RuleShapes
 pub mod WellFormed
 pub mod Joins
 pub mod Finding
+pub mod Escapes
+pub mod FirstShapes
 pub mod ReadLines
 pub mod Graphs
 pub mod Results

@@ -28,3 +28,7 @@ results_same text other (r ∷ rows) same i =
 
 pub report_same : (text other : List ℕ → ResultRow → List ℕ) (rows : List ResultRow) → ((r : ResultRow) → Contains rows r → (label : List ℕ) → text label r ≡ other label r) → report_by text rows ≡ report_by other rows
 report_same text other rows same = ap (λ (results : List ℕ). codes "@prefix sh: <http://www.w3.org/ns/shacl#> .\n" ++ statement (codes "_:r") (codes "a") (codes "sh:ValidationReport") ++ statement (codes "_:r") (codes "sh:conforms") (conforms_text rows) ++ results) (results_same text other rows same 1)
+
+-- the results come after the lines on the whole report
+pub after_head : (text : List ℕ → ResultRow → List ℕ) (rows : List ResultRow) → (codes "@prefix sh: <http://www.w3.org/ns/shacl#> .\n" ++ statement (codes "_:r") (codes "a") (codes "sh:ValidationReport") ++ statement (codes "_:r") (codes "sh:conforms") (conforms_text rows)) ++ results_by text 1 rows ≡ report_by text rows
+after_head text rows = simp append_assoc

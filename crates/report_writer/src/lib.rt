@@ -12,6 +12,8 @@ mod component;
 pub mod laws;
 mod lines;
 mod paths;
+mod tables;
+mod terms;
 mod text;
 
 pub use text::report;

@@ -3,6 +3,7 @@ ghost use Rattle.std.specs.Prelude.{◌≡◌, ◌++◌, OnOk, map, string_bytes
 ghost use Rattle.path_ast.specs.PathReadings.{defined_path, members};
 ghost use Rattle.report_writer.specs.PathTexts.{list_text, members_text, node_text, path_text};
 
+use crate::terms::push_term;
 use rdf_model::Term;
 use shape_ast::Path;
 use std::alloc::AllocError;
@@ -13,7 +14,7 @@ pub fn push_path(out: &mut String, path: &Path<Term>) -> Result<(), AllocError>
     ensures { OnOk result (string_bytes out.new ≡ string_bytes out.old ++ path_text (defined_path path.now)) }
 {
     match path {
-        Path::Predicate(predicate) => write!(out, "{predicate}"),
+        Path::Predicate(predicate) => push_term(out, predicate),
         Path::Inverse(inner) => push_node(out, "sh:inversePath", inner),
         Path::Sequence(first, others) => push_list(out, first, others),
         Path::Alternative(first, others) => {

@@ -1,40 +1,59 @@
 //! The report of a listing.
 ghost use Rattle.std.specs.Prelude.{◌≡◌, ◌++◌, List, IfOk, OnOk, codes, string_bytes};
-ghost use Rattle.std.specs.List.{Contains, find};
-ghost use Rattle.std.specs.Option.{option_copied};
+ghost use Rattle.std.specs.List.{All};
+ghost use Rattle.std.specs.Option.{IsSome};
 ghost use Rattle.rdf_model.specs.declared.triple.Triple.{Triple};
-ghost use Rattle.rdf_model.specs.Matching.{same_term};
-ghost use Rattle.shape_ast.specs.Readings.{ReadShape, read_shapes};
+ghost use Rattle.shape_ast.specs.Readings.{read_shapes};
 ghost use Rattle.shape_ast.specs.Standing.{StandFor};
 ghost use Rattle.shape_rules.specs.Broken.{IsWellFormed};
-ghost use Rattle.report_writer.specs.Report.{conforms_text, report_text, result_label, statement};
-ghost use Rattle.report_writer.specs.CompiledReport.{compiled_report, compiled_text};
+ghost use Rattle.report_writer.specs.Report.{conforms_text, report_text, result_label, results_by, statement};
+ghost use Rattle.report_writer.specs.CompiledReport.{compiled_report};
 ghost use Rattle.report_writer.specs.Sources.{HaveSources};
+ghost use Rattle.report_writer.specs.Tables.{row_lines, shape_at};
 
 use crate::lines::push_result;
+use crate::tables::{ShapeTable, first_shapes, shape_of};
 use rdf_model::Term;
 use shape_ast::{ResultRow, Shape, Shapes};
 use std::alloc::{AllocError, Global};
 
-// The shape with this node, if it is among the shapes.
-fn shape_of<'a>(shapes: &'a [Shape<Term>], node: &Term) -> Option<&'a Shape<Term>>
-    ensures { option_copied result ≡ find (λ c. same_term c.node node.now) shapes.now }
+// The label of a result, in place of another.
+fn set_label(label: &mut String, number: u64) -> Result<(), AllocError>
+    ensures { OnOk result (string_bytes label.new ≡ result_label number) }
 {
-    shapes.iter().find(|shape| shape.node == *node)
+    label.clear();
+    write!(label, "_:r{number}")
 }
 
 // The lines of one result, by the shape that gave it.
-fn push_row(
+fn push_row<'a>(
     out: &mut String,
-    number: u64,
-    row: &ResultRow,
-    shapes: &[Shape<Term>],
+    label: &str,
+    row: &'a ResultRow,
+    shapes: &ShapeTable<'a>,
 ) -> Result<(), AllocError>
-    requires { (c : ReadShape) × Contains (read_shapes shapes.now) c × (c.node ≡ row.now.source_shape) }
-    ensures { OnOk result (string_bytes out.new ≡ string_bytes out.old ++ compiled_text (read_shapes shapes.now) (result_label number) row.now) }
+    requires { IsSome (shape_at shapes.now row.now.source_shape) }
+    ensures { OnOk result (string_bytes out.new ≡ string_bytes out.old ++ row_lines shapes.now label.now row.now) }
 {
     let shape = shape_of(shapes, &row.source_shape).unwrap();
-    push_result(out, number, row, shape)
+    push_result(out, label, row, shape)
+}
+
+// The lines of the results, each by the shape that gave it.
+fn push_rows<'a>(
+    out: &mut String,
+    label: &mut String,
+    rows: &'a [ResultRow],
+    shapes: &ShapeTable<'a>,
+) -> Result<(), AllocError>
+    requires { All (λ r. IsSome (shape_at shapes.now r.source_shape)) rows.now }
+    ensures { OnOk result (string_bytes out.new ≡ string_bytes out.old ++ results_by (row_lines shapes.now) 1 rows.now) }
+{
+    for (i, row) in rows.iter().enumerate() {
+        set_label(label, i as u64 + 1)?;
+        push_row(out, label.as_str(), row, shapes)?;
+    }
+    Ok(())
 }
 
 // The lines on the whole report.
@@ -52,14 +71,18 @@ fn head(alloc: Global, rows: &[ResultRow]) -> Result<String, AllocError>
 }
 
 // The report, by the shapes.
-fn written(alloc: Global, rows: &[ResultRow], shapes: &[Shape<Term>]) -> Result<String, AllocError>
+fn written<'a>(
+    alloc: Global,
+    rows: &'a [ResultRow],
+    shapes: &'a [Shape<Term>],
+) -> Result<String, AllocError>
     requires { HaveSources (read_shapes shapes.now) rows.now }
     ensures { IfOk result (λ text. string_bytes text ≡ compiled_report (read_shapes shapes.now) rows.now) }
 {
+    let table = first_shapes(alloc, shapes)?;
     let mut out = head(alloc, rows)?;
-    for (i, row) in rows.iter().enumerate() {
-        push_row(&mut out, i as u64 + 1, row, shapes)?;
-    }
+    let mut label = String::new(alloc);
+    push_rows(&mut out, &mut label, rows, &table)?;
     Ok(out)
 }
 

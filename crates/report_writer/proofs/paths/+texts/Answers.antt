@@ -56,9 +56,9 @@ push_path-returns-in-Sequence t c =
 pub push_path-returns-in_ok-push_list-in-Alternative : goal.push_path-returns-in_ok-push_list-in-Alternative
 push_path-returns-in_ok-push_list-in-Alternative t c =
     let same = alternative_text c.args.path.now c.in-Alternative.first c.in-Alternative.others c.deref-in-Alternative.result.now c.deref-in-Alternative.ensures c.deref-in-Alternative-2.result.now c.deref-in-Alternative-2.ensures.value c.in-Alternative.is in
-    on_ok_weaker c.write-in-Alternative-2.result (λ h.
-    bracketed (string_bytes c.args.out.now) (string_bytes c.write-in-Alternative.new.self) (string_bytes c.push_list-in-Alternative.new.out) (string_bytes c.write-in-Alternative-2.new.self) _ c.in_ok-write-in-Alternative.ensures.bytes c.in_ok-push_list-in-Alternative.ensures h
-    ∙ ap (λ text. string_bytes c.args.out.now ++ text) (sym same)) c.write-in-Alternative-2.ensures.bytes
+    on_ok_weaker c.write-in-Alternative.result (λ h.
+    bracketed (string_bytes c.args.out.now) (string_bytes c.write.new.self) (string_bytes c.push_list-in-Alternative.new.out) (string_bytes c.write-in-Alternative.new.self) _ c.in_ok-write-in-Alternative.ensures.bytes c.in_ok-push_list-in-Alternative.ensures h
+    ∙ ap (λ text. string_bytes c.args.out.now ++ text) (sym same)) c.write-in-Alternative.ensures.bytes
 
 pub push_path-returns-in-OneOrMore : goal.push_path-returns-in-OneOrMore
 push_path-returns-in-OneOrMore t c =
