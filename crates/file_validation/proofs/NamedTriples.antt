@@ -1,5 +1,5 @@
 -- Triples whose terms have numbers, as more terms come.
-use Rattle.std.proofs.Common.{◌≡◌, ◌∙◌, ◌+◌, ◌<◌, ℕ, zero, suc, List, [], ◌∷◌, length, get_or, arith, inl, inr, subst, sym}
+use Rattle.std.proofs.Common.{◌≡◌, ◌+◌, ◌<◌, ℕ, zero, suc, List, [], ◌∷◌, length, get_or, arith, inl, inr, subst, sym}
 use Rattle.std.specs.Prelude.{◌↔◌, codes}
 use Rattle.std.specs.List.{Contains}
 use Rattle.std.proofs.lemmas.Bool.{cases_eq}
@@ -17,7 +17,7 @@ use Rattle.parallel_validate.specs.Named.{IsNamedTriple}
 use Rattle.parallel_validate.proofs.Members.{index_members, index_numbered}
 use Rattle.data_graph.specs.DataGraphs.{IsIndexOf}
 use Rattle.triple_table.specs.Tables.{HasGrown, IsPlaceOf}
-use Rattle.triple_table.proofs.Places.{graph_grown, numbered_grown, place_stays}
+use Rattle.triple_table.proofs.Places.{place_stays}
 
 -- a term with a number is named
 pub placed : (named : List Term) (n : ℕ) (t : Term) → n < length named → term_at named n ≡ t → Contains named t
@@ -60,9 +60,9 @@ words_stay us vs w g a =
     let above = place_stays us vs w.sub_class_of sub_class_of g (record { within = a.above_bound; is = a.above }) in
     record { types_bound = types.within; types = types.is; above_bound = above.within; above = above.is }
 
--- an index of numbers of the first terms stands for their graph
-pub index_of_terms : (us vs : List Term) (graph : List Triple) (ids index : List Ids) → HasGrown us vs → AreNumbered us ids → graph_of us ids ≡ graph → ((i : Ids) → Contains index i ↔ Contains ids i) → IsIndexOf vs index graph
-index_of_terms us vs graph ids index g a e same = record {
-  numbered = index_numbered vs ids index (numbered_grown us vs ids g a) same;
-  members = index_members vs ids index graph (graph_grown us vs ids g a ∙ e) same;
+-- an index of numbers stands for their graph
+pub index_of : (terms : List Term) (graph : List Triple) (ids index : List Ids) → AreNumbered terms ids → graph_of terms ids ≡ graph → ((i : Ids) → Contains index i ↔ Contains ids i) → IsIndexOf terms index graph
+index_of terms graph ids index a e same = record {
+  numbered = index_numbered terms ids index a same;
+  members = index_members terms ids index graph e same;
 }

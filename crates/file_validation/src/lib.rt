@@ -9,6 +9,7 @@
 #![tactic(auto)]
 
 mod fault;
+mod indexing;
 mod naming;
 mod reading;
 mod results;

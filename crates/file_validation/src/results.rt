@@ -9,7 +9,7 @@ ghost use Rattle.parallel_validate.specs.Named.{AreNamedTriples};
 ghost use Rattle.file_validation.specs.Validations.{IsVerdict};
 
 use crate::EvidenceVerdict;
-use crate::naming::{NumberedGraph, numbered};
+use crate::naming::{NumberedGraph, numbered, numbered_by_threads};
 use collections::Sequence;
 use evidence_verdict::{VerdictFault, verdict_over};
 use graph_explanation::explanation_over;
@@ -55,7 +55,7 @@ fn listing_in<L: Ledger, R: Threads + Sync>(
 }
 
 /// The results of validating the graph of triples that were found by the shapes graph (SHACL section 3.6), each once, in the order of results. Threads
-/// share out the evaluations among each other.
+/// share out the evaluations among each other, and sort the orders of the graph's index beside each other before.
 pub(crate) fn listing<R: Threads + Sync>(
     rt: &R,
     alloc: Global,
@@ -64,7 +64,7 @@ pub(crate) fn listing<R: Threads + Sync>(
 ) -> Result<Sequence<ResultRow>, AllocError>
     ensures { IfOk result (λ rows. Listing (with_each [] graph) shapes.now rows) }
 {
-    let numbered = numbered(alloc, graph, shapes.triples())?;
+    let numbered = numbered_by_threads(rt, alloc, graph, shapes.triples())?;
     let rows = listing_in::<Brand, R>(rt, alloc, &numbered, shapes, Blank::new(1))?;
     Ok(Sequence::from_vec(rows))
 }
