@@ -16,7 +16,8 @@ use Rattle.rdf_model.specs.Terms.{triple_cmp}
 use Rattle.triple_index.specs.Patterns.{IsMatch, ListsOnce}
 use Rattle.follower.specs.declared.served.Served.{Served}
 use Rattle.follower.specs.Followed.{Followed, IsServed, version_of}
-use Rattle.follower.specs.Numbered.{IsIndexOf, IsNumbered}
+use Rattle.triple_index.specs.Changes.{IsNumbered}
+use Rattle.follower.specs.Numbered.{IsIndexOf}
 use Rattle.follower.specs.Records.{data_of}
 use Rattle.follower.proofs.Sequences.{all_ascends}
 use Rattle.follow_command.specs.Printing.{served_lines, triple_lines}

@@ -5,7 +5,8 @@ ghost use Rattle.rdf_model.specs.Numbers.{AreNumbered, graph_of, term_at, triple
 ghost use Rattle.rdf_model.specs.declared.triple.Triple.{Triple as TripleData};
 ghost use Rattle.rdf_model.specs.Terms.{triple_cmp};
 ghost use Rattle.collections.specs.Ordered.{IsAscending};
-ghost use Rattle.follower.specs.Numbered.{IsIndexOf, IsNumbered};
+ghost use Rattle.triple_index.specs.Changes.{IsNumbered};
+ghost use Rattle.follower.specs.Numbered.{IsIndexOf};
 
 use collections::sorted_once;
 use follower::Served;

@@ -2,7 +2,7 @@ use Rattle.std.proofs.Common.{◌≡◌, ◌∙◌, List, ap, subst, sym}
 use Rattle.std.specs.List.{All}
 use Rattle.rdf_model.specs.declared.ids.Ids.{Ids}
 use Rattle.rdf_model.specs.Numbers.{graph_of}
-use Rattle.follower.specs.Numbered.{IsNumbered}
+use Rattle.triple_index.specs.Changes.{IsNumbered}
 use Rattle.follow_command.proofs.Served.{all_numbered, served_graph}
 use Rattle.follow_command.proofs.triples.served_triples.Goals as goal
 
