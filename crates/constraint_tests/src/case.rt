@@ -17,7 +17,6 @@ use shape_model::ResultRow;
 use std::alloc::{AllocError, Global};
 use std::marker::Model;
 use std::process::Abort;
-use std::test::Fail;
 
 // A row of a table: a component, the value of its parameter, the value nodes, other terms, and the results.
 // The focus node is e:f, which has the other terms as values of the parameter. The members are those terms, each
@@ -392,7 +391,7 @@ pub(crate) fn read_case<'a>(
     alloc: Global,
     graph: &str,
     line: &'a str,
-) -> Result<Case<'a>, Fail> {
+) -> Result<Case<'a>, AllocError> {
     let parts = parts_of(line);
     let source = term(alloc, "e:S")?;
     let draft = read_draft(alloc, graph, &parts)?;
@@ -463,6 +462,11 @@ fn wanted(alloc: Global, words: &str) -> Result<String, AllocError> {
     joined(alloc, texts)
 }
 
+// Ends the test where a row finds anything but what it wants.
+pub(crate) fn assert_same(rt: &impl Abort, line: &str, found: &str, wanted: &str) {
+    assert_eq!(rt; found, wanted, "{line}");
+}
+
 // The results are those that the row wants, each once, in their order.
 pub(crate) fn assert_found(
     rt: &impl Abort,
@@ -470,9 +474,9 @@ pub(crate) fn assert_found(
     case: &Case<'_>,
     rows: &[ResultRow],
     line: &str,
-) -> Result<(), Fail> {
+) -> Result<(), AllocError> {
     let found = found(alloc, case, rows)?;
     let wanted = wanted(alloc, case.wanted)?;
-    assert_eq!(rt; found.as_str(), wanted.as_str(), "{line}");
+    assert_same(rt, line, found.as_str(), wanted.as_str());
     Ok(())
 }

@@ -9,7 +9,7 @@ ghost use Rattle.shape_model.specs.Vocabulary.{rdf_type, sub_class_of};
 ghost use Rattle.shape_ast.specs.Readings.{AreBound, AreNamed, HoldsOfConstraint, HoldsOfShape};
 ghost use Rattle.shape_ast.specs.Standing.{AreBuilt, IsBuilt};
 
-use crate::case::{Case, read_case};
+use crate::case::{Case, assert_same, read_case};
 use crate::short_terms::{term, text_of};
 use collections::Sequence;
 use path_eval::ClassWords;
@@ -21,7 +21,6 @@ use std::alloc::{AllocError, Global};
 use std::marker::Brand;
 use std::process::Abort;
 use std::sync::ledger::{Blank, Ledger};
-use std::test::Fail;
 
 // The last part has the values of sh:class at the node shape e:S. The focus node e:f has the other terms as values of rdf:type.
 // Wanted are those of which it is no instance, in the order of the results.
@@ -200,7 +199,7 @@ fn class_words(
     alloc: Global,
     names: &ListNames,
     rdf_type: u32,
-) -> Result<ClassWords, Fail>
+) -> Result<ClassWords, AllocError>
     ensures { IfOk result (λ words. AreClassWords names.now words) }
 {
     let above = term(alloc, "http://www.w3.org/2000/01/rdf-schema#subClassOf")?;
@@ -213,7 +212,12 @@ fn class_words(
 }
 
 // The node shape of the row.
-fn shapes_of(rt: &impl Abort, alloc: Global, names: &ListNames, line: &str) -> Result<Shapes, Fail>
+fn shapes_of(
+    rt: &impl Abort,
+    alloc: Global,
+    names: &ListNames,
+    line: &str,
+) -> Result<Shapes, AllocError>
     ensures named { IfOk result (λ all. AreNamed names.now all.shapes) }
     ensures built { IfOk result (λ all. AreBuilt (λ t. t) all.shapes) }
 {
@@ -225,7 +229,12 @@ fn shapes_of(rt: &impl Abort, alloc: Global, names: &ListNames, line: &str) -> R
 }
 
 // The row's node shape by the numbers of its terms.
-fn bound_of(rt: &impl Abort, alloc: Global, names: &ListNames, line: &str) -> Result<Bound, Fail>
+fn bound_of(
+    rt: &impl Abort,
+    alloc: Global,
+    names: &ListNames,
+    line: &str,
+) -> Result<Bound, AllocError>
     ensures bound { IfOk result (λ bound. AreBound names.now bound.shapes) }
     ensures built { IfOk result (λ bound. AreBuilt (term_at names.now) bound.shapes) }
     ensures some { IfOk result (λ bound. 0 < length bound.shapes) }
@@ -265,13 +274,13 @@ fn assert_rows(
     wanted: &str,
     rows: &[ResultRow],
     line: &str,
-) -> Result<(), Fail> {
+) -> Result<(), AllocError> {
     let found = classes(alloc, rows)?;
-    assert_eq!(rt; found.trim(), wanted, "{line}");
+    assert_same(rt, line, found.trim(), wanted);
     Ok(())
 }
 
-fn assert_classes(rt: &impl Abort, alloc: Global, line: &str) -> Result<(), Fail> {
+fn assert_classes(rt: &impl Abort, alloc: Global, line: &str) -> Result<(), AllocError> {
     let case = read_case(rt, alloc, "", line)?;
     let words = class_words(rt, alloc, case.names(), case.parameter())?;
     let bound = bound_of(rt, alloc, case.names(), line)?;
@@ -280,7 +289,7 @@ fn assert_classes(rt: &impl Abort, alloc: Global, line: &str) -> Result<(), Fail
 }
 
 #[test]
-fn classes_of_one_shape(rt: HostRuntime) -> Result<(), Fail> {
+fn classes_of_one_shape(rt: HostRuntime) -> Result<(), AllocError> {
     for line in CLASSES.lines() {
         assert_classes(&rt, rt.alloc(), line)?;
     }

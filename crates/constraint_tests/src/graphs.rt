@@ -1,14 +1,13 @@
 //! Components that read the data graph beside the value nodes: pairs and closed shapes.
 ghost use Rattle.rdf_model.specs.Numbers.{AreNumbered};
 
-use crate::case::{Case, assert_found, read_case, site_of};
+use crate::case::{Case, site_of};
+use crate::tables::{Calls, assert_table};
 use component_rows::Site;
 use pair_constraints::{disjoint, equals, less_than, less_than_or_equals};
 use rdf_model::{ListGraph, ListNames};
 use shape_model::ResultRow;
 use std::alloc::{AllocError, Global};
-use std::process::Abort;
-use std::test::Fail;
 use value_constraints::closed;
 
 // The value nodes and the values of e:q: equal ones, pairs in order, of equal value, and that don't compare.
@@ -42,7 +41,7 @@ Disjoint; e:q;; e:a;
 Disjoint; e:q; e:q;;";
 
 // Triples of several subjects, and the predicates that a closed shape allows. Another literal than true has no effect.
-const GRAPH: &str = "\
+pub(crate) const GRAPH: &str = "\
 e:a rdf:type e:C
 e:a e:p e:b
 e:a e:p e:c
@@ -77,33 +76,16 @@ fn pair_rows(
     }
 }
 
-fn pair_rows_of(alloc: Global, case: &Case<'_>) -> Result<Vec<ResultRow>, AllocError> {
+pub(crate) fn pair_rows_of(alloc: Global, case: &Case<'_>) -> Result<Vec<ResultRow>, AllocError> {
     pair_rows(case.component(), case.graph(), &site_of(alloc, case))
 }
 
-fn closed_rows(alloc: Global, case: &Case<'_>) -> Result<Vec<ResultRow>, AllocError> {
+pub(crate) fn closed_rows(alloc: Global, case: &Case<'_>) -> Result<Vec<ResultRow>, AllocError> {
     closed(case.graph(), &site_of(alloc, case), case.members())
 }
 
-fn assert_pairs(rt: &impl Abort, alloc: Global, line: &str) -> Result<(), Fail> {
-    let case = read_case(rt, alloc, "", line)?;
-    let rows = pair_rows_of(alloc, &case)?;
-    assert_found(rt, alloc, &case, &rows, line)
-}
-
-fn assert_closed(rt: &impl Abort, alloc: Global, line: &str) -> Result<(), Fail> {
-    let case = read_case(rt, alloc, GRAPH, line)?;
-    let rows = closed_rows(alloc, &case)?;
-    assert_found(rt, alloc, &case, &rows, line)
-}
-
 #[test]
-fn pairs_and_closings(rt: HostRuntime) -> Result<(), Fail> {
-    for line in PAIRS.lines() {
-        assert_pairs(&rt, rt.alloc(), line)?;
-    }
-    for line in CLOSINGS.lines() {
-        assert_closed(&rt, rt.alloc(), line)?;
-    }
-    Ok(())
+fn pairs_and_closings(rt: HostRuntime) -> Result<(), AllocError> {
+    assert_table(&rt, rt.alloc(), Calls::Pairs, PAIRS)?;
+    assert_table(&rt, rt.alloc(), Calls::Closings, CLOSINGS)
 }

@@ -20,4 +20,6 @@ mod short_terms;
 #[cfg(test)]
 mod strings;
 #[cfg(test)]
+mod tables;
+#[cfg(test)]
 mod values;

@@ -1,14 +1,14 @@
 //! The results of sh:property.
 ghost use Rattle.std.specs.Prelude.{◌≡◌, length};
 
-use crate::case::{Case, read_case};
+use crate::case::{Case, assert_same, read_case};
 use crate::short_terms::{term, text_of_row};
+use collections::both;
 use logic_constraints::property;
-use rdf_model::Names;
+use rdf_model::{Names, Term};
 use shape_model::{Component, ResultRow};
 use std::alloc::{AllocError, Global};
 use std::process::Abort;
-use std::test::Fail;
 
 // For each value node a word of the results that the property shape gives there, a letter each, or a dash where there are none.
 const PROPERTIES: &str = "\
@@ -18,6 +18,18 @@ Property; e:P; e:v e:w; ; ; - -
 Property; e:P; e:v; ; e:v|e:a|- e:v|e:b|-; aab
 Property; e:P; ; ; ;";
 
+fn node_at(alloc: Global, case: &Case<'_>, node: u32) -> Result<Term, AllocError> {
+    match case.names().term(node) {
+        Some(term) => term.clone(),
+        None => term(alloc, "e:missing"),
+    }
+}
+
+fn term_of_letter(alloc: Global, letter: char) -> Result<Term, AllocError> {
+    let short = format!(in alloc; "e:{letter}")?;
+    term(alloc, short.as_str())
+}
+
 // A result of the property shape at the node, told apart by its value.
 fn row_at(
     alloc: Global,
@@ -25,15 +37,12 @@ fn row_at(
     node: u32,
     letter: char,
 ) -> Result<ResultRow, AllocError> {
-    let focus = match case.names().term(node) {
-        Some(focus) => focus.clone()?,
-        None => term(alloc, "e:missing")?,
-    };
-    let value = term(alloc, format!(in alloc; "e:{letter}")?.as_str())?;
+    let (focus_node, about) = both(node_at(alloc, case, node), node_at(alloc, case, node))?;
+    let (source_shape, value) = both(term(alloc, "e:P"), term_of_letter(alloc, letter))?;
     Ok(ResultRow {
-        source_shape: term(alloc, "e:P")?,
-        about: Some(focus.clone()?),
-        focus_node: focus,
+        source_shape,
+        about: Some(about),
+        focus_node,
         component: Component::Class,
         parameter: None,
         value: Some(value),
@@ -74,18 +83,24 @@ fn text_of(alloc: Global, rows: &[ResultRow]) -> Result<String, AllocError> {
     Ok(text)
 }
 
-fn assert_property(rt: &impl Abort, alloc: Global, line: &str) -> Result<(), Fail> {
+fn found(alloc: Global, case: &Case<'_>, lists: &[Vec<ResultRow>]) -> Result<String, AllocError>
+    requires { length lists.now ≡ length case.now.values }
+{
+    let rows = property(alloc, case.values(), lists)?;
+    text_of(alloc, &rows)
+}
+
+fn assert_property(rt: &impl Abort, alloc: Global, line: &str) -> Result<(), AllocError> {
     let case = read_case(rt, alloc, "", line)?;
     let lists = lists_of(alloc, &case, line)?;
     assert_eq!(rt; lists.len(), case.values().len());
-    let found = text_of(alloc, &property(alloc, case.values(), &lists)?)?;
-    let wanted = format!(in alloc; "{} ", case.wanted())?;
-    assert_eq!(rt; found.trim(), wanted.trim(), "{line}");
+    let found = found(alloc, &case, &lists)?;
+    assert_same(rt, line, found.trim(), case.wanted().trim());
     Ok(())
 }
 
 #[test]
-fn property_shapes(rt: HostRuntime) -> Result<(), Fail> {
+fn property_shapes(rt: HostRuntime) -> Result<(), AllocError> {
     for line in PROPERTIES.lines() {
         assert_property(&rt, rt.alloc(), line)?;
     }

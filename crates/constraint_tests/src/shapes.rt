@@ -3,8 +3,9 @@ ghost use Rattle.std.specs.Prelude.{◌≡◌, ◌<◌, ◌∷◌, [], length, m
 ghost use Rattle.std.specs.List.{Contains};
 ghost use Rattle.component_rows.specs.Conformance.{AreTold};
 
-use crate::case::{Case, assert_found, read_case, site_of};
+use crate::case::{Case, site_of};
 use crate::checks::{are_told, have_names};
+use crate::tables::{Calls, assert_table};
 use component_rows::Site;
 use logic_constraints::{and, node, not, or, xone};
 use qualified_shapes::{qualified_max_count, qualified_min_count};
@@ -12,7 +13,6 @@ use rdf_model::{ListNames, Names};
 use shape_model::ResultRow;
 use std::alloc::{AllocError, Global};
 use std::process::Abort;
-use std::test::Fail;
 use value_constraints::class;
 
 // The last part has the answers to the value nodes, in order, whether each is of the class.
@@ -83,17 +83,21 @@ fn letters(alloc: Global, word: &str) -> Result<Vec<bool>, AllocError> {
     Ok(answers)
 }
 
+// The last part of a row.
+fn last_part(line: &str) -> &str {
+    line.split(';').nth(5).unwrap_or("")
+}
+
 // The answers in the last part of a row.
 fn answers_of(alloc: Global, line: &str) -> Result<Vec<Vec<bool>>, AllocError> {
     let mut answers = Vec::new(alloc);
-    let words = line.split(';').nth(5).unwrap_or("");
-    for word in words.split_ascii_whitespace() {
+    for word in last_part(line).split_ascii_whitespace() {
         answers.push(letters(alloc, word)?)?;
     }
     Ok(answers)
 }
 
-fn class_rows(
+fn asked_class(
     alloc: Global,
     case: &Case<'_>,
     answers: &[bool],
@@ -103,15 +107,18 @@ fn class_rows(
     class(&site_of(alloc, case), answers)
 }
 
-fn assert_class(rt: &impl Abort, alloc: Global, line: &str) -> Result<(), Fail> {
-    let case = read_case(rt, alloc, "", line)?;
-    let answers = letters(alloc, line.split(';').nth(5).unwrap_or(""))?;
+pub(crate) fn class_rows(
+    rt: &impl Abort,
+    alloc: Global,
+    case: &Case<'_>,
+    line: &str,
+) -> Result<Vec<ResultRow>, AllocError> {
+    let answers = letters(alloc, last_part(line))?;
     assert_eq!(rt; answers.len(), case.values().len());
-    let rows = class_rows(alloc, &case, &answers)?;
-    assert_found(rt, alloc, &case, &rows, line)
+    asked_class(alloc, case, &answers)
 }
 
-fn single_rows(
+fn single_by_name(
     component: &str,
     site: &Site<'_, ListNames>,
     answers: &[Vec<bool>],
@@ -124,25 +131,28 @@ fn single_rows(
     }
 }
 
-fn single_rows_of(
+fn asked_single(
     alloc: Global,
     case: &Case<'_>,
     answers: &[Vec<bool>],
 ) -> Result<Vec<ResultRow>, AllocError>
     requires { AreTold (case.now.parameter ∷ []) case.now.values (map (λ a. a.items) answers.now) }
 {
-    single_rows(case.component(), &site_of(alloc, case), answers)
+    single_by_name(case.component(), &site_of(alloc, case), answers)
 }
 
-fn assert_single(rt: &impl Abort, alloc: Global, line: &str) -> Result<(), Fail> {
-    let case = read_case(rt, alloc, "", line)?;
+pub(crate) fn single_rows(
+    rt: &impl Abort,
+    alloc: Global,
+    case: &Case<'_>,
+    line: &str,
+) -> Result<Vec<ResultRow>, AllocError> {
     let answers = answers_of(alloc, line)?;
     assert!(rt; are_told(&[case.parameter()], case.values(), &answers));
-    let rows = single_rows_of(alloc, &case, &answers)?;
-    assert_found(rt, alloc, &case, &rows, line)
+    asked_single(alloc, case, &answers)
 }
 
-fn list_rows(
+fn list_by_name(
     component: &str,
     site: &Site<'_, ListNames>,
     members: &[u32],
@@ -158,14 +168,14 @@ fn list_rows(
     }
 }
 
-fn list_rows_of(
+fn asked_list(
     alloc: Global,
     case: &Case<'_>,
     answers: &[Vec<bool>],
 ) -> Result<Vec<ResultRow>, AllocError>
     requires { AreTold case.now.others case.now.values (map (λ a. a.items) answers.now) }
 {
-    list_rows(
+    list_by_name(
         case.component(),
         &site_of(alloc, case),
         case.others(),
@@ -173,15 +183,18 @@ fn list_rows_of(
     )
 }
 
-fn assert_list(rt: &impl Abort, alloc: Global, line: &str) -> Result<(), Fail> {
-    let case = read_case(rt, alloc, "", line)?;
+pub(crate) fn list_rows(
+    rt: &impl Abort,
+    alloc: Global,
+    case: &Case<'_>,
+    line: &str,
+) -> Result<Vec<ResultRow>, AllocError> {
     let answers = answers_of(alloc, line)?;
     assert!(rt; are_told(case.others(), case.values(), &answers));
-    let rows = list_rows_of(alloc, &case, &answers)?;
-    assert_found(rt, alloc, &case, &rows, line)
+    asked_list(alloc, case, &answers)
 }
 
-fn qualified_rows(
+fn qualified_by_name(
     component: &str,
     site: &Site<'_, ListNames>,
     shape: u32,
@@ -198,8 +211,7 @@ fn qualified_rows(
     }
 }
 
-// The shape is the first of the other terms, and its siblings are the rest.
-fn qualified_rows_of(
+fn asked_qualified(
     alloc: Global,
     case: &Case<'_>,
     shape: u32,
@@ -211,41 +223,35 @@ fn qualified_rows_of(
     requires answers { AreTold (shape ∷ siblings.now) case.now.values (map (λ a. a.items) answers.now) }
 {
     let site = site_of(alloc, case);
-    qualified_rows(case.component(), &site, shape, siblings, answers)
+    qualified_by_name(case.component(), &site, shape, siblings, answers)
 }
 
-fn assert_qualified(rt: &impl Abort, alloc: Global, line: &str) -> Result<(), Fail> {
-    let case = read_case(rt, alloc, "", line)?;
+// The shape is the first of the other terms, and its siblings are the rest.
+pub(crate) fn qualified_rows(
+    rt: &impl Abort,
+    alloc: Global,
+    case: &Case<'_>,
+    line: &str,
+) -> Result<Vec<ResultRow>, AllocError> {
     let answers = answers_of(alloc, line)?;
     let shapes = case.others();
     assert!(rt; are_told(shapes, case.values(), &answers));
     if let [shape, siblings @ ..] = shapes {
         assert!(rt; *shape < case.names().count());
         assert!(rt; have_names(siblings, case.names()));
-        let rows = qualified_rows_of(alloc, &case, *shape, siblings, &answers)?;
-        assert_found(rt, alloc, &case, &rows, line)?;
+        return asked_qualified(alloc, case, *shape, siblings, &answers);
     }
-    Ok(())
+    panic!(rt; "{line}")
 }
 
 #[test]
-fn classes_and_single_shapes(rt: HostRuntime) -> Result<(), Fail> {
-    for line in CLASSES.lines() {
-        assert_class(&rt, rt.alloc(), line)?;
-    }
-    for line in SINGLE.lines() {
-        assert_single(&rt, rt.alloc(), line)?;
-    }
-    Ok(())
+fn classes_and_single_shapes(rt: HostRuntime) -> Result<(), AllocError> {
+    assert_table(&rt, rt.alloc(), Calls::Classes, CLASSES)?;
+    assert_table(&rt, rt.alloc(), Calls::Single, SINGLE)
 }
 
 #[test]
-fn lists_and_qualified_shapes(rt: HostRuntime) -> Result<(), Fail> {
-    for line in LISTS.lines() {
-        assert_list(&rt, rt.alloc(), line)?;
-    }
-    for line in QUALIFIED.lines() {
-        assert_qualified(&rt, rt.alloc(), line)?;
-    }
-    Ok(())
+fn lists_and_qualified_shapes(rt: HostRuntime) -> Result<(), AllocError> {
+    assert_table(&rt, rt.alloc(), Calls::Lists, LISTS)?;
+    assert_table(&rt, rt.alloc(), Calls::Qualified, QUALIFIED)
 }

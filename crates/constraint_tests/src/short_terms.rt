@@ -92,14 +92,18 @@ fn push_optional(text: &mut String, term: &Option<Term>) -> Result<(), AllocErro
     }
 }
 
+fn push_row(text: &mut String, row: &ResultRow) -> Result<(), AllocError> {
+    push_optional(text, &row.about)?;
+    text.push_str("|")?;
+    push_optional(text, &row.value)?;
+    text.push_str("|")?;
+    push_optional(text, &row.other)
+}
+
 // A result by what differs among those of one call: the value node that it is about, the value, and what else
 // tells it apart, with bars between them.
 pub(crate) fn text_of_row(alloc: Global, row: &ResultRow) -> Result<String, AllocError> {
     let mut text = String::new(alloc);
-    push_optional(&mut text, &row.about)?;
-    text.push_str("|")?;
-    push_optional(&mut text, &row.value)?;
-    text.push_str("|")?;
-    push_optional(&mut text, &row.other)?;
+    push_row(&mut text, row)?;
     Ok(text)
 }

@@ -1,5 +1,9 @@
 //! Components of strings: lengths, languages and patterns.
-use crate::case::{Case, assert_found, read_case, site_of};
+ghost use Rattle.std.specs.Prelude.{◌<◌, length};
+ghost use Rattle.std.specs.List.{Contains};
+
+use crate::case::{Case, site_of};
+use crate::tables::{Calls, assert_table};
 use component_rows::Site;
 use outside::{MakeFault, Maker, RegexMaker};
 use rdf_model::{ListNames, Names};
@@ -7,7 +11,6 @@ use regex::Regex;
 use shape_model::ResultRow;
 use std::alloc::{AllocError, Global};
 use std::process::Abort;
-use std::test::Fail;
 use string_constraints::{language_in, max_length, min_length, pattern, unique_lang};
 
 // Lengths equal to the bound, of characters of more bytes than one, of IRIs and of ill-typed literals; bounds of
@@ -64,67 +67,38 @@ Pattern; ^e:^string; e:a f:a^string _1 e:^string;; _1 f:a^string
 Pattern; ^.$^string; a^string 日^string ab^string;; ab^string
 Pattern; x^string;;;";
 
-fn length_rows(component: &str, site: &Site<'_, ListNames>) -> Result<Vec<ResultRow>, AllocError> {
+fn string_rows(
+    component: &str,
+    site: &Site<'_, ListNames>,
+    others: &[u32],
+) -> Result<Vec<ResultRow>, AllocError>
+    requires { (n : _) → Contains others.now n → n < length site.now.terms }
+{
     match component {
         "MinLength" => min_length(site),
-        _ => max_length(site),
+        "MaxLength" => max_length(site),
+        "LanguageIn" => language_in(site, others),
+        _ => unique_lang(site),
     }
 }
 
-fn length_rows_of(alloc: Global, case: &Case<'_>) -> Result<Vec<ResultRow>, AllocError> {
-    length_rows(case.component(), &site_of(alloc, case))
-}
-
-fn language_rows(alloc: Global, case: &Case<'_>) -> Result<Vec<ResultRow>, AllocError> {
-    language_in(&site_of(alloc, case), case.others())
-}
-
-fn tag_rows(alloc: Global, case: &Case<'_>) -> Result<Vec<ResultRow>, AllocError> {
-    unique_lang(&site_of(alloc, case))
-}
-
-fn assert_length(rt: &impl Abort, alloc: Global, line: &str) -> Result<(), Fail> {
-    let case = read_case(rt, alloc, "", line)?;
-    let rows = length_rows_of(alloc, &case)?;
-    assert_found(rt, alloc, &case, &rows, line)
-}
-
-fn assert_languages(rt: &impl Abort, alloc: Global, line: &str) -> Result<(), Fail> {
-    let case = read_case(rt, alloc, "", line)?;
-    let rows = language_rows(alloc, &case)?;
-    assert_found(rt, alloc, &case, &rows, line)
-}
-
-fn assert_tags(rt: &impl Abort, alloc: Global, line: &str) -> Result<(), Fail> {
-    let case = read_case(rt, alloc, "", line)?;
-    let rows = tag_rows(alloc, &case)?;
-    assert_found(rt, alloc, &case, &rows, line)
+pub(crate) fn string_rows_of(alloc: Global, case: &Case<'_>) -> Result<Vec<ResultRow>, AllocError> {
+    string_rows(case.component(), &site_of(alloc, case), case.others())
 }
 
 #[test]
-fn lengths_and_languages(rt: HostRuntime) -> Result<(), Fail> {
-    for line in LENGTHS.lines() {
-        assert_length(&rt, rt.alloc(), line)?;
-    }
-    for line in LANGUAGES.lines() {
-        assert_languages(&rt, rt.alloc(), line)?;
-    }
-    for line in TAGS.lines() {
-        assert_tags(&rt, rt.alloc(), line)?;
+fn lengths_and_languages(rt: HostRuntime) -> Result<(), AllocError> {
+    for table in [LENGTHS, LANGUAGES, TAGS] {
+        assert_table(&rt, rt.alloc(), Calls::Strings, table)?;
     }
     Ok(())
 }
 
-// The pattern of the parameter's text.
-fn regex_of(alloc: Global, case: &Case<'_>, flags: &str) -> Result<Option<Regex>, AllocError> {
-    let text = match case.names().term(case.parameter()) {
+// The text of the parameter.
+fn pattern_of<'a>(case: &'a Case<'_>) -> &'a str {
+    match case.names().term(case.parameter()) {
         Some(term) => literal_order::str(term).unwrap_or(""),
         None => "",
-    };
-    match RegexMaker::new(alloc).build(alloc, text, flags) {
-        Ok(regex) => Ok(Some(regex)),
-        Err(MakeFault::Refused) => Ok(None),
-        Err(MakeFault::Memory) => Err(AllocError),
     }
 }
 
@@ -136,32 +110,22 @@ fn rows_of_regex(
     pattern(&site_of(alloc, case), regex)
 }
 
-fn pattern_rows(
+// The flags are what a row has for other terms.
+pub(crate) fn pattern_rows(
+    rt: &impl Abort,
     alloc: Global,
     case: &Case<'_>,
-    flags: &str,
-) -> Result<Option<Vec<ResultRow>>, AllocError> {
-    match regex_of(alloc, case, flags)? {
-        Some(regex) => Ok(Some(rows_of_regex(alloc, case, &regex)?)),
-        None => Ok(None),
-    }
-}
-
-fn assert_pattern(rt: &impl Abort, alloc: Global, line: &str) -> Result<(), Fail> {
-    let case = read_case(rt, alloc, "", line)?;
+    line: &str,
+) -> Result<Vec<ResultRow>, AllocError> {
     let flags = line.split(';').nth(3).unwrap_or("").trim();
-    let rows = pattern_rows(alloc, &case, flags)?;
-    assert!(rt; rows.is_some(), "{line}");
-    if let Some(rows) = rows {
-        assert_found(rt, alloc, &case, &rows, line)?;
+    match RegexMaker::new(alloc).build(alloc, pattern_of(case), flags) {
+        Ok(regex) => rows_of_regex(alloc, case, &regex),
+        Err(MakeFault::Refused) => panic!(rt; "{line}"),
+        Err(MakeFault::Memory) => Err(AllocError),
     }
-    Ok(())
 }
 
 #[test]
-fn patterns(rt: HostRuntime) -> Result<(), Fail> {
-    for line in PATTERNS.lines() {
-        assert_pattern(&rt, rt.alloc(), line)?;
-    }
-    Ok(())
+fn patterns(rt: HostRuntime) -> Result<(), AllocError> {
+    assert_table(&rt, rt.alloc(), Calls::Patterns, PATTERNS)
 }

@@ -1,13 +1,12 @@
 //! Components of values: ranges, sets, kinds and counts.
 ghost use Rattle.component_rows.specs.Nodes.{AreNodes};
 
-use crate::case::{Case, assert_found, read_case, site_of};
+use crate::case::{Case, site_of};
+use crate::tables::{Calls, assert_table};
 use component_rows::Site;
 use rdf_model::ListNames;
 use shape_model::ResultRow;
 use std::alloc::{AllocError, Global};
-use std::process::Abort;
-use std::test::Fail;
 use value_constraints::{
     datatype, has_value, in_list, max_count, max_exclusive, max_inclusive, min_count,
     min_exclusive, min_inclusive, node_kind,
@@ -90,16 +89,7 @@ MaxCount; 2^integer; e:a _1;;
 MaxCount; -1^integer;;; -
 MaxCount; 1^int; e:a _1;;";
 
-fn range_rows(component: &str, site: &Site<'_, ListNames>) -> Result<Vec<ResultRow>, AllocError> {
-    match component {
-        "MinInclusive" => min_inclusive(site),
-        "MinExclusive" => min_exclusive(site),
-        "MaxInclusive" => max_inclusive(site),
-        _ => max_exclusive(site),
-    }
-}
-
-fn set_rows(
+fn value_rows(
     component: &str,
     site: &Site<'_, ListNames>,
     members: &[u32],
@@ -107,65 +97,27 @@ fn set_rows(
     requires { AreNodes site.now.terms members.now }
 {
     match component {
+        "MinInclusive" => min_inclusive(site),
+        "MinExclusive" => min_exclusive(site),
+        "MaxInclusive" => max_inclusive(site),
+        "MaxExclusive" => max_exclusive(site),
         "In" => in_list(site, members),
         "HasValue" => has_value(site),
-        _ => datatype(site),
-    }
-}
-
-fn kind_rows(component: &str, site: &Site<'_, ListNames>) -> Result<Vec<ResultRow>, AllocError> {
-    match component {
+        "Datatype" => datatype(site),
         "MinCount" => min_count(site),
         "MaxCount" => max_count(site),
         _ => node_kind(site),
     }
 }
 
-fn range_rows_of(alloc: Global, case: &Case<'_>) -> Result<Vec<ResultRow>, AllocError> {
-    range_rows(case.component(), &site_of(alloc, case))
-}
-
-fn set_rows_of(alloc: Global, case: &Case<'_>) -> Result<Vec<ResultRow>, AllocError> {
-    set_rows(case.component(), &site_of(alloc, case), case.members())
-}
-
-fn kind_rows_of(alloc: Global, case: &Case<'_>) -> Result<Vec<ResultRow>, AllocError> {
-    kind_rows(case.component(), &site_of(alloc, case))
-}
-
-fn assert_range(rt: &impl Abort, alloc: Global, line: &str) -> Result<(), Fail> {
-    let case = read_case(rt, alloc, "", line)?;
-    let rows = range_rows_of(alloc, &case)?;
-    assert_found(rt, alloc, &case, &rows, line)
-}
-
-fn assert_set(rt: &impl Abort, alloc: Global, line: &str) -> Result<(), Fail> {
-    let case = read_case(rt, alloc, "", line)?;
-    let rows = set_rows_of(alloc, &case)?;
-    assert_found(rt, alloc, &case, &rows, line)
-}
-
-fn assert_kind(rt: &impl Abort, alloc: Global, line: &str) -> Result<(), Fail> {
-    let case = read_case(rt, alloc, "", line)?;
-    let rows = kind_rows_of(alloc, &case)?;
-    assert_found(rt, alloc, &case, &rows, line)
+pub(crate) fn value_rows_of(alloc: Global, case: &Case<'_>) -> Result<Vec<ResultRow>, AllocError> {
+    value_rows(case.component(), &site_of(alloc, case), case.members())
 }
 
 #[test]
-fn kinds_and_counts(rt: HostRuntime) -> Result<(), Fail> {
-    for line in KINDS.lines() {
-        assert_kind(&rt, rt.alloc(), line)?;
-    }
-    Ok(())
-}
-
-#[test]
-fn ranges_and_sets(rt: HostRuntime) -> Result<(), Fail> {
-    for line in RANGES.lines() {
-        assert_range(&rt, rt.alloc(), line)?;
-    }
-    for line in SETS.lines() {
-        assert_set(&rt, rt.alloc(), line)?;
+fn values(rt: HostRuntime) -> Result<(), AllocError> {
+    for table in [RANGES, SETS, KINDS] {
+        assert_table(&rt, rt.alloc(), Calls::Values, table)?;
     }
     Ok(())
 }
