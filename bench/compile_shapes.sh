@@ -7,7 +7,7 @@ root=$(cd "$(dirname "$0")/.." && pwd)
 copy=$(mktemp -d)
 trap 'rm -rf "$copy"' EXIT
 mkdir -p "$copy/crates/compile_bench/src"
-for name in vocabulary rdf_text collections iri_ref rdf_lexical rdf_model literal_order ntriples_text turtle_lex turtle_reader outside shape_model path_ast shape_ast \
+for name in vocabulary rdf_text collections iri_ref rdf_lexical rdf_model literal_order triple_table ntriples_text turtle_lex turtle_reader outside shape_model path_ast shape_ast \
   shape_syntax reference_totals shape_references shape_properties shape_sizes shape_rules shape_reader; do
   mkdir "$copy/crates/$name"
   for part in src specs proofs; do
