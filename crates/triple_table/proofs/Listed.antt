@@ -14,10 +14,10 @@ use Rattle.rdf_model.specs.declared.ids.Ids.{Ids}
 use Rattle.rdf_model.specs.declared.term.Term.{Term}
 use Rattle.rdf_model.specs.declared.term.Term.TheVariants.{Blank}
 use Rattle.rdf_model.specs.declared.triple.Triple.{Triple}
-use Rattle.rdf_model.specs.Numbers.{AreNumbered, graph_of, term_at, triple_at}
+use Rattle.rdf_model.specs.Numbers.{graph_of, term_at, triple_at}
 use Rattle.rdf_model.specs.Orders.{term_total}
 use Rattle.rdf_model.specs.Terms.{term_cmp, triple_cmp}
-use Rattle.triple_table.specs.Ranks.{IsBelow, IsRanking, Placed, ids_cmp, ranked, terms_of}
+use Rattle.triple_table.specs.Ranks.{HasRank, IsBelow, IsRanking, Placed, Ranked, ranked, ranked_cmp, terms_of, unranked}
 use Rattle.triple_table.proofs.Ranking.{get_or-other}
 
 -- what stands in a list of images
@@ -66,70 +66,69 @@ order_at ts n m a v w = elim (cases_eq n m) [
     less f g = elim (cases_lt m n) [ inl l ↦ l | inr k ↦ absurd (f (omega arith)) ]
 
 module _ (ts : List Term) (a : IsAscending term_cmp ts) where
-  triple_order : (i j : Ids) → IsBelow (length ts) i → IsBelow (length ts) j → triple_cmp (triple_at ts i) (triple_at ts j) ≡ ids_cmp i j
-  triple_order i j p q =
-      let s = order_at ts i.subject j.subject a p.0 q.0 in
-      let v = order_at ts i.predicate j.predicate a p.1 q.1 in
-      let o = order_at ts i.object j.object a p.2 q.2 in
-      λ k. ordering_then (s k) (ordering_then (v k) (o k))
+  triple_order : (r q : Ranked) → IsBelow (length ts) r → IsBelow (length ts) q → triple_cmp (unranked ts r) (unranked ts q) ≡ ranked_cmp r q
+  triple_order r q v w =
+      let s = order_at ts r.subject q.subject a v.0 w.0 in
+      let p = order_at ts r.predicate q.predicate a v.1 w.1 in
+      λ k. ordering_then (s k) (ordering_then (p k) (term_cmp r.object q.object))
 
-  triples_above : (i : Ids) (is : List Ids) → IsBelow (length ts) i → AllByRecursion (IsBelow (length ts)) is → AllAbove ids_cmp i is → AllAbove triple_cmp (triple_at ts i) (graph_of ts is)
-  triples_above i [] p q above = tt
-  triples_above i (j ∷ is) p q above = (triple_order i j p q.0 ∙ above.0, triples_above i is p q.1 above.1)
+  triples_above : (r : Ranked) (rs : List Ranked) → IsBelow (length ts) r → AllByRecursion (IsBelow (length ts)) rs → AllAbove ranked_cmp r rs → AllAbove triple_cmp (unranked ts r) (map (unranked ts) rs)
+  triples_above r [] p q above = tt
+  triples_above r (s ∷ rs) p q above = (triple_order r s p q.0 ∙ above.0, triples_above r rs p q.1 above.1)
 
-  graph_ascends : (is : List Ids) → AllByRecursion (IsBelow (length ts)) is → IsAscending ids_cmp is → IsAscending triple_cmp (graph_of ts is)
-  graph_ascends [] q up = tt
-  graph_ascends (i ∷ is) q up = (triples_above i is q.0 q.1 up.0, graph_ascends is q.1 up.1)
+  triples_ascend : (rs : List Ranked) → AllByRecursion (IsBelow (length ts)) rs → IsAscending ranked_cmp rs → IsAscending triple_cmp (map (unranked ts) rs)
+  triples_ascend [] p b = tt
+  triples_ascend (r ∷ rs) p b = (triples_above r rs p.0 p.1 b.0, triples_ascend rs p.1 b.1)
 
-module _ (ts sorted : List Term) (ranks : List ℕ) (r : IsRanking ts sorted ranks) where
+module _ (ts sorted : List Term) (ranks : List ℕ) (ids : List Ids) (r : IsRanking ts sorted ranks ids) where
+  have : (i : Ids) → Contains ids i → HasRank ts sorted ranks i.subject × HasRank ts sorted ranks i.predicate
+  have i c = each_is (λ (k : Ids). HasRank ts sorted ranks k.subject × HasRank ts sorted ranks k.predicate) ids i r.stand c
+
   -- the triple of ranks is that of the numbers
-  same_triple : (i : Ids) → IsBelow (length ts) i → triple_at sorted (ranked ranks i) ≡ triple_at ts i
-  same_triple i p =
-      let s = (r.stands i.subject p.0).1 in
-      let v = (r.stands i.predicate p.1).1 in
-      let o = (r.stands i.object p.2).1 in
-      λ k. record { subject = s k; predicate = v k; object = o k }
+  same_triple : (i : Ids) → Contains ids i → unranked sorted (ranked ts ranks i) ≡ triple_at ts i
+  same_triple i c =
+      let h = have i c in
+      let s = h.0.1 in
+      let p = h.1.1 in
+      λ k. record { subject = s k; predicate = p k; object = term_at ts i.object }
 
-  ranked_below : (i : Ids) → IsBelow (length ts) i → IsBelow (length sorted) (ranked ranks i)
-  ranked_below i p = ((r.stands i.subject p.0).0, (r.stands i.predicate p.1).0, (r.stands i.object p.2).0)
+  ranked_below : (i : Ids) → Contains ids i → IsBelow (length sorted) (ranked ts ranks i)
+  ranked_below i c = let h = have i c in (h.0.0, h.1.0)
 
-  pub below_ranks : (ids : List Ids) → AreNumbered ts ids → AllByRecursion (IsBelow (length ranks)) ids
-  below_ranks ids n = subst (λ (k : ℕ). AllByRecursion (IsBelow k) ids) (sym r.long) n
-
-  module _ (ids out : List Ids) (n : AreNumbered ts ids) (l : IsListing ids_cmp (Contains (map (ranked ranks) ids)) out) where
+  module _ (out : List Ranked) (l : IsListing ranked_cmp (Contains (map (ranked ts ranks) ids)) out) where
     pub out_below : AllByRecursion (IsBelow (length sorted)) out
     out_below = from_each (IsBelow (length sorted)) out (λ o c.
-        (let i = from_image (ranked ranks) ids o ((l.members o).0 c) in
-        subst (IsBelow (length sorted)) i.2 (ranked_below i.0 (each_is (IsBelow (length ts)) ids i.0 n i.1))))
+        (let i = from_image (ranked ts ranks) ids o ((l.members o).0 c) in
+        subst (IsBelow (length sorted)) i.2 (ranked_below i.0 i.1)))
 
-    to : (t : Triple) → Contains (graph_of sorted out) t → Contains (graph_of ts ids) t
+    to : (t : Triple) → Contains (map (unranked sorted) out) t → Contains (graph_of ts ids) t
     to t c =
-        let o = from_image (triple_at sorted) out t c in
-        let i = from_image (ranked ranks) ids o.0 ((l.members o.0).0 o.1) in
-        let same = same_triple i.0 (each_is (IsBelow (length ts)) ids i.0 n i.1) in
-        subst (λ (u : Triple). Contains (graph_of ts ids) u) (sym same ∙ ap (triple_at sorted) i.2 ∙ o.2) (in_image (triple_at ts) ids i.0 i.1)
+        let o = from_image (unranked sorted) out t c in
+        let i = from_image (ranked ts ranks) ids o.0 ((l.members o.0).0 o.1) in
+        let same = same_triple i.0 i.1 in
+        subst (λ (u : Triple). Contains (graph_of ts ids) u) (sym same ∙ ap (unranked sorted) i.2 ∙ o.2) (in_image (triple_at ts) ids i.0 i.1)
 
-    back : (t : Triple) → Contains (graph_of ts ids) t → Contains (graph_of sorted out) t
+    back : (t : Triple) → Contains (graph_of ts ids) t → Contains (map (unranked sorted) out) t
     back t c =
         let i = from_image (triple_at ts) ids t c in
-        let same = same_triple i.0 (each_is (IsBelow (length ts)) ids i.0 n i.1) in
-        subst (λ (u : Triple). Contains (graph_of sorted out) u) (same ∙ i.2) (in_image (triple_at sorted) out (ranked ranks i.0) ((l.members (ranked ranks i.0)).1 (in_image (ranked ranks) ids i.0 i.1)))
+        let same = same_triple i.0 i.1 in
+        subst (λ (u : Triple). Contains (map (unranked sorted) out) u) (same ∙ i.2) (in_image (unranked sorted) out (ranked ts ranks i.0) ((l.members (ranked ts ranks i.0)).1 (in_image (ranked ts ranks) ids i.0 i.1)))
 
-    pub ranked_listing : IsListing triple_cmp (Contains (graph_of ts ids)) (graph_of sorted out)
+    pub ranked_listing : IsListing triple_cmp (Contains (graph_of ts ids)) (map (unranked sorted) out)
     ranked_listing = record {
-      ascending = graph_ascends sorted r.ascending out out_below l.ascending;
+      ascending = triples_ascend sorted r.ascending out out_below l.ascending;
       members = λ t. (λ c. to t c, λ c. back t c);
     }
 
 -- the same, where what was read is what was made
-pub listing_as : (ranks rs : List ℕ) (ids found out : List Ids) → rs ≡ ranks → found ≡ map (ranked rs) ids → IsListing ids_cmp (Contains found) out → IsListing ids_cmp (Contains (map (ranked ranks) ids)) out
-listing_as ranks rs ids found out e f l = subst (λ (is : List Ids). IsListing ids_cmp (Contains is) out) (f ∙ ap (λ (r : List ℕ). map (ranked r) ids) e) l
+pub listing_as : (ts : List Term) (ranks rs : List ℕ) (ids : List Ids) (found out : List Ranked) → rs ≡ ranks → found ≡ map (ranked ts rs) ids → IsListing ranked_cmp (Contains found) out → IsListing ranked_cmp (Contains (map (ranked ts ranks) ids)) out
+listing_as ts ranks rs ids found out e f l = subst (λ (is : List Ranked). IsListing ranked_cmp (Contains is) out) (f ∙ ap (λ (r : List ℕ). map (ranked ts r) ids) e) l
 
-pub below_as : (placed us : List Placed) (out outs : List Ids) → us ≡ placed → outs ≡ out → AllByRecursion (IsBelow (length (terms_of placed))) out → AllByRecursion (IsBelow (length us)) outs
+pub below_as : (placed us : List Placed) (out outs : List Ranked) → us ≡ placed → outs ≡ out → AllByRecursion (IsBelow (length (terms_of placed))) out → AllByRecursion (IsBelow (length us)) outs
 below_as placed us out outs e f a =
     let long = length-map placed (λ (p : Placed). p.term) ∙ sym (ap (λ (ps : List Placed). length ps) e) in
-    subst (λ (is : List Ids). AllByRecursion (IsBelow (length us)) is) (sym f) (subst (λ (n : ℕ). AllByRecursion (IsBelow n) out) long a)
+    subst (λ (is : List Ranked). AllByRecursion (IsBelow (length us)) is) (sym f) (subst (λ (n : ℕ). AllByRecursion (IsBelow n) out) long a)
 
-pub ranked_listing_as : (ts : List Term) (placed us : List Placed) (ranks : List ℕ) (ids out outs : List Ids) (triples : List Triple) → IsRanking ts (terms_of placed) ranks → AreNumbered ts ids → IsListing ids_cmp (Contains (map (ranked ranks) ids)) out → us ≡ placed → outs ≡ out → triples ≡ graph_of (terms_of us) outs → IsListing triple_cmp (Contains (graph_of ts ids)) triples
-ranked_listing_as ts placed us ranks ids out outs triples r n l e f g =
-    subst (λ (zs : List Triple). IsListing triple_cmp (Contains (graph_of ts ids)) zs) (sym (g ∙ (λ k. graph_of (terms_of (e k)) (f k)))) (ranked_listing ts (terms_of placed) ranks r ids out n l)
+pub ranked_listing_as : (ts : List Term) (placed us : List Placed) (ranks : List ℕ) (ids : List Ids) (out outs : List Ranked) (triples : List Triple) → IsRanking ts (terms_of placed) ranks ids → IsListing ranked_cmp (Contains (map (ranked ts ranks) ids)) out → us ≡ placed → outs ≡ out → triples ≡ map (unranked (terms_of us)) outs → IsListing triple_cmp (Contains (graph_of ts ids)) triples
+ranked_listing_as ts placed us ranks ids out outs triples r l e f g =
+    subst (λ (zs : List Triple). IsListing triple_cmp (Contains (graph_of ts ids)) zs) (sym (g ∙ (λ k. map (unranked (terms_of (e k))) (f k)))) (ranked_listing ts (terms_of placed) ranks ids r out l)

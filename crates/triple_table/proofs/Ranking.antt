@@ -1,14 +1,14 @@
 -- The ranks of terms that are sorted.
 use Rattle.std.proofs.Common.{Bool, true, false, ◌≡◌, ◌∙◌, ℕ, zero, suc, ◌+◌, ◌<◌, List, [], ◌∷◌, ◌++◌, length, get_or, set, take, refl, sym, subst, ap, arith, inl, inr}
-use Rattle.std.specs.Prelude.{◌⊎◌, ◌&&◌, ◌==◌}
-use Rattle.std.specs.List.{Contains}
-use Rattle.std.proofs.lemmas.Bool.{cases_eq, cases_lt, eq-eqb, eqb-true}
-use Rattle.std.proofs.lemmas.List.{get_or-map, get_or-set_same, get_or-set_other, length-map, take_more}
+use Rattle.std.specs.Prelude.{◌⊎◌, IsTrue, cond}
+use Rattle.std.specs.List.{AllByRecursion, Contains, filter}
+use Rattle.std.proofs.lemmas.Bool.{cases_eq, cases_lt}
+use Rattle.std.proofs.lemmas.List.{append-nil, get_or-map, get_or-set_same, get_or-set_other, length-map, length-set, take_more}
+use Rattle.std.proofs.lemmas.List.Elements.{filter-append}
 use Rattle.std.specs.declared.cmp.Ordering.{Ordering}
 use Rattle.std.specs.declared.cmp.Ordering.TheVariants.{Less, Equal, Greater}
-use Rattle.std.specs.Ordering.{eq_by_cmp, is_eq, nat_cmp, ordering_then}
+use Rattle.std.specs.Ordering.{nat_cmp, ordering_then}
 use Rattle.std.specs.Cmp.{tied_itself}
-use Rattle.std.specs.FinMap.{nat_cmp-IsAntisymmetric}
 use Rattle.std.proofs.lemmas.Cmp.{nat_cmp_total}
 use Rattle.collections.specs.Listings.{IsListing}
 use Rattle.collections.specs.Ordered.{AllAbove, IsAscending}
@@ -16,10 +16,10 @@ use Rattle.collections.proofs.Members.{has_cases, has_equal, has_tail}
 use Rattle.rdf_model.specs.declared.ids.Ids.{Ids}
 use Rattle.rdf_model.specs.declared.term.Term.{Term}
 use Rattle.rdf_model.specs.declared.term.Term.TheVariants.{Blank}
-use Rattle.rdf_model.specs.Numbers.{IsNumbering, term_at}
+use Rattle.rdf_model.specs.Numbers.{AreNumbered, IsNumbering, term_at}
 use Rattle.rdf_model.specs.Orders.{term_exact}
 use Rattle.rdf_model.specs.Terms.{term_cmp}
-use Rattle.triple_table.specs.Ranks.{AreRanks, AreWithin, IsRanking, Placed, ids_cmp, placed_at, placed_cmp, placed_from, rank_at, terms_of}
+use Rattle.triple_table.specs.Ranks.{AreMarked, AreRanks, AreWithin, HasRank, IsRanking, Placed, is_marked, placed_at, placed_cmp, placed_from, placed_marked, rank_at, terms_of}
 
 -- what stands at a place, whatever would be taken where nothing does
 pub get_or-other : {X : Type 0} (xs : List X) (n : ℕ) (d e : X) → n < length xs → get_or xs n d ≡ get_or xs n e
@@ -39,14 +39,63 @@ length-taken zero ts l = refl
 length-taken (suc i) [] l = absurd (omega arith)
 length-taken (suc i) (t ∷ ts) l = ap suc (length-taken i ts (omega arith))
 
-pub placed_step : (ts : List Term) (i p : ℕ) (t u : Term) (old new : List Placed) → i < length ts → u ≡ get_or ts i u → t ≡ u → p ≡ i → old ≡ placed_from 0 (take i ts) → new ≡ old ++ record { term = t; place = p } ∷ [] → new ≡ placed_from 0 (take (i + 1) ts)
-placed_step ts i p t u old new lt is same at o n =
-    let long : p ≡ 0 + length (take i ts) = at ∙ sym (length-taken i ts lt) ∙ (let k : length (take i ts) ≡ 0 + length (take i ts) = omega arith in k) in
-    let item : t ≡ get_or ts i u = same ∙ is in
-    n ∙ ap (λ (ps : List Placed). ps ++ record { term = t; place = p } ∷ []) o
-    ∙ (λ j. placed_from 0 (take i ts) ++ record { term = item j; place = long j } ∷ [])
-    ∙ sym (placed_push 0 (take i ts) (get_or ts i u))
-    ∙ ap (λ (us : List Term). placed_from 0 us) (sym (take_more ts i u lt))
+placed_more : (ts : List Term) (i : ℕ) (t : Term) → i < length ts → t ≡ get_or ts i t → placed_from 0 (take (i + 1) ts) ≡ placed_from 0 (take i ts) ++ record { term = t; place = i } ∷ []
+placed_more ts i t lt is =
+    let long : 0 + length (take i ts) ≡ i = (let k = length-taken i ts lt in omega arith) in
+    ap (λ (us : List Term). placed_from 0 us) (take_more ts i t lt)
+    ∙ placed_push 0 (take i ts) (get_or ts i t)
+    ∙ (λ j. placed_from 0 (take i ts) ++ record { term = sym is j; place = long j } ∷ [])
+
+marked_more : (marks : List Bool) (ts : List Term) (i : ℕ) (t : Term) (b : Bool) → i < length ts → t ≡ get_or ts i t → is_marked marks i ≡ b → placed_marked marks (take (i + 1) ts) ≡ placed_marked marks (take i ts) ++ cond b (record { term = t; place = i } ∷ []) []
+marked_more marks ts i t b lt is m =
+    ap (λ (ps : List Placed). filter (λ (p : Placed). is_marked marks p.place) ps) (placed_more ts i t lt is)
+    ∙ filter-append (λ (p : Placed). is_marked marks p.place) (placed_from 0 (take i ts)) (record { term = t; place = i } ∷ [])
+    ∙ ap (λ c. placed_marked marks (take i ts) ++ cond c (record { term = t; place = i } ∷ []) []) m
+
+pub placed_step : (marks : List Bool) (ts : List Term) (i p : ℕ) (t u : Term) (old new : List Placed) → i < length ts → u ≡ get_or ts i u → t ≡ u → p ≡ i → is_marked marks i ≡ true → old ≡ placed_marked marks (take i ts) → new ≡ old ++ record { term = t; place = p } ∷ [] → new ≡ placed_marked marks (take (i + 1) ts)
+placed_step marks ts i p t u old new lt is same at m o n =
+    n ∙ (λ j. o j ++ record { term = same j; place = at j } ∷ []) ∙ sym (marked_more marks ts i u true lt is m)
+
+pub passed_step : (marks : List Bool) (ts : List Term) (i : ℕ) (u : Term) (old : List Placed) → i < length ts → u ≡ get_or ts i u → is_marked marks i ≡ false → old ≡ placed_marked marks (take i ts) → old ≡ placed_marked marks (take (i + 1) ts)
+passed_step marks ts i u old lt is m o = o ∙ sym (append-nil (placed_marked marks (take i ts))) ∙ sym (marked_more marks ts i u false lt is m)
+
+-- one mark more
+mark_stays : (marks : List Bool) (q n : ℕ) → q < length marks → is_marked marks n ≡ true → is_marked (set marks q true) n ≡ true
+mark_stays marks q n lt m = elim (cases_eq n q) [
+  | inl e ↦ ap (λ k. is_marked (set marks q true) k) e ∙ get_or-set_same marks q true false lt
+  | inr f ↦ get_or-set_other marks q n true false f ∙ m
+]
+
+marks_stay : (marks : List Bool) (q : ℕ) (ids : List Ids) → q < length marks → AreMarked marks ids → AreMarked (set marks q true) ids
+marks_stay marks q [] lt m = tt
+marks_stay marks q (i ∷ ids) lt m = ((mark_stays marks q i.subject lt m.0.0, mark_stays marks q i.predicate lt m.0.1), marks_stay marks q ids lt m.1)
+
+marks_push : (marks : List Bool) (ids : List Ids) (i : Ids) → AreMarked marks ids → IsTrue (is_marked marks i.subject) → IsTrue (is_marked marks i.predicate) → AreMarked marks (ids ++ i ∷ [])
+marks_push marks [] i m s p = ((s, p), tt)
+marks_push marks (k ∷ ids) i m s p = (m.0, marks_push marks ids i m.1 s p)
+
+pub numbered_at : (ts : List Term) (ids : List Ids) (n : ℕ) (d : Ids) → n < length ids → AreNumbered ts ids → ((get_or ids n d).subject < length ts) × ((get_or ids n d).predicate < length ts)
+numbered_at ts [] n d lt a = absurd (omega arith)
+numbered_at ts (i ∷ ids) zero d lt a = (a.0.0, a.0.1)
+numbered_at ts (i ∷ ids) (suc n) d lt a = numbered_at ts ids n d (omega arith) a.1
+
+-- the marks of one triple more
+abbrev pub with_marks : List Bool → Ids → List Bool
+with_marks marks i = set (set marks i.subject true) i.predicate true
+
+pub marks_step : (ts : List Term) (ids : List Ids) (n : ℕ) (i : Ids) (marks : List Bool) → n < length ids → i ≡ get_or ids n i → AreNumbered ts ids → length marks ≡ length ts → AreMarked marks (take n ids) → (length (with_marks marks i) ≡ length ts) × AreMarked (with_marks marks i) (take (n + 1) ids)
+marks_step ts ids n i marks lt is a long m =
+    let within = subst (λ (k : Ids). (k.subject < length ts) × (k.predicate < length ts)) (sym is) (numbered_at ts ids n i lt a) in
+    let first = length-set marks i.subject true in
+    let second = length-set (set marks i.subject true) i.predicate true in
+    let one : i.subject < length marks = (let k = within.0 in omega arith) in
+    let two : i.predicate < length (set marks i.subject true) = (let k = within.1 in omega arith) in
+    let subject = mark_stays (set marks i.subject true) i.predicate i.subject two (get_or-set_same marks i.subject true false one) in
+    let predicate = get_or-set_same (set marks i.subject true) i.predicate true false two in
+    let old = marks_stay (set marks i.subject true) i.predicate (take n ids) two (marks_stay marks i.subject (take n ids) one m) in
+    let all = marks_push (with_marks marks i) (take n ids) i old subject predicate in
+    let more : take n ids ++ i ∷ [] ≡ take (n + 1) ids = (λ j. take n ids ++ is j ∷ []) ∙ sym (take_more ids n i lt) in
+    (second ∙ first ∙ long, subst (λ (is : List Ids). AreMarked (with_marks marks i) is) more all)
 
 -- a term stands with its place, and what stands there is such
 placed_there : (m i : ℕ) (ts : List Term) → i < length ts → Contains (placed_from m ts) (record { term = term_at ts i; place = m + i })
@@ -72,16 +121,40 @@ placed_is m (t ∷ ts) p c = elim (has_cases (record { term = t; place = m }) (p
       record { at = suc r.at; within = omega arith; place = r.place ∙ (let k : m + 1 + r.at ≡ m + suc r.at = omega arith in k); term = r.term }
 ]
 
-within_from : (ts : List Term) (sorted : List Placed) → ((p : Placed) → Contains sorted p → Contains (placed_from 0 ts) p) → AreWithin (length ts) sorted
-within_from ts [] from = tt
-within_from ts (p ∷ ps) from =
-    let r = placed_is 0 ts p (from p (has_equal p ps p refl)) in
+-- what stands in a filtered list
+from_filter : {X : Type 0} (q : X → Bool) (xs : List X) (x : X) → Contains (filter q xs) x → Contains xs x
+from_filter q [] x c = absurd (omega arith)
+from_filter q (y ∷ ys) x c = elim (q y) as (λ b. Contains (cond b (y ∷ filter q ys) (filter q ys)) x → Contains (y ∷ ys) x) [
+  | true ↦ λ d. elim (has_cases y (filter q ys) x d) [
+    | inl e ↦ has_equal y ys x e
+    | inr i ↦ has_tail y ys x (from_filter q ys x i)
+  ]
+  | false ↦ λ d. has_tail y ys x (from_filter q ys x d)
+] c
+
+into_filter : {X : Type 0} (q : X → Bool) (xs : List X) (x : X) → Contains xs x → q x ≡ true → Contains (filter q xs) x
+into_filter q [] x c h = absurd (omega arith)
+into_filter q (y ∷ ys) x c h = elim (has_cases y ys x c) [
+  | inl e ↦ (let k : q y ≡ true = ap q e ∙ h in subst (λ b. Contains (cond b (y ∷ filter q ys) (filter q ys)) x) (sym k) (has_equal y (filter q ys) x e))
+  | inr d ↦ elim (q y) as (λ b. Contains (cond b (y ∷ filter q ys) (filter q ys)) x) [
+    | true ↦ has_tail y (filter q ys) x (into_filter q ys x d h)
+    | false ↦ into_filter q ys x d h
+  ]
+]
+
+marked_is : (marks : List Bool) (ts : List Term) (p : Placed) → Contains (placed_marked marks ts) p → IsPlaced 0 ts p
+marked_is marks ts p c = placed_is 0 ts p (from_filter (λ (q : Placed). is_marked marks q.place) (placed_from 0 ts) p c)
+
+within_from : (marks : List Bool) (ts : List Term) (sorted : List Placed) → ((p : Placed) → Contains sorted p → Contains (placed_marked marks ts) p) → AreWithin (length ts) sorted
+within_from marks ts [] from = tt
+within_from marks ts (p ∷ ps) from =
+    let r = marked_is marks ts p (from p (has_equal p ps p refl)) in
     let at = r.place in
     let lt = r.within in
-    (omega arith, within_from ts ps (λ q c. from q (has_tail p ps q c)))
+    (omega arith, within_from marks ts ps (λ q c. from q (has_tail p ps q c)))
 
-pub all_within : (ts : List Term) (placed sorted : List Placed) → placed ≡ placed_from 0 ts → IsListing placed_cmp (Contains placed) sorted → AreWithin (length ts) sorted
-all_within ts placed sorted e l = within_from ts sorted (λ p c. subst (λ (ps : List Placed). Contains ps p) e ((l.members p).0 c))
+pub all_within : (marks : List Bool) (ts : List Term) (placed sorted : List Placed) → placed ≡ placed_marked marks ts → IsListing placed_cmp (Contains placed) sorted → AreWithin (length ts) sorted
+all_within marks ts placed sorted e l = within_from marks ts sorted (λ p c. subst (λ (ps : List Placed). Contains ps p) e ((l.members p).0 c))
 
 pub place_within : (count i : ℕ) (placed : List Placed) (p : Placed) → AreWithin count placed → i < length placed → p ≡ get_or placed i p → p.place < count
 place_within count i [] p a l is = absurd (omega arith)
@@ -131,9 +204,9 @@ module _ (ts : List Term) (one : IsNumbering ts) where
   terms_ascend [] from a = tt
   terms_ascend (p ∷ ps) from a = (term_above p ps (from p (has_equal p ps p refl)) (λ w c. from w (has_tail p ps w c)) a.0, terms_ascend ps (λ w c. from w (has_tail p ps w c)) a.1)
 
-  module _ (sorted : List Placed) (ranks : List ℕ) (l : IsListing placed_cmp (Contains (placed_from 0 ts)) sorted) (h : AreRanks sorted (length sorted) ranks) where
+  module _ (marks : List Bool) (sorted : List Placed) (ranks : List ℕ) (l : IsListing placed_cmp (Contains (placed_marked marks ts)) sorted) (h : AreRanks sorted (length sorted) ranks) where
     from_terms : (q : Placed) → Contains sorted q → IsPlaced 0 ts q
-    from_terms q c = placed_is 0 ts q ((l.members q).0 c)
+    from_terms q c = marked_is marks ts q ((l.members q).0 c)
 
     -- what stands at a rank
     stands_at : (n : ℕ) → n < length sorted → IsPlaced 0 ts (placed_at sorted n)
@@ -144,54 +217,32 @@ module _ (ts : List Term) (one : IsNumbering ts) where
         let s : rank_at ranks (placed_at sorted k).place ≡ r = ap (rank_at ranks) e ∙ sym is in
         (subst (λ (n : ℕ). n < length sorted) s f.0, sym (ap (λ (n : ℕ). (placed_at sorted n).place) s) ∙ f.1 ∙ e)
 
-    rank_of : (p : ℕ) → p < length ts → (rank_at ranks p < length sorted) × ((placed_at sorted (rank_at ranks p)).place ≡ p)
-    rank_of p lt =
+    rank_of : (p : ℕ) → p < length ts → is_marked marks p ≡ true → (rank_at ranks p < length sorted) × ((placed_at sorted (rank_at ranks p)).place ≡ p)
+    rank_of p lt m =
         let x : Placed = record { term = term_at ts p; place = 0 + p } in
-        let there = (l.members x).1 (placed_there 0 p ts lt) in
+        let k : 0 + p ≡ p = omega arith in
+        let there = (l.members x).1 (into_filter (λ (q : Placed). is_marked marks q.place) (placed_from 0 ts) x (placed_there 0 p ts lt) (ap (is_marked marks) k ∙ m)) in
         let same : placed_at sorted there.0 ≡ x = get_or-other sorted there.0 _ x there.1 ∙ there.2 in
-        at_rank p there.0 (rank_at ranks p) (ap (λ (w : Placed). w.place) same ∙ (let k : 0 + p ≡ p = omega arith in k)) (h there.0 there.1) refl
+        at_rank p there.0 (rank_at ranks p) (ap (λ (w : Placed). w.place) same ∙ k) (h there.0 there.1) refl
 
-    term_of_rank : (p : ℕ) → p < length ts → (rank_at ranks p < length (terms_of sorted)) × (term_at (terms_of sorted) (rank_at ranks p) ≡ term_at ts p)
-    term_of_rank p lt =
-        let r = rank_of p lt in
+    has_rank : (p : ℕ) → p < length ts → is_marked marks p ≡ true → HasRank ts (terms_of sorted) ranks p
+    has_rank p lt m =
+        let r = rank_of p lt m in
         let s = stands_at (rank_at ranks p) r.0 in
         let at : s.at ≡ p = (let k = s.place in let m = r.1 in omega arith) in (
           subst (λ (n : ℕ). rank_at ranks p < n) (sym (length-map sorted (λ (q : Placed). q.term))) r.0,
           get_or-map (λ (q : Placed). q.term) sorted (rank_at ranks p) (record { term = Blank 0 0; place = 0 }) (Blank 0 0) r.0 ∙ s.term ∙ ap (term_at ts) at,
         )
 
-pub ranking : (ts : List Term) (placed sorted : List Placed) (ranks : List ℕ) → IsNumbering ts → placed ≡ placed_from 0 ts → IsListing placed_cmp (Contains placed) sorted → length ranks ≡ length ts → AreRanks sorted (length sorted) ranks → IsRanking ts (terms_of sorted) ranks
-ranking ts placed sorted ranks one e l long h =
-    let m : IsListing placed_cmp (Contains (placed_from 0 ts)) sorted = subst (λ (ps : List Placed). IsListing placed_cmp (Contains ps) sorted) e l in
+    have_ranks : (ids : List Ids) → AreNumbered ts ids → AreMarked marks ids → AllByRecursion (λ (i : Ids). HasRank ts (terms_of sorted) ranks i.subject × HasRank ts (terms_of sorted) ranks i.predicate) ids
+    have_ranks [] n m = tt
+    have_ranks (i ∷ ids) n m = ((has_rank i.subject n.0.0 m.0.0, has_rank i.predicate n.0.1 m.0.1), have_ranks ids n.1 m.1)
+
+pub ranking : (marks : List Bool) (ts : List Term) (ids : List Ids) (placed sorted : List Placed) (ranks : List ℕ) → IsNumbering ts → AreNumbered ts ids → AreMarked marks ids → placed ≡ placed_marked marks ts → IsListing placed_cmp (Contains placed) sorted → length ranks ≡ length ts → AreRanks sorted (length sorted) ranks → IsRanking ts (terms_of sorted) ranks ids
+ranking marks ts ids placed sorted ranks one n k e l long h =
+    let m : IsListing placed_cmp (Contains (placed_marked marks ts)) sorted = subst (λ (ps : List Placed). IsListing placed_cmp (Contains ps) sorted) e l in
     record {
-      ascending = terms_ascend ts one sorted (λ q c. placed_is 0 ts q ((m.members q).0 c)) l.ascending;
+      ascending = terms_ascend ts one sorted (λ q c. marked_is marks ts q ((m.members q).0 c)) m.ascending;
       long = long;
-      stands = term_of_rank ts one sorted ranks m h;
+      stand = have_ranks ts one marks sorted ranks m h ids n k;
     }
-
--- numbers of triples are compared as their order does
-one_bool : (a b : Bool) → (a ≡ true → b ≡ true) → (b ≡ true → a ≡ true) → a ≡ b
-one_bool true b f g = sym (f refl)
-one_bool false true f g = g refl
-one_bool false false f g = refl
-
-tied : (o : Ordering) → is_eq o ≡ true → o ≡ Equal
-tied Less h = cc
-tied Equal h = refl
-tied Greater h = cc
-
-same_nat : (n m : ℕ) → (n == m) ≡ is_eq (nat_cmp n m)
-same_nat n m = one_bool (n == m) (is_eq (nat_cmp n m))
-    (λ h. subst (λ (k : ℕ). is_eq (nat_cmp n k) ≡ true) (eqb-true n m h) (ap is_eq (tied_itself nat_cmp_total n)))
-    (λ h. eq-eqb n m (nat_cmp-IsAntisymmetric n m (tied (nat_cmp n m) h)))
-
-both_eq : (o p : Ordering) → is_eq (ordering_then o p) ≡ is_eq o && is_eq p
-both_eq Less p = refl
-both_eq Equal p = refl
-both_eq Greater p = refl
-
-pub same_ids : (a b : Ids) → (a.subject == b.subject && (a.predicate == b.predicate && a.object == b.object)) ≡ eq_by_cmp ids_cmp a b
-same_ids a b =
-    (λ j. same_nat a.subject b.subject j && (same_nat a.predicate b.predicate j && same_nat a.object b.object j))
-    ∙ ap (λ e. is_eq (nat_cmp a.subject b.subject) && e) (sym (both_eq (nat_cmp a.predicate b.predicate) (nat_cmp a.object b.object)))
-    ∙ sym (both_eq (nat_cmp a.subject b.subject) (ordering_then (nat_cmp a.predicate b.predicate) (nat_cmp a.object b.object)))

@@ -1,4 +1,4 @@
--- The laws of the orders of terms with their places, and of triples by numbers.
+-- The laws of the orders of terms with their places, and of triples by ranks.
 use Rattle.std.specs.Prelude.{◌≡◌, refl}
 use Rattle.std.specs.declared.cmp.Ordering.{Ordering}
 use Rattle.std.specs.declared.cmp.Ordering.TheVariants.{Less, Equal, Greater}
@@ -6,10 +6,9 @@ use Rattle.std.specs.Ordering.{nat_cmp, ordering_then}
 use Rattle.std.specs.Cmp.{IsTotalOrder}
 use Rattle.std.specs.FinMap.{nat_cmp-IsAntisymmetric}
 use Rattle.std.proofs.lemmas.Cmp.{nat_cmp_total, on_total, then_total}
-use Rattle.rdf_model.specs.declared.ids.Ids.{Ids}
 use Rattle.rdf_model.specs.Orders.{term_exact, term_total}
 use Rattle.rdf_model.specs.Terms.{term_cmp}
-use Rattle.triple_table.specs.Ranks.{Placed, ids_cmp, placed_cmp}
+use Rattle.triple_table.specs.Ranks.{Placed, Ranked, placed_cmp, ranked_cmp}
 
 -- when two orders in turn find no difference, neither does
 both_equal : (o p : Ordering) → ordering_then o p ≡ Equal → (o ≡ Equal) × (p ≡ Equal)
@@ -28,14 +27,14 @@ placed_exact a b h =
     let place = nat_cmp-IsAntisymmetric a.place b.place p.1 in
     λ i. record { term = term i; place = place i }
 
-pub ids_total : IsTotalOrder ids_cmp
-ids_total = then_total (on_total (λ (i : Ids). i.subject) nat_cmp_total) (then_total (on_total (λ (i : Ids). i.predicate) nat_cmp_total) (on_total (λ (i : Ids). i.object) nat_cmp_total))
+pub ranked_total : IsTotalOrder ranked_cmp
+ranked_total = then_total (on_total (λ (r : Ranked). r.subject) nat_cmp_total) (then_total (on_total (λ (r : Ranked). r.predicate) nat_cmp_total) (on_total (λ (r : Ranked). r.object) term_total))
 
-pub ids_exact : (a b : Ids) → ids_cmp a b ≡ Equal → a ≡ b
-ids_exact a b h =
-    let p = both_equal (nat_cmp a.subject b.subject) (ordering_then (nat_cmp a.predicate b.predicate) (nat_cmp a.object b.object)) h in
-    let q = both_equal (nat_cmp a.predicate b.predicate) (nat_cmp a.object b.object) p.1 in
+pub ranked_exact : (a b : Ranked) → ranked_cmp a b ≡ Equal → a ≡ b
+ranked_exact a b h =
+    let p = both_equal (nat_cmp a.subject b.subject) (ordering_then (nat_cmp a.predicate b.predicate) (term_cmp a.object b.object)) h in
+    let q = both_equal (nat_cmp a.predicate b.predicate) (term_cmp a.object b.object) p.1 in
     let subject = nat_cmp-IsAntisymmetric a.subject b.subject p.0 in
     let predicate = nat_cmp-IsAntisymmetric a.predicate b.predicate q.0 in
-    let object = nat_cmp-IsAntisymmetric a.object b.object q.1 in
+    let object = term_exact a.object b.object q.1 in
     λ i. record { subject = subject i; predicate = predicate i; object = object i }

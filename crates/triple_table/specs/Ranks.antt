@@ -1,6 +1,6 @@
 -- Terms by their order, and triples by the ranks of their terms.
-use Rattle.std.specs.Prelude.{◌≡◌, ◌+◌, ◌<◌, ℕ, List, [], ◌∷◌, length, map}
-use Rattle.std.specs.List.{AllByRecursion}
+use Rattle.std.specs.Prelude.{◌≡◌, ◌+◌, ◌<◌, ℕ, Bool, false, IsTrue, List, [], ◌∷◌, length, map}
+use Rattle.std.specs.List.{AllByRecursion, filter}
 use Rattle.std.specs.declared.cmp.Ordering.{Ordering}
 use Rattle.std.specs.Ordering.{nat_cmp, ordering_then}
 use Rattle.std.proofs.Common.{get_or}
@@ -8,6 +8,7 @@ use Rattle.collections.specs.Ordered.{IsAscending}
 use Rattle.rdf_model.specs.declared.ids.Ids.{Ids}
 use Rattle.rdf_model.specs.declared.term.Term.{Term}
 use Rattle.rdf_model.specs.declared.term.Term.TheVariants.{Blank}
+use Rattle.rdf_model.specs.declared.triple.Triple.{Triple}
 use Rattle.rdf_model.specs.Numbers.{term_at}
 use Rattle.rdf_model.specs.Terms.{term_cmp}
 
@@ -44,20 +45,46 @@ rank_at ranks p = get_or ranks p 0
 abbrev pub AreRanks : List Placed → ℕ → List ℕ → Type 0
 AreRanks placed count ranks = (k : ℕ) → k < count → (rank_at ranks (placed_at placed k).place < count) × ((placed_at placed (rank_at ranks (placed_at placed k).place)).place ≡ (placed_at placed k).place)
 
--- The sorted terms ascend, and each of the terms has its place among them.
-pub record IsRanking (terms sorted : List Term) (ranks : List ℕ) : Type 0 where
+-- the number is marked
+abbrev pub is_marked : List Bool → ℕ → Bool
+is_marked marks n = get_or marks n false
+
+-- subject and predicate of each triple are marked
+abbrev pub AreMarked : List Bool → List Ids → Type 0
+AreMarked marks ids = AllByRecursion (λ (i : Ids). IsTrue (is_marked marks i.subject) × IsTrue (is_marked marks i.predicate)) ids
+
+-- the terms whose numbers are marked, each with its number as its place
+abbrev pub placed_marked : List Bool → List Term → List Placed
+placed_marked marks terms = filter (λ (p : Placed). is_marked marks p.place) (placed_from 0 terms)
+
+-- the term of a number stands at the number's rank
+abbrev pub HasRank : List Term → List Term → List ℕ → ℕ → Type 0
+HasRank terms sorted ranks n = (rank_at ranks n < length sorted) × (term_at sorted (rank_at ranks n) ≡ term_at terms n)
+
+-- The sorted terms ascend, and subject and predicate of each triple have their ranks among them.
+pub record IsRanking (terms sorted : List Term) (ranks : List ℕ) (ids : List Ids) : Type 0 where
   pub ascending : IsAscending term_cmp sorted
   pub long : length ranks ≡ length terms
-  pub stands : (p : ℕ) → p < length terms → (rank_at ranks p < length sorted) × (term_at sorted (rank_at ranks p) ≡ term_at terms p)
+  pub stand : AllByRecursion (λ (i : Ids). HasRank terms sorted ranks i.subject × HasRank terms sorted ranks i.predicate) ids
 
--- a triple by the ranks of its numbers
-abbrev pub ranked : List ℕ → Ids → Ids
-ranked ranks i = record { subject = rank_at ranks i.subject; predicate = rank_at ranks i.predicate; object = rank_at ranks i.object }
+-- a triple by the ranks of its subject and predicate, with its object
+pub record Ranked : Type 0 where
+  pub subject : ℕ
+  pub predicate : ℕ
+  pub object : Term
 
--- triples by their numbers
-abbrev pub ids_cmp : Ids → Ids → Ordering
-ids_cmp a b = ordering_then (nat_cmp a.subject b.subject) (ordering_then (nat_cmp a.predicate b.predicate) (nat_cmp a.object b.object))
+-- by the ranks, then by the object
+abbrev pub ranked_cmp : Ranked → Ranked → Ordering
+ranked_cmp a b = ordering_then (nat_cmp a.subject b.subject) (ordering_then (nat_cmp a.predicate b.predicate) (term_cmp a.object b.object))
 
--- each of the numbers is below a count
-abbrev pub IsBelow : ℕ → Ids → Type 0
-IsBelow count i = (i.subject < count) × (i.predicate < count) × (i.object < count)
+-- the ranks and the object of a triple of three numbers
+abbrev pub ranked : List Term → List ℕ → Ids → Ranked
+ranked terms ranks i = record { subject = rank_at ranks i.subject; predicate = rank_at ranks i.predicate; object = term_at terms i.object }
+
+-- the triple of ranks among sorted terms and an object
+abbrev pub unranked : List Term → Ranked → Triple
+unranked sorted r = record { subject = term_at sorted r.subject; predicate = term_at sorted r.predicate; object = r.object }
+
+-- both ranks are below a count
+abbrev pub IsBelow : ℕ → Ranked → Type 0
+IsBelow count r = (r.subject < count) × (r.predicate < count)

@@ -11,6 +11,7 @@ mod hashed;
 mod narrowed;
 mod numbered;
 mod placed;
+mod ranked;
 mod ranks;
 mod table;
 

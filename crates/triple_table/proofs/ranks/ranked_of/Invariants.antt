@@ -3,4 +3,4 @@ use Rattle.triple_table.specs.Ranks.{ranked}
 use Rattle.triple_table.proofs.ranks.ranked_of.Given as goal
 
 abbrev pub invariant-loop-triple : goal.invariant-loop-triple
-invariant-loop-triple l = l.found.items ≡ map (ranked l.ranks) (take l.triple-index l.triples)
+invariant-loop-triple l = l.found.items ≡ map (ranked l.terms l.ranks) (take l.triple-index l.triples)

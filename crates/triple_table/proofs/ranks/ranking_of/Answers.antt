@@ -1,13 +1,16 @@
-use Rattle.std.proofs.Common.{subst, sym, length}
-use Rattle.std.specs.Prelude.{List}
-use Rattle.triple_table.specs.Ranks.{AreRanks, AreWithin, Placed}
+use Rattle.std.proofs.Common.{◌∙◌, ap, subst, sym, length}
+use Rattle.std.specs.Prelude.{Bool, List}
+use Rattle.triple_table.specs.Ranks.{AreRanks, AreWithin, Placed, placed_marked}
 use Rattle.triple_table.proofs.Ranking.{all_within, ranking}
 use Rattle.triple_table.proofs.ranks.ranking_of.Goals as goal
 
 pub ranks_of-requires : goal.ranks_of-requires
-ranks_of-requires c = subst (λ (ps : List Placed). AreWithin (length c.args.terms.now) ps) (sym c.deref.ensures.value) (all_within c.args.terms.now c.in_ok-placed.placed.items c.in_ok-sorted.sorted.items c.in_ok-placed.ensures c.in_ok-sorted.ensures)
+ranks_of-requires c =
+    subst (λ (ps : List Placed). AreWithin (length c.args.terms.now) ps) (sym c.deref-2.ensures.value)
+    (all_within c.deref.result.now c.args.terms.now c.in_ok-placed.placed.items c.in_ok-sorted.sorted.items c.in_ok-placed.ensures c.in_ok-sorted.ensures)
 
 pub returns : goal.returns
 returns c =
-    ranking c.args.terms.now c.in_ok-placed.placed.items c.in_ok-sorted.sorted.items c.in_ok-ranks.ranks.items c.requires c.in_ok-placed.ensures c.in_ok-sorted.ensures c.in_ok-ranks.ensures.long
-    (subst (λ (ps : List Placed). AreRanks ps (length ps) c.in_ok-ranks.ranks.items) c.deref.ensures.value c.in_ok-ranks.ensures.ranks)
+    let placed = c.in_ok-placed.ensures ∙ ap (λ (marks : List Bool). placed_marked marks c.args.terms.now) c.deref.ensures.value in
+    ranking c.in_ok-marks.marks.items c.args.terms.now c.args.triples.now c.in_ok-placed.placed.items c.in_ok-sorted.sorted.items c.in_ok-ranks.ranks.items c.requires.numbering c.requires.numbered c.in_ok-marks.ensures.marked placed c.in_ok-sorted.ensures c.in_ok-ranks.ensures.long
+    (subst (λ (ps : List Placed). AreRanks ps (length ps) c.in_ok-ranks.ranks.items) c.deref-2.ensures.value c.in_ok-ranks.ensures.ranks)
