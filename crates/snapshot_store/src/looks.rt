@@ -102,7 +102,7 @@ fn numbers_of(alloc: Global, names: &Dict, looks: &[Look<Term>]) -> Result<LookN
     Ok(numbers)
 }
 
-// The same looks in order, each once.
+// These looks in order, each once.
 fn sorted(numbers: LookNumbers) -> Result<LookNumbers, AllocError>
     ensures same { IfOk result (LookSame numbers) }
     ensures sorted { IfOk result AreSorted }

@@ -151,7 +151,7 @@ impl NumberedTerms {
         }
     }
 
-    // The same of a term that is given away, which is not copied.
+    // The place of a term that is given away, which is not copied and becomes the last one where it is new.
     fn place(&mut self, term: Term) -> Result<u32, AllocError>
         ensures grown { HasGrown self.old self.new }
         ensures place { IfOk result (λ place. IsPlaceOf self.new place term) }
