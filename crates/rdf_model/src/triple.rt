@@ -25,6 +25,22 @@ impl Drop for Triple {
     }
 }
 
+impl Triple {
+    /// Subject, predicate and object; no term is copied.
+    pub fn into_terms(self) -> (Term, Term, Term)
+        ensures subject { result.0 ≡ self.subject }
+        ensures predicate { result.1 ≡ self.predicate }
+        ensures object { result.2 ≡ self.object }
+    {
+        let Triple {
+            subject,
+            predicate,
+            object,
+        } = self;
+        (subject, predicate, object)
+    }
+}
+
 impl Ord for Triple {
     ghost use Rattle.std.proofs.Common.{refl};
     ghost use Rattle.rdf_model.specs.Terms.{triple_cmp};

@@ -14,11 +14,11 @@ use Rattle.rdf_model.specs.declared.ids.Ids.{Ids}
 use Rattle.rdf_model.specs.declared.term.Term.{Term}
 use Rattle.rdf_model.specs.declared.term.Term.TheVariants.{Blank}
 use Rattle.rdf_model.specs.declared.triple.Triple.{Triple}
-use Rattle.rdf_model.specs.Numbers.{graph_of, term_at, triple_at}
+use Rattle.rdf_model.specs.Numbers.{AreNumbered, graph_of, term_at, triple_at}
 use Rattle.rdf_model.specs.Orders.{term_total}
 use Rattle.rdf_model.specs.Terms.{term_cmp, triple_cmp}
 use Rattle.triple_table.specs.Ranks.{HasRank, IsBelow, IsRanking, Placed, Ranked, ranked, ranked_cmp, terms_of, unranked}
-use Rattle.triple_table.proofs.Ranking.{get_or-other}
+use Rattle.triple_table.proofs.Ranking.{get_or-other, used_each}
 
 -- what stands in a list of images
 in_image : {X Y : Type 0} (f : X → Y) (xs : List X) (x : X) → Contains xs x → Contains (map f xs) (f x)
@@ -80,9 +80,12 @@ module _ (ts : List Term) (a : IsAscending term_cmp ts) where
   triples_ascend [] p b = tt
   triples_ascend (r ∷ rs) p b = (triples_above r rs p.0 p.1 b.0, triples_ascend rs p.1 b.1)
 
-module _ (ts sorted : List Term) (ranks : List ℕ) (ids : List Ids) (r : IsRanking ts sorted ranks ids) where
+module _ (ts sorted : List Term) (ranks : List ℕ) (ids : List Ids) (r : IsRanking ts sorted ranks ids) (n : AreNumbered ts ids) where
   have : (i : Ids) → Contains ids i → HasRank ts sorted ranks i.subject × HasRank ts sorted ranks i.predicate
-  have i c = each_is (λ (k : Ids). HasRank ts sorted ranks k.subject × HasRank ts sorted ranks k.predicate) ids i r.stand c
+  have i c =
+      let w = each_is (λ (k : Ids). (k.subject < length ts) × (k.predicate < length ts) × (k.object < length ts)) ids i n c in
+      let u = used_each ids i c in
+      (r.stand i.subject w.0 u.0, r.stand i.predicate w.1 u.1)
 
   -- the triple of ranks is that of the numbers
   same_triple : (i : Ids) → Contains ids i → unranked sorted (ranked ts ranks i) ≡ triple_at ts i
@@ -129,6 +132,6 @@ below_as placed us out outs e f a =
     let long = length-map placed (λ (p : Placed). p.term) ∙ sym (ap (λ (ps : List Placed). length ps) e) in
     subst (λ (is : List Ranked). AllByRecursion (IsBelow (length us)) is) (sym f) (subst (λ (n : ℕ). AllByRecursion (IsBelow n) out) long a)
 
-pub ranked_listing_as : (ts : List Term) (placed us : List Placed) (ranks : List ℕ) (ids : List Ids) (out outs : List Ranked) (triples : List Triple) → IsRanking ts (terms_of placed) ranks ids → IsListing ranked_cmp (Contains (map (ranked ts ranks) ids)) out → us ≡ placed → outs ≡ out → triples ≡ map (unranked (terms_of us)) outs → IsListing triple_cmp (Contains (graph_of ts ids)) triples
-ranked_listing_as ts placed us ranks ids out outs triples r l e f g =
-    subst (λ (zs : List Triple). IsListing triple_cmp (Contains (graph_of ts ids)) zs) (sym (g ∙ (λ k. map (unranked (terms_of (e k))) (f k)))) (ranked_listing ts (terms_of placed) ranks ids r out l)
+pub ranked_listing_as : (ts : List Term) (placed us : List Placed) (ranks : List ℕ) (ids : List Ids) (out outs : List Ranked) (triples : List Triple) → IsRanking ts (terms_of placed) ranks ids → AreNumbered ts ids → IsListing ranked_cmp (Contains (map (ranked ts ranks) ids)) out → us ≡ placed → outs ≡ out → triples ≡ map (unranked (terms_of us)) outs → IsListing triple_cmp (Contains (graph_of ts ids)) triples
+ranked_listing_as ts placed us ranks ids out outs triples r n l e f g =
+    subst (λ (zs : List Triple). IsListing triple_cmp (Contains (graph_of ts ids)) zs) (sym (g ∙ (λ k. map (unranked (terms_of (e k))) (f k)))) (ranked_listing ts (terms_of placed) ranks ids r n out l)

@@ -1,10 +1,11 @@
 -- The ranks of terms that are sorted.
 use Rattle.std.proofs.Common.{Bool, true, false, ◌≡◌, ◌∙◌, ℕ, zero, suc, ◌+◌, ◌<◌, List, [], ◌∷◌, ◌++◌, length, get_or, set, take, refl, sym, subst, ap, arith, inl, inr}
-use Rattle.std.specs.Prelude.{◌⊎◌, IsTrue, cond}
+use Rattle.std.specs.Prelude.{◌⊎◌, ◌||◌, ◌==◌, IsTrue, cond}
 use Rattle.std.specs.List.{AllByRecursion, Contains, filter}
-use Rattle.std.proofs.lemmas.Bool.{cases_eq, cases_lt}
+use Rattle.std.proofs.lemmas.Bool.{cases_eq, cases_lt, eq-eqb, eqb-true}
 use Rattle.std.proofs.lemmas.List.{append-nil, get_or-map, get_or-set_same, get_or-set_other, length-map, length-set, take_more}
 use Rattle.std.proofs.lemmas.List.Elements.{filter-append}
+use Rattle.std.proofs.lemmas.List.Folds.{list_any-append}
 use Rattle.std.specs.declared.cmp.Ordering.{Ordering}
 use Rattle.std.specs.declared.cmp.Ordering.TheVariants.{Less, Equal, Greater}
 use Rattle.std.specs.Ordering.{nat_cmp, ordering_then}
@@ -19,7 +20,7 @@ use Rattle.rdf_model.specs.declared.term.Term.TheVariants.{Blank}
 use Rattle.rdf_model.specs.Numbers.{AreNumbered, IsNumbering, term_at}
 use Rattle.rdf_model.specs.Orders.{term_exact}
 use Rattle.rdf_model.specs.Terms.{term_cmp}
-use Rattle.triple_table.specs.Ranks.{AreMarked, AreRanks, AreWithin, HasRank, IsRanking, Placed, is_marked, placed_at, placed_cmp, placed_from, placed_marked, rank_at, terms_of}
+use Rattle.triple_table.specs.Ranks.{AreMarks, AreRanks, AreWithin, HasRank, IsRanking, Placed, is_marked, is_used, placed_at, placed_cmp, placed_from, placed_marked, rank_at, terms_of}
 
 -- what stands at a place, whatever would be taken where nothing does
 pub get_or-other : {X : Type 0} (xs : List X) (n : ℕ) (d e : X) → n < length xs → get_or xs n d ≡ get_or xs n e
@@ -59,43 +60,75 @@ placed_step marks ts i p t u old new lt is same at m o n =
 pub passed_step : (marks : List Bool) (ts : List Term) (i : ℕ) (u : Term) (old : List Placed) → i < length ts → u ≡ get_or ts i u → is_marked marks i ≡ false → old ≡ placed_marked marks (take i ts) → old ≡ placed_marked marks (take (i + 1) ts)
 passed_step marks ts i u old lt is m o = o ∙ sym (append-nil (placed_marked marks (take i ts))) ∙ sym (marked_more marks ts i u false lt is m)
 
--- one mark more
-mark_stays : (marks : List Bool) (q n : ℕ) → q < length marks → is_marked marks n ≡ true → is_marked (set marks q true) n ≡ true
-mark_stays marks q n lt m = elim (cases_eq n q) [
-  | inl e ↦ ap (λ k. is_marked (set marks q true) k) e ∙ get_or-set_same marks q true false lt
-  | inr f ↦ get_or-set_other marks q n true false f ∙ m
+-- the tests of numbers
+or_true : (b : Bool) → (b || true) ≡ true
+or_true true = refl
+or_true false = refl
+
+or_false : (b : Bool) → (b || false) ≡ b
+or_false true = refl
+or_false false = refl
+
+unequal : (n m : ℕ) → (n ≡ m → ⊥) → (n == m) ≡ false
+unequal n m f = elim (n == m) as (λ b. (n == m) ≡ b → b ≡ false) [
+  | true ↦ λ e. absurd (f (eqb-true n m e))
+  | false ↦ λ e. refl
+] refl
+
+-- the numbers of one triple more
+used_push : (ids : List Ids) (i : Ids) (n : ℕ) → is_used (ids ++ i ∷ []) n ≡ (is_used ids n || (i.subject == n || i.predicate == n))
+used_push ids i n =
+    list_any-append (λ (k : Ids). k.subject == n || k.predicate == n) ids (i ∷ [])
+    ∙ ap (λ b. is_used ids n || b) (or_false (i.subject == n || i.predicate == n))
+
+pub used_each : (ids : List Ids) (i : Ids) → Contains ids i → IsTrue (is_used ids i.subject) × IsTrue (is_used ids i.predicate)
+used_each [] i c = absurd (omega arith)
+used_each (k ∷ ids) i c = elim (has_cases k ids i c) [
+  | inl e ↦ (
+    ap (λ b. (b || k.predicate == i.subject) || is_used ids i.subject) (eq-eqb k.subject i.subject (ap (λ (j : Ids). j.subject) e)),
+    ap (λ b. (k.subject == i.predicate || b) || is_used ids i.predicate) (eq-eqb k.predicate i.predicate (ap (λ (j : Ids). j.predicate) e)) ∙ ap (λ b. b || is_used ids i.predicate) (or_true (k.subject == i.predicate)),
+  )
+  | inr d ↦
+      let r = used_each ids i d in (
+        ap (λ b. (k.subject == i.subject || k.predicate == i.subject) || b) r.0 ∙ or_true (k.subject == i.subject || k.predicate == i.subject),
+        ap (λ b. (k.subject == i.predicate || k.predicate == i.predicate) || b) r.1 ∙ or_true (k.subject == i.predicate || k.predicate == i.predicate),
+      )
 ]
 
-marks_stay : (marks : List Bool) (q : ℕ) (ids : List Ids) → q < length marks → AreMarked marks ids → AreMarked (set marks q true) ids
-marks_stay marks q [] lt m = tt
-marks_stay marks q (i ∷ ids) lt m = ((mark_stays marks q i.subject lt m.0.0, mark_stays marks q i.predicate lt m.0.1), marks_stay marks q ids lt m.1)
+-- the marks of one triple more
+abbrev pub with_marks : List Bool → Ids → List Bool
+with_marks marks i = set (set marks i.subject true) i.predicate true
 
-marks_push : (marks : List Bool) (ids : List Ids) (i : Ids) → AreMarked marks ids → IsTrue (is_marked marks i.subject) → IsTrue (is_marked marks i.predicate) → AreMarked marks (ids ++ i ∷ [])
-marks_push marks [] i m s p = ((s, p), tt)
-marks_push marks (k ∷ ids) i m s p = (m.0, marks_push marks ids i m.1 s p)
+module _ (marks : List Bool) (ids : List Ids) (i : Ids) (one : i.subject < length marks) (two : i.predicate < length (set marks i.subject true)) (m : AreMarks marks ids) where
+  marks_push : (n : ℕ) → is_marked (with_marks marks i) n ≡ (is_used ids n || (i.subject == n || i.predicate == n))
+  marks_push n = elim (cases_eq i.predicate n) [
+    | inl e ↦
+        ap (λ k. is_marked (with_marks marks i) k) (sym e) ∙ get_or-set_same (set marks i.subject true) i.predicate true false two
+        ∙ sym (ap (λ b. is_used ids n || (i.subject == n || b)) (eq-eqb i.predicate n e) ∙ ap (λ b. is_used ids n || b) (or_true (i.subject == n)) ∙ or_true (is_used ids n))
+    | inr f ↦ get_or-set_other (set marks i.subject true) i.predicate n true false (λ e. f (sym e)) ∙ elim (cases_eq i.subject n) [
+      | inl e ↦
+          ap (λ k. is_marked (set marks i.subject true) k) (sym e) ∙ get_or-set_same marks i.subject true false one
+          ∙ sym (ap (λ b. is_used ids n || (b || i.predicate == n)) (eq-eqb i.subject n e) ∙ or_true (is_used ids n))
+      | inr g ↦
+          get_or-set_other marks i.subject n true false (λ e. g (sym e)) ∙ m n
+          ∙ sym (ap (λ b. is_used ids n || (b || i.predicate == n)) (unequal i.subject n g) ∙ ap (λ b. is_used ids n || b) (unequal i.predicate n f) ∙ or_false (is_used ids n))
+    ]
+  ]
 
 pub numbered_at : (ts : List Term) (ids : List Ids) (n : ℕ) (d : Ids) → n < length ids → AreNumbered ts ids → ((get_or ids n d).subject < length ts) × ((get_or ids n d).predicate < length ts)
 numbered_at ts [] n d lt a = absurd (omega arith)
 numbered_at ts (i ∷ ids) zero d lt a = (a.0.0, a.0.1)
 numbered_at ts (i ∷ ids) (suc n) d lt a = numbered_at ts ids n d (omega arith) a.1
 
--- the marks of one triple more
-abbrev pub with_marks : List Bool → Ids → List Bool
-with_marks marks i = set (set marks i.subject true) i.predicate true
-
-pub marks_step : (ts : List Term) (ids : List Ids) (n : ℕ) (i : Ids) (marks : List Bool) → n < length ids → i ≡ get_or ids n i → AreNumbered ts ids → length marks ≡ length ts → AreMarked marks (take n ids) → (length (with_marks marks i) ≡ length ts) × AreMarked (with_marks marks i) (take (n + 1) ids)
+pub marks_step : (ts : List Term) (ids : List Ids) (n : ℕ) (i : Ids) (marks : List Bool) → n < length ids → i ≡ get_or ids n i → AreNumbered ts ids → length marks ≡ length ts → AreMarks marks (take n ids) → (length (with_marks marks i) ≡ length ts) × AreMarks (with_marks marks i) (take (n + 1) ids)
 marks_step ts ids n i marks lt is a long m =
     let within = subst (λ (k : Ids). (k.subject < length ts) × (k.predicate < length ts)) (sym is) (numbered_at ts ids n i lt a) in
     let first = length-set marks i.subject true in
     let second = length-set (set marks i.subject true) i.predicate true in
     let one : i.subject < length marks = (let k = within.0 in omega arith) in
     let two : i.predicate < length (set marks i.subject true) = (let k = within.1 in omega arith) in
-    let subject = mark_stays (set marks i.subject true) i.predicate i.subject two (get_or-set_same marks i.subject true false one) in
-    let predicate = get_or-set_same (set marks i.subject true) i.predicate true false two in
-    let old = marks_stay (set marks i.subject true) i.predicate (take n ids) two (marks_stay marks i.subject (take n ids) one m) in
-    let all = marks_push (with_marks marks i) (take n ids) i old subject predicate in
     let more : take n ids ++ i ∷ [] ≡ take (n + 1) ids = (λ j. take n ids ++ is j ∷ []) ∙ sym (take_more ids n i lt) in
-    (second ∙ first ∙ long, subst (λ (is : List Ids). AreMarked (with_marks marks i) is) more all)
+    (second ∙ first ∙ long, λ k. marks_push marks (take n ids) i one two m k ∙ sym (used_push (take n ids) i k) ∙ ap (λ (is : List Ids). is_used is k) more)
 
 -- a term stands with its place, and what stands there is such
 placed_there : (m i : ℕ) (ts : List Term) → i < length ts → Contains (placed_from m ts) (record { term = term_at ts i; place = m + i })
@@ -131,6 +164,16 @@ from_filter q (y ∷ ys) x c = elim (q y) as (λ b. Contains (cond b (y ∷ filt
   ]
   | false ↦ λ d. has_tail y ys x (from_filter q ys x d)
 ] c
+
+passes_filter : {X : Type 0} (q : X → Bool) (xs : List X) (x : X) → Contains (filter q xs) x → q x ≡ true
+passes_filter q [] x c = absurd (omega arith)
+passes_filter q (y ∷ ys) x c = elim (q y) as (λ b. q y ≡ b → Contains (cond b (y ∷ filter q ys) (filter q ys)) x → q x ≡ true) [
+  | true ↦ λ h d. elim (has_cases y (filter q ys) x d) [
+    | inl e ↦ sym (ap q e) ∙ h
+    | inr i ↦ passes_filter q ys x i
+  ]
+  | false ↦ λ h d. passes_filter q ys x d
+] refl c
 
 into_filter : {X : Type 0} (q : X → Bool) (xs : List X) (x : X) → Contains xs x → q x ≡ true → Contains (filter q xs) x
 into_filter q [] x c h = absurd (omega arith)
@@ -234,15 +277,25 @@ module _ (ts : List Term) (one : IsNumbering ts) where
           get_or-map (λ (q : Placed). q.term) sorted (rank_at ranks p) (record { term = Blank 0 0; place = 0 }) (Blank 0 0) r.0 ∙ s.term ∙ ap (term_at ts) at,
         )
 
-    have_ranks : (ids : List Ids) → AreNumbered ts ids → AreMarked marks ids → AllByRecursion (λ (i : Ids). HasRank ts (terms_of sorted) ranks i.subject × HasRank ts (terms_of sorted) ranks i.predicate) ids
-    have_ranks [] n m = tt
-    have_ranks (i ∷ ids) n m = ((has_rank i.subject n.0.0 m.0.0, has_rank i.predicate n.0.1 m.0.1), have_ranks ids n.1 m.1)
+    -- what is ranked is marked
+    only_marked : (qs : List Placed) → ((q : Placed) → Contains qs q → Contains (placed_marked marks ts) q) → AllByRecursion (λ t. (n : ℕ) × IsTrue (is_marked marks n) × (term_at ts n ≡ t)) (terms_of qs)
+    only_marked [] from = tt
+    only_marked (q ∷ qs) from =
+        let c = from q (has_equal q qs q refl) in
+        let p = marked_is marks ts q c in
+        let at : q.place ≡ p.at = (let k = p.place in omega arith) in
+        ((q.place, passes_filter (λ (w : Placed). is_marked marks w.place) (placed_from 0 ts) q c, ap (term_at ts) at ∙ sym p.term), only_marked qs (λ w d. from w (has_tail q qs w d)))
 
-pub ranking : (marks : List Bool) (ts : List Term) (ids : List Ids) (placed sorted : List Placed) (ranks : List ℕ) → IsNumbering ts → AreNumbered ts ids → AreMarked marks ids → placed ≡ placed_marked marks ts → IsListing placed_cmp (Contains placed) sorted → length ranks ≡ length ts → AreRanks sorted (length sorted) ranks → IsRanking ts (terms_of sorted) ranks ids
-ranking marks ts ids placed sorted ranks one n k e l long h =
+only_used : (marks : List Bool) (ts us : List Term) (ids : List Ids) → AreMarks marks ids → AllByRecursion (λ t. (n : ℕ) × IsTrue (is_marked marks n) × (term_at ts n ≡ t)) us → AllByRecursion (λ t. (n : ℕ) × IsTrue (is_used ids n) × (term_at ts n ≡ t)) us
+only_used marks ts [] ids m a = tt
+only_used marks ts (u ∷ us) ids m a = ((a.0.0, sym (m a.0.0) ∙ a.0.1, a.0.2), only_used marks ts us ids m a.1)
+
+pub ranking : (marks : List Bool) (ts : List Term) (ids : List Ids) (placed sorted : List Placed) (ranks : List ℕ) → IsNumbering ts → AreMarks marks ids → placed ≡ placed_marked marks ts → IsListing placed_cmp (Contains placed) sorted → length ranks ≡ length ts → AreRanks sorted (length sorted) ranks → IsRanking ts (terms_of sorted) ranks ids
+ranking marks ts ids placed sorted ranks one k e l long h =
     let m : IsListing placed_cmp (Contains (placed_marked marks ts)) sorted = subst (λ (ps : List Placed). IsListing placed_cmp (Contains ps) sorted) e l in
     record {
       ascending = terms_ascend ts one sorted (λ q c. marked_is marks ts q ((m.members q).0 c)) m.ascending;
       long = long;
-      stand = have_ranks ts one marks sorted ranks m h ids n k;
+      stand = λ n lt u. has_rank ts one marks sorted ranks m h n lt (k n ∙ u);
+      only = only_used marks ts (terms_of sorted) ids k (only_marked ts one marks sorted ranks m h sorted (λ q c. (m.members q).0 c));
     }

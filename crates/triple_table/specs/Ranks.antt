@@ -1,6 +1,6 @@
--- Terms by their order, and triples by the ranks of their terms.
-use Rattle.std.specs.Prelude.{◌≡◌, ◌+◌, ◌<◌, ℕ, Bool, false, IsTrue, List, [], ◌∷◌, length, map}
-use Rattle.std.specs.List.{AllByRecursion, filter}
+-- Terms by their order, and triples by the ranks of their subjects and predicates.
+use Rattle.std.specs.Prelude.{◌≡◌, ◌+◌, ◌<◌, ◌==◌, ◌||◌, ℕ, Bool, false, IsTrue, List, [], ◌∷◌, length, map}
+use Rattle.std.specs.List.{AllByRecursion, filter, list_any}
 use Rattle.std.specs.declared.cmp.Ordering.{Ordering}
 use Rattle.std.specs.Ordering.{nat_cmp, ordering_then}
 use Rattle.std.proofs.Common.{get_or}
@@ -45,13 +45,17 @@ rank_at ranks p = get_or ranks p 0
 abbrev pub AreRanks : List Placed → ℕ → List ℕ → Type 0
 AreRanks placed count ranks = (k : ℕ) → k < count → (rank_at ranks (placed_at placed k).place < count) × ((placed_at placed (rank_at ranks (placed_at placed k).place)).place ≡ (placed_at placed k).place)
 
--- the number is marked
+-- whether the number is marked
 abbrev pub is_marked : List Bool → ℕ → Bool
 is_marked marks n = get_or marks n false
 
--- subject and predicate of each triple are marked
-abbrev pub AreMarked : List Bool → List Ids → Type 0
-AreMarked marks ids = AllByRecursion (λ (i : Ids). IsTrue (is_marked marks i.subject) × IsTrue (is_marked marks i.predicate)) ids
+-- whether the number is that of a triple's subject or predicate
+abbrev pub is_used : List Ids → ℕ → Bool
+is_used ids n = list_any (λ (i : Ids). i.subject == n || i.predicate == n) ids
+
+-- just the numbers of subjects and predicates are marked
+abbrev pub AreMarks : List Bool → List Ids → Type 0
+AreMarks marks ids = (n : ℕ) → is_marked marks n ≡ is_used ids n
 
 -- the terms whose numbers are marked, each with its number as its place
 abbrev pub placed_marked : List Bool → List Term → List Placed
@@ -61,11 +65,12 @@ placed_marked marks terms = filter (λ (p : Placed). is_marked marks p.place) (p
 abbrev pub HasRank : List Term → List Term → List ℕ → ℕ → Type 0
 HasRank terms sorted ranks n = (rank_at ranks n < length sorted) × (term_at sorted (rank_at ranks n) ≡ term_at terms n)
 
--- The sorted terms ascend, and subject and predicate of each triple have their ranks among them.
+-- The sorted terms ascend and are just those of subjects and predicates, and the number of each has its rank among them.
 pub record IsRanking (terms sorted : List Term) (ranks : List ℕ) (ids : List Ids) : Type 0 where
   pub ascending : IsAscending term_cmp sorted
   pub long : length ranks ≡ length terms
-  pub stand : AllByRecursion (λ (i : Ids). HasRank terms sorted ranks i.subject × HasRank terms sorted ranks i.predicate) ids
+  pub stand : (n : ℕ) → n < length terms → IsTrue (is_used ids n) → HasRank terms sorted ranks n
+  pub only : AllByRecursion (λ t. (n : ℕ) × IsTrue (is_used ids n) × (term_at terms n ≡ t)) sorted
 
 -- a triple by the ranks of its subject and predicate, with its object
 pub record Ranked : Type 0 where

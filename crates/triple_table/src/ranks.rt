@@ -4,7 +4,7 @@ ghost use Rattle.std.specs.List.{AllByRecursion, Contains};
 ghost use Rattle.collections.specs.Listings.{IsListing};
 ghost use Rattle.rdf_model.specs.Numbers.{AreNumbered, IsNumbering, graph_of, term_at};
 ghost use Rattle.rdf_model.specs.Terms.{triple_cmp};
-ghost use Rattle.triple_table.specs.Ranks.{AreMarked, AreRanks, AreWithin, IsBelow, IsRanking, placed_marked, ranked, terms_of, unranked};
+ghost use Rattle.triple_table.specs.Ranks.{AreMarks, AreRanks, AreWithin, IsBelow, IsRanking, placed_marked, ranked, terms_of, unranked};
 
 use crate::narrowed::narrowed;
 use crate::placed::PlacedTerm;
@@ -24,7 +24,7 @@ struct Ranking<'a> {
 fn marks_of(alloc: Global, terms: &[Term], triples: &[Ids]) -> Result<Vec<bool>, AllocError>
     requires { AreNumbered terms.now triples.now }
     ensures long { IfOk result (λ marks. length marks.items ≡ length terms.now) }
-    ensures marked { IfOk result (λ marks. AreMarked marks.items triples.now) }
+    ensures marks { IfOk result (λ marks. AreMarks marks.items triples.now) }
 {
     let mut marks = vec![in alloc; false; terms.len()]?;
     for triple in triples {

@@ -12,5 +12,5 @@ ranks_of-requires c =
 pub returns : goal.returns
 returns c =
     let placed = c.in_ok-placed.ensures ∙ ap (λ (marks : List Bool). placed_marked marks c.args.terms.now) c.deref.ensures.value in
-    ranking c.in_ok-marks.marks.items c.args.terms.now c.args.triples.now c.in_ok-placed.placed.items c.in_ok-sorted.sorted.items c.in_ok-ranks.ranks.items c.requires.numbering c.requires.numbered c.in_ok-marks.ensures.marked placed c.in_ok-sorted.ensures c.in_ok-ranks.ensures.long
+    ranking c.in_ok-marks.marks.items c.args.terms.now c.args.triples.now c.in_ok-placed.placed.items c.in_ok-sorted.sorted.items c.in_ok-ranks.ranks.items c.requires.numbering c.in_ok-marks.ensures.marks placed c.in_ok-sorted.ensures c.in_ok-ranks.ensures.long
     (subst (λ (ps : List Placed). AreRanks ps (length ps) c.in_ok-ranks.ranks.items) c.deref-2.ensures.value c.in_ok-ranks.ensures.ranks)

@@ -9,7 +9,7 @@ triples_of-requires c =
     let out = c.in_ok-ranked.ranked.items in
     let l = listing_as c.args.terms.now ranking.ranks.items c.deref.result.now triples c.in_ok-ranked_of.field-0.items out c.deref.ensures.value c.in_ok-ranked_of.ensures c.in_ok-ranked.ensures in
     below_as ranking.sorted.items c.deref-2.result.now out c.deref-3.result.now c.deref-2.ensures.value c.deref-3.ensures.value
-    (out_below c.args.terms.now (terms_of ranking.sorted.items) ranking.ranks.items triples c.in_ok-ranking.ensures out l)
+    (out_below c.args.terms.now (terms_of ranking.sorted.items) ranking.ranks.items triples c.in_ok-ranking.ensures c.requires.numbered out l)
 
 pub returns : goal.returns
 returns c =
@@ -17,4 +17,4 @@ returns c =
     let triples = c.args.triples.now in
     let out = c.in_ok-ranked.ranked.items in
     let l = listing_as c.args.terms.now ranking.ranks.items c.deref.result.now triples c.in_ok-ranked_of.field-0.items out c.deref.ensures.value c.in_ok-ranked_of.ensures c.in_ok-ranked.ensures in
-    ranked_listing_as c.args.terms.now ranking.sorted.items c.deref-2.result.now ranking.ranks.items triples out c.deref-3.result.now _ c.in_ok-ranking.ensures l c.deref-2.ensures.value c.deref-3.ensures.value c.in_ok-triples_of.ensures
+    ranked_listing_as c.args.terms.now ranking.sorted.items c.deref-2.result.now ranking.ranks.items triples out c.deref-3.result.now _ c.in_ok-ranking.ensures c.requires.numbered l c.deref-2.ensures.value c.deref-3.ensures.value c.in_ok-triples_of.ensures
