@@ -4,6 +4,7 @@ pub mod Tokens
 pub mod Productions
 pub mod Grammar
 pub mod Blanks
+pub mod LineBytes
 pub mod Document
 pub mod Progress
 pub mod Writing

@@ -1,5 +1,5 @@
 //! Texts of N-Triples 1.1, read line by line.
-ghost use Rattle.std.specs.Prelude.{◌≡◌, ℕ, ◌+◌, ◌<◌, ◌≤◌, ◌^◌, Ok, [], List, Result, length, IfOk, MatchResult, OnOk, OnErr};
+ghost use Rattle.std.specs.Prelude.{◌≡◌, ℕ, ◌+◌, ◌<◌, ◌≤◌, ◌^◌, ◌∷◌, Ok, [], List, Result, length, IfOk, MatchResult, OnOk, OnErr};
 ghost use Rattle.std.specs.Str.{chars};
 ghost use Rattle.rdf_lexical.specs.declared.refusal.RefusalKind.{RefusalKind as KindData};
 ghost use Rattle.ntriples_text.specs.declared.statement.Statement.{Statement as StatementData};
@@ -14,9 +14,9 @@ use crate::labels::Labels;
 use crate::line_fault::LineFault;
 use crate::numbering::Numbering;
 use crate::statement::{LabelKind, Statement};
-use crate::text_line::{number_after, take_line};
+use crate::text_line::{number_after, split_line};
 use collections::Sequence;
-use rdf_lexical::{ReadFault, RefusalKind};
+use rdf_lexical::{CharSlice, ReadFault, RefusalKind};
 use rdf_model::{Term, Triple};
 use std::alloc::{AllocError, Global};
 use triple_table::TripleTable;
@@ -42,7 +42,7 @@ fn add_line(
     alloc: Global,
     labels: LabelKind,
     number: u64,
-    line: &[char],
+    line: &CharSlice<'_>,
     numbering: &mut Numbering,
     table: &mut TripleTable,
 ) -> Result<(), ReadFault>
@@ -60,6 +60,74 @@ fn add_line(
     }
 }
 
+// Adds the triple of a line, if it has one. The number of the next line comes back.
+fn add_characters(
+    alloc: Global,
+    labels: LabelKind,
+    number: u64,
+    line: &CharSlice<'_>,
+    numbering: &mut Numbering,
+    table: &mut TripleTable,
+) -> Result<u64, ReadFault>
+    requires line { 0 < length line.now }
+    requires number { number < 2 ^ 63 }
+    requires room { numbering.old.first + length numbering.old.labels + length line.now < 2 ^ 32 }
+    ensures added { (more : List (List ℕ)) → let rest = going_on numbering.old.session numbering.old.first table.old numbering.old.labels (lines_from labels number (line.now ∷ more)) in
+        MatchResult result (λ next. rest ≡ going_on numbering.old.session numbering.old.first table.new numbering.new.labels (lines_from labels next more)) (λ fault. Refuses fault rest) }
+    ensures next { IfOk result (λ next. next ≤ number + 1) }
+    ensures same { OnOk result ((numbering.new.session ≡ numbering.old.session) × (numbering.new.first ≡ numbering.old.first)) }
+    ensures room { OnOk result (length numbering.new.labels ≤ length numbering.old.labels + length line.now) }
+{
+    add_line(alloc, labels, number, line, numbering, table)?;
+    Ok(number_after(number, line))
+}
+
+// The characters of a text.
+fn characters_of(alloc: Global, text: &str) -> Result<Vec<char>, AllocError>
+    ensures { IfOk result (λ v. v.items ≡ chars text.now) }
+{
+    Ok(text.chars().collect(alloc)?)
+}
+
+// Does the same for a line of a text, whose bytes are its characters where it is ASCII.
+fn add_text(
+    alloc: Global,
+    labels: LabelKind,
+    number: u64,
+    line: &str,
+    numbering: &mut Numbering,
+    table: &mut TripleTable,
+) -> Result<u64, ReadFault>
+    requires line { 0 < length line.now }
+    requires number { number < 2 ^ 63 }
+    requires room { numbering.old.first + length numbering.old.labels + length line.now < 2 ^ 32 }
+    ensures added { (more : List (List ℕ)) → let rest = going_on numbering.old.session numbering.old.first table.old numbering.old.labels (lines_from labels number (chars line.now ∷ more)) in
+        MatchResult result (λ next. rest ≡ going_on numbering.old.session numbering.old.first table.new numbering.new.labels (lines_from labels next more)) (λ fault. Refuses fault rest) }
+    ensures next { IfOk result (λ next. next ≤ number + 1) }
+    ensures same { OnOk result ((numbering.new.session ≡ numbering.old.session) × (numbering.new.first ≡ numbering.old.first)) }
+    ensures room { OnOk result (length numbering.new.labels ≤ length numbering.old.labels + length line.now) }
+{
+    if line.is_ascii() {
+        return add_characters(
+            alloc,
+            labels,
+            number,
+            &CharSlice::of_ascii(line),
+            numbering,
+            table,
+        );
+    }
+    let characters = characters_of(alloc, line)?;
+    add_characters(
+        alloc,
+        labels,
+        number,
+        &CharSlice::of_chars(&characters),
+        numbering,
+        table,
+    )
+}
+
 // The triples of the lines of a text, in their order there. Its labels are added to the numbering.
 fn read_lines(
     alloc: Global,
@@ -75,13 +143,12 @@ fn read_lines(
     ensures same { OnOk result (numbering.new.first ≡ numbering.old.first) }
 {
     let mut table = TripleTable::new(alloc);
-    let mut line = Vec::new(alloc);
     let mut rest = text;
     let mut number = 1;
     while !rest.is_empty() {
-        rest = take_line(rest, &mut line)?;
-        add_line(alloc, labels, number, &line, numbering, &mut table)?;
-        number = number_after(number, &line);
+        let (line, after) = split_line(rest);
+        number = add_text(alloc, labels, number, line, numbering, &mut table)?;
+        rest = after;
     }
     Ok(table)
 }
@@ -185,19 +252,15 @@ pub fn read_named(alloc: Global, bytes: &[u8]) -> Result<Sequence<Triple>, ReadF
     read_by(alloc, LabelKind::OfStore, 1, &mut next, bytes)
 }
 
-// The characters of a text.
-fn characters_of(alloc: Global, text: &str) -> Result<Vec<char>, AllocError>
-    ensures { IfOk result (λ v. v.items ≡ chars text.now) }
-{
-    Ok(text.chars().collect(alloc)?)
-}
-
 // The term that the text is alone.
 fn read_term(alloc: Global, text: &str) -> Result<Option<Term>, AllocError>
     ensures { IfOk result (λ term. term ≡ Grammar.alone (chars text.now)) }
 {
+    if text.is_ascii() {
+        return read_alone(alloc, &CharSlice::of_ascii(text));
+    }
     let characters = characters_of(alloc, text)?;
-    read_alone(alloc, &characters)
+    read_alone(alloc, &CharSlice::of_chars(&characters))
 }
 
 /// The term that the bytes are, as N-Triples 1.1 writes an object, with nothing before or behind

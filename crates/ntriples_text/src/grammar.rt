@@ -11,7 +11,7 @@ use crate::store_labels::stored_node;
 use crate::token::{Token, next_token};
 use iri_ref::has_scheme;
 use literal_order::profile;
-use rdf_lexical::RefusalKind;
+use rdf_lexical::{CharSlice, RefusalKind};
 use rdf_model::Term;
 use rdf_text::Text;
 use std::alloc::{AllocError, Global};
@@ -27,18 +27,24 @@ fn unexpected(token: &Token) -> LineFault
 }
 
 #[tactic(auto, unfolding(crate::specs::Grammar::iri))]
-fn read_iri(alloc: Global, characters: &[char]) -> Result<(Text, &[char]), LineFault>
-    ensures iri { Gives (λ r. (r.0, r.1.now)) result (Grammar.iri characters.now) }
-    ensures shorter { IfOk result (λ r. length r.1.now ≤ length characters.now) }
+fn read_iri<'a>(
+    alloc: Global,
+    characters: &CharSlice<'a>,
+) -> Result<(Text, CharSlice<'a>), LineFault>
+    ensures iri { Gives (λ r. (r.0, r.1)) result (Grammar.iri characters.now) }
+    ensures shorter { IfOk result (λ r. length r.1 ≤ length characters.now) }
 {
     let (token, rest) = next_token(alloc, characters)?;
     Ok((token.into_iri()?, rest))
 }
 
 #[tactic(auto, unfolding(crate::specs::Grammar::predicate))]
-fn read_predicate(alloc: Global, characters: &[char]) -> Result<(Text, &[char]), LineFault>
-    ensures predicate { Gives (λ r. (r.0, r.1.now)) result (Grammar.predicate characters.now) }
-    ensures shorter { IfOk result (λ r. length r.1.now ≤ length characters.now) }
+fn read_predicate<'a>(
+    alloc: Global,
+    characters: &CharSlice<'a>,
+) -> Result<(Text, CharSlice<'a>), LineFault>
+    ensures predicate { Gives (λ r. (r.0, r.1)) result (Grammar.predicate characters.now) }
+    ensures shorter { IfOk result (λ r. length r.1 ≤ length characters.now) }
 {
     let (token, rest) = next_token(alloc, characters)?;
     Ok((token.into_predicate()?, rest))
@@ -94,13 +100,13 @@ fn plain(alloc: Global, lexical: Text) -> Result<Term, LineFault>
 }
 
 // The literal of a string whose datatype's IRI comes next.
-fn read_typed(
+fn read_typed<'a>(
     alloc: Global,
     lexical: Text,
-    characters: &[char],
-) -> Result<(Term, &[char]), LineFault>
-    ensures literal { Gives (λ r. (r.0, r.1.now)) result (Grammar.typed_from lexical characters.now) }
-    ensures shorter { IfOk result (λ r. length r.1.now ≤ length characters.now) }
+    characters: &CharSlice<'a>,
+) -> Result<(Term, CharSlice<'a>), LineFault>
+    ensures literal { Gives (λ r. (r.0, r.1)) result (Grammar.typed_from lexical characters.now) }
+    ensures shorter { IfOk result (λ r. length r.1 ≤ length characters.now) }
 {
     let (datatype, rest) = read_iri(alloc, characters)?;
     Ok((make_literal(lexical, datatype)?, rest))
@@ -146,72 +152,72 @@ impl Token {
         self,
         alloc: Global,
         lexical: Text,
-        before: &'a [char],
-        after: &'a [char],
-    ) -> Result<(Term, &'a [char]), LineFault>
+        before: &CharSlice<'a>,
+        after: &CharSlice<'a>,
+    ) -> Result<(Term, CharSlice<'a>), LineFault>
         requires { length after.now ≤ length before.now }
-        ensures literal { Gives (λ r. (r.0, r.1.now)) result (Grammar.literal_at lexical before.now (self, after.now)) }
-        ensures shorter { IfOk result (λ r. length r.1.now ≤ length before.now) }
+        ensures literal { Gives (λ r. (r.0, r.1)) result (Grammar.literal_at lexical before.now (self, after.now)) }
+        ensures shorter { IfOk result (λ r. length r.1 ≤ length before.now) }
     {
         match self {
             Token::Carets => read_typed(alloc, lexical, after),
-            Token::LanguageTag(tag) => Ok((tagged(alloc, lexical, tag)?, after)),
-            _ => Ok((plain(alloc, lexical)?, before)),
+            Token::LanguageTag(tag) => Ok((tagged(alloc, lexical, tag)?, after.whole())),
+            _ => Ok((plain(alloc, lexical)?, before.whole())),
         }
     }
 
     // The object that begins with this token, and the characters after it.
-    fn begin_object(
+    fn begin_object<'a>(
         self,
         alloc: Global,
         labels: LabelKind,
-        after: &[char],
-    ) -> Result<(Node, &[char]), LineFault>
-        ensures object { Gives (λ r. (r.0, r.1.now)) result (Grammar.object_at labels (self, after.now)) }
-        ensures shorter { IfOk result (λ r. length r.1.now ≤ length after.now) }
+        after: &CharSlice<'a>,
+    ) -> Result<(Node, CharSlice<'a>), LineFault>
+        ensures object { Gives (λ r. (r.0, r.1)) result (Grammar.object_at labels (self, after.now)) }
+        ensures shorter { IfOk result (λ r. length r.1 ≤ length after.now) }
     {
         match self {
             Token::Quoted(lexical) => {
                 let (literal, rest) = read_literal(alloc, lexical, after)?;
                 Ok((Node::Plain(literal), rest))
             }
-            other => Ok((other.into_node(labels)?, after)),
+            other => Ok((other.into_node(labels)?, after.whole())),
         }
     }
 }
 
 // The literal of a string, and of what follows it.
 #[tactic(auto, unfolding(crate::specs::Grammar::literal_from))]
-fn read_literal(
+fn read_literal<'a>(
     alloc: Global,
     lexical: Text,
-    characters: &[char],
-) -> Result<(Term, &[char]), LineFault>
-    ensures literal { Gives (λ r. (r.0, r.1.now)) result (Grammar.literal_from lexical characters.now) }
-    ensures shorter { IfOk result (λ r. length r.1.now ≤ length characters.now) }
+    characters: &CharSlice<'a>,
+) -> Result<(Term, CharSlice<'a>), LineFault>
+    ensures literal { Gives (λ r. (r.0, r.1)) result (Grammar.literal_from lexical characters.now) }
+    ensures shorter { IfOk result (λ r. length r.1 ≤ length characters.now) }
 {
     let (token, rest) = next_token(alloc, characters)?;
-    token.end_literal(alloc, lexical, characters, rest)
+    token.end_literal(alloc, lexical, characters, &rest)
 }
 
 #[tactic(auto, unfolding(crate::specs::Grammar::object))]
-fn read_object(
+fn read_object<'a>(
     alloc: Global,
     labels: LabelKind,
-    characters: &[char],
-) -> Result<(Node, &[char]), LineFault>
-    ensures object { Gives (λ r. (r.0, r.1.now)) result (Grammar.object labels characters.now) }
-    ensures shorter { IfOk result (λ r. length r.1.now ≤ length characters.now) }
+    characters: &CharSlice<'a>,
+) -> Result<(Node, CharSlice<'a>), LineFault>
+    ensures object { Gives (λ r. (r.0, r.1)) result (Grammar.object labels characters.now) }
+    ensures shorter { IfOk result (λ r. length r.1 ≤ length characters.now) }
 {
     let (token, rest) = next_token(alloc, characters)?;
-    token.begin_object(alloc, labels, rest)
+    token.begin_object(alloc, labels, &rest)
 }
 
 // The dot, and the characters after it.
 #[tactic(auto, unfolding(crate::specs::Grammar::dot))]
-fn skip_dot(alloc: Global, characters: &[char]) -> Result<&[char], LineFault>
-    ensures dot { Gives (λ rest. rest.now) result (Grammar.dot characters.now) }
-    ensures shorter { IfOk result (λ rest. length rest.now < length characters.now) }
+fn skip_dot<'a>(alloc: Global, characters: &CharSlice<'a>) -> Result<CharSlice<'a>, LineFault>
+    ensures dot { Gives (λ rest. rest) result (Grammar.dot characters.now) }
+    ensures shorter { IfOk result (λ rest. length rest < length characters.now) }
 {
     let (token, rest) = next_token(alloc, characters)?;
     match token {
@@ -228,7 +234,7 @@ fn is_end(token: &Token) -> bool
 
 // Nothing but the end of the line or of the text.
 #[tactic(auto, unfolding(crate::specs::Grammar::end))]
-fn expect_end(alloc: Global, characters: &[char]) -> Result<(), LineFault>
+fn expect_end(alloc: Global, characters: &CharSlice<'_>) -> Result<(), LineFault>
     ensures { Gives (λ _. tt) result (Grammar.end characters.now) }
 {
     let (token, _) = next_token(alloc, characters)?;
@@ -245,16 +251,16 @@ fn read_statement(
     alloc: Global,
     labels: LabelKind,
     first: Token,
-    characters: &[char],
+    characters: &CharSlice<'_>,
 ) -> Result<Statement, LineFault>
     ensures statement { Gives (λ s. s) result (Grammar.statement_from labels (first, characters.now)) }
     ensures longer { IfOk result (λ _. 1 ≤ length characters.now) }
 {
     let subject = first.into_node(labels)?;
     let (predicate, rest) = read_predicate(alloc, characters)?;
-    let (object, rest) = read_object(alloc, labels, rest)?;
-    let rest = skip_dot(alloc, rest)?;
-    expect_end(alloc, rest)?;
+    let (object, rest) = read_object(alloc, labels, &rest)?;
+    let rest = skip_dot(alloc, &rest)?;
+    expect_end(alloc, &rest)?;
     Ok(Statement {
         subject,
         predicate,
@@ -267,7 +273,7 @@ fn read_statement(
 pub fn read_line(
     alloc: Global,
     labels: LabelKind,
-    characters: &[char],
+    characters: &CharSlice<'_>,
 ) -> Result<Option<Statement>, LineFault>
     ensures statement { Gives (λ s. s) result (Grammar.line labels characters.now) }
     ensures longer { IfOk result (λ s. IsSome s → 2 ≤ length characters.now) }
@@ -276,17 +282,22 @@ pub fn read_line(
     if is_end(&first) {
         return Ok(None);
     }
-    Ok(Some(read_statement(alloc, labels, first, rest)?))
+    Ok(Some(read_statement(alloc, labels, first, &rest)?))
 }
 
 /// The term that the characters give alone, with nothing behind it; its labels are those of the
 /// store.
-pub fn read_alone(alloc: Global, characters: &[char]) -> Result<Option<Term>, AllocError>
+pub fn read_alone(alloc: Global, characters: &CharSlice<'_>) -> Result<Option<Term>, AllocError>
     ensures { IfOk result (λ term. term ≡ Grammar.alone characters.now) }
 {
     match read_object(alloc, LabelKind::OfStore, characters) {
-        Ok((node, [])) => Ok(node.into_term()),
-        Ok((_, [_, ..])) => Ok(None),
+        Ok((node, rest)) => {
+            if rest.is_empty() {
+                Ok(node.into_term())
+            } else {
+                Ok(None)
+            }
+        }
         Err(LineFault::Refused(_)) => Ok(None),
         Err(LineFault::Memory) => Err(AllocError),
     }

@@ -4,8 +4,8 @@ ghost use Rattle.rdf_lexical.specs.Enclosed as Lexical;
 ghost use Rattle.ntriples_text.specs.Tokens;
 
 use rdf_lexical::{
-    Class, Enclosed, Quotes, RefusalKind, begins_with, enclosed_length, is_line_end, name_length,
-    tag_length,
+    CharSlice, Class, Enclosed, Quotes, RefusalKind, begins_with, enclosed_length, is_line_end,
+    name_length, tag_length,
 };
 
 /// The kinds of tokens: the productions for terminals (N-Triples section 7), and the characters of
@@ -26,7 +26,7 @@ pub enum TokenKind {
 }
 
 // The label by the characters after its `_:`.
-fn label_after_colon(characters: &[char]) -> Result<(TokenKind, usize), RefusalKind>
+fn label_after_colon(characters: &CharSlice<'_>) -> Result<(TokenKind, usize), RefusalKind>
     ensures value { result ≡ Tokens.label_after_colon characters.now }
     ensures bound { IfOk result (λ token. (0 < token.1) × (token.1 ≤ 2 + length characters.now)) }
 {
@@ -43,19 +43,19 @@ fn label_after_colon(characters: &[char]) -> Result<(TokenKind, usize), RefusalK
 }
 
 // The label by the characters after its `_`.
-fn label(characters: &[char]) -> Result<(TokenKind, usize), RefusalKind>
+fn label(characters: &CharSlice<'_>) -> Result<(TokenKind, usize), RefusalKind>
     ensures value { result ≡ Tokens.label characters.now }
     ensures bound { IfOk result (λ token. (0 < token.1) × (token.1 ≤ suc (length characters.now))) }
 {
-    match characters {
-        [] => Err(RefusalKind::UnexpectedEnd),
-        [':', rest @ ..] => label_after_colon(rest),
-        _ => Err(RefusalKind::NoToken),
+    match characters.split_first() {
+        None => Err(RefusalKind::UnexpectedEnd),
+        Some((':', rest)) => label_after_colon(&rest),
+        Some(_) => Err(RefusalKind::NoToken),
     }
 }
 
 // The language tag by the characters after its `@`.
-fn language_tag(characters: &[char]) -> Result<(TokenKind, usize), RefusalKind>
+fn language_tag(characters: &CharSlice<'_>) -> Result<(TokenKind, usize), RefusalKind>
     ensures value { result ≡ Tokens.language_tag characters.now }
     ensures bound { IfOk result (λ token. (0 < token.1) × (token.1 ≤ suc (length characters.now))) }
 {
@@ -70,19 +70,19 @@ fn language_tag(characters: &[char]) -> Result<(TokenKind, usize), RefusalKind>
 }
 
 // `^^` by the characters after its first.
-fn carets(characters: &[char]) -> Result<(TokenKind, usize), RefusalKind>
+fn carets(characters: &CharSlice<'_>) -> Result<(TokenKind, usize), RefusalKind>
     ensures value { result ≡ Tokens.carets characters.now }
     ensures bound { IfOk result (λ token. (0 < token.1) × (token.1 ≤ suc (length characters.now))) }
 {
-    match characters {
-        [] => Err(RefusalKind::UnexpectedEnd),
-        ['^', ..] => Ok((TokenKind::Carets, 2)),
-        _ => Err(RefusalKind::NoToken),
+    match characters.split_first() {
+        None => Err(RefusalKind::UnexpectedEnd),
+        Some(('^', _)) => Ok((TokenKind::Carets, 2)),
+        Some(_) => Err(RefusalKind::NoToken),
     }
 }
 
 // The token of one or two characters, by its first and what follows it.
-fn mark(first: char, characters: &[char]) -> Result<(TokenKind, usize), RefusalKind>
+fn mark(first: char, characters: &CharSlice<'_>) -> Result<(TokenKind, usize), RefusalKind>
     ensures value { result ≡ Tokens.mark first characters.now }
     ensures bound { IfOk result (λ token. (0 < token.1) × (token.1 ≤ suc (length characters.now))) }
 {
@@ -101,7 +101,7 @@ fn mark(first: char, characters: &[char]) -> Result<(TokenKind, usize), RefusalK
 fn enclosed(
     kind: TokenKind,
     enclosed: Enclosed,
-    characters: &[char],
+    characters: &CharSlice<'_>,
 ) -> Result<(TokenKind, usize), RefusalKind>
     ensures value { result ≡ Tokens.of_kind kind (Lexical.enclosed_length enclosed 0 characters.now) }
     ensures bound { IfOk result (λ token. (0 < token.1) × (token.1 ≤ suc (length characters.now))) }
@@ -112,20 +112,20 @@ fn enclosed(
 
 /// The kind of the token that begins with the first of the characters, and how many it has; or the
 /// kind of the refusal.
-pub fn lexeme(characters: &[char]) -> Result<(TokenKind, usize), RefusalKind>
+pub fn lexeme(characters: &CharSlice<'_>) -> Result<(TokenKind, usize), RefusalKind>
     ensures value { result ≡ Tokens.lexeme characters.now }
     ensures bound { IfOk result (λ token. (0 < token.1) × (token.1 ≤ length characters.now)) }
 {
-    match characters {
-        [] => Err(RefusalKind::UnexpectedEnd),
-        ['<', rest @ ..] => enclosed(TokenKind::IriRef, Enclosed::Iri, rest),
-        ['"', rest @ ..] => enclosed(
+    match characters.split_first() {
+        None => Err(RefusalKind::UnexpectedEnd),
+        Some(('<', rest)) => enclosed(TokenKind::IriRef, Enclosed::Iri, &rest),
+        Some(('"', rest)) => enclosed(
             TokenKind::StringLiteral,
             Enclosed::Text(Quotes::Double),
-            rest,
+            &rest,
         ),
-        ['_', rest @ ..] => label(rest),
-        ['@', rest @ ..] => language_tag(rest),
-        [first, rest @ ..] => mark(*first, rest),
+        Some(('_', rest)) => label(&rest),
+        Some(('@', rest)) => language_tag(&rest),
+        Some((first, rest)) => mark(first, &rest),
     }
 }

@@ -6,7 +6,7 @@ ghost use Rattle.ntriples_text.specs.Progress.{TakesOne};
 
 use crate::lexeme::{TokenKind, lexeme};
 use crate::line_fault::LineFault;
-use rdf_lexical::{Quotes, behind, iri_text, is_line_end, lower_text, plain_text, string_value};
+use rdf_lexical::{CharSlice, Quotes, iri_text, is_line_end, lower_text, plain_text, string_value};
 use rdf_text::Text;
 use std::alloc::{AllocError, Global};
 
@@ -25,13 +25,13 @@ pub enum Token {
 }
 
 // The characters from the line's end on.
-fn skip_comment(characters: &[char]) -> &[char]
-    ensures rest { result.now ≡ Tokens.from_line_end characters.now }
-    ensures shorter { length result.now ≤ length characters.now }
+fn skip_comment<'a>(characters: &CharSlice<'a>) -> CharSlice<'a>
+    ensures rest { result ≡ Tokens.from_line_end characters.now }
+    ensures shorter { length result ≤ length characters.now }
 {
-    let mut rest = characters;
-    while let [character, after @ ..] = rest {
-        if is_line_end(*character) {
+    let mut rest = characters.whole();
+    while let Some((character, after)) = rest.split_first() {
+        if is_line_end(character) {
             return rest;
         }
         rest = after;
@@ -40,15 +40,15 @@ fn skip_comment(characters: &[char]) -> &[char]
 }
 
 // The characters after blanks and a comment.
-fn skip_blanks(characters: &[char]) -> &[char]
-    ensures rest { result.now ≡ Tokens.skipped characters.now }
-    ensures shorter { length result.now ≤ length characters.now }
+fn skip_blanks<'a>(characters: &CharSlice<'a>) -> CharSlice<'a>
+    ensures rest { result ≡ Tokens.skipped characters.now }
+    ensures shorter { length result ≤ length characters.now }
 {
-    let mut rest = characters;
-    while let [character, after @ ..] = rest {
+    let mut rest = characters.whole();
+    while let Some((character, after)) = rest.split_first() {
         match character {
             ' ' | '\t' => rest = after,
-            '#' => return skip_comment(after),
+            '#' => return skip_comment(&after),
             _ => return rest,
         }
     }
@@ -56,7 +56,11 @@ fn skip_blanks(characters: &[char]) -> &[char]
 }
 
 // The token that characters of this kind stand for.
-fn make_token(alloc: Global, kind: TokenKind, characters: &[char]) -> Result<Token, AllocError>
+fn make_token(
+    alloc: Global,
+    kind: TokenKind,
+    characters: &CharSlice<'_>,
+) -> Result<Token, AllocError>
     ensures { IfOk result (λ token. token ≡ Tokens.token_of kind characters.now) }
 {
     match kind {
@@ -64,8 +68,8 @@ fn make_token(alloc: Global, kind: TokenKind, characters: &[char]) -> Result<Tok
         TokenKind::StringLiteral => {
             Ok(Token::Quoted(string_value(alloc, Quotes::Double, characters)?))
         }
-        TokenKind::BlankNodeLabel => Ok(Token::Label(plain_text(alloc, behind(characters, 2))?)),
-        TokenKind::LanguageTag => Ok(Token::LanguageTag(lower_text(alloc, behind(characters, 1))?)),
+        TokenKind::BlankNodeLabel => Ok(Token::Label(plain_text(alloc, &characters.behind(2))?)),
+        TokenKind::LanguageTag => Ok(Token::LanguageTag(lower_text(alloc, &characters.behind(1))?)),
         TokenKind::Carets => Ok(Token::Carets),
         TokenKind::Dot => Ok(Token::Dot),
         TokenKind::LineEnd => Ok(Token::LineEnd),
@@ -73,17 +77,20 @@ fn make_token(alloc: Global, kind: TokenKind, characters: &[char]) -> Result<Tok
 }
 
 // The token that begins with the first of the characters.
-fn token_at(alloc: Global, characters: &[char]) -> Result<(Token, &[char]), LineFault>
-    ensures token { Gives (λ r. (r.0, r.1.now)) result (Tokens.token_at characters.now) }
-    ensures shorter { IfOk result (λ r. TakesOne r.0 (length r.1.now) (length characters.now)) }
+fn token_at<'a>(
+    alloc: Global,
+    characters: &CharSlice<'a>,
+) -> Result<(Token, CharSlice<'a>), LineFault>
+    ensures token { Gives (λ r. (r.0, r.1)) result (Tokens.token_at characters.now) }
+    ensures shorter { IfOk result (λ r. TakesOne r.0 (length r.1) (length characters.now)) }
 {
     if characters.is_empty() {
-        return Ok((Token::TextEnd, characters));
+        return Ok((Token::TextEnd, characters.whole()));
     }
     match lexeme(characters) {
         Ok((kind, length)) => {
             let (text, rest) = characters.split_at(length);
-            Ok((make_token(alloc, kind, text)?, rest))
+            Ok((make_token(alloc, kind, &text)?, rest))
         }
         Err(fault) => Err(LineFault::Refused(fault)),
     }
@@ -91,9 +98,12 @@ fn token_at(alloc: Global, characters: &[char]) -> Result<(Token, &[char]), Line
 
 /// The next token, and the characters after it.
 #[tactic(auto, unfolding(crate::specs::Tokens::token))]
-pub fn next_token(alloc: Global, characters: &[char]) -> Result<(Token, &[char]), LineFault>
-    ensures token { Gives (λ r. (r.0, r.1.now)) result (Tokens.token characters.now) }
-    ensures shorter { IfOk result (λ r. TakesOne r.0 (length r.1.now) (length characters.now)) }
+pub fn next_token<'a>(
+    alloc: Global,
+    characters: &CharSlice<'a>,
+) -> Result<(Token, CharSlice<'a>), LineFault>
+    ensures token { Gives (λ r. (r.0, r.1)) result (Tokens.token characters.now) }
+    ensures shorter { IfOk result (λ r. TakesOne r.0 (length r.1) (length characters.now)) }
 {
-    token_at(alloc, skip_blanks(characters))
+    token_at(alloc, &skip_blanks(characters))
 }

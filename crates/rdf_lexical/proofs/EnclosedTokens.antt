@@ -186,3 +186,9 @@ enclosed_met e (q ∷ qs) r all =
     ∙ ap (λ x. opened (length q) (enclosed_length e 0 x)) (drop-append_seam q rest)
     ∙ ap (opened (length q)) (enclosed_met e qs r all.1)
     ∙ ap (λ n. Ok n) (sym size)
+
+-- a character that may stand for itself
+pub held_character : (e : Enclosed) (cs after : List ℕ) (c count : ℕ) → cs ≡ c ∷ after → may_hold e c ≡ true → opened count (enclosed_length e 0 cs) ≡ opened (count + 1) (enclosed_length e 0 after)
+held_character e cs after c count is held =
+    ap (λ x. opened count (enclosed_length e 0 x)) is
+    ∙ held_piece e (c ∷ after) 1 count (omega arith) (omega arith) (piece_met e (c ∷ []) after (0, c ∷ [], refl, some_closing e, inl (c, refl, held))).0

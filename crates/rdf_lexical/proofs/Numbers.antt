@@ -1,5 +1,5 @@
 -- Numbers that grow past the last character.
-use Rattle.std.proofs.Common.{◌≡◌, ℕ, ◌+◌, ◌*◌, ◌<◌, suc, List, [], ◌∷◌, length, get_or, drop, Some, None, refl, sym, ap, ◌∙◌, arith, add-one, drop-cons}
+use Rattle.std.proofs.Common.{◌≡◌, ℕ, ◌+◌, ◌*◌, ◌<◌, List, [], ◌∷◌, Some, None, refl, sym, ap, ◌∙◌, arith}
 use Rattle.std.proofs.lemmas.Bool.Decides.{nat_tests}
 use Rattle.rdf_lexical.specs.Escapes.{digit_then, hex_value, hex_number_from, scalar_of}
 
@@ -15,7 +15,5 @@ stays_too_large (c ∷ cs) n h = elim (hex_value c) as (λ o. scalar_of (digit_t
 ]
 
 -- the next digit
-pub next_digit : (cs : List ℕ) (i n d v : ℕ) → i < length cs → d ≡ get_or cs i d → Some v ≡ hex_value d → hex_number_from n (drop i cs) ≡ hex_number_from (16 * n + v) (drop (i + 1) cs)
-next_digit cs i n d v h is e =
-    let whole : drop i cs ≡ d ∷ drop (i + 1) cs = rw add-one (drop-cons cs i d h ∙ ap (λ x. x ∷ drop (suc i) cs) (sym is)) in
-    ap (hex_number_from n) whole ∙ ap (λ o. digit_then o (λ w. hex_number_from (16 * n + w) (drop (i + 1) cs))) (sym e)
+pub next_digit : (cs after : List ℕ) (n d v : ℕ) → cs ≡ d ∷ after → Some v ≡ hex_value d → hex_number_from n cs ≡ hex_number_from (16 * n + v) after
+next_digit cs after n d v is e = ap (hex_number_from n) is ∙ ap (λ o. digit_then o (λ w. hex_number_from (16 * n + w) after)) (sym e)

@@ -1,7 +1,9 @@
 -- The characters that an escaped text stands for, one after another.
-use Rattle.std.proofs.Common.{◌≡◌, ◌∙◌, ℕ, zero, suc, ◌-◌, ◌<◌, ◌≤◌, List, [], ◌∷◌, ◌++◌, length, drop, Some, refl, sym, ap, append_assoc, arith}
-use Rattle.std.specs.Prelude.{encode_utf8}
-use Rattle.rdf_lexical.specs.Meanings.{character_at, next_character, unescaped}
+use Rattle.std.proofs.Common.{◌≡◌, ◌∙◌, ℕ, zero, suc, ◌-◌, ◌<◌, ◌≤◌, true, false, cond, ◌==◌, ◌||◌, List, [], ◌∷◌, ◌++◌, length, drop, Some, refl, sym, ap, append_assoc, arith}
+use Rattle.std.specs.Prelude.{encode_utf8, encode_utf8_all}
+use Rattle.std.specs.List.{list_any}
+use Rattle.rdf_lexical.specs.Escaping.{escape_at}
+use Rattle.rdf_lexical.specs.Meanings.{escaped_character, character_at, next_character, unescaped}
 
 pub skip_escape : (n : ℕ) (cs : List ℕ) → n ≤ length cs → unescaped n cs ≡ unescaped 0 (drop n cs)
 skip_escape zero cs h = refl
@@ -26,3 +28,11 @@ unescaped_step old new cs rest c n some most is grown left =
     ∙ ap (λ r. (old ++ encode_utf8 c) ++ unescaped 0 r) left
     ∙ append_assoc old (encode_utf8 c) (unescaped 0 (drop n cs))
     ∙ ap (λ r. old ++ r) (sym (next_unescaped cs c n some most is))
+
+-- a text without a backslash stands for itself
+pub no_escape : (cs : List ℕ) → list_any (λ c. c == 92) cs ≡ false → unescaped 0 cs ≡ encode_utf8_all cs
+no_escape [] e = refl
+no_escape (c ∷ cs) e = elim (c == 92) as (λ b. (b || list_any (λ d. d == 92) cs) ≡ false → (encode_utf8 (cond b (escaped_character (escape_at cs)) (c, 1)).0 ++ unescaped ((cond b (escaped_character (escape_at cs)) (c, 1)).1 - 1) cs) ≡ encode_utf8 c ++ encode_utf8_all cs) [
+  | true ↦ λ h. cc
+  | false ↦ λ h. ap (λ r. encode_utf8 c ++ r) (no_escape cs h)
+] e

@@ -1,3 +1,4 @@
+pub mod Slices
 pub mod Characters
 pub mod Escapes
 pub mod Classes

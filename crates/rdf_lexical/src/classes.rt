@@ -1,9 +1,10 @@
 //! Classes of characters, and how far they reach.
-ghost use Rattle.std.specs.Prelude.{◌≡◌, ◌+◌, ◌≤◌, drop, length};
+ghost use Rattle.std.specs.Prelude.{◌≡◌, ◌<◌, ◌≤◌, ◌^◌, length};
 ghost use Rattle.rdf_lexical.specs.Classes;
 
 use crate::characters::{is_pn_chars, is_pn_chars_base, is_pn_chars_u};
 use crate::escapes::hex_value;
+use crate::slices::CharSlice;
 
 /// The classes of characters in the productions for terminals (Turtle section 6.5).
 #[derive(Clone, Copy, Debug, PartialEq, Eq)]
@@ -84,38 +85,29 @@ impl Class {
 }
 
 /// Whether the characters begin with one of the class.
-pub fn begins_with(class: Class, characters: &[char]) -> bool
+pub fn begins_with(class: Class, characters: &CharSlice<'_>) -> bool
     ensures { result ≡ Classes.begins_with class characters.now }
 {
-    match characters {
-        [first, ..] => class.holds(*first),
-        [] => false,
+    match characters.split_first() {
+        Some((first, _)) => class.holds(first),
+        None => false,
     }
 }
 
 /// How many characters of the class the characters begin with.
-pub fn run_length(class: Class, characters: &[char]) -> usize
+pub fn run_length(class: Class, characters: &CharSlice<'_>) -> usize
     ensures value { result ≡ Classes.run_length class characters.now }
     ensures bound { result ≤ length characters.now }
+    ensures size { result < 2 ^ 63 }
 {
     let mut count = 0;
-    let mut rest = characters;
-    while let [character, after @ ..] = rest {
-        if !class.holds(*character) {
+    let mut rest = characters.whole();
+    while let Some((character, after)) = rest.split_first() {
+        if !class.holds(character) {
             return count;
         }
         count += 1;
         rest = after;
     }
     count
-}
-
-/// The characters after so many.
-pub fn after(characters: &[char], count: usize) -> &[char]
-    requires { count ≤ length characters.now }
-    ensures value { result.now ≡ drop count characters.now }
-    ensures count { length result.now + count ≡ length characters.now }
-{
-    let (_, rest) = characters.split_at(count);
-    rest
 }

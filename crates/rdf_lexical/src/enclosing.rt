@@ -1,13 +1,13 @@
 //! Tokens that end where what closes them comes.
-ghost use Rattle.std.specs.Prelude.{◌≡◌, ◌≤◌, IfOk, length};
+ghost use Rattle.std.specs.Prelude.{◌≡◌, ◌<◌, ◌≤◌, ◌^◌, IfOk, length};
 ghost use Rattle.rdf_lexical.specs.Enclosed as spec;
 ghost use Rattle.rdf_lexical.specs.Enclosed.{IsWithin};
 
 use crate::characters::is_iri_char;
-use crate::classes::after;
 use crate::escapes::{Escape, escape_at};
 use crate::quoting::Quotes;
 use crate::refusal::RefusalKind;
+use crate::slices::CharSlice;
 
 /// The tokens that end where what closes them comes.
 #[derive(Clone, Copy, Debug, PartialEq, Eq)]
@@ -70,16 +70,16 @@ impl Enclosed {
 }
 
 /// How many marks the characters begin with, at most so many.
-pub fn leading_marks(mark: char, most: usize, characters: &[char]) -> usize
+pub fn leading_marks(mark: char, most: usize, characters: &CharSlice<'_>) -> usize
     ensures value { result ≡ spec.leading_marks mark most characters.now }
     ensures bound { result ≤ length characters.now }
     ensures most { result ≤ most }
 {
     let mut left = most;
     let mut count = 0;
-    let mut rest = characters;
-    while let [character, after @ ..] = rest {
-        if left == 0 || *character != mark {
+    let mut rest = characters.whole();
+    while let Some((character, after)) = rest.split_first() {
+        if left == 0 || character != mark {
             return count;
         }
         left -= 1;
@@ -90,13 +90,13 @@ pub fn leading_marks(mark: char, most: usize, characters: &[char]) -> usize
 }
 
 // A character or an escape that the token may hold.
-fn unit(kind: Enclosed, characters: &[char]) -> Piece
+fn unit(kind: Enclosed, characters: &CharSlice<'_>) -> Piece
     ensures value { result ≡ spec.unit kind characters.now }
     ensures bound { IsWithin result (length characters.now) }
 {
-    match characters {
-        [] => Piece::Faulty(RefusalKind::UnexpectedEnd),
-        ['\\', rest @ ..] => match escape_at(rest) {
+    match characters.split_first() {
+        None => Piece::Faulty(RefusalKind::UnexpectedEnd),
+        Some(('\\', rest)) => match escape_at(&rest) {
             Escape::Character { character, length } => {
                 if kind.may_hold_escaped(character, length) {
                     Piece::Held { length: 1 + length }
@@ -107,8 +107,8 @@ fn unit(kind: Enclosed, characters: &[char]) -> Piece
             Escape::Cut => Piece::Faulty(RefusalKind::UnexpectedEnd),
             Escape::Faulty => Piece::Faulty(RefusalKind::BadEscape),
         },
-        [character, ..] => {
-            if kind.may_hold(*character) {
+        Some((character, _)) => {
+            if kind.may_hold(character) {
                 Piece::Held { length: 1 }
             } else {
                 Piece::Faulty(RefusalKind::NoToken)
@@ -117,7 +117,7 @@ fn unit(kind: Enclosed, characters: &[char]) -> Piece
     }
 }
 
-fn next_piece(kind: Enclosed, characters: &[char]) -> Piece
+fn next_piece(kind: Enclosed, characters: &CharSlice<'_>) -> Piece
     ensures value { result ≡ spec.next_piece kind characters.now }
     ensures bound { IsWithin result (length characters.now) }
 {
@@ -126,7 +126,7 @@ fn next_piece(kind: Enclosed, characters: &[char]) -> Piece
     if marks == closing {
         return Piece::Closing { length: closing };
     }
-    match unit(kind, after(characters, marks)) {
+    match unit(kind, &characters.after(marks)) {
         Piece::Held { length } => Piece::Held {
             length: marks + length,
         },
@@ -135,17 +135,26 @@ fn next_piece(kind: Enclosed, characters: &[char]) -> Piece
 }
 
 /// How many characters the token has after what opens it, with what closes it; or why there is none.
-pub fn enclosed_length(kind: Enclosed, characters: &[char]) -> Result<usize, RefusalKind>
+pub fn enclosed_length(kind: Enclosed, characters: &CharSlice<'_>) -> Result<usize, RefusalKind>
     ensures value { result ≡ spec.enclosed_length kind 0 characters.now }
     ensures bound { IfOk result (λ count. count ≤ length characters.now) }
+    ensures size { IfOk result (λ count. count < 2 ^ 63) }
 {
     let mut count = 0;
-    let mut rest = characters;
-    loop {
-        match next_piece(kind, rest) {
+    let mut rest = characters.whole();
+    'pieces: loop {
+        // Most pieces are a character that stands for itself, which is no mark and no backslash.
+        if let Some((character, after)) = rest.split_first()
+            && kind.may_hold(character)
+        {
+            count += 1;
+            rest = after;
+            continue 'pieces;
+        }
+        match next_piece(kind, &rest) {
             Piece::Held { length } => {
                 count += length;
-                rest = after(rest, length);
+                rest = rest.after(length);
             }
             Piece::Closing { length } => return Ok(count + length),
             Piece::Faulty(fault) => return Err(fault),

@@ -5,6 +5,7 @@ ghost use Rattle.rdf_lexical.specs.Escaping;
 ghost use Rattle.rdf_lexical.specs.Escaping.{HasLength};
 
 use crate::classes::{Class, run_length};
+use crate::slices::CharSlice;
 
 const LARGEST: u32 = 0x10FFFF;
 
@@ -38,15 +39,17 @@ pub fn hex_value(digit: char) -> Option<u32>
 /// The character that UCHAR stands for, by its digits: four after `\u`, eight after `\U`
 /// (N-Triples section 7). None where one is no digit, or they are the number of a surrogate or
 /// past 10FFFF.
-pub fn numbered_char(digits: &[char]) -> Option<char>
+pub fn numbered_char(digits: &CharSlice<'_>) -> Option<char>
     ensures { result ≡ Escapes.numbered_char digits.now }
 {
     let mut number = 0;
-    for digit in digits {
-        number = 16 * number + hex_value(*digit)?;
+    let mut left = digits.whole();
+    while let Some((digit, after)) = left.split_first() {
+        number = 16 * number + hex_value(digit)?;
         if number > LARGEST {
             return None;
         }
+        left = after;
     }
     char::from_u32(number)
 }
@@ -61,7 +64,7 @@ pub enum Escape {
 }
 
 // The escape by its digits, of which there must be so many.
-fn numbered_escape(count: usize, characters: &[char]) -> Escape
+fn numbered_escape(count: usize, characters: &CharSlice<'_>) -> Escape
     requires { count ≤ 8 }
     ensures value { result ≡ Escaping.numbered_escape count characters.now }
     ensures bound { HasLength result (suc (length characters.now)) }
@@ -75,7 +78,7 @@ fn numbered_escape(count: usize, characters: &[char]) -> Escape
         };
     }
     let (number, _) = characters.split_at(count);
-    match numbered_char(number) {
+    match numbered_char(&number) {
         Some(character) => Escape::Character {
             character,
             length: 1 + count,
@@ -99,14 +102,14 @@ fn character_escape(character: char) -> Escape
 }
 
 /// The escape by the characters after its backslash (Turtle section 6.4).
-pub fn escape_at(characters: &[char]) -> Escape
+pub fn escape_at(characters: &CharSlice<'_>) -> Escape
     ensures value { result ≡ Escaping.escape_at characters.now }
     ensures bound { HasLength result (length characters.now) }
 {
-    match characters {
-        ['u', rest @ ..] => numbered_escape(4, rest),
-        ['U', rest @ ..] => numbered_escape(8, rest),
-        [character, ..] => character_escape(*character),
-        [] => Escape::Cut,
+    match characters.split_first() {
+        Some(('u', rest)) => numbered_escape(4, &rest),
+        Some(('U', rest)) => numbered_escape(8, &rest),
+        Some((character, _)) => character_escape(character),
+        None => Escape::Cut,
     }
 }

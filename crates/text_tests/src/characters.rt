@@ -2,8 +2,8 @@
 
 use crate::rows::same;
 use rdf_lexical::{
-    RefusalKind, escaped_char, is_iri_char, is_pn_chars, is_pn_chars_base, is_pn_chars_u,
-    numbered_char,
+    CharSlice, RefusalKind, escaped_char, is_iri_char, is_pn_chars, is_pn_chars_base,
+    is_pn_chars_u, numbered_char,
 };
 use std::test::Fail;
 
@@ -117,7 +117,12 @@ fn escapes(rt: HostRuntime) -> Result<(), Fail> {
     }
     for (text, meaning) in NUMBERS {
         let digits: Vec<char> = text.chars().collect(rt.alloc())?;
-        same(&rt, text, numbered_char(&digits), meaning);
+        same(
+            &rt,
+            text,
+            numbered_char(&CharSlice::of_chars(&digits)),
+            meaning,
+        );
     }
     Ok(())
 }

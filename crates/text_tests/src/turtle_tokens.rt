@@ -5,22 +5,21 @@ use std::alloc::Global;
 use std::process::Abort;
 use std::test::Fail;
 use turtle_lex::{
-    Quotes, TextPlace, TokenKind, iri_text, local_name, next_token, plain_text, split_name,
-    string_value, token_text,
+    CharSlice, Quotes, TextPlace, TokenKind, iri_text, local_name, next_token, plain_text,
+    split_name, string_value, token_text,
 };
 
-// The tokens of a text, each with the place behind it, and the fault after them with its line, if there is one.
-fn listing(alloc: Global, text: &str) -> Result<String, Fail> {
-    let characters: Vec<char> = text.chars().collect(alloc)?;
+// The tokens of characters, each with the place behind it, and the fault after them with its line, if there is one.
+fn listing(alloc: Global, characters: &CharSlice<'_>) -> Result<String, Fail> {
     let mut found = String::new(alloc);
     let mut place = TextPlace::start();
     let mut after_string = false;
     let mut left = characters.len();
     while left > 0 {
         left -= 1;
-        match next_token(&characters, place, after_string) {
+        match next_token(characters, place, after_string) {
             Ok(Some(token)) => {
-                let length = token_text(&characters, token).len();
+                let length = token_text(characters, token).len();
                 write!(found, "{:?} {}, ", token.kind, token.start.at + length)?;
                 place = token.end;
                 after_string = matches!(token.kind, TokenKind::StringLiteral(_));
@@ -35,10 +34,15 @@ fn listing(alloc: Global, text: &str) -> Result<String, Fail> {
     Ok(found)
 }
 
-// Whether the text has these tokens, as `listing` gives them.
+// Whether the text has these tokens, as `listing` gives them: by its characters, and where it is ASCII by its bytes.
 fn expect_tokens(rt: &impl Abort, alloc: Global, text: &str, wanted: &str) -> Result<(), Fail> {
-    let found = listing(alloc, text)?;
+    let characters: Vec<char> = text.chars().collect(alloc)?;
+    let found = listing(alloc, &CharSlice::of_chars(&characters))?;
     same(rt, text, found.as_str(), wanted);
+    if text.is_ascii() {
+        let found = listing(alloc, &CharSlice::of_ascii(text))?;
+        same(rt, text, found.as_str(), wanted);
+    }
     Ok(())
 }
 
@@ -247,15 +251,16 @@ fn meanings(rt: HostRuntime) -> Result<(), Fail> {
         same(
             &rt,
             value,
-            string_value(alloc, quotes, &characters)?.as_str(),
+            string_value(alloc, quotes, &CharSlice::of_chars(&characters))?.as_str(),
             value,
         );
     }
     let iri: Vec<char> = "<\\u0065:a>".chars().collect(alloc)?;
-    same(&rt, "e:a", iri_text(alloc, &iri)?.as_str(), "e:a");
+    let iri = iri_text(alloc, &CharSlice::of_chars(&iri))?;
+    same(&rt, "e:a", iri.as_str(), "e:a");
     let name: Vec<char> = "a.b:\\~c:%41".chars().collect(alloc)?;
-    let (prefix, local) = split_name(&name);
-    same(&rt, "a.b", plain_text(alloc, prefix)?.as_str(), "a.b");
-    same(&rt, "~c:%41", local_name(alloc, local)?.as_str(), "~c:%41");
+    let (prefix, local) = split_name(&CharSlice::of_chars(&name));
+    same(&rt, "a.b", plain_text(alloc, &prefix)?.as_str(), "a.b");
+    same(&rt, "~c:%41", local_name(alloc, &local)?.as_str(), "~c:%41");
     Ok(())
 }

@@ -1,8 +1,11 @@
--- A step of a local name.
-use Rattle.std.proofs.Common.{◌≡◌, ◌≢◌, ◌∙◌, ℕ, zero, suc, ◌+◌, ◌<◌, ◌≤◌, ◌==◌, true, false, cond, List, [], ◌∷◌, length, get_or, drop, sym, ap, arith}
+-- Steps of a local name.
+use Rattle.std.proofs.Common.{◌≡◌, ◌≢◌, ◌∙◌, ℕ, zero, suc, ◌+◌, ◌<◌, ◌≤◌, ◌==◌, ◌||◌, true, false, cond, List, [], ◌∷◌, ◌++◌, length, drop, refl, sym, ap, subst, arith}
+use Rattle.std.specs.Prelude.{encode_utf8, encode_utf8_all}
+use Rattle.std.specs.List.{list_any}
 use Rattle.std.proofs.lemmas.Bool.Decides.{nat_tests}
 use Rattle.rdf_lexical.specs.Names.{with_dot}
 use Rattle.rdf_lexical.proofs.Joined.{joined, joined_dot, joined_piece}
+use Rattle.turtle_lex.specs.Meanings.{local_text}
 use Rattle.turtle_lex.specs.Names.{local_piece, local_run, with_piece}
 
 skip_run : (n : ℕ) (cs : List ℕ) → n ≤ length cs → local_run n cs ≡ n + local_run 0 (drop n cs)
@@ -20,20 +23,24 @@ run_of_piece : (c : ℕ) (cs : List ℕ) (p : ℕ) → 0 < p → p ≤ suc (leng
 run_of_piece c cs zero h b = absurd (omega arith)
 run_of_piece c cs (suc n) h b = let e = skip_run n cs (omega arith) in omega arith
 
-pub piece_step : (cs : List ℕ) (kept count c p : ℕ) → 0 < length cs → c ≡ get_or cs 0 c → c ≢ 46 → p ≡ local_piece cs → 0 < p → p ≤ length cs → joined kept count (local_run 0 cs) ≡ joined (count + p) (count + p) (local_run 0 (drop p cs))
-piece_step [] kept count c p some is dot e h b = absurd (omega arith)
-piece_step (d ∷ cs) kept count c p some is dot e h b =
-    let other : (d == 46) ≡ false = grind (arith, nat_tests) in
+pub piece_step : (cs after : List ℕ) (kept count c p : ℕ) → cs ≡ c ∷ after → c ≢ 46 → p ≡ local_piece cs → 0 < p → p ≤ length cs → joined kept count (local_run 0 cs) ≡ joined (count + p) (count + p) (local_run 0 (drop p cs))
+piece_step [] after kept count c p is dot e h b = cc
+piece_step (d ∷ cs) after kept count c p is dot e h b =
+    let same : d ≡ c = cc in
+    let other : (d == 46) ≡ false = subst (λ (x : ℕ). (x == 46) ≡ false) (sym same) (grind (arith, nat_tests)) in
     ap (joined kept count) (not_a_dot d cs other ∙ ap (TheRun d cs) (sym e) ∙ run_of_piece d cs p h b) ∙ joined_piece kept count p (local_run 0 (drop p (d ∷ cs))) h
 
-pub no_piece : (cs : List ℕ) (kept count c p : ℕ) → 0 < length cs → c ≡ get_or cs 0 c → c ≢ 46 → p ≡ local_piece cs → p ≡ 0 → joined kept count (local_run 0 cs) ≡ kept
-no_piece [] kept count c p some is dot e h = absurd (omega arith)
-no_piece (d ∷ cs) kept count c p some is dot e h =
-    let other : (d == 46) ≡ false = grind (arith, nat_tests) in
-    ap (joined kept count) (not_a_dot d cs other ∙ ap (TheRun d cs) (sym e ∙ h))
+pub dot_step : (cs after : List ℕ) (kept count c : ℕ) → cs ≡ c ∷ after → c ≡ 46 → joined kept count (local_run 0 cs) ≡ joined kept (count + 1) (local_run 0 after)
+dot_step cs after kept count c is dot =
+    let same : (c == 46) ≡ true = grind (arith, nat_tests) in
+    ap (λ x. joined kept count (local_run 0 x)) is
+    ∙ ap (joined kept count) (ap (λ b. cond b (with_dot (local_run 0 after)) (TheRun c after (local_piece (c ∷ after)))) same)
+    ∙ joined_dot kept count (local_run 0 after)
 
-pub dot_step : (cs : List ℕ) (kept count c : ℕ) → 0 < length cs → c ≡ get_or cs 0 c → c ≡ 46 → joined kept count (local_run 0 cs) ≡ joined kept (count + 1) (local_run 0 (drop 1 cs))
-dot_step [] kept count c some is dot = absurd (omega arith)
-dot_step (d ∷ cs) kept count c some is dot =
-    let same : (d == 46) ≡ true = grind (arith, nat_tests) in
-    ap (joined kept count) (ap (λ b. cond b (with_dot (local_run 0 cs)) (TheRun d cs (local_piece (d ∷ cs)))) same) ∙ joined_dot kept count (local_run 0 cs)
+-- a local name without a backslash stands for itself
+pub no_escape : (cs : List ℕ) → list_any (λ c. c == 92) cs ≡ false → local_text cs ≡ encode_utf8_all cs
+no_escape [] e = refl
+no_escape (c ∷ cs) e = elim (c == 92) as (λ b. (b || list_any (λ d. d == 92) cs) ≡ false → cond b (local_text cs) (encode_utf8 c ++ local_text cs) ≡ encode_utf8 c ++ encode_utf8_all cs) [
+  | true ↦ λ h. cc
+  | false ↦ λ h. ap (λ r. encode_utf8 c ++ r) (no_escape cs h)
+] e

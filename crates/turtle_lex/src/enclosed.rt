@@ -3,10 +3,10 @@ ghost use Rattle.std.specs.Prelude.{◌≡◌, ◌<◌, ◌≤◌, suc, IfOk, le
 ghost use Rattle.turtle_lex.specs.Enclosed as spec;
 
 use crate::token::TokenKind;
-use rdf_lexical::{Enclosed, Quotes, RefusalKind, after, enclosed_length, leading_marks};
+use rdf_lexical::{CharSlice, Enclosed, Quotes, RefusalKind, enclosed_length, leading_marks};
 
 /// The IRIREF by the characters after its `<`.
-pub fn iri_ref(characters: &[char]) -> Result<(TokenKind, usize), RefusalKind>
+pub fn iri_ref(characters: &CharSlice<'_>) -> Result<(TokenKind, usize), RefusalKind>
     ensures value { result ≡ spec.iri_ref characters.now }
     ensures bound { IfOk result (λ token. (0 < token.1) × (token.1 ≤ suc (length characters.now))) }
 {
@@ -15,7 +15,7 @@ pub fn iri_ref(characters: &[char]) -> Result<(TokenKind, usize), RefusalKind>
 }
 
 // The quotes of a string that begins with this one, by the characters after it.
-fn quotes_at(quote: char, characters: &[char]) -> Quotes
+fn quotes_at(quote: char, characters: &CharSlice<'_>) -> Quotes
     ensures value { result ≡ spec.quotes_at quote characters.now }
     ensures bound { spec.more_quotes result ≤ length characters.now }
 {
@@ -38,12 +38,15 @@ fn more_quotes(quotes: Quotes) -> usize
 }
 
 /// The string that begins with a quote, by the characters after it.
-pub fn string_literal(quote: char, characters: &[char]) -> Result<(TokenKind, usize), RefusalKind>
+pub fn string_literal(
+    quote: char,
+    characters: &CharSlice<'_>,
+) -> Result<(TokenKind, usize), RefusalKind>
     ensures value { result ≡ spec.string_literal quote characters.now }
     ensures bound { IfOk result (λ token. (0 < token.1) × (token.1 ≤ suc (length characters.now))) }
 {
     let quotes = quotes_at(quote, characters);
     let more = more_quotes(quotes);
-    let length = enclosed_length(Enclosed::Text(quotes), after(characters, more))?;
+    let length = enclosed_length(Enclosed::Text(quotes), &characters.after(more))?;
     Ok((TokenKind::StringLiteral(quotes), 1 + more + length))
 }

@@ -13,10 +13,10 @@ use crate::numbers::number;
 use crate::places::place_after;
 use crate::token::{LexFault, TextPlace, Token, TokenKind};
 use crate::words::{at_word, word};
-use rdf_lexical::{Class, RefusalKind, after, begins_with, name_length};
+use rdf_lexical::{CharSlice, Class, RefusalKind, begins_with, name_length};
 
 // The label by the characters after its `_`.
-fn label_after_colon(characters: &[char]) -> Result<(TokenKind, usize), RefusalKind>
+fn label_after_colon(characters: &CharSlice<'_>) -> Result<(TokenKind, usize), RefusalKind>
     ensures value { result ≡ Tokens.label_after_colon characters.now }
     ensures bound { IfOk result (λ token. (0 < token.1) × (token.1 ≤ 2 + length characters.now)) }
 {
@@ -32,30 +32,30 @@ fn label_after_colon(characters: &[char]) -> Result<(TokenKind, usize), RefusalK
     }
 }
 
-fn label(characters: &[char]) -> Result<(TokenKind, usize), RefusalKind>
+fn label(characters: &CharSlice<'_>) -> Result<(TokenKind, usize), RefusalKind>
     ensures value { result ≡ Tokens.label characters.now }
     ensures bound { IfOk result (λ token. (0 < token.1) × (token.1 ≤ 1 + length characters.now)) }
 {
-    match characters {
-        [] => Err(RefusalKind::UnexpectedEnd),
-        [':', rest @ ..] => label_after_colon(rest),
-        _ => Err(RefusalKind::NoToken),
+    match characters.split_first() {
+        None => Err(RefusalKind::UnexpectedEnd),
+        Some((':', rest)) => label_after_colon(&rest),
+        Some(_) => Err(RefusalKind::NoToken),
     }
 }
 
-fn carets(characters: &[char]) -> Result<(TokenKind, usize), RefusalKind>
+fn carets(characters: &CharSlice<'_>) -> Result<(TokenKind, usize), RefusalKind>
     ensures value { result ≡ Tokens.carets characters.now }
     ensures bound { IfOk result (λ token. (0 < token.1) × (token.1 ≤ 1 + length characters.now)) }
 {
-    match characters {
-        [] => Err(RefusalKind::UnexpectedEnd),
-        ['^', ..] => Ok((TokenKind::Carets, 2)),
-        _ => Err(RefusalKind::NoToken),
+    match characters.split_first() {
+        None => Err(RefusalKind::UnexpectedEnd),
+        Some(('^', _)) => Ok((TokenKind::Carets, 2)),
+        Some(_) => Err(RefusalKind::NoToken),
     }
 }
 
 // The name by its prefix's length and the characters after its colon.
-fn prefixed(prefix: usize, characters: &[char]) -> (TokenKind, usize)
+fn prefixed(prefix: usize, characters: &CharSlice<'_>) -> (TokenKind, usize)
     requires { prefix + length characters.now < 2 ^ 63 }
     ensures value { result ≡ Tokens.prefixed prefix characters.now }
     ensures bound { result.1 ≤ prefix + 1 + length characters.now }
@@ -70,30 +70,46 @@ fn prefixed(prefix: usize, characters: &[char]) -> (TokenKind, usize)
 }
 
 // A prefixed name, or a word without a colon.
-fn name_or_word(characters: &[char]) -> Result<(TokenKind, usize), RefusalKind>
+fn name_or_word(characters: &CharSlice<'_>) -> Result<(TokenKind, usize), RefusalKind>
     ensures value { result ≡ Tokens.name_or_word characters.now }
     ensures bound { IfOk result (λ token. (0 < token.1) × (token.1 ≤ length characters.now)) }
 {
     let prefix = prefix_length(characters);
-    match after(characters, prefix) {
-        [':', rest @ ..] => Ok(prefixed(prefix, rest)),
+    match characters.after(prefix).split_first() {
+        Some((':', rest)) => Ok(prefixed(prefix, &rest)),
         _ => word(characters),
     }
 }
 
-// What begins with a sign or a dot and is no number.
-fn no_number(characters: &[char]) -> Result<(TokenKind, usize), RefusalKind>
-    ensures value { result ≡ Tokens.no_number characters.now }
-    ensures bound { IfOk result (λ token. (0 < token.1) × (token.1 ≤ length characters.now)) }
+// Whether a number may go on behind the text's end, by the characters after its sign.
+fn is_cut_number(characters: &CharSlice<'_>) -> bool
+    ensures { result ≡ Tokens.is_cut_number characters.now }
 {
-    match characters {
-        ['.', ..] => Ok((TokenKind::Dot, 1)),
-        [_] | [_, '.'] => Err(RefusalKind::UnexpectedEnd),
-        _ => Err(RefusalKind::NoToken),
+    match characters.split_first() {
+        None => true,
+        Some((character, rest)) => character == '.' && rest.is_empty(),
     }
 }
 
-fn number_or_dot(characters: &[char]) -> Result<(TokenKind, usize), RefusalKind>
+// What begins with a sign or a dot and is no number.
+fn no_number(characters: &CharSlice<'_>) -> Result<(TokenKind, usize), RefusalKind>
+    ensures value { result ≡ Tokens.no_number characters.now }
+    ensures bound { IfOk result (λ token. (0 < token.1) × (token.1 ≤ length characters.now)) }
+{
+    match characters.split_first() {
+        Some(('.', _)) => Ok((TokenKind::Dot, 1)),
+        Some((_, rest)) => {
+            if is_cut_number(&rest) {
+                Err(RefusalKind::UnexpectedEnd)
+            } else {
+                Err(RefusalKind::NoToken)
+            }
+        }
+        None => Err(RefusalKind::NoToken),
+    }
+}
+
+fn number_or_dot(characters: &CharSlice<'_>) -> Result<(TokenKind, usize), RefusalKind>
     ensures value { result ≡ Tokens.number_or_dot characters.now }
     ensures bound { IfOk result (λ token. (0 < token.1) × (token.1 ≤ length characters.now)) }
 {
@@ -130,7 +146,7 @@ fn may_begin_name(character: char) -> bool
 }
 
 // A token of one character, a number, a name or a word.
-fn plain_token(first: char, characters: &[char]) -> Result<(TokenKind, usize), RefusalKind>
+fn plain_token(first: char, characters: &CharSlice<'_>) -> Result<(TokenKind, usize), RefusalKind>
     requires { 0 < length characters.now }
     ensures value { result ≡ Tokens.plain_token first characters.now }
     ensures bound { IfOk result (λ token. (0 < token.1) × (token.1 ≤ length characters.now)) }
@@ -148,27 +164,30 @@ fn plain_token(first: char, characters: &[char]) -> Result<(TokenKind, usize), R
 }
 
 // The token that begins with the first character.
-fn token_at(after_string: bool, characters: &[char]) -> Result<(TokenKind, usize), RefusalKind>
+fn token_at(
+    after_string: bool,
+    characters: &CharSlice<'_>,
+) -> Result<(TokenKind, usize), RefusalKind>
     requires { 0 < length characters.now }
     ensures value { result ≡ Tokens.token_at after_string characters.now }
     ensures bound { IfOk result (λ token. (0 < token.1) × (token.1 ≤ length characters.now)) }
 {
-    match characters {
-        [first, rest @ ..] => match first {
-            '<' => iri_ref(rest),
-            '"' | '\'' => string_literal(*first, rest),
-            '@' => at_word(after_string, rest),
-            '_' => label(rest),
-            '^' => carets(rest),
-            _ => plain_token(*first, characters),
+    match characters.split_first() {
+        Some((first, rest)) => match first {
+            '<' => iri_ref(&rest),
+            '"' | '\'' => string_literal(first, &rest),
+            '@' => at_word(after_string, &rest),
+            '_' => label(&rest),
+            '^' => carets(&rest),
+            _ => plain_token(first, characters),
         },
-        [] => Err(RefusalKind::UnexpectedEnd),
+        None => Err(RefusalKind::UnexpectedEnd),
     }
 }
 
 // The token or the fault by what was found at its start.
 fn placed(
-    characters: &[char],
+    characters: &CharSlice<'_>,
     start: TextPlace,
     found: Result<(TokenKind, usize), RefusalKind>,
 ) -> Result<Token, LexFault>
@@ -199,7 +218,7 @@ fn placed(
 
 // The next token, behind white space and comments.
 fn find_token(
-    characters: &[char],
+    characters: &CharSlice<'_>,
     place: TextPlace,
     after_string: bool,
 ) -> Result<Option<Token>, LexFault>
@@ -207,14 +226,14 @@ fn find_token(
     ensures value { result ≡ Tokens.next_token characters.now place.at after_string }
     ensures span { IfOk result (λ found. IfSome found (HasSpan characters.now)) }
 {
-    let rest = after(characters, place.at);
-    let blanks = blank_length(rest);
-    let rest = after(rest, blanks);
+    let rest = characters.after(place.at);
+    let blanks = blank_length(&rest);
+    let rest = rest.after(blanks);
     if rest.is_empty() {
         return Ok(None);
     }
     let start = place_after(characters, place, blanks);
-    Ok(Some(placed(characters, start, token_at(after_string, rest))?))
+    Ok(Some(placed(characters, start, token_at(after_string, &rest))?))
 }
 
 /// The next token behind white space and comments at a place of a text (Turtle sections 6.2 to
@@ -224,7 +243,7 @@ fn find_token(
 /// The token is the longest that stands there, where a word goes as far as its characters do. A
 /// fault has the line of the token's start, or of the text's end where that came within a token.
 pub fn next_token(
-    characters: &[char],
+    characters: &CharSlice<'_>,
     place: TextPlace,
     after_string: bool,
 ) -> Result<Option<Token>, LexFault>

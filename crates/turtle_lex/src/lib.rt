@@ -22,5 +22,6 @@ mod words;
 
 pub use lexer::next_token;
 pub use meanings::{local_name, push_local_name, split_name, token_text};
-pub use rdf_lexical::{Quotes, RefusalKind, iri_text, plain_text, string_value};
+pub use places::line_feeds;
+pub use rdf_lexical::{CharSlice, Quotes, RefusalKind, iri_text, plain_text, string_value};
 pub use token::{LexFault, TextPlace, Token, TokenKind};

@@ -3,9 +3,9 @@ ghost use Rattle.std.specs.Prelude.{◌≡◌, ◌+◌, ◌^◌, ◌<◌, ◌≤
 ghost use Rattle.turtle_lex.specs.Numbers;
 
 use crate::token::TokenKind;
-use rdf_lexical::{Class, after, begins_with, run_length};
+use rdf_lexical::{CharSlice, Class, begins_with, run_length};
 
-fn sign_length(characters: &[char]) -> usize
+fn sign_length(characters: &CharSlice<'_>) -> usize
     ensures value { result ≡ Numbers.sign_length characters.now }
     ensures bound { result ≤ length characters.now }
 {
@@ -17,34 +17,34 @@ fn sign_length(characters: &[char]) -> usize
 }
 
 // How many characters the dot and the digits after it have; 0 where no dot stands.
-fn point_length(characters: &[char]) -> usize
+fn point_length(characters: &CharSlice<'_>) -> usize
     ensures value { result ≡ Numbers.point_length characters.now }
     ensures bound { result ≤ length characters.now }
 {
-    match characters {
-        ['.', rest @ ..] => 1 + run_length(Class::Digit, rest),
+    match characters.split_first() {
+        Some(('.', rest)) => 1 + run_length(Class::Digit, &rest),
         _ => 0,
     }
 }
 
 // How many characters a sign that may stand there and digits have; 0 where no digit stands.
-fn signed_digits(characters: &[char]) -> usize
+fn signed_digits(characters: &CharSlice<'_>) -> usize
     ensures value { result ≡ Numbers.signed_digits characters.now }
     ensures bound { result ≤ length characters.now }
 {
     let sign = sign_length(characters);
-    let digits = run_length(Class::Digit, after(characters, sign));
+    let digits = run_length(Class::Digit, &characters.after(sign));
     if digits == 0 { 0 } else { sign + digits }
 }
 
 // How many characters the longest EXPONENT has; 0 where none begins here.
-fn exponent_length(characters: &[char]) -> usize
+fn exponent_length(characters: &CharSlice<'_>) -> usize
     ensures value { result ≡ Numbers.exponent_length characters.now }
     ensures bound { result ≤ length characters.now }
 {
-    match characters {
-        ['e' | 'E', rest @ ..] => {
-            let digits = signed_digits(rest);
+    match characters.split_first() {
+        Some(('e' | 'E', rest)) => {
+            let digits = signed_digits(&rest);
             if digits == 0 { 0 } else { 1 + digits }
         }
         _ => 0,
@@ -80,24 +80,24 @@ fn number_length(kind: TokenKind, digits: usize, point: usize, exponent: usize) 
 }
 
 // The longest number, without a sign, and its length; None where none begins here.
-fn unsigned_number(characters: &[char]) -> Option<(TokenKind, usize)>
+fn unsigned_number(characters: &CharSlice<'_>) -> Option<(TokenKind, usize)>
     ensures value { result ≡ Numbers.unsigned_number characters.now }
     ensures bound { IfSome result (λ number. (0 < number.1) × (number.1 ≤ length characters.now)) }
 {
     let digits = run_length(Class::Digit, characters);
-    let rest = after(characters, digits);
-    let point = point_length(rest);
-    let exponent = exponent_length(after(rest, point));
+    let rest = characters.after(digits);
+    let point = point_length(&rest);
+    let exponent = exponent_length(&rest.after(point));
     let kind = number_kind(digits, point, exponent)?;
     Some((kind, number_length(kind, digits, point, exponent)))
 }
 
 // The longest number, and its length; None where none begins here.
-pub fn number(characters: &[char]) -> Option<(TokenKind, usize)>
+pub fn number(characters: &CharSlice<'_>) -> Option<(TokenKind, usize)>
     ensures value { result ≡ Numbers.number characters.now }
     ensures bound { IfSome result (λ number. (0 < number.1) × (number.1 ≤ length characters.now)) }
 {
     let sign = sign_length(characters);
-    let (kind, length) = unsigned_number(after(characters, sign))?;
+    let (kind, length) = unsigned_number(&characters.after(sign))?;
     Some((kind, sign + length))
 }

@@ -3,17 +3,36 @@ ghost use Rattle.std.specs.Prelude.{◌≡◌, ◌+◌, ◌<◌, ◌≤◌, ◌^
 ghost use Rattle.turtle_lex.specs.Places.{IsPlace, line_feeds, place_at};
 
 use crate::token::TextPlace;
+use rdf_lexical::CharSlice;
 
-fn line_feeds(characters: &[char]) -> u64
-    requires { length characters.now < 2 ^ 63 }
+// How many of the bytes are LF.
+fn line_feed_bytes(bytes: &[u8]) -> u64
+    ensures { result ≡ line_feeds bytes.now }
+{
+    let mut count = 0;
+    for byte in bytes {
+        if *byte == b'\n' {
+            count += 1;
+        }
+    }
+    count
+}
+
+/// How many of the characters are LF.
+pub fn line_feeds(characters: &CharSlice<'_>) -> u64
     ensures value { result ≡ line_feeds characters.now }
     ensures bound { result ≤ length characters.now }
 {
+    if let Some(text) = characters.as_text() {
+        return line_feed_bytes(text.as_bytes());
+    }
     let mut count = 0;
-    for character in characters {
-        if *character == '\n' {
+    let mut rest = characters.whole();
+    while let Some((character, after)) = rest.split_first() {
+        if character == '\n' {
             count += 1;
         }
+        rest = after;
     }
     count
 }
@@ -28,15 +47,14 @@ impl TextPlace {
 }
 
 // The place so many characters further on.
-pub fn place_after(characters: &[char], place: TextPlace, count: usize) -> TextPlace
+pub fn place_after(characters: &CharSlice<'_>, place: TextPlace, count: usize) -> TextPlace
     requires place { IsPlace characters.now place }
     requires count { place.at + count ≤ length characters.now }
     ensures { result ≡ place_at characters.now (place.at + count) }
 {
-    let (_, rest) = characters.split_at(place.at);
-    let (passed, _) = rest.split_at(count);
+    let passed = characters.after(place.at).front(count);
     TextPlace {
         at: place.at + count,
-        line: place.line + line_feeds(passed),
+        line: place.line + line_feeds(&passed),
     }
 }

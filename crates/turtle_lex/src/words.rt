@@ -1,9 +1,10 @@
 //! Words, with `@` before them or not.
-ghost use Rattle.std.specs.Prelude.{◌≡◌, ◌<◌, ◌≤◌, suc, IfOk, length};
+ghost use Rattle.std.specs.Prelude.{◌≡◌, ◌<◌, ◌≤◌, suc, IfOk, bytes_eq, length, nat_eq};
+ghost use Rattle.std.specs.List.{starts_with};
 ghost use Rattle.turtle_lex.specs.Words;
 
 use crate::token::TokenKind;
-use rdf_lexical::{Class, RefusalKind, run_length, tag_length};
+use rdf_lexical::{CharSlice, Class, RefusalKind, run_length, tag_length};
 
 const A: [char; 1] = ['a'];
 
@@ -15,13 +16,34 @@ const PREFIX: [char; 6] = ['p', 'r', 'e', 'f', 'i', 'x'];
 
 const BASE: [char; 4] = ['b', 'a', 's', 'e'];
 
+// Whether a word is another.
+fn is_same(word: &CharSlice<'_>, other: &[char]) -> bool
+    ensures { result ≡ bytes_eq word.now other.now }
+{
+    let mut rest = word.whole();
+    let mut letters = other;
+    while let Some((character, after)) = rest.split_first() {
+        match letters {
+            [letter, more @ ..] => {
+                if character != *letter {
+                    return false;
+                }
+                rest = after;
+                letters = more;
+            }
+            [] => return false,
+        }
+    }
+    letters.is_empty()
+}
+
 // Whether a word is another in any case.
-fn is_in_any_case(word: &[char], other: &[char]) -> bool
+fn is_in_any_case(word: &CharSlice<'_>, other: &[char]) -> bool
     ensures { result ≡ Words.is_in_any_case word.now other.now }
 {
-    let mut rest = word;
+    let mut rest = word.whole();
     let mut letters = other;
-    while let [character, after @ ..] = rest {
+    while let Some((character, after)) = rest.split_first() {
         match letters {
             [letter, more @ ..] => {
                 if character.to_ascii_lowercase() != *letter {
@@ -36,15 +58,36 @@ fn is_in_any_case(word: &[char], other: &[char]) -> bool
     letters.is_empty()
 }
 
+// Whether the characters are the beginning of a word.
+fn begins_word(word: &[char], characters: &CharSlice<'_>) -> bool
+    ensures { result ≡ starts_with nat_eq word.now characters.now }
+{
+    let mut rest = characters.whole();
+    let mut letters = word;
+    while let Some((character, after)) = rest.split_first() {
+        match letters {
+            [letter, more @ ..] => {
+                if character != *letter {
+                    return false;
+                }
+                rest = after;
+                letters = more;
+            }
+            [] => return false,
+        }
+    }
+    true
+}
+
 // The kind of a word without a colon, if it is one of the grammar's.
-fn word_kind(word: &[char]) -> Option<TokenKind>
+fn word_kind(word: &CharSlice<'_>) -> Option<TokenKind>
     ensures { result ≡ Words.word_kind word.now }
 {
-    if word == A.as_slice() {
+    if is_same(word, &A) {
         Some(TokenKind::A)
-    } else if word == TRUE.as_slice() {
+    } else if is_same(word, &TRUE) {
         Some(TokenKind::True)
-    } else if word == FALSE.as_slice() {
+    } else if is_same(word, &FALSE) {
         Some(TokenKind::False)
     } else if is_in_any_case(word, &PREFIX) {
         Some(TokenKind::Prefix)
@@ -56,12 +99,12 @@ fn word_kind(word: &[char]) -> Option<TokenKind>
 }
 
 // The kind of a word after `@` where no string stands before it.
-fn directive_kind(word: &[char]) -> Option<TokenKind>
+fn directive_kind(word: &CharSlice<'_>) -> Option<TokenKind>
     ensures { result ≡ Words.directive_kind word.now }
 {
-    if word == PREFIX.as_slice() {
+    if is_same(word, &PREFIX) {
         Some(TokenKind::AtPrefix)
-    } else if word == BASE.as_slice() {
+    } else if is_same(word, &BASE) {
         Some(TokenKind::AtBase)
     } else {
         None
@@ -69,13 +112,13 @@ fn directive_kind(word: &[char]) -> Option<TokenKind>
 }
 
 // Whether the characters are the beginning of such a word.
-fn begins_directive(characters: &[char]) -> bool
+fn begins_directive(characters: &CharSlice<'_>) -> bool
     ensures { result ≡ Words.begins_directive characters.now }
 {
-    PREFIX.starts_with(characters) || BASE.starts_with(characters)
+    begins_word(&PREFIX, characters) || begins_word(&BASE, characters)
 }
 
-fn language_tag(characters: &[char]) -> Result<(TokenKind, usize), RefusalKind>
+fn language_tag(characters: &CharSlice<'_>) -> Result<(TokenKind, usize), RefusalKind>
     ensures value { result ≡ Words.language_tag characters.now }
     ensures bound { IfOk result (λ token. (0 < token.1) × (token.1 ≤ suc (length characters.now))) }
 {
@@ -89,13 +132,13 @@ fn language_tag(characters: &[char]) -> Result<(TokenKind, usize), RefusalKind>
     }
 }
 
-fn directive(characters: &[char]) -> Result<(TokenKind, usize), RefusalKind>
+fn directive(characters: &CharSlice<'_>) -> Result<(TokenKind, usize), RefusalKind>
     ensures value { result ≡ Words.directive characters.now }
     ensures bound { IfOk result (λ token. (0 < token.1) × (token.1 ≤ suc (length characters.now))) }
 {
     let length = tag_length(characters);
     let (word, _) = characters.split_at(length);
-    match directive_kind(word) {
+    match directive_kind(&word) {
         Some(kind) => Ok((kind, 1 + length)),
         None => {
             if begins_directive(characters) {
@@ -108,7 +151,10 @@ fn directive(characters: &[char]) -> Result<(TokenKind, usize), RefusalKind>
 }
 
 /// The token that begins with `@`, by the characters after that.
-pub fn at_word(after_string: bool, characters: &[char]) -> Result<(TokenKind, usize), RefusalKind>
+pub fn at_word(
+    after_string: bool,
+    characters: &CharSlice<'_>,
+) -> Result<(TokenKind, usize), RefusalKind>
     ensures value { result ≡ Words.at_word after_string characters.now }
     ensures bound { IfOk result (λ token. (0 < token.1) × (token.1 ≤ suc (length characters.now))) }
 {
@@ -120,13 +166,13 @@ pub fn at_word(after_string: bool, characters: &[char]) -> Result<(TokenKind, us
 }
 
 /// The word without a colon that begins here.
-pub fn word(characters: &[char]) -> Result<(TokenKind, usize), RefusalKind>
+pub fn word(characters: &CharSlice<'_>) -> Result<(TokenKind, usize), RefusalKind>
     ensures value { result ≡ Words.word characters.now }
     ensures bound { IfOk result (λ token. (0 < token.1) × (token.1 ≤ length characters.now)) }
 {
     let length = run_length(Class::Name, characters);
     let (word, _) = characters.split_at(length);
-    match word_kind(word) {
+    match word_kind(&word) {
         Some(kind) => Ok((kind, length)),
         None => {
             if run_length(Class::NameOrDot, characters) == characters.len() {

@@ -1,6 +1,6 @@
 -- The characters of a text, and which bytes are one.
-use Rattle.std.proofs.Common.{◌≡◌, ◌∙◌, ℕ, ◌≤◌, cond, List, length, Ok, Err, Result, sym, ap, subst}
-use Rattle.std.specs.Prelude.{MatchResult}
+use Rattle.std.proofs.Common.{◌≡◌, ◌∙◌, ℕ, ◌+◌, ◌≤◌, cond, List, length, Ok, Err, Result, sym, ap, subst, arith}
+use Rattle.std.specs.Prelude.{MatchResult, IfOk}
 use Rattle.std.specs.Str.{IsUtf8, is_utf8, chars}
 use Rattle.std.specs.Str.Lossy.{utf8_valid_len}
 use Rattle.std.proofs.lemmas.Str.{encodes-chars, length-le-encodes, is_utf8-from_IsUtf8, IsUtf8-from_is_utf8}
@@ -15,6 +15,11 @@ use Rattle.turtle_reader.specs.Document.{text_read, line_of, reads}
 -- as many characters as bytes, or fewer
 pub fewer_chars : (bs cs : List ℕ) → IsUtf8 bs → cs ≡ chars bs → (cs ≡ chars bs) × (length cs ≤ length bs)
 fewer_chars bs cs u e = (e, subst (λ (xs : List ℕ). length xs ≤ length bs) (sym e) (subst (λ (xs : List ℕ). length (chars bs) ≤ length xs) (encodes-chars bs u) (length-le-encodes (chars bs))))
+
+-- room for fewer is room for more
+pub more_room : {T E : Type 0} (r : Result (T × ℕ) E) (first m n : ℕ) → m ≤ n → IfOk r (λ found. (first ≤ found.1) × (found.1 ≤ first + m)) → IfOk r (λ found. (first ≤ found.1) × (found.1 ≤ first + n))
+more_room (Ok found) first m n h k = (k.0, omega arith)
+more_room (Err e) first m n h k = tt
 
 abbrev refused : List ℕ → Result (List Triple × ℕ) Refusal
 refused bs = Err (line_of bs (utf8_valid_len bs), NotUtf8)

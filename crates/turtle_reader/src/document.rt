@@ -12,7 +12,7 @@ use crate::grammar::read_statements;
 use crate::state::State;
 use crate::table::NameTable;
 use collections::Sequence;
-use rdf_lexical::{ReadFault, RefusalKind};
+use rdf_lexical::{CharSlice, ReadFault, RefusalKind};
 use rdf_model::Triple;
 use std::alloc::Global;
 use triple_table::TripleTable;
@@ -22,7 +22,7 @@ use turtle_lex::{TextPlace, next_token};
 const LEVELS: usize = 255;
 
 // Before the first token.
-fn opening(alloc: Global, text: &[char], session: u32, first: u32) -> State
+fn opening(alloc: Global, text: &CharSlice<'_>, session: u32, first: u32) -> State
     requires { length text.now < 2 ^ 32 }
     ensures opening { result ≡ Document.opening text.now session first }
     ensures ready { IsReady text.now result }
@@ -40,7 +40,12 @@ fn opening(alloc: Global, text: &[char], session: u32, first: u32) -> State
 }
 
 // The whole of a text: the state behind its last statement.
-fn read_document(alloc: Global, session: u32, first: u32, text: &[char]) -> Result<State, ReadFault>
+fn read_document(
+    alloc: Global,
+    session: u32,
+    first: u32,
+    text: &CharSlice<'_>,
+) -> Result<State, ReadFault>
     requires { first + length text.now < 2 ^ 32 }
     ensures reads { let reading = Grammar.turtle_doc text.now 255 (Document.opening text.now session first) in
         MatchResult result (λ state. reading ≡ Ok (tt, state)) (λ fault. Refuses fault reading) }
@@ -59,14 +64,32 @@ fn found_in(state: State) -> (TripleTable, u32)
     (triples, next)
 }
 
-// The characters of a text.
+// The triples of the characters in their order there, and the next number of a blank node.
+fn read_slice(
+    alloc: Global,
+    session: u32,
+    first: u32,
+    text: &CharSlice<'_>,
+) -> Result<(TripleTable, u32), ReadFault>
+    requires { first + length text.now < 2 ^ 32 }
+    ensures reads { let reading = Document.found_in_text text.now session first in
+        MatchResult result (λ found. reading ≡ Ok found) (λ fault. Refuses fault reading) }
+    ensures room { IfOk result (λ found. (first ≤ found.1) × (found.1 ≤ first + length text.now)) }
+{
+    let state = read_document(alloc, session, first, text)?;
+    Ok(found_in(state))
+}
+
+// The characters of a text, in as much room as they need.
 fn characters_of(alloc: Global, text: &str) -> Result<Vec<char>, ReadFault>
     ensures { MatchResult result (λ v. (v.items ≡ chars text.now) × (length v.items ≤ length text.now)) (λ fault. fault ≡ ReadFault.Memory) }
 {
-    Ok(text.chars().collect(alloc)?)
+    let mut characters = Vec::with_capacity(alloc, text.chars().count())?;
+    characters.extend(text.chars())?;
+    Ok(characters)
 }
 
-// The triples of a text in their order there, and the next number of a blank node.
+// The same of a text, whose bytes are its characters where it is ASCII.
 fn read_characters(
     alloc: Global,
     session: u32,
@@ -78,9 +101,11 @@ fn read_characters(
         MatchResult result (λ found. reading ≡ Ok found) (λ fault. Refuses fault reading) }
     ensures room { IfOk result (λ found. (first ≤ found.1) × (found.1 ≤ first + length text.now)) }
 {
+    if text.is_ascii() {
+        return read_slice(alloc, session, first, &CharSlice::of_ascii(text));
+    }
     let characters = characters_of(alloc, text)?;
-    let state = read_document(alloc, session, first, &characters)?;
-    Ok(found_in(state))
+    read_slice(alloc, session, first, &CharSlice::of_chars(&characters))
 }
 
 // The triples of a text in their order there. Blank nodes are numbered from `next` on.

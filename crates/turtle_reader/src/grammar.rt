@@ -12,7 +12,7 @@ use crate::tokens::{
     expect_close_bracket, expect_dot, is_close_bracket_next, is_dot_next, is_unfinished, next,
     unexpected,
 };
-use rdf_lexical::ReadFault;
+use rdf_lexical::{CharSlice, ReadFault};
 use rdf_model::Term;
 use std::alloc::Global;
 use turtle_lex::{Token, TokenKind};
@@ -20,7 +20,7 @@ use turtle_lex::{Token, TokenKind};
 // The triple of one object, and the predicate of the next one, or None where the list ends.
 fn next_triple(
     alloc: Global,
-    text: &[char],
+    text: &CharSlice<'_>,
     state: &mut State,
     node: &Term,
     predicate: Term,
@@ -42,7 +42,7 @@ fn next_triple(
 // predicateObjectList: the triples of a node.
 fn read_predicates(
     alloc: Global,
-    text: &[char],
+    text: &CharSlice<'_>,
     state: &mut State,
     node: &Term,
     levels: usize,
@@ -64,7 +64,7 @@ fn read_predicates(
 // subject, by its first token.
 fn read_subject(
     alloc: Global,
-    text: &[char],
+    text: &CharSlice<'_>,
     state: &mut State,
     token: Token,
     levels: usize,
@@ -89,7 +89,7 @@ fn read_subject(
 // triples with a subject, by its first token.
 fn read_subject_triples(
     alloc: Global,
-    text: &[char],
+    text: &CharSlice<'_>,
     state: &mut State,
     token: Token,
     levels: usize,
@@ -108,7 +108,7 @@ fn read_subject_triples(
 // blankNodePropertyList, after its bracket, of this node.
 fn read_property_list(
     alloc: Global,
-    text: &[char],
+    text: &CharSlice<'_>,
     state: &mut State,
     node: &Term,
     levels: usize,
@@ -128,7 +128,7 @@ fn read_property_list(
 // What may follow a blankNodePropertyList that is a subject.
 fn read_more(
     alloc: Global,
-    text: &[char],
+    text: &CharSlice<'_>,
     state: &mut State,
     node: &Term,
     levels: usize,
@@ -149,7 +149,7 @@ fn read_more(
 // triples that begin with a bracket.
 fn read_bracket_triples(
     alloc: Global,
-    text: &[char],
+    text: &CharSlice<'_>,
     state: &mut State,
     levels: usize,
 ) -> Result<(), ReadFault>
@@ -172,7 +172,7 @@ fn read_bracket_triples(
 // triples, by the first token.
 fn read_triples(
     alloc: Global,
-    text: &[char],
+    text: &CharSlice<'_>,
     state: &mut State,
     token: Token,
     levels: usize,
@@ -193,7 +193,7 @@ fn read_triples(
 // What begins with a token and ends with a dot: triples, `@prefix` or `@base`.
 fn read_dotted(
     alloc: Global,
-    text: &[char],
+    text: &CharSlice<'_>,
     state: &mut State,
     token: Token,
     levels: usize,
@@ -214,7 +214,7 @@ fn read_dotted(
 
 fn read_to_dot(
     alloc: Global,
-    text: &[char],
+    text: &CharSlice<'_>,
     state: &mut State,
     token: Token,
     levels: usize,
@@ -235,7 +235,7 @@ fn read_to_dot(
 #[tactic(auto, unfolding(crate::specs::Grammar::statement))]
 fn read_statement(
     alloc: Global,
-    text: &[char],
+    text: &CharSlice<'_>,
     state: &mut State,
     levels: usize,
 ) -> Result<(), ReadFault>
@@ -257,7 +257,7 @@ fn read_statement(
 /// turtleDoc: the statements of a text (Turtle section 6.5).
 pub fn read_statements(
     alloc: Global,
-    text: &[char],
+    text: &CharSlice<'_>,
     state: &mut State,
     levels: usize,
 ) -> Result<(), ReadFault>

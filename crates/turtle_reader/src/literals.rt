@@ -8,7 +8,7 @@ use crate::names::read_iri;
 use crate::state::State;
 use crate::tokens::{is_carets_next, is_language_tag_next, next};
 use literal_order::profile;
-use rdf_lexical::{ReadFault, RefusalKind, behind, lower_text};
+use rdf_lexical::{CharSlice, ReadFault, RefusalKind, lower_text};
 use rdf_model::Term;
 use rdf_text::Text;
 use std::alloc::{AllocError, Global};
@@ -30,10 +30,15 @@ fn kept(line: u64, term: Term) -> Result<Term, ReadFault>
 }
 
 /// A number or a boolean, of this datatype.
-pub fn plain(alloc: Global, text: &[char], datatype: &str, token: Token) -> Result<Term, ReadFault>
+pub fn plain(
+    alloc: Global,
+    text: &CharSlice<'_>,
+    datatype: &str,
+    token: Token,
+) -> Result<Term, ReadFault>
     ensures { (state : StateData) → Gives result state (Terms.plain text.now datatype.now token state) }
 {
-    let lexical = plain_text(alloc, token_text(text, token))?;
+    let lexical = plain_text(alloc, &token_text(text, token))?;
     let datatype = Text::new(alloc, datatype)?;
     kept(
         token.start.line,
@@ -46,10 +51,10 @@ pub fn plain(alloc: Global, text: &[char], datatype: &str, token: Token) -> Resu
 }
 
 // The tag of a LANGTAG, in lower case.
-fn tag_of(alloc: Global, text: &[char], token: Token) -> Result<Text, AllocError>
+fn tag_of(alloc: Global, text: &CharSlice<'_>, token: Token) -> Result<Text, AllocError>
     ensures { IfOk result (λ tag. tag ≡ Terms.tag_of text.now token) }
 {
-    lower_text(alloc, behind(token_text(text, token), 1))
+    lower_text(alloc, &token_text(text, token).behind(1))
 }
 
 #[tactic(auto, unfolding(crate::specs::Terms::rdf))]
@@ -70,7 +75,7 @@ fn xsd_string(alloc: Global) -> Result<Text, AllocError>
 #[tactic(auto, unfolding(crate::specs::Terms::tagged))]
 fn read_tagged(
     alloc: Global,
-    text: &[char],
+    text: &CharSlice<'_>,
     state: &mut State,
     value: Text,
 ) -> Result<Term, ReadFault>
@@ -93,7 +98,7 @@ fn read_tagged(
 #[tactic(auto, unfolding(crate::specs::Terms::typed))]
 fn read_typed(
     alloc: Global,
-    text: &[char],
+    text: &CharSlice<'_>,
     state: &mut State,
     line: u64,
     value: Text,
@@ -119,7 +124,7 @@ fn read_typed(
 // RDFLiteral, behind its String, which stands for this value and begins in this line.
 fn read_rdf_literal(
     alloc: Global,
-    text: &[char],
+    text: &CharSlice<'_>,
     state: &mut State,
     line: u64,
     value: Text,
@@ -146,7 +151,7 @@ fn read_rdf_literal(
 /// RDFLiteral (Turtle section 2.5.1), by its String.
 pub fn read_string(
     alloc: Global,
-    text: &[char],
+    text: &CharSlice<'_>,
     state: &mut State,
     quotes: Quotes,
     token: Token,
@@ -156,6 +161,6 @@ pub fn read_string(
     ensures reads { Gives result state.new (Terms.string text.now quotes token state.old) }
     ensures moved { OnOk result (Moved text.now 0 0 0 state.old state.new) }
 {
-    let value = string_value(alloc, quotes, token_text(text, token))?;
+    let value = string_value(alloc, quotes, &token_text(text, token))?;
     read_rdf_literal(alloc, text, state, token.start.line, value)
 }

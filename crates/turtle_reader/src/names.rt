@@ -9,7 +9,7 @@ use crate::state::State;
 use crate::table::Name;
 use crate::tokens::unexpected;
 use iri_ref::{has_scheme, resolve};
-use rdf_lexical::{ReadFault, RefusalKind, behind};
+use rdf_lexical::{CharSlice, ReadFault, RefusalKind};
 use rdf_model::Term;
 use rdf_text::Text;
 use std::alloc::{AllocError, Global};
@@ -55,7 +55,7 @@ fn in_base(alloc: Global, base: &Option<Text>, reference: Text) -> Result<Option
 /// The IRI of an IRIREF, which has a scheme.
 pub fn resolved_iri(
     alloc: Global,
-    text: &[char],
+    text: &CharSlice<'_>,
     state: &State,
     token: Token,
 ) -> Result<Text, ReadFault>
@@ -63,7 +63,7 @@ pub fn resolved_iri(
     ensures reads { Gives result state.now (Terms.resolved_iri text.now token state.now) }
     ensures scheme { IfOk result (λ iri. Scheme.has_scheme iri ≡ true) }
 {
-    let reference = iri_text(alloc, token_text(text, token))?;
+    let reference = iri_text(alloc, &token_text(text, token))?;
     match in_base(alloc, &state.base, reference)? {
         Some(iri) => Ok(iri),
         None => Err(refused(token, RefusalKind::RelativeIri)),
@@ -71,31 +71,36 @@ pub fn resolved_iri(
 }
 
 /// The prefix of a PNAME_NS or PNAME_LN.
-pub fn prefix_of(alloc: Global, text: &[char], token: Token) -> Result<Name, AllocError>
+pub fn prefix_of(alloc: Global, text: &CharSlice<'_>, token: Token) -> Result<Name, AllocError>
     ensures { IfOk result (λ prefix. prefix ≡ Terms.prefix_of text.now token) }
 {
-    let (prefix, _) = split_name(token_text(text, token));
+    let (prefix, _) = split_name(&token_text(text, token));
     Ok(Name {
-        text: plain_text(alloc, prefix)?,
+        text: plain_text(alloc, &prefix)?,
     })
 }
 
 // The IRI of a name whose prefix stands for this one: the local name of a PNAME_LN behind it, of a PNAME_NS nothing.
-fn named_iri(alloc: Global, text: &[char], iri: &Text, token: Token) -> Result<Text, AllocError>
+fn named_iri(
+    alloc: Global,
+    text: &CharSlice<'_>,
+    iri: &Text,
+    token: Token,
+) -> Result<Text, AllocError>
     ensures { IfOk result (λ named. named ≡ iri.now ++ Terms.local_of text.now token) }
 {
-    let (_, local) = split_name(token_text(text, token));
+    let (_, local) = split_name(&token_text(text, token));
     let room = iri.as_str().len().saturating_add(local.len());
     let mut named = String::with_capacity(alloc, room)?;
     named.push_str(iri.as_str())?;
-    push_local_name(&mut named, local)?;
+    push_local_name(&mut named, &local)?;
     Text::from_string(named)
 }
 
 // The IRI of a PNAME_NS or PNAME_LN.
 fn prefixed_iri(
     alloc: Global,
-    text: &[char],
+    text: &CharSlice<'_>,
     state: &State,
     token: Token,
 ) -> Result<Text, ReadFault>
@@ -112,7 +117,7 @@ fn prefixed_iri(
 #[tactic(auto, unfolding(crate::specs::Terms::iri))]
 pub fn read_iri(
     alloc: Global,
-    text: &[char],
+    text: &CharSlice<'_>,
     state: &State,
     token: Token,
 ) -> Result<Text, ReadFault>
@@ -127,12 +132,12 @@ pub fn read_iri(
 }
 
 // The label of a BLANK_NODE_LABEL.
-fn label_of(alloc: Global, text: &[char], token: Token) -> Result<Name, AllocError>
+fn label_of(alloc: Global, text: &CharSlice<'_>, token: Token) -> Result<Name, AllocError>
     ensures { IfOk result (λ label. label ≡ Terms.label_of text.now token) }
 {
-    let label = behind(token_text(text, token), 2);
+    let label = token_text(text, token).behind(2);
     Ok(Name {
-        text: plain_text(alloc, label)?,
+        text: plain_text(alloc, &label)?,
     })
 }
 
@@ -140,7 +145,7 @@ fn label_of(alloc: Global, text: &[char], token: Token) -> Result<Name, AllocErr
 #[tactic(auto, unfolding(crate::specs::Terms::labelled))]
 pub fn labelled(
     alloc: Global,
-    text: &[char],
+    text: &CharSlice<'_>,
     state: &mut State,
     token: Token,
 ) -> Result<Term, ReadFault>

@@ -16,7 +16,7 @@ use crate::tokens::{
     expect_close_bracket, expect_close_parenthesis, is_close_bracket_next,
     is_close_parenthesis_next, is_comma_next, is_semicolon_next, may_verb_begin, next,
 };
-use rdf_lexical::{ReadFault, RefusalKind};
+use rdf_lexical::{CharSlice, ReadFault, RefusalKind};
 use rdf_model::Term;
 use std::alloc::{AllocError, Global};
 use turtle_lex::{Token, TokenKind};
@@ -32,7 +32,11 @@ fn too_deep(token: Token) -> ReadFault
 }
 
 // What `;` may be followed by: the next verb, or None where the list ends.
-fn next_verb(alloc: Global, text: &[char], state: &mut State) -> Result<Option<Term>, ReadFault>
+fn next_verb(
+    alloc: Global,
+    text: &CharSlice<'_>,
+    state: &mut State,
+) -> Result<Option<Term>, ReadFault>
     requires ready { IsReady text.now state.old }
     requires size { length text.now < 2 ^ 32 }
     ensures goes { (levels : ℕ) (node : TermData) → Goes result (Grammar.more_verbs text.now (Grammar.object text.now levels) node state.old)
@@ -51,7 +55,7 @@ fn next_verb(alloc: Global, text: &[char], state: &mut State) -> Result<Option<T
 /// The predicate of the next object of a list, or None where the list ends.
 pub fn next_predicate(
     alloc: Global,
-    text: &[char],
+    text: &CharSlice<'_>,
     state: &mut State,
     predicate: Term,
 ) -> Result<Option<Term>, ReadFault>
@@ -71,7 +75,7 @@ pub fn next_predicate(
 // An open `[`, with an object that was read in it; its node where it is closed.
 fn after_value(
     alloc: Global,
-    text: &[char],
+    text: &CharSlice<'_>,
     state: &mut State,
     brackets: &mut Open,
     node: Term,
@@ -101,7 +105,12 @@ fn after_value(
 }
 
 // The `)` of a list, whose last node this is.
-fn close_list(alloc: Global, text: &[char], state: &mut State, last: Term) -> Result<(), ReadFault>
+fn close_list(
+    alloc: Global,
+    text: &CharSlice<'_>,
+    state: &mut State,
+    last: Term,
+) -> Result<(), ReadFault>
     requires ready { IsReady text.now state.old }
     requires size { length text.now < 2 ^ 32 }
     ensures reads { Gives result state.new (stack.list_closed text.now last state.old) }
@@ -115,7 +124,7 @@ fn close_list(alloc: Global, text: &[char], state: &mut State, last: Term) -> Re
 // One more list node, after this one.
 fn next_node(
     alloc: Global,
-    text: &[char],
+    text: &CharSlice<'_>,
     state: &mut State,
     last: Term,
 ) -> Result<Term, AllocError>
@@ -132,7 +141,7 @@ fn next_node(
 // An open `(`, with a member that was read in it; its first node where it is closed.
 fn after_member(
     alloc: Global,
-    text: &[char],
+    text: &CharSlice<'_>,
     state: &mut State,
     brackets: &mut Open,
     first: Term,
@@ -163,7 +172,7 @@ fn after_member(
 // comes next.
 fn after_object(
     alloc: Global,
-    text: &[char],
+    text: &CharSlice<'_>,
     state: &mut State,
     brackets: &mut Open,
     frame: Frame,
@@ -193,7 +202,7 @@ fn after_object(
 // predicate comes next.
 fn open_square(
     alloc: Global,
-    text: &[char],
+    text: &CharSlice<'_>,
     state: &mut State,
     brackets: &mut Open,
 ) -> Result<Option<Term>, ReadFault>
@@ -220,7 +229,7 @@ fn open_square(
 // What `(` begins: rdf:nil where it is closed at once, or None where its first member comes next.
 fn open_round(
     alloc: Global,
-    text: &[char],
+    text: &CharSlice<'_>,
     state: &mut State,
     brackets: &mut Open,
 ) -> Result<Option<Term>, ReadFault>
@@ -247,7 +256,7 @@ fn open_round(
 // Opens `[` as an object, where the bracket may be one too many.
 fn try_square(
     alloc: Global,
-    text: &[char],
+    text: &CharSlice<'_>,
     state: &mut State,
     brackets: &mut Open,
     token: Token,
@@ -269,7 +278,7 @@ fn try_square(
 // Opens `(` as an object, where the bracket may be one too many.
 fn try_round(
     alloc: Global,
-    text: &[char],
+    text: &CharSlice<'_>,
     state: &mut State,
     brackets: &mut Open,
     token: Token,
@@ -291,7 +300,7 @@ fn try_round(
 // The object that begins with a token: its term, or None where a bracket was opened.
 fn after_token(
     alloc: Global,
-    text: &[char],
+    text: &CharSlice<'_>,
     state: &mut State,
     brackets: &mut Open,
     token: Token,
@@ -314,7 +323,7 @@ fn after_token(
 // The next object: its term, or None where a bracket was opened.
 fn next_object(
     alloc: Global,
-    text: &[char],
+    text: &CharSlice<'_>,
     state: &mut State,
     brackets: &mut Open,
 ) -> Result<Option<Term>, ReadFault>
@@ -333,7 +342,7 @@ fn next_object(
 // What is left to be read within open brackets.
 fn read_within(
     alloc: Global,
-    text: &[char],
+    text: &CharSlice<'_>,
     state: &mut State,
     within: Open,
     first: Option<Term>,
@@ -365,7 +374,7 @@ fn read_within(
 /// An object (Turtle section 6.5), within which so many brackets may be open at once.
 pub fn read_object(
     alloc: Global,
-    text: &[char],
+    text: &CharSlice<'_>,
     state: &mut State,
     levels: usize,
 ) -> Result<Term, ReadFault>
@@ -386,7 +395,7 @@ pub fn read_object(
 /// A collection, after its bracket (Turtle section 6.5).
 pub fn read_collection(
     alloc: Global,
-    text: &[char],
+    text: &CharSlice<'_>,
     state: &mut State,
     levels: usize,
 ) -> Result<Term, ReadFault>

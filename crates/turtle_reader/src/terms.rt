@@ -9,7 +9,7 @@ use crate::literals::{plain, read_string};
 use crate::names::{labelled, prefix_of, read_iri, refused, resolved_iri};
 use crate::state::State;
 use crate::tokens::{expect_prefix_name, next, unexpected};
-use rdf_lexical::{ReadFault, RefusalKind};
+use rdf_lexical::{CharSlice, ReadFault, RefusalKind};
 use rdf_model::Term;
 use rdf_text::Text;
 use std::alloc::{AllocError, Global};
@@ -49,7 +49,12 @@ pub fn found(
 }
 
 // The IRI of a token as a term.
-fn iri_term(alloc: Global, text: &[char], state: &State, token: Token) -> Result<Term, ReadFault>
+fn iri_term(
+    alloc: Global,
+    text: &CharSlice<'_>,
+    state: &State,
+    token: Token,
+) -> Result<Term, ReadFault>
     requires ready { IsReady text.now state.now }
     ensures { Gives result state.now (Grammar.iri_term text.now token state.now) }
 {
@@ -60,7 +65,7 @@ fn iri_term(alloc: Global, text: &[char], state: &State, token: Token) -> Result
 #[tactic(auto, unfolding(crate::specs::Terms::xsd))]
 pub fn read_term(
     alloc: Global,
-    text: &[char],
+    text: &CharSlice<'_>,
     state: &mut State,
     token: Token,
 ) -> Result<Term, ReadFault>
@@ -93,7 +98,12 @@ fn rdf_type(alloc: Global) -> Result<Term, AllocError>
 }
 
 // A verb, by its token.
-fn verb_of(alloc: Global, text: &[char], state: &State, token: Token) -> Result<Term, ReadFault>
+fn verb_of(
+    alloc: Global,
+    text: &CharSlice<'_>,
+    state: &State,
+    token: Token,
+) -> Result<Term, ReadFault>
     requires ready { IsReady text.now state.now }
     ensures { Gives result state.now (Grammar.verb_of token.kind text.now token state.now) }
 {
@@ -111,7 +121,7 @@ fn verb_of(alloc: Global, text: &[char], state: &State, token: Token) -> Result<
 
 /// A verb, which must come next: an IRI, or `a` for rdf:type (Turtle section 2.1).
 #[tactic(auto, unfolding(crate::specs::Grammar::verb))]
-pub fn read_verb(alloc: Global, text: &[char], state: &mut State) -> Result<Term, ReadFault>
+pub fn read_verb(alloc: Global, text: &CharSlice<'_>, state: &mut State) -> Result<Term, ReadFault>
     requires ready { IsReady text.now state.old }
     requires size { length text.now < 2 ^ 32 }
     ensures reads { Gives result state.new (Grammar.verb text.now state.old) }
@@ -150,7 +160,7 @@ pub fn rdf_nil(alloc: Global) -> Result<Term, AllocError>
 
 // The IRI of an IRIREF, which comes next.
 #[tactic(auto, unfolding(crate::specs::Terms::iri))]
-fn iri_reference(alloc: Global, text: &[char], state: &mut State) -> Result<Text, ReadFault>
+fn iri_reference(alloc: Global, text: &CharSlice<'_>, state: &mut State) -> Result<Text, ReadFault>
     requires ready { IsReady text.now state.old }
     requires size { length text.now < 2 ^ 32 }
     ensures reads { Gives result state.new (Grammar.iri_reference text.now state.old) }
@@ -166,7 +176,11 @@ fn iri_reference(alloc: Global, text: &[char], state: &mut State) -> Result<Text
 
 /// What a prefix stands for, after `@prefix` or `PREFIX`.
 #[tactic(auto, unfolding(crate::specs::Grammar::prefix_declared))]
-pub fn prefix_declared(alloc: Global, text: &[char], state: &mut State) -> Result<(), ReadFault>
+pub fn prefix_declared(
+    alloc: Global,
+    text: &CharSlice<'_>,
+    state: &mut State,
+) -> Result<(), ReadFault>
     requires ready { IsReady text.now state.old }
     requires size { length text.now < 2 ^ 32 }
     ensures reads { Gives result state.new (Grammar.prefix_declared text.now state.old) }
@@ -181,7 +195,11 @@ pub fn prefix_declared(alloc: Global, text: &[char], state: &mut State) -> Resul
 
 /// The base, after `@base` or `BASE`.
 #[tactic(auto, unfolding(crate::specs::Grammar::base_declared))]
-pub fn base_declared(alloc: Global, text: &[char], state: &mut State) -> Result<(), ReadFault>
+pub fn base_declared(
+    alloc: Global,
+    text: &CharSlice<'_>,
+    state: &mut State,
+) -> Result<(), ReadFault>
     requires ready { IsReady text.now state.old }
     requires size { length text.now < 2 ^ 32 }
     ensures reads { Gives result state.new (Grammar.base_declared text.now state.old) }

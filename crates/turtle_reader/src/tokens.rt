@@ -1,31 +1,16 @@
 //! The token that comes next.
 ghost use Rattle.std.specs.Prelude.{◌≡◌, ◌+◌, ◌<◌, ◌≤◌, ◌^◌, length, Ok, Some, IfOk, OnOk};
-ghost use Rattle.turtle_lex.specs.Places.{line_feeds};
 ghost use Rattle.turtle_reader.specs.Progress.{Gives, IsReady, IsTokenOf, Moved, need, weight};
 ghost use Rattle.turtle_reader.specs.Tokens;
 
 use crate::state::State;
-use rdf_lexical::{ReadFault, RefusalKind};
-use turtle_lex::{Token, TokenKind, next_token};
+use rdf_lexical::{CharSlice, ReadFault, RefusalKind};
+use turtle_lex::{Token, TokenKind, line_feeds, next_token};
 
 fn is_string(kind: TokenKind) -> bool
     ensures { result ≡ Tokens.is_string kind }
 {
     matches!(kind, TokenKind::StringLiteral(_))
-}
-
-fn line_feeds(text: &[char]) -> u64
-    requires { length text.now < 2 ^ 32 }
-    ensures value { result ≡ line_feeds text.now }
-    ensures bound { result ≤ length text.now }
-{
-    let mut count = 0;
-    for character in text {
-        if *character == '\n' {
-            count += 1;
-        }
-    }
-    count
 }
 
 /// The refusal of a token that the grammar doesn't allow here.
@@ -40,7 +25,7 @@ pub fn unexpected(token: Token) -> ReadFault
 
 // Goes past the token ahead.
 #[tactic(auto, unfolding(crate::specs::Tokens::next))]
-fn pass(text: &[char], state: &mut State, token: Token)
+fn pass(text: &CharSlice<'_>, state: &mut State, token: Token)
     requires ahead { state.old.ahead ≡ Ok (Some token) }
     requires token { IsTokenOf text.now token }
     requires ready { IsReady text.now state.old }
@@ -52,7 +37,7 @@ fn pass(text: &[char], state: &mut State, token: Token)
 
 /// The token that comes next, where there must be one; the reading goes past it.
 #[tactic(auto, unfolding(crate::specs::Tokens::next))]
-pub fn next(text: &[char], state: &mut State) -> Result<Token, ReadFault>
+pub fn next(text: &CharSlice<'_>, state: &mut State) -> Result<Token, ReadFault>
     requires ready { IsReady text.now state.old }
     requires size { length text.now < 2 ^ 32 }
     ensures reads { Gives result state.new (Tokens.next text.now state.old) }
@@ -182,7 +167,7 @@ pub fn is_unfinished(state: &State) -> bool
 
 /// The dot, which must come next; the reading goes past it.
 #[tactic(auto, unfolding(crate::specs::Tokens::expected))]
-pub fn expect_dot(text: &[char], state: &mut State) -> Result<Token, ReadFault>
+pub fn expect_dot(text: &CharSlice<'_>, state: &mut State) -> Result<Token, ReadFault>
     requires ready { IsReady text.now state.old }
     requires size { length text.now < 2 ^ 32 }
     ensures reads { Gives result state.new (Tokens.expected text.now Tokens.is_dot state.old) }
@@ -198,7 +183,7 @@ pub fn expect_dot(text: &[char], state: &mut State) -> Result<Token, ReadFault>
 
 /// `]`, which must come next; the reading goes past it.
 #[tactic(auto, unfolding(crate::specs::Tokens::expected))]
-pub fn expect_close_bracket(text: &[char], state: &mut State) -> Result<Token, ReadFault>
+pub fn expect_close_bracket(text: &CharSlice<'_>, state: &mut State) -> Result<Token, ReadFault>
     requires ready { IsReady text.now state.old }
     requires size { length text.now < 2 ^ 32 }
     ensures reads { Gives result state.new (Tokens.expected text.now Tokens.is_close_bracket state.old) }
@@ -214,7 +199,7 @@ pub fn expect_close_bracket(text: &[char], state: &mut State) -> Result<Token, R
 
 /// `)`, which must come next; the reading goes past it.
 #[tactic(auto, unfolding(crate::specs::Tokens::expected))]
-pub fn expect_close_parenthesis(text: &[char], state: &mut State) -> Result<Token, ReadFault>
+pub fn expect_close_parenthesis(text: &CharSlice<'_>, state: &mut State) -> Result<Token, ReadFault>
     requires ready { IsReady text.now state.old }
     requires size { length text.now < 2 ^ 32 }
     ensures reads { Gives result state.new (Tokens.expected text.now Tokens.is_close_parenthesis state.old) }
@@ -230,7 +215,7 @@ pub fn expect_close_parenthesis(text: &[char], state: &mut State) -> Result<Toke
 
 /// PNAME_NS, which must come next; the reading goes past it.
 #[tactic(auto, unfolding(crate::specs::Tokens::expected))]
-pub fn expect_prefix_name(text: &[char], state: &mut State) -> Result<Token, ReadFault>
+pub fn expect_prefix_name(text: &CharSlice<'_>, state: &mut State) -> Result<Token, ReadFault>
     requires ready { IsReady text.now state.old }
     requires size { length text.now < 2 ^ 32 }
     ensures reads { Gives result state.new (Tokens.expected text.now Tokens.is_prefix_name state.old) }

@@ -2,12 +2,12 @@ use Rattle.std.proofs.Common.{◌≡◌, ◌+◌, length}
 use Rattle.rdf_lexical.specs.Enclosed
 use Rattle.rdf_lexical.proofs.enclosing.leading_marks.Given as goal
 
-abbrev pub invariant-loop-rest : goal.invariant-loop-rest
-invariant-loop-rest l = record {
+abbrev pub invariant-loop-character : goal.invariant-loop-character
+invariant-loop-character l = record {
   value : l.count + Enclosed.leading_marks l.mark l.left l.rest ≡ Enclosed.leading_marks l.mark l.most l.characters;
   bound : l.count + length l.rest ≡ length l.characters;
   most : l.count + l.left ≡ l.most;
 }
 
-abbrev pub decreases-loop-rest : goal.decreases-loop-rest
-decreases-loop-rest l = length l.rest
+abbrev pub decreases-loop-character : goal.decreases-loop-character
+decreases-loop-character l = length l.rest

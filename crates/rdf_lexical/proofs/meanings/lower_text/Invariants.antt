@@ -3,8 +3,8 @@ use Rattle.std.specs.String.{string_bytes}
 use Rattle.rdf_lexical.specs.Meanings.{lower_text}
 use Rattle.rdf_lexical.proofs.meanings.lower_text.Given as goal
 
-abbrev pub invariant-loop-rest : goal.invariant-loop-rest
-invariant-loop-rest l = string_bytes l.text ++ lower_text l.rest ≡ lower_text l.characters
+abbrev pub invariant-loop-character : goal.invariant-loop-character
+invariant-loop-character l = string_bytes l.text ++ lower_text l.rest ≡ lower_text l.characters
 
-abbrev pub decreases-loop-rest : goal.decreases-loop-rest
-decreases-loop-rest l = length l.rest
+abbrev pub decreases-loop-character : goal.decreases-loop-character
+decreases-loop-character l = length l.rest

@@ -1,4 +1,4 @@
-use Rattle.std.proofs.Common.{◌≡◌, ◌∙◌, sym, ap, Ok}
+use Rattle.std.proofs.Common.{◌∙◌, sym, ap, Ok}
 use Rattle.turtle_reader.proofs.Sorting.{listing_each}
 use Rattle.turtle_reader.proofs.document.read.Goals as goal
 
