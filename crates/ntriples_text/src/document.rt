@@ -89,7 +89,7 @@ fn characters_of(alloc: Global, text: &str) -> Result<Vec<char>, AllocError>
     Ok(text.chars().collect(alloc)?)
 }
 
-// Does the same for a line of a text, whose bytes are its characters where it is ASCII.
+// Adds the triple of a line of a text, if it has one, by its bytes where the line is ASCII. The number of the next line comes back.
 fn add_text(
     alloc: Global,
     labels: LabelKind,

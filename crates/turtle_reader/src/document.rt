@@ -89,7 +89,7 @@ fn characters_of(alloc: Global, text: &str) -> Result<Vec<char>, ReadFault>
     Ok(characters)
 }
 
-// The same of a text, whose bytes are its characters where it is ASCII.
+// The triples of a text in their order there, and the next number of a blank node, by its bytes where it is ASCII.
 fn read_characters(
     alloc: Global,
     session: u32,
