@@ -1,5 +1,6 @@
 pub mod Asks
 pub mod NamedTriples
+mod Cases
 mod Emptiness
 mod Members
 mod TextReadings

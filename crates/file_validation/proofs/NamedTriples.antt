@@ -17,7 +17,7 @@ use Rattle.parallel_validate.specs.Named.{IsNamedTriple}
 use Rattle.parallel_validate.proofs.Members.{index_members, index_numbered}
 use Rattle.data_graph.specs.DataGraphs.{IsIndexOf}
 use Rattle.triple_table.specs.Tables.{HasGrown, IsPlaceOf}
-use Rattle.triple_table.proofs.Places.{place_stays}
+use Rattle.triple_table.proofs.Places.{graph_grown, numbered_grown, place_stays}
 
 -- a term with a number is named
 pub placed : (named : List Term) (n : ℕ) (t : Term) → n < length named → term_at named n ≡ t → Contains named t
@@ -65,4 +65,11 @@ pub index_of : (terms : List Term) (graph : List Triple) (ids index : List Ids) 
 index_of terms graph ids index a e same = record {
   numbered = index_numbered terms ids index a same;
   members = index_members terms ids index graph e same;
+}
+
+-- and as more terms come they stand for the same
+pub index_grown : (us vs : List Term) (ids : List Ids) → HasGrown us vs → AreNumbered us ids → IsIndexOf vs ids (graph_of us ids)
+index_grown us vs ids g a = record {
+  numbered = numbered_grown us vs ids g a;
+  members = λ t. subst (λ (ts : List Triple). Contains (graph_of vs ids) t ↔ Contains ts t) (graph_grown us vs ids g a) (λ h. h, λ h. h);
 }

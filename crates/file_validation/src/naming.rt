@@ -1,19 +1,15 @@
 //! A data graph by the numbers that its terms were read with, and the terms of a shapes graph behind them.
-ghost use Rattle.std.specs.Prelude.{IfOk, List, OnOk};
-ghost use Rattle.std.specs.List.{Contains};
-ghost use Rattle.collections.specs.Listings.{IsListing};
+ghost use Rattle.std.specs.Prelude.{IfOk, OnOk};
 ghost use Rattle.path_eval.specs.Instances.{AreClassWords};
 ghost use Rattle.parallel_validate.specs.Named.{AreNamedTriples, IsNamedTriple};
 ghost use Rattle.triple_table.specs.Tables.{HasGrown, IsPlaceOf};
-ghost use Rattle.rdf_model.specs.declared.triple.Triple.{Triple as TripleData};
-ghost use Rattle.triple_index.specs.Keys.{ids_cmp};
-ghost use Rattle.file_validation.specs.Numbering.{AreNumberedTriples, IsNumberedGraph};
+ghost use Rattle.rdf_model.specs.Numbers.{AreNumbered, graph_of};
+ghost use Rattle.data_graph.specs.DataGraphs.{IsIndexOf};
+ghost use Rattle.file_validation.specs.Numbering.{IsNumberedGraph};
 
-use crate::indexing::index_by_threads;
 use path_eval::ClassWords;
-use rdf_model::{Ids, Term, Text, Triple};
+use rdf_model::{Term, Text, Triple};
 use std::alloc::{AllocError, Global};
-use std::thread::Threads;
 use triple_index::Index;
 use triple_table::NumberedTerms;
 use turtle_reader::TripleTable;
@@ -27,12 +23,11 @@ pub(crate) struct NumberedGraph {
     pub(crate) triples: Index,
 }
 
-// A data graph so, with its triples as they were found.
+/// A data graph so, before the two numbers are known.
 #[derive(Drop)]
-struct NumberedTriples {
-    names: NumberedTerms,
-    words: ClassWords,
-    triples: Vec<Ids>,
+pub(crate) struct IndexedTriples {
+    pub(crate) names: NumberedTerms,
+    pub(crate) triples: Index,
 }
 
 // The number of an IRI.
@@ -79,68 +74,34 @@ fn add_triples(names: &mut NumberedTerms, triples: &[Triple]) -> Result<(), Allo
     Ok(())
 }
 
-// The terms of a data graph and of a shapes graph behind them, by their numbers. It fails for want of memory, or of numbers for the
-// terms.
-fn numbered_triples(
-    alloc: Global,
-    graph: TripleTable,
-    shapes: &[Triple],
-) -> Result<NumberedTriples, AllocError>
-    ensures { IfOk result (AreNumberedTriples graph shapes.now) }
-{
-    let (mut names, triples) = graph.into_terms();
-    let words = add_words(alloc, &mut names)?;
-    add_triples(&mut names, shapes)?;
-    Ok(NumberedTriples {
-        names,
-        words,
-        triples,
-    })
-}
-
-impl NumberedTriples {
-    // The graph, with an index of its triples.
-    fn with_index(self, index: Index) -> NumberedGraph
-        requires { IsListing ids_cmp (Contains self.triples.items) index }
-        ensures { (graph shapes : List TripleData) → AreNumberedTriples graph shapes self → IsNumberedGraph graph shapes result }
+impl IndexedTriples {
+    /// The graph with the numbers of rdf:type and rdfs:subClassOf, and with the terms of a shapes graph behind its own. It fails for
+    /// want of memory, or of numbers for the terms.
+    pub(crate) fn with_shapes(
+        self,
+        alloc: Global,
+        shapes: &[Triple],
+    ) -> Result<NumberedGraph, AllocError>
+        requires { AreNumbered self.names self.triples }
+        ensures { IfOk result (IsNumberedGraph (graph_of self.names self.triples) shapes.now) }
     {
-        let NumberedTriples {
+        let IndexedTriples { names, triples } = self;
+        let mut names = names;
+        let words = add_words(alloc, &mut names)?;
+        add_triples(&mut names, shapes)?;
+        Ok(NumberedGraph {
             names,
             words,
-            triples: _,
-        } = self;
-        NumberedGraph {
-            names,
-            words,
-            triples: index,
-        }
+            triples,
+        })
     }
 }
 
-/// A data graph, as its triples were found, by the numbers of its terms, behind which the terms of a shapes graph have theirs. It
-/// fails for want of memory, or of numbers for the terms.
-pub(crate) fn numbered(
-    alloc: Global,
-    graph: TripleTable,
-    shapes: &[Triple],
-) -> Result<NumberedGraph, AllocError>
-    ensures { IfOk result (IsNumberedGraph graph shapes.now) }
+/// A data graph, as its triples were found, by the numbers of its terms.
+pub(crate) fn indexed(alloc: Global, graph: TripleTable) -> Result<IndexedTriples, AllocError>
+    ensures { IfOk result (λ indexed. IsIndexOf indexed.names indexed.triples graph) }
 {
-    let found = numbered_triples(alloc, graph, shapes)?;
-    let index = Index::from_triples(alloc, &found.triples)?;
-    Ok(found.with_index(index))
-}
-
-/// The graph that `numbered` makes. Threads sort the orders of its index beside each other.
-pub(crate) fn numbered_by_threads<R: Threads + Sync>(
-    rt: &R,
-    alloc: Global,
-    graph: TripleTable,
-    shapes: &[Triple],
-) -> Result<NumberedGraph, AllocError>
-    ensures { IfOk result (IsNumberedGraph graph shapes.now) }
-{
-    let found = numbered_triples(alloc, graph, shapes)?;
-    let index = index_by_threads(rt, alloc, &found.triples)?;
-    Ok(found.with_index(index))
+    let (names, found) = graph.into_terms();
+    let triples = Index::from_triples(alloc, &found)?;
+    Ok(IndexedTriples { names, triples })
 }

@@ -1,15 +1,16 @@
 //! The listing of two graphs, its explanation, and the verdict on evidence.
-ghost use Rattle.std.specs.Prelude.{◌≡◌, ◌<◌, ◌^◌, [], IfOk, length, string_bytes};
+ghost use Rattle.std.specs.Prelude.{◌≡◌, ◌<◌, ◌^◌, List, IfOk, length, string_bytes};
 ghost use Rattle.graph_explanation.specs.Explanations.{IsExplanation};
-ghost use Rattle.rdf_model.specs.Graphs.{with_each};
+ghost use Rattle.data_graph.specs.DataGraphs.{IsIndexOf};
 ghost use Rattle.rdf_model.specs.Numbers.{AreNumbered, graph_of};
+ghost use Rattle.rdf_model.specs.declared.triple.Triple.{Triple as TripleData};
 ghost use Rattle.shape_model.specs.Validation.{Listing};
 ghost use Rattle.path_eval.specs.Instances.{AreClassWords};
 ghost use Rattle.parallel_validate.specs.Named.{AreNamedTriples};
 ghost use Rattle.file_validation.specs.Validations.{IsVerdict};
 
 use crate::EvidenceVerdict;
-use crate::naming::{NumberedGraph, numbered, numbered_by_threads};
+use crate::naming::{IndexedTriples, NumberedGraph};
 use collections::Sequence;
 use evidence_verdict::{VerdictFault, verdict_over};
 use graph_explanation::explanation_over;
@@ -21,7 +22,6 @@ use std::marker::Brand;
 use std::sync::ledger::{Blank, Ledger};
 use std::thread::Threads;
 use threaded_listing::listing_by_threads;
-use turtle_reader::TripleTable;
 
 // The results, in an own ledger of evaluations.
 fn listing_in<L: Ledger, R: Threads + Sync>(
@@ -54,17 +54,18 @@ fn listing_in<L: Ledger, R: Threads + Sync>(
     Ok(rows)
 }
 
-/// The results of validating the graph of triples that were found by the shapes graph (SHACL section 3.6), each once, in the order of results. Threads
-/// share out the evaluations among each other, and sort the orders of the graph's index beside each other before.
+/// The results of validating the graph by the shapes graph (SHACL section 3.6), each once, in the order of results. Threads share
+/// out the evaluations among each other.
 pub(crate) fn listing<R: Threads + Sync>(
     rt: &R,
     alloc: Global,
-    graph: TripleTable,
+    graph: IndexedTriples,
     shapes: &ShapesGraph,
 ) -> Result<Sequence<ResultRow>, AllocError>
-    ensures { IfOk result (λ rows. Listing (with_each [] graph) shapes.now rows) }
+    requires { AreNumbered graph.names graph.triples }
+    ensures { IfOk result (λ rows. (g : List TripleData) → IsIndexOf graph.names graph.triples g → Listing g shapes.now rows) }
 {
-    let numbered = numbered_by_threads(rt, alloc, graph, shapes.triples())?;
+    let numbered = graph.with_shapes(alloc, shapes.triples())?;
     let rows = listing_in::<Brand, R>(rt, alloc, &numbered, shapes, Blank::new(1))?;
     Ok(Sequence::from_vec(rows))
 }
@@ -101,12 +102,13 @@ fn explanation_in<L: Ledger>(
 /// The text that explains the validation of the graph by the shapes graph (SHACL section 3.6).
 pub(crate) fn explanation(
     alloc: Global,
-    graph: TripleTable,
+    graph: IndexedTriples,
     shapes: &ShapesGraph,
 ) -> Result<String, AllocError>
-    ensures { IfOk result (λ text. IsExplanation (with_each [] graph) shapes.now (string_bytes text)) }
+    requires { AreNumbered graph.names graph.triples }
+    ensures { IfOk result (λ text. (g : List TripleData) → IsIndexOf graph.names graph.triples g → IsExplanation g shapes.now (string_bytes text)) }
 {
-    let numbered = numbered(alloc, graph, shapes.triples())?;
+    let numbered = graph.with_shapes(alloc, shapes.triples())?;
     let text = explanation_in::<Brand>(alloc, &numbered, shapes, Blank::new(1))?;
     Ok(text)
 }
@@ -149,14 +151,15 @@ fn verdict_in<L: Ledger>(
 /// The verdict on a text of evidence of results of validating the graph by the shapes graph (SHACL section 3.6).
 pub(crate) fn verdict(
     alloc: Global,
-    graph: TripleTable,
+    graph: IndexedTriples,
     shapes: &ShapesGraph,
     evidence: &[u8],
 ) -> Result<EvidenceVerdict, AllocError>
-    requires { length evidence.now < 2 ^ 32 }
-    ensures { IfOk result (IsVerdict (with_each [] graph) shapes.now evidence.now) }
+    requires graph { AreNumbered graph.names graph.triples }
+    requires evidence { length evidence.now < 2 ^ 32 }
+    ensures { IfOk result (λ verdict. (g : List TripleData) → IsIndexOf graph.names graph.triples g → IsVerdict g shapes.now evidence.now verdict) }
 {
-    let numbered = numbered(alloc, graph, shapes.triples())?;
+    let numbered = graph.with_shapes(alloc, shapes.triples())?;
     let verdict = verdict_in::<Brand>(alloc, &numbered, shapes, evidence, Blank::new(1))?;
     Ok(verdict)
 }

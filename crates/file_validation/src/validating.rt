@@ -1,18 +1,23 @@
 //! The three calls on two texts, and what they answer.
-ghost use Rattle.std.specs.Prelude.{◌≡◌, ℕ, List, ◌<◌, ◌^◌, [], length, IfOk, MatchResult};
+ghost use Rattle.std.specs.Prelude.{◌≡◌, ℕ, List, ◌<◌, ◌^◌, length, IfOk, MatchResult};
 ghost use Rattle.collections.specs.Ordered.{IsAscending};
-ghost use Rattle.rdf_model.specs.Graphs.{with_each};
+ghost use Rattle.data_graph.specs.DataGraphs.{IsIndexOf};
+ghost use Rattle.rdf_model.specs.Numbers.{AreNumbered};
+ghost use Rattle.rdf_model.specs.declared.triple.Triple.{Triple as TripleData};
 ghost use Rattle.rdf_model.specs.Terms.{triple_cmp};
 ghost use Rattle.file_validation.specs.Asked.{AsksInVain, AsksOfText};
-ghost use Rattle.file_validation.specs.Readings.{AreReadings, of_data, of_shapes};
+ghost use Rattle.file_validation.specs.Readings.{AreGraphs, AreReadings, both_read, of_data, of_shapes};
 ghost use Rattle.file_validation.specs.Validations.{AreRead, IsCause, IsExplained, IsExplanationOf, IsReported, IsValidation, IsVerdictOn};
 
 use crate::InputFault;
+use crate::indexing::index_beside_shapes;
+use crate::naming::{IndexedTriples, indexed};
 use crate::reading::{TextReadings, readings_by_threads, readings_in_turn, shapes_of};
 use crate::results::{explanation, listing, verdict};
+use collections::Sequence;
 use outside::Maker;
 use rdf_lexical::ReadFault;
-use rdf_model::Text;
+use rdf_model::{Text, Triple};
 use report_writer::report;
 use shapes_graph::ShapesGraph;
 use std::alloc::{AllocError, Global};
@@ -50,10 +55,11 @@ pub enum EvidenceVerdict {
 fn validation_of<R: Threads + Sync>(
     rt: &R,
     alloc: Global,
-    graph: TripleTable,
+    graph: IndexedTriples,
     shapes: &ShapesGraph,
 ) -> Result<Validation, AllocError>
-    ensures { IfOk result (IsReported (with_each [] graph) shapes.now) }
+    requires { AreNumbered graph.names graph.triples }
+    ensures { IfOk result (λ validation. (g : List TripleData) → IsIndexOf graph.names graph.triples g → IsReported g shapes.now validation) }
 {
     let rows = listing(rt, alloc, graph, shapes)?;
     let text = report(alloc, rows.as_slice(), shapes.shapes())?;
@@ -66,10 +72,11 @@ fn validation_of<R: Threads + Sync>(
 // The explanation of the validation of a graph by a shapes graph.
 fn explanation_of(
     alloc: Global,
-    graph: TripleTable,
+    graph: IndexedTriples,
     shapes: &ShapesGraph,
 ) -> Result<Explanation, AllocError>
-    ensures { IfOk result (IsExplained (with_each [] graph) shapes.now) }
+    requires { AreNumbered graph.names graph.triples }
+    ensures { IfOk result (λ explanation. (g : List TripleData) → IsIndexOf graph.names graph.triples g → IsExplained g shapes.now explanation) }
 {
     let text = explanation(alloc, graph, shapes)?;
     Ok(Explanation {
@@ -98,37 +105,79 @@ fn shapes_fault(fault: ReadFault) -> InputFault
     }
 }
 
-// The triples of the data, as they were found, and the shapes graph of two texts that were read. The refusal of the data is told
-// before that of the shapes.
-fn graphs_of<M: Maker>(
-    alloc: Global,
-    maker: &mut M,
-    readings: TextReadings,
-) -> Result<(TripleTable, ShapesGraph), InputFault>
-    requires { IfOk readings.triples (IsAscending triple_cmp) }
-    ensures answer { (data_text shapes_text : List ℕ) → AreReadings data_text shapes_text readings
-        → MatchResult result (λ both. AreRead data_text shapes_text (with_each [] both.0) both.1) (IsCause data_text shapes_text (M.refused maker.old) (M.refused maker.new)) }
-    ensures refused { IfOk result (λ _. M.refused maker.new ≡ M.refused maker.old) }
-    ensures asked { (data_text shapes_text : List ℕ) → AreReadings data_text shapes_text readings
-        → MatchResult result (λ _. AsksOfText shapes_text (M.asked maker.old) (M.asked maker.new)) (λ fault. AsksInVain shapes_text fault (M.asked maker.old) (M.asked maker.new)) }
+// What the data and the shapes were read to, or the refusal that is told: that of the data before that of the shapes.
+fn both_of(readings: TextReadings) -> Result<(TripleTable, Sequence<Triple>), InputFault>
+    ensures { result ≡ both_read readings.table readings.triples }
 {
     let TextReadings { table, triples } = readings;
     let table = match table {
         Ok(table) => table,
         Err(fault) => return Err(data_fault(fault)),
     };
-    let triples = match triples {
-        Ok(triples) => triples,
-        Err(fault) => return Err(shapes_fault(fault)),
+    match triples {
+        Ok(triples) => Ok((table, triples)),
+        Err(fault) => Err(shapes_fault(fault)),
+    }
+}
+
+// The data graph and the shapes graph of two texts that were read.
+fn graphs_in_turn<M: Maker>(
+    alloc: Global,
+    maker: &mut M,
+    readings: TextReadings,
+) -> Result<(IndexedTriples, ShapesGraph), InputFault>
+    requires { IfOk readings.triples (IsAscending triple_cmp) }
+    ensures answer { (data_text shapes_text : List ℕ) → AreReadings data_text shapes_text readings
+        → MatchResult result (AreGraphs data_text shapes_text) (IsCause data_text shapes_text (M.refused maker.old) (M.refused maker.new)) }
+    ensures numbered { IfOk result (λ both. AreNumbered both.0.names both.0.triples) }
+    ensures refused { IfOk result (λ _. M.refused maker.new ≡ M.refused maker.old) }
+    ensures asked { (data_text shapes_text : List ℕ) → AreReadings data_text shapes_text readings
+        → MatchResult result (λ _. AsksOfText shapes_text (M.asked maker.old) (M.asked maker.new)) (λ fault. AsksInVain shapes_text fault (M.asked maker.old) (M.asked maker.new)) }
+{
+    let (table, triples) = match both_of(readings) {
+        Ok(both) => both,
+        Err(fault) => return Err(fault),
     };
     let shapes_graph = shapes_of(alloc, maker, triples)?;
-    Ok((table, shapes_graph))
+    let graph = indexed(alloc, table)?;
+    Ok((graph, shapes_graph))
+}
+
+// The same graphs, with the index of the data made beside the shapes.
+fn graphs_by_threads<M: Maker, R: Threads + Sync>(
+    rt: &R,
+    alloc: Global,
+    maker: &mut M,
+    readings: TextReadings,
+) -> Result<(IndexedTriples, ShapesGraph), InputFault>
+    requires { IfOk readings.triples (IsAscending triple_cmp) }
+    ensures answer { (data_text shapes_text : List ℕ) → AreReadings data_text shapes_text readings
+        → MatchResult result (AreGraphs data_text shapes_text) (IsCause data_text shapes_text (M.refused maker.old) (M.refused maker.new)) }
+    ensures numbered { IfOk result (λ both. AreNumbered both.0.names both.0.triples) }
+    ensures refused { IfOk result (λ _. M.refused maker.new ≡ M.refused maker.old) }
+    ensures asked { (data_text shapes_text : List ℕ) → AreReadings data_text shapes_text readings
+        → MatchResult result (λ _. AsksOfText shapes_text (M.asked maker.old) (M.asked maker.new)) (λ fault. AsksInVain shapes_text fault (M.asked maker.old) (M.asked maker.new)) }
+{
+    let (table, triples) = match both_of(readings) {
+        Ok(both) => both,
+        Err(fault) => return Err(fault),
+    };
+    let (names, found) = table.into_terms();
+    let (index, shapes) = index_beside_shapes(rt, alloc, maker, &found, triples.as_slice());
+    let shapes = shapes?;
+    let shapes_graph = ShapesGraph::new(alloc, triples, shapes)?;
+    let index = index?;
+    let graph = IndexedTriples {
+        names,
+        triples: index,
+    };
+    Ok((graph, shapes_graph))
 }
 
 /// Validates a data graph by a shapes graph (SHACL section 3.4), both Turtle texts, and writes the report. Blank nodes of
 /// the data belong to session 1 and those of the shapes to session 2, each numbered from 1. The maker builds the patterns,
-/// shape by shape in the order of nodes, up to the first that it refuses. The texts are read beside each other, and as many
-/// threads as there are processors share out the evaluations among each other.
+/// shape by shape in the order of nodes, up to the first that it refuses. The texts are read beside each other, the
+/// data is indexed beside the shapes, and as many threads as there are processors share out the evaluations among each other.
 ///
 /// A fault tells its cause: the data is refused first, then the shapes, then a broken rule, then a pattern.
 pub fn validate<M: Maker, R: Threads + Sync>(
@@ -146,7 +195,7 @@ pub fn validate<M: Maker, R: Threads + Sync>(
         (λ fault. AsksInVain shapes_text.now fault (M.asked maker.old) (M.asked maker.new)) }
 {
     let readings = readings_by_threads(rt, alloc, data_text, shapes_text);
-    let (graph, shapes_graph) = match graphs_of(alloc, maker, readings) {
+    let (graph, shapes_graph) = match graphs_by_threads(rt, alloc, maker, readings) {
         Ok(both) => both,
         Err(fault) => return Err(fault),
     };
@@ -169,7 +218,7 @@ pub fn explain<M: Maker>(
         (λ fault. AsksInVain shapes_text.now fault (M.asked maker.old) (M.asked maker.new)) }
 {
     let readings = readings_in_turn(alloc, data_text, shapes_text);
-    let (graph, shapes_graph) = match graphs_of(alloc, maker, readings) {
+    let (graph, shapes_graph) = match graphs_in_turn(alloc, maker, readings) {
         Ok(both) => both,
         Err(fault) => return Err(fault),
     };
@@ -194,7 +243,7 @@ pub fn verify<M: Maker>(
         (λ fault. AsksInVain shapes_text.now fault (M.asked maker.old) (M.asked maker.new)) }
 {
     let readings = readings_in_turn(alloc, data_text, shapes_text);
-    let (graph, shapes_graph) = match graphs_of(alloc, maker, readings) {
+    let (graph, shapes_graph) = match graphs_in_turn(alloc, maker, readings) {
         Ok(both) => both,
         Err(fault) => return Err(fault),
     };

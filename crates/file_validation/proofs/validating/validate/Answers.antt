@@ -1,19 +1,17 @@
-use Rattle.std.proofs.Common.{[]}
-use Rattle.rdf_model.specs.Graphs.{with_each}
 use Rattle.std.proofs.lemmas.Result.{err_from_is_err_and}
 use Rattle.file_validation.proofs.Asks.{asked_all}
 use Rattle.file_validation.proofs.validating.validate.Goals as goal
 
 pub returns-clause-answer : goal.returns-clause-answer
 returns-clause-answer g c =
-    let read = c.in-Ok.ensures.answer c.args.data_text.now c.args.shapes_text.now c.readings_by_threads-readings.ensures.readings in
+    let are = c.in-Ok.ensures.answer c.args.data_text.now c.args.shapes_text.now c.readings_by_threads-readings.ensures.readings in
     record {
-      graph = with_each [] c.in-Ok.both.0;
+      graph = are.0;
       shapes_graph = c.in-Ok.both.1;
-      data_read = read.data_read;
-      shapes_read = read.shapes_read;
-      well_formed = read.well_formed;
-      reported = c.in_ok-validation_of.ensures;
+      data_read = are.1.data_read;
+      shapes_read = are.1.shapes_read;
+      well_formed = are.1.well_formed;
+      reported = c.in_ok-validation_of.ensures are.0 are.2;
     }
 
 pub returns-in_err-validation_of-clause-asked : goal.returns-in_err-validation_of-clause-asked
