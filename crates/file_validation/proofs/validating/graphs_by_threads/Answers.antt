@@ -73,8 +73,7 @@ returns-clause-answer g c = λ d s are.
     let terms = c.into_terms-names.result.0 in
     let ids = c.into_terms-names.result.1.items in
     let index = c.in_ok-index.index in
-    let listed = subst (λ (found : List Ids). IsListing ids_cmp (Contains found) index) c.deref.ensures.value (if_ok _ _ _ c.in_ok-index.was c.index_beside_shapes-index.ensures.index) in
-    (
+    let listed = subst (λ (found : List Ids). IsListing ids_cmp (Contains found) index) c.deref.ensures.value (if_ok _ _ _ c.in_ok-index.was c.index_beside_shapes-index.ensures.index) in (
       with_each [] both.0,
       subst (λ (ts : List Triple). AreRead d s (with_each [] both.0) ts) (sym c.in_ok-shapes_graph.ensures) are_read,
       each_index terms index both.0 (index_of terms both.0 ids index c.into_terms-names.ensures.numbered c.into_terms-names.ensures.graph listed.members),
