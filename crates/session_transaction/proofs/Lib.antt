@@ -6,3 +6,4 @@ pub mod Listed
 pub mod Logging
 pub mod Checking
 pub mod Selecting
+pub mod Parts

@@ -3,3 +3,4 @@ pub mod Replies
 pub mod Commits
 pub mod Logging
 pub mod Checks
+pub mod Blocks

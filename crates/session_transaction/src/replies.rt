@@ -1,5 +1,5 @@
 //! What a session is told of a find, of a select, of a refused block and of a commit.
-ghost use Rattle.std.specs.Prelude.{◌≡◌, ◌≤◌, ◌∷◌, ◌++◌, List, IfOk, OnOk, length, string_bytes};
+ghost use Rattle.std.specs.Prelude.{◌≡◌, ◌≤◌, ◌∷◌, ◌++◌, List, IfOk, OnOk, MatchBool, length, string_bytes};
 ghost use Rattle.bgp_query.specs.Bindings.{most_bindings};
 ghost use Rattle.rdf_model.specs.declared.triple.Triple.{Triple};
 ghost use Rattle.report_writer.specs.Report.{report_text};
@@ -58,6 +58,32 @@ pub fn reply_of_select(
         count: bindings.len(),
         lines: Text::from_string(lines)?,
     })
+}
+
+/// Whether a command's block can't be read, isn't well-formed, has a pattern that was refused, or has a line that is no pattern of
+/// a select.
+pub fn is_refused(command: &Command) -> bool
+    ensures { MatchBool result (IsRefusedBlock command.now) (IsRefusedBlock command.now → ⊥) }
+{
+    match command {
+        Command::BadAdd { line: _, kind: _ }
+        | Command::BadRemove { line: _, kind: _ }
+        | Command::BadAttach { line: _, kind: _ }
+        | Command::BadShapes { line: _, kind: _ }
+        | Command::BrokenShapes { rule: _, node: _ }
+        | Command::RefusedPattern { node: _ }
+        | Command::BadSelect { line: _ } => true,
+        Command::Begin
+        | Command::Add(_)
+        | Command::Remove(_)
+        | Command::Attach(_)
+        | Command::Shapes(_)
+        | Command::Commit
+        | Command::Find(_)
+        | Command::Select(_)
+        | Command::Report
+        | Command::Abort => false,
+    }
 }
 
 /// The reply, within a transaction, to a command whose block can't be read, isn't well-formed, has a pattern that was refused, or

@@ -6,6 +6,7 @@ ghost use Rattle.session_transaction.specs.Checks.{CheckSteps, Checks, checked_o
 ghost use Rattle.session_transaction.specs.Transactions;
 ghost use Rattle.session_transaction.specs.Transactions.{begun_at, change_of, changes_of, name_kind_of, plain};
 
+use crate::block::BlockTerms;
 use collections::Sequence;
 use commit_core::{CheckedNet, CheckedTransaction, NumberHints, Snap, Transaction, Verdict};
 use kept_rows::PairRows;
@@ -51,7 +52,7 @@ pub enum ChangeKind {
 
 impl ChangeKind {
     // The change of this kind of a triple.
-    fn of(self, triple: Triple) -> Change
+    pub(crate) fn of(self, triple: Triple) -> Change
         ensures { result ≡ change_of self triple }
     {
         match self {
@@ -82,21 +83,6 @@ impl ChangeKind {
             ChangeKind::Attachment => NameKind::Attach,
         }
     }
-}
-
-// A change of each triple.
-fn changes_for(
-    alloc: Global,
-    kind: ChangeKind,
-    triples: &[Triple],
-) -> Result<Vec<Change>, AllocError>
-    ensures { IfOk result (λ v. v.items ≡ changes_of kind triples.now) }
-{
-    let mut changes = Vec::with_capacity(alloc, triples.len())?;
-    for triple in triples {
-        changes.push(kind.of(triple.clone()?))?;
-    }
-    Ok(changes)
 }
 
 /// Puts items at the end, or answers false where there is no room for them.
@@ -199,20 +185,10 @@ impl OpenTransaction {
         }
     }
 
-    /// The transaction with a change of each triple, and nothing checked; without the memory for them, as it was. The numbers are
-    /// those that naming the terms of the triples gave.
-    pub fn with_changes(
-        self,
-        alloc: Global,
-        kind: ChangeKind,
-        triples: &[Triple],
-        numbers: &[u32],
-    ) -> (OpenTransaction, bool)
-        ensures { MatchBool result.1 (result.0 ≡ Transactions.with_changes self (changes_of kind triples.now)) (result.0 ≡ self) }
+    // The transaction with these changes at the end, and nothing checked; without the memory for them, as it was.
+    fn with_more(self, alloc: Global, more: Vec<Change>, numbers: &[u32]) -> (OpenTransaction, bool)
+        ensures { MatchBool result.1 (result.0 ≡ Transactions.with_changes self more.items) (result.0 ≡ self) }
     {
-        let Ok(more) = changes_for(alloc, kind, triples) else {
-            return (self, false);
-        };
         let OpenTransaction {
             transaction,
             checked,
@@ -238,6 +214,23 @@ impl OpenTransaction {
         } else {
             (open, false)
         }
+    }
+
+    /// The transaction with a change of each triple of the block, which is moved into it, and nothing checked; without the memory
+    /// for them, as it was. The numbers are those that naming the block gave.
+    pub fn with_block(
+        self,
+        alloc: Global,
+        kind: ChangeKind,
+        block: BlockTerms,
+        numbers: &[u32],
+    ) -> (OpenTransaction, bool)
+        ensures { MatchBool result.1 (result.0 ≡ Transactions.with_changes self (changes_of kind block)) (result.0 ≡ self) }
+    {
+        let Ok(more) = block.into_changes(alloc, kind) else {
+            return (self, false);
+        };
+        self.with_more(alloc, more, numbers)
     }
 
     /// The transaction with these shapes staged, and nothing checked.
