@@ -22,7 +22,7 @@ use Rattle.session_laws.specs.Following.{unaided}
 use Rattle.session_laws.proofs.Aside.{goes_aside}
 use Rattle.session_model.specs.Sessions.{OpenTransaction, SessionState, World, action_of, after_reply, answers, commit_action, local_answer, up_to_event, GoesOn, session_at, world, RunsOpening, RunsEvent, RunsPlace, RunsInOrder, start, HasReplies}
 use Rattle.session_player.specs.Progress.{Advances, OpensSessions, HasRun}
-use Rattle.session_model.proofs.Walking.{RunsInOrder-append, up_to_event-local, turn, opened_same, never_open}
+use Rattle.session_model.proofs.Walking.{get-middle, RunsInOrder-append, up_to_event-local, turn, opened_same, never_open}
 
 -- a session that rests
 pub Advances-none : (i : ℕ) (s : RecordedStore) (p : SessionState) → Advances i s s p p
@@ -168,3 +168,15 @@ HasReplies-HasRun files l b c all s =
       complete = record { opened = s.opened ∙ sym s.count; left = s.left };
       replies = s.replies;
     }
+
+-- the next file of a run, and the place it has
+pub placed_next : (done rest files : List (List Command)) (cs : List Command) → done ++ cs ∷ rest ≡ files → (length done < length files) × (cs ≡ get_or files (length done) cs) × ((done ++ cs ∷ []) ++ rest ≡ files)
+placed_next done rest files cs e =
+    (subst (λ (fs : List (List Command)). length done < length fs) e (omega (arith, length-append done (cs ∷ rest))), subst (λ (fs : List (List Command)). cs ≡ get_or fs (length done) cs) e (sym (get-middle done rest cs cs)), append_assoc done (cs ∷ []) rest ∙ e)
+
+pub more_yielded : (done : List (List Command)) (cs : List Command) → length (done ++ cs ∷ []) ≡ length done + 1
+more_yielded done cs = length-append done (cs ∷ [])
+
+-- no file is left
+pub at_end : (l : Limits) (b : State) (n : RecordedStore) (all : List (List SessionReply)) (done left files : List (List Command)) → left ≡ [] → done ++ left ≡ files → HasRun files l b n (length done) all → HasRun files l b n (length files) all
+at_end l b n all done left files none e h = subst (λ (k : ℕ). HasRun files l b n k all) (ap length (sym (append-nil done) ∙ (ap (λ fs. done ++ fs) (sym none) ∙ e))) h

@@ -1,5 +1,5 @@
 -- What each command does to a session.
-use Rattle.std.proofs.Common.{◌≡◌, ◌≢◌, ℕ, ◌+◌, ◌<◌, ◌≤◌, Bool, true, false, nat_lt, List, [], ◌∷◌, ◌++◌, length, map, Option, Some, None, refl, sym, ap, ◌∙◌, subst, arith, suc, get_or, drop, add-one, drop-cons, append_assoc}
+use Rattle.std.proofs.Common.{◌≡◌, ◌≢◌, ℕ, ◌+◌, ◌<◌, ◌≤◌, Bool, true, false, nat_lt, List, [], ◌∷◌, ◌++◌, length, map, Option, Some, None, refl, sym, ap, ◌∙◌, subst, arith, append_assoc}
 use Rattle.std.proofs.lemmas.List.{map-append, append-nil}
 use Rattle.store_model.specs.declared.event.Event.{Event}
 use Rattle.std.specs.Prelude.{IfOk, MatchBool, Result, Ok, Err}
@@ -46,7 +46,7 @@ use Rattle.session_laws.proofs.Placing.{within}
 use Rattle.session_player.specs.Progress.{Advances, order_of}
 use Rattle.session_player.proofs.Advancing.{Advances-then, Advances-local, Advances-event, Advances-commit}
 use Rattle.session_model.proofs.Walking.{up_to_event-event}
-use Rattle.session_player.specs.Ready.{CommitsWith, IsNamingRefusal, IsReady, Performs, TakesHead, is_commit, places_with, places_of}
+use Rattle.session_player.specs.Ready.{CommitsWith, IsNamingRefusal, IsReady, Performs, PerformsAll, TakesHead, is_commit, places_with, places_of}
 
 -- a step is one place more
 pub one_place : (s n : RecordedStore) (e : Event) → TakesStep s n e → order_of n.history ≡ order_of s.history ++ e.session ∷ []
@@ -260,7 +260,12 @@ never_full s n lt a = opens_one s.state n.state (nat_lt s.state.opened 64) refl 
 pub performs_then : (i : ℕ) (s m n : RecordedStore) (p : SessionState) (w v : Option Sessions.OpenTransaction) (c : Command) (cs : List Command) (replies more : List SessionReply) → Advances i s m p (up_to_event w (c ∷ cs) replies) → Performs i m n w v c replies more → Advances i s n p (up_to_event v cs more)
 performs_then i s m n p w v c cs replies more g o = Advances-then i s m n p (up_to_event w (c ∷ cs) replies) (up_to_event v cs more) g (o.advances cs)
 
-pub perform_step : (i : ℕ) (s m n : RecordedStore) (p : SessionState) (w v : Option Sessions.OpenTransaction) (c : Command) (cs : List Command) (k : ℕ) (replies more : List SessionReply) → k < length cs → c ≡ get_or cs k c → Advances i s m p (up_to_event w (drop k cs) replies) → Performs i m n w v c replies more → Advances i s n p (up_to_event v (drop (k + 1) cs) more)
-perform_step i s m n p w v c cs k replies more lt is g o =
-    let e : drop k cs ≡ c ∷ drop (k + 1) cs = rw add-one (drop-cons cs k c lt ∙ ap (λ z. z ∷ drop (suc k) cs) (sym is)) in
-    performs_then i s m n p w v c (drop (k + 1) cs) replies more (subst (λ (ds : List Command). Advances i s m p (up_to_event w ds replies)) e g) o
+pub perform_step : (i : ℕ) (s m n : RecordedStore) (p : SessionState) (w v : Option Sessions.OpenTransaction) (c : Command) (old new : List Command) (replies more : List SessionReply) → old ≡ c ∷ new → Advances i s m p (up_to_event w old replies) → Performs i m n w v c replies more → Advances i s n p (up_to_event v new more)
+perform_step i s m n p w v c old new replies more e g o = performs_then i s m n p w v c new replies more (subst (λ (ds : List Command). Advances i s m p (up_to_event w ds replies)) e g) o
+
+pub nothing_left : {X : Type 0} (xs : List X) → length xs ≡ 0 → xs ≡ []
+nothing_left [] e = refl
+nothing_left (x ∷ xs) e = absurd (omega (arith, e))
+
+pub all_performed : (i : ℕ) (s m : RecordedStore) (cs left : List Command) (w : Option Sessions.OpenTransaction) (replies : List SessionReply) → left ≡ [] → IsReady m i w → Advances i s m (up_to_event None cs []) (up_to_event w left replies) → PerformsAll i s m cs replies
+all_performed i s m cs left w replies none ready g = record { current = w; opened = ready.opened; advances = subst (λ (ds : List Command). Advances i s m (up_to_event None cs []) (up_to_event w ds replies)) none g }

@@ -1,5 +1,5 @@
 -- Players of sessions, event by event.
-use Rattle.std.proofs.Common.{◌≡◌, ◌≢◌, ℕ, zero, suc, ◌+◌, ◌-◌, ◌<◌, ◌≤◌, Bool, true, false, nat_eq, nat_lt, List, [], ◌∷◌, ◌++◌, length, map, set, get_or, Option, Some, None, refl, sym, ap, ◌∙◌, subst, arith, append_assoc, length-append, drop, take, add-one, drop-cons, take-append-drop}
+use Rattle.std.proofs.Common.{◌≡◌, ◌≢◌, ℕ, zero, suc, ◌+◌, ◌-◌, ◌<◌, ◌≤◌, Bool, true, false, nat_eq, nat_lt, List, [], ◌∷◌, ◌++◌, length, map, set, get_or, slice_index_or, Option, Some, None, refl, sym, ap, ◌∙◌, subst, arith, append_assoc, length-append, drop, take, add-one, drop-cons, take-append-drop}
 use Rattle.std.proofs.lemmas.List.{map-append, append-nil, append_cancel_left, take_all, length-map, drop_all}
 use Rattle.std.proofs.lemmas.Bool.Decides.{nat_tests}
 use Rattle.std.specs.Prelude.{MatchBool, IfOk, Result, Ok, Err}
@@ -230,6 +230,15 @@ commit_taken i s n p v rest w now kept more reply e o ready hold next ew en em e
     let told : p.replies ++ reply ∷ [] ≡ more = sym (em ∙ ap (λ (x : Player). x.replies ++ reply ∷ []) e) in
     subst (λ (o : Option CheckedNet). TakesEvent i s n p (player rest now false o more)) (sym ek)
     (subst (λ (x : Option OpenTransaction). TakesEvent i s n p (player rest x false None more)) (sym en) (subst (λ (ts : List SessionReply). TakesEvent i s n p (player rest None false None ts)) told done))
+
+-- what is left once the first command was taken out
+pub popped : (cs ds : List Command) → cs ≢ [] → ds ≡ drop 1 cs → (c : Command) × (cs ≡ c ∷ ds)
+popped [] ds some e = absurd (some refl)
+popped (c ∷ cs) ds some e = (c, ap (λ xs. c ∷ xs) (sym e))
+
+-- the command at the front is the first one
+pub front_first : (cs ds : List Command) (c d : Command) → cs ≡ d ∷ ds → c ≡ slice_index_or cs 0 c → c ≡ d
+front_first cs ds c d e is = is ∙ ap (λ (xs : List Command). slice_index_or xs 0 c) e
 
 -- the first command of a player and the others
 pub next_command : (p v : Player) (c : Command) → v ≡ p → 1 ≤ length v.commands → c ≡ get_or v.commands 0 c → p.commands ≡ c ∷ others v.commands

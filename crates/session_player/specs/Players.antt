@@ -9,7 +9,7 @@ use Rattle.session_model.specs.Sessions.{OpenTransaction, SessionState, World, l
 use Rattle.commit_core.specs.declared.checked.CheckedNet.{CheckedNet}
 use Rattle.session_transaction.specs.Checks.{KeepsIn}
 use Rattle.session_player.specs.Progress.{Advances, order_of}
-use Rattle.session_player.specs.Ready.{IsCurrentIn}
+use Rattle.session_player.specs.Ready.{IsCurrentIn, Performs}
 use Rattle.session_player.specs.Histories.{BreaksOff}
 
 -- A session that is played: the commands that are left, its open transaction, whether the transaction's commit has the
@@ -74,6 +74,12 @@ pub record Settles (s : RecordedStore) (p q : Player) : Type 0 where
   pub ready : MayGoOn s q
   pub state : state_of q ≡ state_of p
   pub at_event : IsAtEvent q.current q.commands
+
+-- session i's player did its first command
+pub record DoesFirst (i : ℕ) (old new : RecordedStore) (p q : Player) : Type 0 where
+  pub command : Command
+  pub commands : p.commands ≡ command ∷ q.commands
+  pub performs : Performs i old new p.current q.current command p.replies q.replies
 
 -- session i's player took its next event
 pub record TakesEvent (i : ℕ) (old new : RecordedStore) (p q : Player) : Type 0 where

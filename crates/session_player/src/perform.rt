@@ -10,7 +10,9 @@ use crate::stage::{change, refuse, stage};
 use collections::{Sequence, let_go};
 use commit_core::Core;
 use session_model::{Command, SessionReply};
-use session_transaction::{ChangeKind, OpenTransaction, commit, reply_of_commit};
+use session_transaction::{
+    ChangeKind, OpenTransaction, commit, is_refused, reply_of_commit, take_block,
+};
 use shape_eval::Steps;
 use std::alloc::{AllocError, Global};
 use std::sync::ledger::Ledger;
@@ -109,25 +111,32 @@ pub fn perform<L: Ledger>(
     core: &mut Core,
     session: u32,
     current: Option<OpenTransaction>,
-    command: &Command,
+    command: Command,
     replies: &mut Sequence<SessionReply>,
     steps: &mut Steps<L>,
 ) -> Result<Option<OpenTransaction>, AllocError>
     requires { IsReady core.old session (plain_in current) }
-    ensures { IfOk result (λ next. Performs session core.old core.new (plain_in current) (plain_in next) command.now replies.old replies.new) }
+    ensures { IfOk result (λ next. Performs session core.old core.new (plain_in current) (plain_in next) command replies.old replies.new) }
 {
-    match command {
+    if is_refused(&command) {
+        return refuse(core, session, current, &command, replies);
+    }
+    let mut command = command;
+    match &mut command {
         Command::Begin => begin(alloc, core, session, current, replies),
         Command::Add(block) => {
             let kind = ChangeKind::Addition;
+            let block = take_block(alloc, block);
             change(alloc, core, session, current, kind, block, replies)
         }
         Command::Remove(block) => {
             let kind = ChangeKind::Removal;
+            let block = take_block(alloc, block);
             change(alloc, core, session, current, kind, block, replies)
         }
         Command::Attach(block) => {
             let kind = ChangeKind::Attachment;
+            let block = take_block(alloc, block);
             change(alloc, core, session, current, kind, block, replies)
         }
         Command::Shapes(shapes) => stage(alloc, core, session, current, shapes, replies),
@@ -148,6 +157,6 @@ pub fn perform<L: Ledger>(
         | Command::BadShapes { line: _, kind: _ }
         | Command::BrokenShapes { rule: _, node: _ }
         | Command::RefusedPattern { node: _ }
-        | Command::BadSelect { line: _ } => refuse(core, session, current, command, replies),
+        | Command::BadSelect { line: _ } => unreachable!(),
     }
 }

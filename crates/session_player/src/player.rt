@@ -1,12 +1,10 @@
 // A session that is played event by event.
-ghost use Rattle.std.specs.Prelude.{◌≡◌, ◌≢◌, ◌∷◌, [], MatchBool, MatchOption, None, Some, true, false, IfOk, OnOk};
+ghost use Rattle.std.specs.Prelude.{◌≡◌, ◌≢◌, [], MatchBool, MatchOption, None, Some, true, false, IfOk, OnOk};
 ghost use Rattle.store_model.specs.Store.{IsOpened};
-ghost use Rattle.session_model.specs.declared.command.Command.{Command};
 ghost use Rattle.session_transaction.specs.Transactions.{plain, plain_in};
 ghost use Rattle.session_player.specs.Players;
-ghost use Rattle.session_player.specs.Players.{IsEvent, MayGoOn, Settles, TakesEvent, new_player, state_of};
+ghost use Rattle.session_player.specs.Players.{DoesFirst, IsEvent, MayGoOn, Settles, TakesEvent, new_player, state_of};
 ghost use Rattle.session_player.specs.Ready;
-ghost use Rattle.session_player.specs.Ready.{Performs};
 
 use crate::perform::{commit_reply, perform, take_head};
 use collections::Sequence;
@@ -15,30 +13,31 @@ use session_model::{Command, SessionReply};
 use session_transaction::OpenTransaction;
 use shape_eval::Steps;
 use std::alloc::{AllocError, Global};
+use std::collections::VecDeque;
 use std::marker::Model;
 use std::sync::ledger::Ledger;
 
 /// The commands that are left of a session's file, its open transaction, and what it was answered.
-pub struct Player<'a> {
-    commands: &'a [Command],
+pub struct Player {
+    commands: VecDeque<Command>,
     current: Option<OpenTransaction>,
     // Whether the open transaction's commit has the newest version already.
     head_taken: bool,
     replies: Sequence<SessionReply>,
 }
 
-impl<'a> Model for Player<'a> {
+impl Model for Player {
     ghost use Rattle.session_transaction.specs.Checks.{checked_in};
     ghost use Rattle.session_transaction.specs.Transactions.{plain_in};
     ghost use Rattle.session_player.specs.Players;
 
     ghost Value = { Players.Player };
 
-    ghost view = { λ p. record { commands = p.commands.now; current = plain_in p.current; head_taken = p.head_taken; checked = checked_in p.current; replies = p.replies } };
+    ghost view = { λ p. record { commands = p.commands.items; current = plain_in p.current; head_taken = p.head_taken; checked = checked_in p.current; replies = p.replies } };
 }
 
 // Written by hand, so that what owns one calls it in place of having it written out.
-impl<'a> Drop for Player<'a> {
+impl Drop for Player {
     fn drop(self) {
         let Player {
             commands: _,
@@ -88,22 +87,23 @@ fn is_commit(command: &Command) -> bool
 }
 
 // Does the player's first command.
-fn play_command<'a, L: Ledger>(
+fn play_command<L: Ledger>(
     alloc: Global,
     core: &mut Core,
     session: u32,
-    player: &mut Player<'a>,
-    command: &'a Command,
-    rest: &'a [Command],
+    player: &mut Player,
     steps: &mut Steps<L>,
 ) -> Result<(), AllocError>
     requires opened { IsOpened core.old.state session }
     requires ready { MayGoOn core.old player.old }
     requires free { player.old.head_taken ≡ false }
-    ensures performs { OnOk result (Performs session core.old core.new player.old.current player.new.current command.now player.old.replies player.new.replies) }
-    ensures rest { OnOk result (player.new.commands ≡ rest.now) }
+    requires some { player.old.commands ≢ [] }
+    ensures first { OnOk result (DoesFirst session core.old core.new player.old player.new) }
     ensures free { OnOk result (player.new.head_taken ≡ false) }
 {
+    let Some(command) = player.commands.pop_front() else {
+        unreachable!()
+    };
     let current = player.current.take();
     player.current = perform(
         alloc,
@@ -114,16 +114,15 @@ fn play_command<'a, L: Ledger>(
         &mut player.replies,
         steps,
     )?;
-    player.commands = rest;
     Ok(())
 }
 
 // Does the commands that are no events, up to the next event or the end.
-fn settle<'a, L: Ledger>(
+fn settle<L: Ledger>(
     alloc: Global,
     core: &mut Core,
     session: u32,
-    player: &mut Player<'a>,
+    player: &mut Player,
     steps: &mut Steps<L>,
 ) -> Result<(), AllocError>
     requires opened { IsOpened core.old.state session }
@@ -134,11 +133,11 @@ fn settle<'a, L: Ledger>(
     if player.head_taken {
         return Ok(());
     }
-    while let [command, rest @ ..] = player.commands {
+    while let Some(command) = player.commands.front() {
         if is_event(&player.current, command) {
             return Ok(());
         }
-        play_command(alloc, core, session, player, command, rest, steps)?;
+        play_command(alloc, core, session, player, steps)?;
     }
     Ok(())
 }
@@ -147,7 +146,7 @@ fn settle<'a, L: Ledger>(
 fn take_version<L: Ledger>(
     core: &mut Core,
     session: u32,
-    player: &mut Player<'_>,
+    player: &mut Player,
     steps: &mut Steps<L>,
 ) -> Result<(), AllocError>
     requires opened { IsOpened core.old.state session }
@@ -167,18 +166,17 @@ fn take_version<L: Ledger>(
 }
 
 // Commits the open transaction, whose commit has the newest version.
-fn finish_commit<'a, L: Ledger>(
+fn finish_commit<L: Ledger>(
     alloc: Global,
     core: &mut Core,
     session: u32,
-    player: &mut Player<'a>,
-    rest: &'a [Command],
+    player: &mut Player,
     steps: &mut Steps<L>,
 ) -> Result<(), AllocError>
     requires opened { IsOpened core.old.state session }
     requires ready { MayGoOn core.old player.old }
     requires held { player.old.head_taken ≡ true }
-    requires next { (c : Command) × (player.old.commands ≡ c ∷ rest.now) }
+    requires some { player.old.commands ≢ [] }
     ensures { OnOk result (TakesEvent session core.old core.new player.old player.new) }
 {
     let Some(open) = player.current.take() else {
@@ -187,17 +185,17 @@ fn finish_commit<'a, L: Ledger>(
     let reply = commit_reply(alloc, core, session, open, steps)?;
     player.replies.push(reply)?;
     player.head_taken = false;
-    player.commands = rest;
+    player.commands.pop_front();
     Ok(())
 }
 
-impl<'a> Player<'a> {
+impl Player {
     /// A session that has done nothing yet.
-    pub fn new(alloc: Global, commands: &'a [Command]) -> Player<'a>
-        ensures { result ≡ new_player commands.now }
+    pub fn new(alloc: Global, commands: Sequence<Command>) -> Player
+        ensures { result ≡ new_player commands }
     {
         Player {
-            commands,
+            commands: VecDeque::from_vec(commands.into_vec()),
             current: None,
             head_taken: false,
             replies: Sequence::new(alloc),
@@ -218,13 +216,13 @@ impl<'a> Player<'a> {
         ensures { IfOk result (λ taken. MatchBool taken (TakesEvent session core.old core.new self.old self.new) ((state_of self.old).commands ≡ [])) }
     {
         settle(alloc, core, session, self, steps)?;
-        let [command, rest @ ..] = self.commands else {
+        let Some(command) = self.commands.front() else {
             return Ok(false);
         };
         if !is_commit(command) {
-            play_command(alloc, core, session, self, command, rest, steps)?;
+            play_command(alloc, core, session, self, steps)?;
         } else if self.head_taken {
-            finish_commit(alloc, core, session, self, rest, steps)?;
+            finish_commit(alloc, core, session, self, steps)?;
         } else {
             take_version(core, session, self, steps)?;
         }
@@ -242,7 +240,7 @@ impl<'a> Player<'a> {
         requires opened { IsOpened core.old.state session }
         requires ready { MayGoOn core.old self }
         ensures same { OnOk result (core.new ≡ core.old) }
-        ensures replies { IfOk result (λ all. Players.Finishes self.entry all) }
+        ensures replies { IfOk result (λ all. Players.Finishes self all) }
     {
         let mut player = self;
         settle(alloc, core, session, &mut player, steps)?;
@@ -251,7 +249,7 @@ impl<'a> Player<'a> {
 
     // The replies, where no command is left.
     fn into_replies(self) -> Option<Sequence<SessionReply>>
-        ensures { MatchOption result (self.entry.commands ≢ []) (λ all. (self.entry.commands ≡ []) × (all ≡ self.entry.replies)) }
+        ensures { MatchOption result (self.commands ≢ []) (λ all. (self.commands ≡ []) × (all ≡ self.replies)) }
     {
         let Player {
             commands,

@@ -39,15 +39,12 @@ impl From<AllocError> for HistoryFault {
 }
 
 // A player for each file.
-fn players_of<'a>(
-    alloc: Global,
-    files: &'a [Sequence<Command>],
-) -> Result<Vec<Player<'a>>, AllocError>
-    ensures { IfOk result (λ players. players.items ≡ map new_player files.now) }
+fn players_of(alloc: Global, files: Vec<Sequence<Command>>) -> Result<Vec<Player>, AllocError>
+    ensures { IfOk result (λ players. players.items ≡ map new_player files.items) }
 {
     let mut players = Vec::new(alloc);
     for commands in files {
-        players.push(Player::new(alloc, commands.as_slice()))?;
+        players.push(Player::new(alloc, commands))?;
     }
     Ok(players)
 }
@@ -68,7 +65,7 @@ fn open_next(core: &mut Core) -> Result<(), AllocError>
 fn take_place<L: Ledger>(
     alloc: Global,
     core: &mut Core,
-    players: &mut [Player<'_>],
+    players: &mut [Player],
     opened: &mut u32,
     session: u32,
     steps: &mut Steps<L>,
@@ -97,7 +94,7 @@ fn take_place<L: Ledger>(
 fn play_places<L: Ledger>(
     alloc: Global,
     core: &mut Core,
-    players: &mut [Player<'_>],
+    players: &mut [Player],
     places: &[Option<u32>],
     steps: &mut Steps<L>,
 ) -> Result<u32, HistoryFault>
@@ -122,13 +119,13 @@ fn play_places<L: Ledger>(
 fn finish_all<L: Ledger>(
     alloc: Global,
     core: &mut Core,
-    players: Vec<Player<'_>>,
+    players: Vec<Player>,
     steps: &mut Steps<L>,
 ) -> Result<Option<Vec<Sequence<SessionReply>>>, AllocError>
     requires ready { AreReady core.old players.items }
     requires all { core.old.state.opened ≡ length players.items }
     ensures same { OnOk result (core.new ≡ core.old) }
-    ensures ends { IfOk result (λ r. MatchOption r (AllByRecursion (λ s. s.commands ≡ []) (states_of players.entry.items) → ⊥) (λ all. EndsAll (states_of players.entry.items) all.items)) }
+    ensures ends { IfOk result (λ r. MatchOption r (AllByRecursion (λ s. s.commands ≡ []) (states_of players.items) → ⊥) (λ all. EndsAll (states_of players.items) all.items)) }
 {
     let mut all = Vec::new(alloc);
     let mut session = 0;
@@ -146,17 +143,18 @@ fn finish_all<L: Ledger>(
 fn replay_in<L: Ledger>(
     alloc: Global,
     limits: Limits,
-    files: &[Sequence<Command>],
+    files: Vec<Sequence<Command>>,
     places: &[Option<u32>],
     blank: Blank,
 ) -> Result<Run, HistoryFault>
     requires small { limits.terms + 2 < 2 ^ 32 }
-    requires few { length files.now ≤ 64 }
+    requires few { length files.items ≤ 64 }
     requires name { blank.name ≡ L.name }
     requires parts { blank.parts ≡ L.parts }
     requires some { 0 < L.parts }
-    ensures { MatchResult result (λ run. IsReplayed files.now limits empty_store places.now run.order.items run.replies.items) (RefusesHistory files.now limits empty_store places.now) }
+    ensures { MatchResult result (λ run. IsReplayed files.items limits empty_store places.now run.order.items run.replies.items) (RefusesHistory files.items limits empty_store places.now) }
 {
+    let count = files.len();
     let mut core = Core::open(alloc, limits)?;
     let mut steps = Steps::<L>::begin(blank);
     let mut players = players_of(alloc, files)?;
@@ -164,7 +162,7 @@ fn replay_in<L: Ledger>(
         Ok(opened) => opened,
         Err(fault) => return Err(fault),
     };
-    if (opened as usize) < files.len() {
+    if (opened as usize) < count {
         return Err(HistoryFault::Place(places.len() + 1));
     }
     let Some(replies) = finish_all(alloc, &mut core, players, &mut steps)? else {
@@ -185,12 +183,12 @@ fn replay_in<L: Ledger>(
 pub fn replay_all(
     alloc: Global,
     limits: Limits,
-    files: &[Sequence<Command>],
+    files: Vec<Sequence<Command>>,
     places: &[Option<u32>],
 ) -> Result<Run, HistoryFault>
     requires small { limits.terms + 2 < 2 ^ 32 }
-    requires few { length files.now ≤ 64 }
-    ensures { MatchResult result (λ run. IsReplayed files.now limits empty_store places.now run.order.items run.replies.items) (RefusesHistory files.now limits empty_store places.now) }
+    requires few { length files.items ≤ 64 }
+    ensures { MatchResult result (λ run. IsReplayed files.items limits empty_store places.now run.order.items run.replies.items) (RefusesHistory files.items limits empty_store places.now) }
 {
     replay_in::<Brand>(alloc, limits, files, places, Blank::new(1))
 }

@@ -19,15 +19,15 @@ fn perform_all<L: Ledger>(
     alloc: Global,
     core: &mut Core,
     session: u32,
-    commands: &[Command],
+    commands: Sequence<Command>,
     steps: &mut Steps<L>,
 ) -> Result<Sequence<SessionReply>, AllocError>
     requires { IsOpened core.old.state session }
-    ensures { IfOk result (PerformsAll session core.old core.new commands.now) }
+    ensures { IfOk result (PerformsAll session core.old core.new commands) }
 {
     let mut replies = Sequence::new(alloc);
     let mut current = None;
-    for command in commands {
+    for command in commands.into_vec() {
         current = perform(alloc, core, session, current, command, &mut replies, steps)?;
     }
     Ok(replies)
@@ -59,18 +59,18 @@ pub struct Run {
 fn play_all<L: Ledger>(
     alloc: Global,
     core: &mut Core,
-    files: &[Sequence<Command>],
+    files: Vec<Sequence<Command>>,
     steps: &mut Steps<L>,
 ) -> Result<Vec<Sequence<SessionReply>>, AllocError>
-    requires opened { HasRun files.now core.old.limits empty_store core.old 0 [] }
-    requires few { length files.now ≤ 64 }
-    ensures { IfOk result (λ all. HasRun files.now core.old.limits empty_store core.new (length files.now) all.items) }
+    requires opened { HasRun files.items core.old.limits empty_store core.old 0 [] }
+    requires few { length files.items ≤ 64 }
+    ensures { IfOk result (λ all. HasRun files.items core.old.limits empty_store core.new (length files.items) all.items) }
 {
     let mut all = Vec::new(alloc);
     let mut session = 0;
     for commands in files {
         session += 1;
-        let replies = perform_all(alloc, core, session, commands.as_slice(), steps)?;
+        let replies = perform_all(alloc, core, session, commands, steps)?;
         all.push(replies)?;
     }
     Ok(all)
@@ -80,15 +80,15 @@ fn play_all<L: Ledger>(
 fn run_in<L: Ledger>(
     alloc: Global,
     limits: Limits,
-    files: &[Sequence<Command>],
+    files: Vec<Sequence<Command>>,
     blank: Blank,
 ) -> Result<Run, AllocError>
     requires small { limits.terms + 2 < 2 ^ 32 }
-    requires few { length files.now ≤ 64 }
+    requires few { length files.items ≤ 64 }
     requires name { blank.name ≡ L.name }
     requires parts { blank.parts ≡ L.parts }
     requires some { 0 < L.parts }
-    ensures { IfOk result (λ run. HasReplies files.now limits empty_store run.order.items None run.replies.items) }
+    ensures { IfOk result (λ run. HasReplies files.items limits empty_store run.order.items None run.replies.items) }
 {
     let mut core = Core::open(alloc, limits)?;
     let mut steps = Steps::<L>::begin(blank);
@@ -102,11 +102,11 @@ fn run_in<L: Ledger>(
 pub fn run_all(
     alloc: Global,
     limits: Limits,
-    files: &[Sequence<Command>],
+    files: Vec<Sequence<Command>>,
 ) -> Result<Run, AllocError>
     requires small { limits.terms + 2 < 2 ^ 32 }
-    requires few { length files.now ≤ 64 }
-    ensures { IfOk result (λ run. HasReplies files.now limits empty_store run.order.items None run.replies.items) }
+    requires few { length files.items ≤ 64 }
+    ensures { IfOk result (λ run. HasReplies files.items limits empty_store run.order.items None run.replies.items) }
 {
     run_in::<Brand>(alloc, limits, files, Blank::new(1))
 }

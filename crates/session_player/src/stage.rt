@@ -7,27 +7,24 @@ ghost use Rattle.session_player.specs.Ready.{IsReady, NamesAll, Performs};
 
 use collections::Sequence;
 use commit_core::{Core, NameKind, NamingFault};
-use rdf_model::Triple;
 use session_model::{Block, Command, SessionReply, ShapesBlock};
-use session_transaction::{ChangeKind, OpenTransaction, block_refusal, terms_in};
+use session_transaction::{BlockTerms, ChangeKind, OpenTransaction, block_refusal};
 use std::alloc::{AllocError, Global};
 
-// Names the terms of the triples of a block of this kind, and gives their numbers, or else the reply to a block whose terms may
+// Names the terms of a block of this kind, and gives their numbers, or else the reply to a block whose terms may
 // not be named.
 fn name_terms(
-    alloc: Global,
     core: &mut Core,
     session: u32,
     kind: NameKind,
-    triples: &[Triple],
+    block: &BlockTerms,
 ) -> Result<Result<Vec<u32>, SessionReply>, AllocError>
     requires { IsOpened core.old.state session }
     ensures { IfOk result (λ named. MatchResult named
-        (λ _. NamesAll None core.old core.new session kind triples.now)
-        (λ reply. NamesAll (Some reply) core.old core.new session kind triples.now)) }
+        (λ _. NamesAll None core.old core.new session kind block.now)
+        (λ reply. NamesAll (Some reply) core.old core.new session kind block.now)) }
 {
-    let terms = terms_in(alloc, triples)?;
-    match core.name(session, kind, &terms) {
+    match core.name(session, kind, block.terms()) {
         Ok(numbers) => Ok(Ok(numbers)),
         Err(NamingFault::Unknown { node }) => Ok(Err(SessionReply::UnknownNode(node))),
         Err(NamingFault::Full { count: _ }) => Ok(Err(SessionReply::FullTerms)),
@@ -42,17 +39,19 @@ pub fn change(
     session: u32,
     current: Option<OpenTransaction>,
     kind: ChangeKind,
-    block: &Block,
+    block: Block,
     replies: &mut Sequence<SessionReply>,
 ) -> Result<Option<OpenTransaction>, AllocError>
     requires { IsReady core.old session (plain_in current) }
-    ensures { IfOk result (λ next. Performs session core.old core.new (plain_in current) (plain_in next) (command_of kind block.now) replies.old replies.new) }
+    ensures { IfOk result (λ next. Performs session core.old core.new (plain_in current) (plain_in next) (command_of kind block) replies.old replies.new) }
 {
     let Some(open) = current else {
         replies.push(SessionReply::NoTransaction)?;
         return Ok(None);
     };
-    let named = name_terms(alloc, core, session, kind.name_kind(), block.triples())?;
+    let count = block.len();
+    let block = BlockTerms::new(alloc, block.into_triples())?;
+    let named = name_terms(core, session, kind.name_kind(), &block)?;
     let numbers = match named {
         Ok(numbers) => numbers,
         Err(reply) => {
@@ -60,12 +59,11 @@ pub fn change(
             return Ok(Some(open));
         }
     };
-    block.recall_readable();
-    let (open, staged) = open.with_changes(alloc, kind, block.triples(), &numbers);
+    let (open, staged) = open.with_block(alloc, kind, block, &numbers);
     if !staged {
         return Err(AllocError);
     }
-    replies.push(kind.reply(block.len()))?;
+    replies.push(kind.reply(count))?;
     Ok(Some(open))
 }
 
@@ -86,7 +84,8 @@ pub fn stage(
         return Ok(None);
     };
     let graph = shapes.graph();
-    let named = name_terms(alloc, core, session, NameKind::Fresh, graph.triples())?;
+    let block = BlockTerms::copied_from(alloc, graph.triples())?;
+    let named = name_terms(core, session, NameKind::Fresh, &block)?;
     match named {
         Ok(_) => {}
         Err(reply) => {
@@ -94,7 +93,6 @@ pub fn stage(
             return Ok(Some(open));
         }
     }
-    shapes.recall_readable();
     let copy = graph.share()?;
     let open = open.with_shapes(copy);
     replies.push(SessionReply::ShapesStaged(graph.triples().len()))?;
