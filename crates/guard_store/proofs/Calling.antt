@@ -1,5 +1,5 @@
 -- What a call of a session is answered, by what its turn gave.
-use Rattle.std.proofs.Common.{◌≡◌, ◌≢◌, ℕ, ◌+◌, ◌-◌, Bool, true, false, nat_lt, Result, Ok, Err, MatchResult, List, [], ◌∷◌, length, Some, None, refl, sym, ap, ◌∙◌, subst, inl, inr, ⊎_elim}
+use Rattle.std.proofs.Common.{◌≡◌, ◌≢◌, ℕ, ◌+◌, ◌-◌, Bool, true, false, nat_lt, Result, Ok, Err, MatchResult, List, [], ◌∷◌, length, Option, Some, None, refl, sym, ap, ◌∙◌, subst, inl, inr, ⊎_elim}
 use Rattle.std.specs.Prelude.{MatchBool, ◌⊎◌}
 use Rattle.turn_lock.specs.Callers.{Caller}
 use Rattle.rdf_model.specs.declared.term.Term.{Term}
@@ -118,6 +118,18 @@ pub stage_session : {U : Type 0} (store : SharedStore) (old new : StoreSession) 
     → MatchResult r (λ _. Stages store old new kind ts (λ w. with_changes w (changes_of k ts))) (λ fault. NamesForNot fault store old new kind ts) → IsSession store new
 stage_session {U} store old new kind k ts (Ok u) read is h = stages_session store old new kind k ts read is h
 stage_session {U} store old new kind k ts (Err fault) read is h = not_staged_session store old new kind ts fault is h
+
+-- the transaction that is open
+pub open_now : (w : Option OpenTransaction) → w ≢ None → (x : OpenTransaction) × (w ≡ Some x)
+open_now None some = absurd (some refl)
+open_now (Some x) some = (x, refl)
+
+pub not_none : (w : Option OpenTransaction) → (x : OpenTransaction) × (w ≡ Some x) → w ≢ None
+not_none w o none = let z : Some o.0 ≡ None = sym o.1 ∙ none in cc
+
+-- nothing was named where there was no memory for the block
+pub never_named : (store : SharedStore) (s : StoreSession) (kind : NameKind) (ts : List Triple) → (w : OpenTransaction) × IsOpen s w → NamesForNot attaches.Memory store s s kind ts
+never_named store s kind ts o = (o, inl (inl refl), refl)
 
 -- a transaction is open once the terms were named
 pub named_open : (store : SharedStore) (old mid : StoreSession) (kind : NameKind) (ts : List Triple) → NamesFor store old mid kind ts → mid.current ≢ None

@@ -1,5 +1,5 @@
 //! The calls of a session that are events.
-ghost use Rattle.std.specs.Prelude.{◌≡◌, ◌≢◌, Err, MatchResult};
+ghost use Rattle.std.specs.Prelude.{◌≡◌, ◌≢◌, Err, None, MatchResult};
 ghost use Rattle.rdf_model.specs.declared.term.Term.{Term};
 ghost use Rattle.std.specs.List.{AllByRecursion};
 ghost use Rattle.ntriples_text.specs.Laws.{IsReadable, IsStored};
@@ -15,8 +15,8 @@ use crate::session::Session;
 use crate::store::Store;
 use commit_core::NamingFault;
 use disk::Disk;
-use rdf_model::Triple;
-use session_transaction::{ChangeKind, Committed, OpenTransaction};
+use session_model::Block;
+use session_transaction::{BlockTerms, ChangeKind, Committed, OpenTransaction};
 use shape_eval::Steps;
 use shapes_graph::ShapesGraph;
 use std::sync::Wait;
@@ -75,18 +75,16 @@ impl<D: Disk> Store<D> {
         rt: &R,
         session: Session<D>,
         kind: NameKind,
-        triples: &[Triple],
+        block: &BlockTerms,
     ) -> (Session<D>, Result<Vec<u32>, AttachFault>)
-        requires { IsSession self.now session }
+        requires session { IsSession self.now session }
+        requires open { session.current ≢ None }
         ensures { MatchResult result.1
-            (λ _. NamesFor self.now session result.0 kind triples.now)
-            (λ fault. NamesForNot fault self.now session result.0 kind triples.now) }
+            (λ _. NamesFor self.now session result.0 kind block.now)
+            (λ fault. NamesForNot fault self.now session result.0 kind block.now) }
     {
-        if !session.is_open() {
-            return (session, Err(AttachFault::NoTransaction));
-        }
         let (pass, number, current, head) = session.into_parts();
-        let (pass, answer) = self.name_parts(rt, pass, number, kind, triples);
+        let (pass, answer) = self.name_parts(rt, pass, number, kind, block);
         let session = Session::from_parts(pass, number, current, head);
         match answer {
             Ok(numbers) => (session, Ok(numbers)),
@@ -96,81 +94,104 @@ impl<D: Disk> Store<D> {
         }
     }
 
-    // Stages the changes of a block.
+    // Stages the changes of the triples of these terms in the open transaction.
+    fn stage_terms<R: Wait>(
+        &self,
+        rt: &R,
+        session: Session<D>,
+        kind: ChangeKind,
+        block: BlockTerms,
+    ) -> (Session<D>, Result<(), AttachFault>)
+        requires session { IsSession self.now session }
+        requires open { session.current ≢ None }
+        requires readable { AllByRecursion (IsReadable IsStored) block }
+        ensures session { IsSession self.now result.0 }
+        ensures stages { MatchResult result.1
+            (λ _. Stages self.now session result.0 (name_kind_of kind) block (λ w. Transactions.with_changes w (changes_of kind block)))
+            (λ fault. NamesForNot fault self.now session result.0 (name_kind_of kind) block) }
+    {
+        let (session, answer) = self.name_for(rt, session, kind.name_kind(), &block);
+        match answer {
+            Ok(numbers) => session.with_block(self.alloc, kind, block, &numbers),
+            Err(fault) => (session, Err(fault)),
+        }
+    }
+
+    // Stages a change of this kind of each triple of the block. Unknown comes of an attachment alone.
     fn stage<R: Wait>(
         &self,
         rt: &R,
         session: Session<D>,
         kind: ChangeKind,
-        triples: &[Triple],
+        block: Block,
     ) -> (Session<D>, Result<(), AttachFault>)
-        requires session { IsSession self.now session }
-        requires readable { AllByRecursion (IsReadable IsStored) triples.now }
+        requires { IsSession self.now session }
         ensures session { IsSession self.now result.0 }
         ensures stages { MatchResult result.1
-            (λ _. Stages self.now session result.0 (name_kind_of kind) triples.now (λ w. Transactions.with_changes w (changes_of kind triples.now)))
-            (λ fault. NamesForNot fault self.now session result.0 (name_kind_of kind) triples.now) }
+            (λ _. Stages self.now session result.0 (name_kind_of kind) block (λ w. Transactions.with_changes w (changes_of kind block)))
+            (λ fault. NamesForNot fault self.now session result.0 (name_kind_of kind) block) }
     {
-        let (session, answer) = self.name_for(rt, session, kind.name_kind(), triples);
-        match answer {
-            Ok(numbers) => session.with_changes(self.alloc, kind, triples, &numbers),
-            Err(fault) => (session, Err(fault)),
+        if !session.is_open() {
+            return (session, Err(AttachFault::NoTransaction));
         }
+        let Ok(block) = BlockTerms::new(self.alloc, block.into_triples()) else {
+            return (session, Err(AttachFault::Memory));
+        };
+        self.stage_terms(rt, session, kind, block)
     }
 
-    /// Stages an addition of each triple, whose terms it names and whose blank nodes it gives out. NoTransaction comes where
-    /// none is open; it is no event.
+    /// Stages an addition of each triple of the block, which is moved into the transaction; names its terms, and gives out its blank
+    /// nodes. NoTransaction comes where none is open; it is no event. After a fault the transaction is as it was, and the block is
+    /// dropped.
     pub fn stage_add<R: Wait>(
         &self,
         rt: &R,
         session: Session<D>,
-        triples: &[Triple],
+        block: Block,
     ) -> (Session<D>, Result<(), StageFault>)
-        requires session { IsSession self.now session }
-        requires readable { AllByRecursion (IsReadable IsStored) triples.now }
+        requires { IsSession self.now session }
         ensures session { IsSession self.now result.0 }
         ensures stages { MatchResult result.1
-            (λ _. Stages self.now session result.0 NameKind.Fresh triples.now (λ w. Transactions.with_changes w (additions triples.now)))
-            (λ fault. StagesNot fault self.now session result.0 NameKind.Fresh triples.now) }
+            (λ _. Stages self.now session result.0 NameKind.Fresh block (λ w. Transactions.with_changes w (additions block)))
+            (λ fault. StagesNot fault self.now session result.0 NameKind.Fresh block) }
     {
-        let (session, answer) = self.stage(rt, session, ChangeKind::Addition, triples);
+        let (session, answer) = self.stage(rt, session, ChangeKind::Addition, block);
         (session, stage_answer(answer))
     }
 
-    /// Stages a removal of each triple, whose terms it names. NoTransaction comes where none is open; it is no event.
+    /// Stages a removal of each triple of the block, which is moved into the transaction, and names its terms. NoTransaction comes
+    /// where none is open; it is no event. After a fault the transaction is as it was, and the block is dropped.
     pub fn stage_remove<R: Wait>(
         &self,
         rt: &R,
         session: Session<D>,
-        triples: &[Triple],
+        block: Block,
     ) -> (Session<D>, Result<(), StageFault>)
-        requires session { IsSession self.now session }
-        requires readable { AllByRecursion (IsReadable IsStored) triples.now }
+        requires { IsSession self.now session }
         ensures session { IsSession self.now result.0 }
         ensures stages { MatchResult result.1
-            (λ _. Stages self.now session result.0 NameKind.Known triples.now (λ w. Transactions.with_changes w (removals triples.now)))
-            (λ fault. StagesNot fault self.now session result.0 NameKind.Known triples.now) }
+            (λ _. Stages self.now session result.0 NameKind.Known block (λ w. Transactions.with_changes w (removals block)))
+            (λ fault. StagesNot fault self.now session result.0 NameKind.Known block) }
     {
-        let (session, answer) = self.stage(rt, session, ChangeKind::Removal, triples);
+        let (session, answer) = self.stage(rt, session, ChangeKind::Removal, block);
         (session, stage_answer(answer))
     }
 
-    /// Stages an addition of each triple about blank nodes that were given out, be it to another session that hasn't
-    /// committed, and names its terms. Unknown comes, before Full, exactly where a blank node of the triples wasn't given
-    /// out, and tells the least; then nothing is named. NoTransaction comes where none is open; it is no event. After a
-    /// fault the transaction is as it was.
+    /// Stages an addition of each triple of the block about blank nodes that were given out, be it to another session that hasn't
+    /// committed, and names its terms; the block is moved into the transaction. Unknown comes, before Full, exactly where a blank
+    /// node of the block wasn't given out, and tells the least; then nothing is named. NoTransaction comes where none is open; it
+    /// is no event. After a fault the transaction is as it was, and the block is dropped.
     pub fn stage_attach<R: Wait>(
         &self,
         rt: &R,
         session: Session<D>,
-        triples: &[Triple],
+        block: Block,
     ) -> (Session<D>, Result<(), AttachFault>)
-        requires session { IsSession self.now session }
-        requires readable { AllByRecursion (IsReadable IsStored) triples.now }
+        requires { IsSession self.now session }
         ensures session { IsSession self.now result.0 }
-        ensures attaches { MatchResult result.1 (λ _. Attaches self.now session result.0 triples.now) (λ fault. AttachesNot fault self.now session result.0 triples.now) }
+        ensures attaches { MatchResult result.1 (λ _. Attaches self.now session result.0 block) (λ fault. AttachesNot fault self.now session result.0 block) }
     {
-        self.stage(rt, session, ChangeKind::Attachment, triples)
+        self.stage(rt, session, ChangeKind::Attachment, block)
     }
 
     /// Stages a shapes graph in place of the store's, names its terms, and gives out its blank nodes. Where it is refused,
@@ -188,7 +209,13 @@ impl<D: Disk> Store<D> {
             (λ _. Stages self.now session result.0 NameKind.Fresh shapes (λ w. Transactions.with_shapes w shapes))
             (λ fault. StagesNot fault self.now session result.0 NameKind.Fresh shapes) }
     {
-        let (session, answer) = self.name_for(rt, session, NameKind::Fresh, shapes.triples());
+        if !session.is_open() {
+            return (session, Err(StageFault::NoTransaction));
+        }
+        let Ok(block) = BlockTerms::copied_from(self.alloc, shapes.triples()) else {
+            return (session, Err(StageFault::Memory));
+        };
+        let (session, answer) = self.name_for(rt, session, NameKind::Fresh, &block);
         match stage_answer(answer) {
             Ok(_) => (session.with_shapes(shapes), Ok(())),
             Err(fault) => (session, Err(fault)),

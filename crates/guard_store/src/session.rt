@@ -11,8 +11,7 @@ use crate::shared::Shared;
 use collections::let_go;
 use commit_core::Snap;
 use disk::Disk;
-use rdf_model::Triple;
-use session_transaction::{ChangeKind, Committed, OpenTransaction};
+use session_transaction::{BlockTerms, ChangeKind, Committed, OpenTransaction};
 use shapes_graph::ShapesGraph;
 use std::alloc::Global;
 use std::marker::Model;
@@ -155,21 +154,21 @@ impl<D: Disk> Session<D> {
     }
 
     // Stages the changes of a block, whose terms have these numbers, in the open transaction.
-    pub(crate) fn with_changes(
+    pub(crate) fn with_block(
         self,
         alloc: Global,
         kind: ChangeKind,
-        triples: &[Triple],
+        block: BlockTerms,
         numbers: &[u32],
     ) -> (Session<D>, Result<(), AttachFault>)
         requires { self.current ≢ None }
         ensures { MatchResult result.1
-            (λ _. (w : OpenTransaction) → self.current ≡ Some w → result.0 ≡ record self { current = Some (Transactions.with_changes w (changes_of kind triples.now)); head = None })
+            (λ _. (w : OpenTransaction) → self.current ≡ Some w → result.0 ≡ record self { current = Some (Transactions.with_changes w (changes_of kind block)); head = None })
             (λ fault. (fault ≡ AttachFault.Memory) × (result.0 ≡ self)) }
     {
         let (pass, number, current, head) = self.into_parts();
         let Some(open) = current else { unreachable!() };
-        let (open, staged) = open.with_changes(alloc, kind, triples, numbers);
+        let (open, staged) = open.with_block(alloc, kind, block, numbers);
         if staged {
             return (Session::from_parts(pass, number, Some(open), None), Ok(()));
         }

@@ -13,8 +13,8 @@ use crate::shared::Shared;
 use crate::store::Store;
 use commit_core::{CheckedTransaction, NamingFault, Snap, slip};
 use disk::Disk;
-use rdf_model::{Term, Triple};
-use session_transaction::{Committed, terms_in};
+use rdf_model::Term;
+use session_transaction::{BlockTerms, Committed};
 use shape_eval::Steps;
 use std::alloc::AllocError;
 use std::sync::Wait;
@@ -116,17 +116,14 @@ impl<D: Disk> Store<D> {
         pass: Pass<Shared<D>>,
         number: u32,
         kind: NameKind,
-        triples: &[Triple],
+        block: &BlockTerms,
     ) -> (Pass<Shared<D>>, Result<Vec<u32>, NamingFault>)
         requires { IsCaller self.now number pass }
         ensures { MatchResult result.1
-            (λ _. Turn self.now pass result.0 (event_of number (Action.Name kind (parts_of triples.now)) Reply.Named))
-            (λ fault. NamesNot fault self.now pass result.0 number kind (parts_of triples.now)) }
+            (λ _. Turn self.now pass result.0 (event_of number (Action.Name kind (parts_of block.now)) Reply.Named))
+            (λ fault. NamesNot fault self.now pass result.0 number kind (parts_of block.now)) }
     {
-        let Ok(terms) = terms_in(self.alloc, triples) else {
-            return (pass, Err(NamingFault::Memory));
-        };
-        self.take_names(rt, pass, number, kind, &terms)
+        self.take_names(rt, pass, number, kind, block.terms())
     }
 
     /// Commits a transaction that changes something or stages shapes, with what is kept of its check, and counts its
