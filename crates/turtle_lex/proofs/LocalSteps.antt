@@ -6,7 +6,10 @@ use Rattle.std.proofs.lemmas.Bool.Decides.{nat_tests}
 use Rattle.rdf_lexical.specs.Names.{with_dot}
 use Rattle.rdf_lexical.proofs.Joined.{joined, joined_dot, joined_piece}
 use Rattle.turtle_lex.specs.Meanings.{local_text}
-use Rattle.turtle_lex.specs.Names.{local_piece, local_run, with_piece}
+use Rattle.rdf_lexical.specs.declared.classes.Class.TheVariants.{NameOrColon, LocalEscape}
+use Rattle.rdf_lexical.specs.Classes.{holds, begins_with}
+use Rattle.rdf_lexical.proofs.Runs.{apart}
+use Rattle.turtle_lex.specs.Names.{begins_with_pair, local_piece, local_run, with_piece}
 
 skip_run : (n : ℕ) (cs : List ℕ) → n ≤ length cs → local_run n cs ≡ n + local_run 0 (drop n cs)
 skip_run zero cs h = omega arith
@@ -29,6 +32,19 @@ piece_step (d ∷ cs) after kept count c p is dot e h b =
     let same : d ≡ c = cc in
     let other : (d == 46) ≡ false = subst (λ (x : ℕ). (x == 46) ≡ false) (sym same) (grind (arith, nat_tests)) in
     ap (joined kept count) (not_a_dot d cs other ∙ ap (TheRun d cs) (sym e) ∙ run_of_piece d cs p h b) ∙ joined_piece kept count p (local_run 0 (drop p (d ∷ cs))) h
+
+-- most pieces are a character that stands for itself
+pub name_step : (cs after : List ℕ) (kept count c : ℕ) → cs ≡ c ∷ after → holds NameOrColon c ≡ true → joined kept count (local_run 0 cs) ≡ joined (count + 1) (count + 1) (local_run 0 after)
+name_step cs after kept count c is held =
+    let no_percent = apart (holds NameOrColon) c 37 held refl in
+    let no_backslash = apart (holds NameOrColon) c 92 held refl in
+    let one : local_piece (c ∷ after) ≡ 1 =
+    ap (λ b. cond b (cond (begins_with_pair after) 3 0) (cond (c == 92) (cond (begins_with LocalEscape after) 2 0) (cond (holds NameOrColon c) 1 0))) no_percent
+    ∙ ap (λ b. cond b (cond (begins_with LocalEscape after) 2 0) (cond (holds NameOrColon c) 1 0)) no_backslash
+    ∙ ap (λ b. cond b 1 0) held in
+    ap (λ x. joined kept count (local_run 0 x)) is
+    ∙ ap (joined kept count) (not_a_dot c after (apart (holds NameOrColon) c 46 held refl) ∙ ap (TheRun c after) one ∙ run_of_piece c after 1 (omega arith) (omega arith))
+    ∙ joined_piece kept count 1 (local_run 0 after) (omega arith)
 
 pub dot_step : (cs after : List ℕ) (kept count c : ℕ) → cs ≡ c ∷ after → c ≡ 46 → joined kept count (local_run 0 cs) ≡ joined kept (count + 1) (local_run 0 after)
 dot_step cs after kept count c is dot =

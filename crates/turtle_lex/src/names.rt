@@ -48,7 +48,11 @@ fn local_run(characters: &CharSlice<'_>) -> usize
     let mut count = 0;
     let mut rest = characters.whole();
     while let Some((character, after)) = rest.split_first() {
-        if character == '.' {
+        if Class::NameOrColon.holds(character) {
+            count += 1;
+            kept = count;
+            rest = after;
+        } else if character == '.' {
             count += 1;
             rest = after;
         } else {
