@@ -15,6 +15,7 @@ use crate::session::Session;
 use crate::store::Store;
 use commit_core::NamingFault;
 use disk::Disk;
+use rdf_model::Triple;
 use session_model::Block;
 use session_transaction::{BlockTerms, ChangeKind, Committed, OpenTransaction};
 use shape_eval::Steps;
@@ -117,8 +118,9 @@ impl<D: Disk> Store<D> {
         }
     }
 
-    // Stages a change of this kind of each triple of the block. Unknown comes of an attachment alone.
-    fn stage<R: Wait>(
+    // Stages a change of this kind of each triple of the block, which is moved into the open transaction. Unknown comes of an
+    // attachment alone.
+    fn stage_moved<R: Wait>(
         &self,
         rt: &R,
         session: Session<D>,
@@ -140,10 +142,88 @@ impl<D: Disk> Store<D> {
         self.stage_terms(rt, session, kind, block)
     }
 
-    /// Stages an addition of each triple of the block, which is moved into the transaction; names its terms, and gives out its blank
-    /// nodes. NoTransaction comes where none is open; it is no event. After a fault the transaction is as it was, and the block is
-    /// dropped.
+    // Stages a change of this kind of each of the triples, whose terms are copied. Unknown comes of an attachment alone.
+    fn stage_copied<R: Wait>(
+        &self,
+        rt: &R,
+        session: Session<D>,
+        kind: ChangeKind,
+        triples: &[Triple],
+    ) -> (Session<D>, Result<(), AttachFault>)
+        requires session { IsSession self.now session }
+        requires readable { AllByRecursion (IsReadable IsStored) triples.now }
+        ensures session { IsSession self.now result.0 }
+        ensures stages { MatchResult result.1
+            (λ _. Stages self.now session result.0 (name_kind_of kind) triples.now (λ w. Transactions.with_changes w (changes_of kind triples.now)))
+            (λ fault. NamesForNot fault self.now session result.0 (name_kind_of kind) triples.now) }
+    {
+        if !session.is_open() {
+            return (session, Err(AttachFault::NoTransaction));
+        }
+        let Ok(block) = BlockTerms::copied_from(self.alloc, triples) else {
+            return (session, Err(AttachFault::Memory));
+        };
+        self.stage_terms(rt, session, kind, block)
+    }
+
+    /// Stages an addition of each triple, whose terms it names and whose blank nodes it gives out. NoTransaction comes where
+    /// none is open; it is no event.
     pub fn stage_add<R: Wait>(
+        &self,
+        rt: &R,
+        session: Session<D>,
+        triples: &[Triple],
+    ) -> (Session<D>, Result<(), StageFault>)
+        requires session { IsSession self.now session }
+        requires readable { AllByRecursion (IsReadable IsStored) triples.now }
+        ensures session { IsSession self.now result.0 }
+        ensures stages { MatchResult result.1
+            (λ _. Stages self.now session result.0 NameKind.Fresh triples.now (λ w. Transactions.with_changes w (additions triples.now)))
+            (λ fault. StagesNot fault self.now session result.0 NameKind.Fresh triples.now) }
+    {
+        let (session, answer) = self.stage_copied(rt, session, ChangeKind::Addition, triples);
+        (session, stage_answer(answer))
+    }
+
+    /// Stages a removal of each triple, whose terms it names. NoTransaction comes where none is open; it is no event.
+    pub fn stage_remove<R: Wait>(
+        &self,
+        rt: &R,
+        session: Session<D>,
+        triples: &[Triple],
+    ) -> (Session<D>, Result<(), StageFault>)
+        requires session { IsSession self.now session }
+        requires readable { AllByRecursion (IsReadable IsStored) triples.now }
+        ensures session { IsSession self.now result.0 }
+        ensures stages { MatchResult result.1
+            (λ _. Stages self.now session result.0 NameKind.Known triples.now (λ w. Transactions.with_changes w (removals triples.now)))
+            (λ fault. StagesNot fault self.now session result.0 NameKind.Known triples.now) }
+    {
+        let (session, answer) = self.stage_copied(rt, session, ChangeKind::Removal, triples);
+        (session, stage_answer(answer))
+    }
+
+    /// Stages an addition of each triple about blank nodes that were given out, be it to another session that hasn't
+    /// committed, and names its terms. Unknown comes, before Full, exactly where a blank node of the triples wasn't given
+    /// out, and tells the least; then nothing is named. NoTransaction comes where none is open; it is no event. After a
+    /// fault the transaction is as it was.
+    pub fn stage_attach<R: Wait>(
+        &self,
+        rt: &R,
+        session: Session<D>,
+        triples: &[Triple],
+    ) -> (Session<D>, Result<(), AttachFault>)
+        requires session { IsSession self.now session }
+        requires readable { AllByRecursion (IsReadable IsStored) triples.now }
+        ensures session { IsSession self.now result.0 }
+        ensures attaches { MatchResult result.1 (λ _. Attaches self.now session result.0 triples.now) (λ fault. AttachesNot fault self.now session result.0 triples.now) }
+    {
+        self.stage_copied(rt, session, ChangeKind::Attachment, triples)
+    }
+
+    /// Does what `stage_add` does with the triples of a block, which is moved into the transaction: no term of it is copied. After a
+    /// fault the block is dropped.
+    pub fn stage_add_block<R: Wait>(
         &self,
         rt: &R,
         session: Session<D>,
@@ -155,13 +235,13 @@ impl<D: Disk> Store<D> {
             (λ _. Stages self.now session result.0 NameKind.Fresh block (λ w. Transactions.with_changes w (additions block)))
             (λ fault. StagesNot fault self.now session result.0 NameKind.Fresh block) }
     {
-        let (session, answer) = self.stage(rt, session, ChangeKind::Addition, block);
+        let (session, answer) = self.stage_moved(rt, session, ChangeKind::Addition, block);
         (session, stage_answer(answer))
     }
 
-    /// Stages a removal of each triple of the block, which is moved into the transaction, and names its terms. NoTransaction comes
-    /// where none is open; it is no event. After a fault the transaction is as it was, and the block is dropped.
-    pub fn stage_remove<R: Wait>(
+    /// Does what `stage_remove` does with the triples of a block, which is moved into the transaction. After a fault the block is
+    /// dropped.
+    pub fn stage_remove_block<R: Wait>(
         &self,
         rt: &R,
         session: Session<D>,
@@ -173,15 +253,13 @@ impl<D: Disk> Store<D> {
             (λ _. Stages self.now session result.0 NameKind.Known block (λ w. Transactions.with_changes w (removals block)))
             (λ fault. StagesNot fault self.now session result.0 NameKind.Known block) }
     {
-        let (session, answer) = self.stage(rt, session, ChangeKind::Removal, block);
+        let (session, answer) = self.stage_moved(rt, session, ChangeKind::Removal, block);
         (session, stage_answer(answer))
     }
 
-    /// Stages an addition of each triple of the block about blank nodes that were given out, be it to another session that hasn't
-    /// committed, and names its terms; the block is moved into the transaction. Unknown comes, before Full, exactly where a blank
-    /// node of the block wasn't given out, and tells the least; then nothing is named. NoTransaction comes where none is open; it
-    /// is no event. After a fault the transaction is as it was, and the block is dropped.
-    pub fn stage_attach<R: Wait>(
+    /// Does what `stage_attach` does with the triples of a block, which is moved into the transaction. After a fault the block is
+    /// dropped.
+    pub fn stage_attach_block<R: Wait>(
         &self,
         rt: &R,
         session: Session<D>,
@@ -191,7 +269,7 @@ impl<D: Disk> Store<D> {
         ensures session { IsSession self.now result.0 }
         ensures attaches { MatchResult result.1 (λ _. Attaches self.now session result.0 block) (λ fault. AttachesNot fault self.now session result.0 block) }
     {
-        self.stage(rt, session, ChangeKind::Attachment, block)
+        self.stage_moved(rt, session, ChangeKind::Attachment, block)
     }
 
     /// Stages a shapes graph in place of the store's, names its terms, and gives out its blank nodes. Where it is refused,

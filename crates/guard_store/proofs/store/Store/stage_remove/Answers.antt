@@ -3,7 +3,7 @@ use Rattle.guard_store.proofs.Calling.{never_unknown, staged_answer}
 use Rattle.guard_store.proofs.store.Store.stage_remove.Goals as goal
 
 pub stage_answer-requires : goal.stage_answer-requires
-stage_answer-requires g c = never_unknown c.args.self.now c.args.session c.stage-session.result.0 Known c.args.block _ c.stage-session.result.1 (λ e. cc) c.stage-session.ensures.stages
+stage_answer-requires g c = never_unknown c.args.self.now c.args.session c.stage_copied-session.result.0 Known c.args.triples.now _ c.stage_copied-session.result.1 (λ e. cc) c.stage_copied-session.ensures.stages
 
 pub returns-clause-stages : goal.returns-clause-stages
-returns-clause-stages g c = staged_answer c.args.self.now c.args.session c.stage-session.result.0 Known c.args.block _ c.stage-session.result.1 c.stage_answer.result c.stage_answer.ensures c.stage-session.ensures.stages
+returns-clause-stages g c = staged_answer c.args.self.now c.args.session c.stage_copied-session.result.0 Known c.args.triples.now _ c.stage_copied-session.result.1 c.stage_answer.result c.stage_answer.ensures c.stage_copied-session.ensures.stages

@@ -3,7 +3,7 @@ use Rattle.std.specs.Prelude.{MatchBool}
 use Rattle.session_transaction.specs.declared.transaction.OpenTransaction.{OpenTransaction}
 use Rattle.session_transaction.specs.Transactions.{name_kind_of}
 use Rattle.guard_store.proofs.Calling.{never_named, not_none}
-use Rattle.guard_store.proofs.store.Store.stage.Goals as goal
+use Rattle.guard_store.proofs.store.Store.stage_moved.Goals as goal
 
 pub returns-in_default-clause-stages : goal.returns-in_default-clause-stages
 returns-in_default-clause-stages g c =
