@@ -1,9 +1,10 @@
 -- Players that were opened, and players that are met.
 use Rattle.std.proofs.Common.{◌≡◌, ℕ, zero, suc, ◌+◌, ◌-◌, ◌<◌, true, false, List, [], ◌∷◌, ◌++◌, length, map, get_or, reverse, Option, Some, None, refl, sym, ap, ◌∙◌, subst, arith, length-append}
-use Rattle.std.proofs.lemmas.List.{reverse-append}
+use Rattle.std.proofs.lemmas.List.{append-nil, get_or-map, reverse-append}
 use mathlib.Core.Logic.{dite}
 use native.Mathlib.Decide.{ℕ_discrete}
 use Rattle.std.specs.List.{AllByRecursion}
+use Rattle.std.specs.Option.{IsSome}
 use Rattle.turn_lock.specs.History.{OthersAdded, has_number, reserved, under}
 use Rattle.turn_lock.specs.Callers.{Caller, met_caller}
 use Rattle.store_model.specs.declared.event.Event.{Event}
@@ -29,7 +30,7 @@ use Rattle.guard_store.proofs.Opening.{open_event, next_number}
 use Rattle.guard_store.proofs.Telling.{openings_add_one}
 use Rattle.session_threads.specs.Playing.{HasPlayed, PlaysAll}
 use Rattle.session_threads.specs.Ends.{EndsRun, HasEnd, LeavesStore}
-use Rattle.session_threads.specs.Team.{HasAll, HasEnded, HasLock, IsHere, IsSound, IsStarting, Stands, IsOver, EndsWith, Met, TeamPlayer}
+use Rattle.session_threads.specs.Team.{HasAll, HasEnded, HasLock, HasPlayedFile, IsHere, IsSound, IsStarting, Stands, IsOver, EndsWith, Met, TeamPlayer, files_of}
 use Rattle.session_threads.proofs.Keeping.{follows_append, follows_others, follows_opening}
 use Rattle.session_threads.proofs.Closing.{still_has, now_has, closes}
 
@@ -60,11 +61,26 @@ stands_opened store old kept s o p =
     subst (λ (x : List Event). Follows l i start x p p) (sym front)
     (follows_append l i start t.seen (e ∷ []) p p p (follows_others l i start t.seen p none) (λ m r. follows_opening l i m e p refl))
 
-pub starting_opened : (store : SharedStore) (files : ℕ) (old kept : StoreKeeper) (s : StoreSession) (n : ℕ) → OpensSession store old kept s → old.opened < files → n ≡ s.number → IsStarting store files (record { session = Some s; number = n; replies = None })
-starting_opened store files old kept s n o lt is =
+pub starting_opened : (store : SharedStore) (old kept : StoreKeeper) (s : StoreSession) (n : ℕ) (commands : List Command) → OpensSession store old kept s → n ≡ s.number → IsStarting store (record { session = Some s; number = n; commands = commands; replies = None })
+starting_opened store old kept s n commands o is =
     let count : s.number ≡ old.opened + 1 = o.number in
-    subst (λ (k : ℕ). IsStarting store files (record { session = Some s; number = k; replies = None })) (sym is)
-    (omega (arith, count), omega (arith, count, lt), refl, (refl, o.session, o.none, stands_opened store old.pass kept.pass s o.opens))
+    subst (λ (k : ℕ). IsStarting store (record { session = Some s; number = k; commands = commands; replies = None })) (sym is)
+    (omega (arith, count), refl, (refl, o.session, o.none, stands_opened store old.pass kept.pass s o.opens))
+
+-- a session was opened for each file
+pub all_opened : (done left files : List (List Command)) → left ≡ [] → done ++ left ≡ files → done ≡ files
+all_opened done left files none e = sym (append-nil done) ∙ (ap (λ fs. done ++ fs) (sym none) ∙ e)
+
+-- each player played the file of its number
+pub each_ended : (store : SharedStore) (olds news : List TeamPlayer) → length news ≡ length olds → ((k : ℕ) (d : TeamPlayer) → k < length olds → (get_or olds k d).number ≡ k + 1)
+    → ((k : ℕ) (d : TeamPlayer) → k < length olds → HasPlayedFile store (get_or olds k d).commands (get_or news k d)) → ((k : ℕ) (d : TeamPlayer) → k < length olds → (get_or news k d).number ≡ (get_or olds k d).number)
+    → (k : ℕ) (d : TeamPlayer) → k < length news → HasEnded store (files_of olds) (get_or news k d)
+each_ended store olds news count numbered played same k d lt =
+    let in_olds : k < length olds = omega (arith, lt, count) in
+    let p : TeamPlayer = get_or news k d in
+    let place : p.number - 1 ≡ k = omega (arith, same k d in_olds, numbered k d in_olds) in
+    let file : get_or (files_of olds) (p.number - 1) [] ≡ (get_or olds k d).commands = ap (λ n. get_or (files_of olds) n []) place ∙ get_or-map (λ q. q.commands) olds k d [] in_olds in
+    subst (λ (cs : List Command). HasPlayedFile store cs p) (sym file) (played k d in_olds)
 
 pub met_none : (files : List (List Command)) (store : SharedStore) (c : Caller Event Origin) → Met files store (length files) c []
 met_none files store c = record { over = []; count = omega arith; left = tt; replies = refl; each = λ j n e lt. absurd (omega (arith, lt)) }
@@ -217,8 +233,12 @@ stands_here : (store : SharedStore) (i : ℕ) (s : Option StoreSession) → Stan
 stands_here store i None h = absurd h
 stands_here store i (Some s) h = h.1.caller.lock
 
-pub starting_here : (store : SharedStore) (count : ℕ) (p : TeamPlayer) → IsStarting store count p → HasLock store p
-starting_here store count p h = stands_here store p.number p.session h.3
+pub starting_here : (store : SharedStore) (p : TeamPlayer) → IsStarting store p → HasLock store p
+starting_here store p h = stands_here store p.number p.session h.2
+
+pub some_here : (store : SharedStore) (o : Option StoreSession) → IsHere store o → IsSome o
+some_here store None h = absurd h
+some_here store (Some s) h = refl
 
 pub here_lock : (store : SharedStore) (o : Option StoreSession) (s : StoreSession) → o ≡ Some s → IsHere store o → s.pass.lock ≡ store.id
 here_lock store o s e h = subst (IsHere store) e h

@@ -1,5 +1,5 @@
 -- One command more, by a call of the store.
-use Rattle.std.proofs.Common.{◌≡◌, OnOk, suc, drop, drop-cons, get_or, add-one, Result, Ok, Err, IfOk, MatchResult, ℕ, ◌+◌, ◌<◌, Bool, true, false, List, [], ◌∷◌, ◌++◌, length, map, Option, Some, None, refl, sym, ap, ◌∙◌, subst, ◌≤◌, zero, arith}
+use Rattle.std.proofs.Common.{◌≡◌, OnOk, Result, Ok, Err, IfOk, MatchResult, ℕ, Bool, true, false, List, [], ◌∷◌, ◌++◌, length, map, Option, Some, None, refl, sym, ap, ◌∙◌, subst, ◌≤◌}
 use Rattle.std.specs.Prelude.{MatchBool}
 use Rattle.turn_lock.specs.Callers.{Caller}
 use Rattle.rdf_model.specs.declared.term.Term.{Term}
@@ -388,12 +388,10 @@ plays_ok store old new c rs more (Ok u) e h = h
 plays_ok store old new c rs more (Err x) e h = cc
 
 -- the next command of the file
-pub play_step : (store : SharedStore) (start mid new : StoreSession) (file : List Command) (c : Command) (k : ℕ) (rs more : List SessionReply) → k < length file → c ≡ get_or file k c
-    → (HasPlayed store start.number start.pass.known.front file (first_state file) → HasPlayed store mid.number mid.pass.known.front file (up_to_event (plain_in mid.current) (drop k file) rs)) → Plays store mid new c rs more
-    → HasPlayed store start.number start.pass.known.front file (first_state file) → HasPlayed store new.number new.pass.known.front file (up_to_event (plain_in new.current) (drop (k + 1) file) more)
-play_step store start mid new file c k rs more lt is g o h =
-    let e : drop k file ≡ c ∷ drop (k + 1) file = rw add-one (drop-cons file k c lt ∙ ap (λ z. z ∷ drop (suc k) file) (sym is)) in
-    o.goes file (drop (k + 1) file) (subst (λ (ds : List Command). HasPlayed store mid.number mid.pass.known.front file (up_to_event (plain_in mid.current) ds rs)) e (g h))
+pub play_step : (store : SharedStore) (start mid new : StoreSession) (file left rest : List Command) (c : Command) (rs more : List SessionReply) → left ≡ c ∷ rest
+    → (HasPlayed store start.number start.pass.known.front file (first_state file) → HasPlayed store mid.number mid.pass.known.front file (up_to_event (plain_in mid.current) left rs)) → Plays store mid new c rs more
+    → HasPlayed store start.number start.pass.known.front file (first_state file) → HasPlayed store new.number new.pass.known.front file (up_to_event (plain_in new.current) rest more)
+play_step store start mid new file left rest c rs more e g o h = o.goes file rest (subst (λ (ds : List Command). HasPlayed store mid.number mid.pass.known.front file (up_to_event (plain_in mid.current) ds rs)) e (g h))
 
 -- the answers of a head and of a check
 head_taken : (store : SharedStore) (old new : StoreSession) (a : Result ℕ HeadFault) (v : ℕ) → a ≡ Ok v → MatchResult a (λ v. Heads store old new v) (λ f. HeadsNot f store old new) → Heads store old new v
@@ -409,20 +407,14 @@ pub plays_find : {V : Type 0} (items : V → List Triple) (store : SharedStore) 
 plays_find {V} items store old new p (Ok v) r rs more is h reply em = plays_found store old new p h.0 r rs more (items v) (found_session store old new h.0 p is h.1 h.3) h.1 h.2 h.3 reply em
 plays_find {V} items store old new p (Err f) r rs more is h reply em = plays_not_found store old new p f r rs more is h reply em
 
-drop_none : {X : Type 0} (xs : List X) (k : ℕ) → length xs ≤ k → drop k xs ≡ []
-drop_none [] zero h = refl
-drop_none [] (suc k) h = refl
-drop_none (x ∷ xs) zero h = absurd (omega (arith, h))
-drop_none (x ∷ xs) (suc k) h = drop_none xs k (omega (arith, h))
-
 -- all commands were done
-pub plays_all : (store : SharedStore) (old new : StoreSession) (file : List Command) (k : ℕ) (rs : List SessionReply) → length file ≤ k → IsSession store new → new.number ≡ old.number
-    → (HasPlayed store old.number old.pass.known.front file (first_state file) → HasPlayed store new.number new.pass.known.front file (up_to_event (plain_in new.current) (drop k file) rs)) → PlaysAll store old new file rs
-plays_all store old new file k rs lt is n g = record {
+pub plays_all : (store : SharedStore) (old new : StoreSession) (file left : List Command) (rs : List SessionReply) → left ≡ [] → IsSession store new → new.number ≡ old.number
+    → (HasPlayed store old.number old.pass.known.front file (first_state file) → HasPlayed store new.number new.pass.known.front file (up_to_event (plain_in new.current) left rs)) → PlaysAll store old new file rs
+plays_all store old new file left rs none is n g = record {
   current = plain_in new.current;
   session = is;
   number = n;
-  goes = λ h. subst (λ (cs : List Command). HasPlayed store new.number new.pass.known.front file (up_to_event (plain_in new.current) cs rs)) (drop_none file k lt) (g h);
+  goes = λ h. subst (λ (cs : List Command). HasPlayed store new.number new.pass.known.front file (up_to_event (plain_in new.current) cs rs)) none (g h);
 }
 
 -- what a session does by itself leaves its caller as it was

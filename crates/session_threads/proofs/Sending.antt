@@ -1,19 +1,17 @@
--- A player may go to another thread, and threads may share the store and the files.
+-- A player may go to another thread, and threads may share the store.
 use Rattle.std.proofs.Crossing as crossing
 use Rattle.std.proofs.Crossing.{crosses}
-use denote.Param.Send.{IsSend, IsSync, sendable, shr_sync, shr_slice_sync, view_send}
+use denote.Param.Send.{IsSend, IsSync, sendable, shr_sync, view_send}
 use denote.Param.SendFields.{as_row_send, as_row_sync, declared_send, declared_sync}
 use denote.RattleType.{RattleType}
 use denote.Exit.{no}
 use denote.Param.{arg, param}
 use denote.Ref.{NamedLft, ShrRef}
-use denote.Slice.{ShrSlice}
 use denote.Struct.Field.{row_field}
 use denote.Struct.Tuple.{TupleAt, type_at}
 use mir.Syntax.{Sym, Ty}
 use mathlib.Core.List.{[], ◌∷◌}
 use Rattle.std.specs.contracts.alloc.Global as heap
-use Rattle.collections.specs.contracts.sequence.Sequence as sequence
 use Rattle.event_history.proofs.row.KeptEvents.TheLaws.TheKnot as kept_knot
 use Rattle.page_tree.proofs.page.Entry.TheLaws.TheKnot as page_knot
 use Rattle.page_index.specs.contracts.pages.Pages as pages
@@ -227,39 +225,41 @@ report_send = search (dict_send, index_send, shapes_send, row_sent.the_send, seq
 reply_send : IsSend (reply.the_field).row
 reply_send = search (text_sent.the_send, triple_send, report_send, crosses, sendable) depth 60 fits 20000
 
+part_send : IsSend (part.the_row term.the_row)
+part_send = search (term_sent.the_send, crosses, sendable) depth 60 fits 20000
+
+join_send : IsSend (join_pattern.the_row term.the_row)
+join_send = search (part_send, crosses, sendable) depth 60 fits 20000
+
+command_send : IsSend command.the_row
+command_send = search (join_send, triple_sent.the_send, shapes_send, term_sent.the_send, sequence_sent.the_send, crosses, sendable) depth 60 fits 20000
+
 player_inside_send : (D : RattleType) (d : disks.Ghosts D.Denot) → IsSend D → IsSend (player_inside.the_row D d)
 player_inside_send D d sent = declared_send (player_inside.the_type D d) (
   search (option_sent.the_send, session_send D d sent, crosses, sendable) depth 60 fits 20000,
-  (search (crosses, sendable) depth 60 fits 20000, (search (reply_send, sequence_sent.the_send, crosses, sendable) depth 60 fits 20000, tt)),
+  (
+    search (crosses, sendable) depth 60 fits 20000,
+    (search (command_send, sequence_sent.the_send, crosses, sendable) depth 60 fits 20000, (search (reply_send, sequence_sent.the_send, crosses, sendable) depth 60 fits 20000, tt)),
+  ),
 )
 
 pub player_send : (D : RattleType) (d : disks.Ghosts D.Denot) → IsSend D → IsSend (player.the_row D d)
 player_send D d sent = search (player_inside_send D d sent, view_send) depth 60
 
-part_sync : IsSync (part.the_row term.the_row)
-part_sync = search (term_sent.the_sync, crosses, sendable) depth 60 fits 20000
-
-join_sync : IsSync (join_pattern.the_row term.the_row)
-join_sync = search (part_sync, crosses, sendable) depth 60 fits 20000
-
-command_sync : IsSync command.the_row
-command_sync = search (join_sync, triple_sent.the_sync, shapes_sync, term_sent.the_sync, sequence_sent.the_sync, crosses, sendable) depth 60 fits 20000
-
 store_sync : (D : RattleType) (d : disks.Ghosts D.Denot) → IsSend D → IsSync (store.the_row D d)
 store_sync D d sent = search (turns_sent.the_sync, shared_send D d sent, crosses, sendable) depth 60 fits 20000
 
-five_sync : (ν : Sym) (A B C D E : RattleType) → IsSync A → IsSync B → IsSync C → IsSync D → IsSync E → IsSync (TupleAt ν (A ∷ B ∷ C ∷ D ∷ E ∷ []))
-five_sync ν A B C D E a b c d e =
-    declared_sync (type_at ν (A ∷ B ∷ C ∷ D ∷ E ∷ [])) (as_row_sync (row_field A) a, (as_row_sync (row_field B) b, (as_row_sync (row_field C) c, (as_row_sync (row_field D) d, (as_row_sync (row_field E) e, tt)))))
+four_sync : (ν : Sym) (A B C D : RattleType) → IsSync A → IsSync B → IsSync C → IsSync D → IsSync (TupleAt ν (A ∷ B ∷ C ∷ D ∷ []))
+four_sync ν A B C D a b c d =
+    declared_sync (type_at ν (A ∷ B ∷ C ∷ D ∷ [])) (as_row_sync (row_field A) a, (as_row_sync (row_field B) b, (as_row_sync (row_field C) c, (as_row_sync (row_field D) d, tt))))
 
--- what all threads see: the runtime, the allocator, the store, the files and the gate
-held_sync : (ν : Sym) (α β γ δ ε : NamedLft) (R G D : RattleType) (d : disks.Ghosts D.Denot) → IsSync R → IsSync G → IsSend D
-    → IsSync (TupleAt ν (ShrRef α.mir α.lft R ∷ ShrRef β.mir β.lft heap.the_row ∷ ShrRef γ.mir γ.lft (store.the_row D d) ∷ ShrSlice δ.mir δ.lft (sequence.the_row command.the_row) ∷ ShrRef ε.mir ε.lft G ∷ []))
-held_sync ν α β γ δ ε R G D d run gate sent =
-    five_sync ν (ShrRef α.mir α.lft R) (ShrRef β.mir β.lft heap.the_row) (ShrRef γ.mir γ.lft (store.the_row D d)) (ShrSlice δ.mir δ.lft (sequence.the_row command.the_row)) (ShrRef ε.mir ε.lft G)
-    (shr_sync α.mir α.lft R run) (shr_sync β.mir β.lft heap.the_row crossing.sync) (shr_sync γ.mir γ.lft (store.the_row D d) (store_sync D d sent))
-    (shr_slice_sync δ.mir δ.lft (sequence.the_row command.the_row) (sequence_sent.the_sync command.the_row command_sync)) (shr_sync ε.mir ε.lft G gate)
+-- what all threads see: the runtime, the allocator, the store and the gate
+held_sync : (ν : Sym) (α β γ δ : NamedLft) (R G D : RattleType) (d : disks.Ghosts D.Denot) → IsSync R → IsSync G → IsSend D
+    → IsSync (TupleAt ν (ShrRef α.mir α.lft R ∷ ShrRef β.mir β.lft heap.the_row ∷ ShrRef γ.mir γ.lft (store.the_row D d) ∷ ShrRef δ.mir δ.lft G ∷ []))
+held_sync ν α β γ δ R G D d run gate sent =
+    four_sync ν (ShrRef α.mir α.lft R) (ShrRef β.mir β.lft heap.the_row) (ShrRef γ.mir γ.lft (store.the_row D d)) (ShrRef δ.mir δ.lft G)
+    (shr_sync α.mir α.lft R run) (shr_sync β.mir β.lft heap.the_row crossing.sync) (shr_sync γ.mir γ.lft (store.the_row D d) (store_sync D d sent)) (shr_sync δ.mir δ.lft G gate)
 
-pub closure_sync : (σ : Ty) (ν : Sym) (α β γ δ ε : NamedLft) (R G D : RattleType) (d : disks.Ghosts D.Denot) → IsSync R → IsSync G → IsSend D
-    → IsSync (param 2 (arg σ no (TupleAt ν (ShrRef α.mir α.lft R ∷ ShrRef β.mir β.lft heap.the_row ∷ ShrRef γ.mir γ.lft (store.the_row D d) ∷ ShrSlice δ.mir δ.lft (sequence.the_row command.the_row) ∷ ShrRef ε.mir ε.lft G ∷ []))))
-closure_sync σ ν α β γ δ ε R G D d run gate sent = record { shared = (held_sync ν α β γ δ ε R G D d run gate sent).shared }
+pub closure_sync : (σ : Ty) (ν : Sym) (α β γ δ : NamedLft) (R G D : RattleType) (d : disks.Ghosts D.Denot) → IsSync R → IsSync G → IsSend D
+    → IsSync (param 2 (arg σ no (TupleAt ν (ShrRef α.mir α.lft R ∷ ShrRef β.mir β.lft heap.the_row ∷ ShrRef γ.mir γ.lft (store.the_row D d) ∷ ShrRef δ.mir δ.lft G ∷ []))))
+closure_sync σ ν α β γ δ R G D d run gate sent = record { shared = (held_sync ν α β γ δ R G D d run gate sent).shared }

@@ -1,5 +1,5 @@
 -- Players: sessions that play their files in threads.
-use Rattle.std.specs.Prelude.{◌≡◌, ℕ, ◌+◌, ◌-◌, ◌<◌, ◌≤◌, List, [], length, map, get_or, slice_index_or, true, false, Option, Some, None}
+use Rattle.std.specs.Prelude.{◌≡◌, ℕ, ◌+◌, ◌-◌, ◌<◌, List, [], length, map, get_or, slice_index_or, true, false, Option, Some, None}
 use Rattle.std.specs.List.{AllByRecursion}
 use Rattle.turn_lock.specs.History.{has_number, reserved}
 use Rattle.turn_lock.specs.Callers.{Caller}
@@ -14,10 +14,11 @@ use Rattle.guard_store.specs.Fronts.{SharedStore, session_of}
 use Rattle.guard_store.specs.Callers.{IsKeeper, IsSession}
 use Rattle.session_threads.specs.Playing.{HasPlayed}
 
--- a session with the number of its file, and what it was answered, once it has played the file
+-- a session with the number of its file, the commands of the file until it plays them, and what it was answered then
 pub record TeamPlayer : Type 0 where
   pub session : Option StoreSession
   pub number : ℕ
+  pub commands : List Command
   pub replies : Option (List SessionReply)
 
 -- a keeper of this store for which no turn failed: it has seen no entry under 0
@@ -35,8 +36,12 @@ abbrev pub Stands : SharedStore → ℕ → Option StoreSession → Type 0
 Stands store i None = ⊥
 Stands store i (Some s) = (s.number ≡ i) × IsSession store s × (s.current ≡ None) × ((p : SessionState) → Follows store.limits i store.start s.pass.known.front p p)
 
-abbrev pub IsStarting : SharedStore → ℕ → TeamPlayer → Type 0
-IsStarting store files p = (0 < p.number) × (p.number ≤ files) × (p.replies ≡ None) × Stands store p.number p.session
+abbrev pub IsStarting : SharedStore → TeamPlayer → Type 0
+IsStarting store p = (0 < p.number) × (p.replies ≡ None) × Stands store p.number p.session
+
+-- the files that players are to play
+abbrev pub files_of : List TeamPlayer → List (List Command)
+files_of players = map (λ p. p.commands) players
 
 -- a session that was answered so, with no command of its file left
 pub record IsOver (store : SharedStore) (i : ℕ) (file : List Command) (replies : List SessionReply) (s : StoreSession) : Type 0 where
@@ -58,9 +63,13 @@ EndsWith store i file None s = IsHere store s
 EndsWith store i file (Some replies) None = ⊥
 EndsWith store i file (Some replies) (Some s) = IsOver store i file replies s
 
--- it has played its file to the end, or ran out of memory, has no replies and may be met
+-- it has played this file to the end, or ran out of memory, has no replies and may be met
+abbrev pub HasPlayedFile : SharedStore → List Command → TeamPlayer → Type 0
+HasPlayedFile store file p = EndsWith store p.number file p.replies p.session
+
+-- so it has the file of its number
 abbrev pub HasEnded : SharedStore → List (List Command) → TeamPlayer → Type 0
-HasEnded store files p = EndsWith store p.number (get_or files (p.number - 1) []) p.replies p.session
+HasEnded store files p = HasPlayedFile store (get_or files (p.number - 1) []) p
 
 abbrev pub AreNumbered : List TeamPlayer → Type 0
 AreNumbered players = (i : ℕ) (d : TeamPlayer) → i < length players → (slice_index_or players i d).number ≡ i + 1

@@ -1,7 +1,5 @@
 //! What one command does.
 ghost use Rattle.std.specs.Prelude.{◌≡◌, OnOk};
-ghost use Rattle.std.specs.List.{AllByRecursion};
-ghost use Rattle.ntriples_text.specs.Laws.{IsReadable, IsStored};
 ghost use Rattle.record_text.specs.Records.{IsReadableGraph};
 ghost use Rattle.session_transaction.specs.Transactions.{plain_in};
 ghost use Rattle.guard_store.specs.Callers.{HasWork, IsSession, OnlyReads};
@@ -19,9 +17,9 @@ use collections::Sequence;
 use disk::Disk;
 use guard_store::{AttachFault, BeginFault, CommitFault, Session, StageFault, Store};
 use outside::{EventKind, Gate};
-use rdf_model::{Pattern, Term, Triple};
-use session_model::{Command, SessionReply};
-use session_transaction::block_refusal;
+use rdf_model::{Pattern, Term};
+use session_model::{Block, Command, SessionReply};
+use session_transaction::{block_refusal, is_refused, take_block};
 use shape_eval::Steps;
 use shapes_graph::ShapesGraph;
 use std::alloc::AllocError;
@@ -62,17 +60,17 @@ fn add<D: Disk, R: Wait, G: Gate>(
     store: &Store<D>,
     watch: &mut Watch<G>,
     session: Session<D>,
-    triples: &[Triple],
+    block: Block,
     replies: &mut Sequence<SessionReply>,
 ) -> (Session<D>, Result<(), AllocError>)
-    requires session { IsSession store.now session }
-    requires readable { AllByRecursion (IsReadable IsStored) triples.now }
+    requires { IsSession store.now session }
     ensures lock { result.0.pass.lock ≡ store.now.id }
-    ensures plays { OnOk result.1 (Plays store.now session result.0 (Command.Add triples.now) replies.old replies.new) }
+    ensures plays { OnOk result.1 (Plays store.now session result.0 (Command.Add block) replies.old replies.new) }
 {
-    let (session, answer) = store.stage_add(rt, session, triples);
+    let count = block.len();
+    let (session, answer) = store.stage_add(rt, session, block);
     watch.after(answer == Err(StageFault::Memory), false);
-    let reply = stage_reply(answer, SessionReply::Added(triples.len()));
+    let reply = stage_reply(answer, SessionReply::Added(count));
     (session, tell(replies, reply))
 }
 
@@ -81,17 +79,17 @@ fn remove<D: Disk, R: Wait, G: Gate>(
     store: &Store<D>,
     watch: &mut Watch<G>,
     session: Session<D>,
-    triples: &[Triple],
+    block: Block,
     replies: &mut Sequence<SessionReply>,
 ) -> (Session<D>, Result<(), AllocError>)
-    requires session { IsSession store.now session }
-    requires readable { AllByRecursion (IsReadable IsStored) triples.now }
+    requires { IsSession store.now session }
     ensures lock { result.0.pass.lock ≡ store.now.id }
-    ensures plays { OnOk result.1 (Plays store.now session result.0 (Command.Remove triples.now) replies.old replies.new) }
+    ensures plays { OnOk result.1 (Plays store.now session result.0 (Command.Remove block) replies.old replies.new) }
 {
-    let (session, answer) = store.stage_remove(rt, session, triples);
+    let count = block.len();
+    let (session, answer) = store.stage_remove(rt, session, block);
     watch.after(answer == Err(StageFault::Memory), false);
-    let reply = stage_reply(answer, SessionReply::Removed(triples.len()));
+    let reply = stage_reply(answer, SessionReply::Removed(count));
     (session, tell(replies, reply))
 }
 
@@ -100,18 +98,18 @@ fn attach<D: Disk, R: Wait, G: Gate>(
     store: &Store<D>,
     watch: &mut Watch<G>,
     session: Session<D>,
-    triples: &[Triple],
+    block: Block,
     replies: &mut Sequence<SessionReply>,
 ) -> (Session<D>, Result<(), AllocError>)
-    requires session { IsSession store.now session }
-    requires readable { AllByRecursion (IsReadable IsStored) triples.now }
+    requires { IsSession store.now session }
     ensures lock { result.0.pass.lock ≡ store.now.id }
-    ensures plays { OnOk result.1 (Plays store.now session result.0 (Command.Attach triples.now) replies.old replies.new) }
+    ensures plays { OnOk result.1 (Plays store.now session result.0 (Command.Attach block) replies.old replies.new) }
 {
-    let (session, answer) = store.stage_attach(rt, session, triples);
+    let count = block.len();
+    let (session, answer) = store.stage_attach(rt, session, block);
     let ran_out = matches!(&answer, Err(AttachFault::Memory));
     watch.after(ran_out, false);
-    let reply = attach_reply(answer, SessionReply::Attached(triples.len()));
+    let reply = attach_reply(answer, SessionReply::Attached(count));
     (session, tell(replies, reply))
 }
 
@@ -310,28 +308,32 @@ pub fn perform<D: Disk, L: Ledger, R: Wait, G: Gate>(
     store: &Store<D>,
     watch: &mut Watch<G>,
     session: Session<D>,
-    command: &Command,
+    command: Command,
     replies: &mut Sequence<SessionReply>,
     steps: &mut Steps<L>,
 ) -> (Session<D>, Result<(), AllocError>)
     requires { IsSession store.now session }
     ensures lock { result.0.pass.lock ≡ store.now.id }
-    ensures plays { OnOk result.1 (Plays store.now session result.0 command.now replies.old replies.new) }
+    ensures plays { OnOk result.1 (Plays store.now session result.0 command replies.old replies.new) }
 {
-    watch.before(next_event(&session, command));
-    match command {
+    watch.before(next_event(&session, &command));
+    if is_refused(&command) {
+        return refuse(store, session, &command, replies);
+    }
+    let mut command = command;
+    match &mut command {
         Command::Begin => begin(rt, store, watch, session, replies),
         Command::Add(block) => {
-            block.recall_readable();
-            add(rt, store, watch, session, block.triples(), replies)
+            let block = take_block(store.allocator(), block);
+            add(rt, store, watch, session, block, replies)
         }
         Command::Remove(block) => {
-            block.recall_readable();
-            remove(rt, store, watch, session, block.triples(), replies)
+            let block = take_block(store.allocator(), block);
+            remove(rt, store, watch, session, block, replies)
         }
         Command::Attach(block) => {
-            block.recall_readable();
-            attach(rt, store, watch, session, block.triples(), replies)
+            let block = take_block(store.allocator(), block);
+            attach(rt, store, watch, session, block, replies)
         }
         Command::Shapes(block) => {
             block.recall_readable();
@@ -348,6 +350,6 @@ pub fn perform<D: Disk, L: Ledger, R: Wait, G: Gate>(
         | Command::BadShapes { line: _, kind: _ }
         | Command::BrokenShapes { rule: _, node: _ }
         | Command::RefusedPattern { node: _ }
-        | Command::BadSelect { line: _ } => refuse(store, session, command, replies),
+        | Command::BadSelect { line: _ } => unreachable!(),
     }
 }

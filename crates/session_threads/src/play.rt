@@ -22,7 +22,7 @@ fn play_in<D: Disk, L: Ledger, R: Wait, G: Gate>(
     alloc: Global,
     store: &Store<D>,
     session: Session<D>,
-    commands: &[Command],
+    commands: Sequence<Command>,
     gate: &G,
     blank: Blank,
 ) -> (Session<D>, Result<Sequence<SessionReply>, AllocError>)
@@ -32,13 +32,13 @@ fn play_in<D: Disk, L: Ledger, R: Wait, G: Gate>(
     requires parts { blank.parts ≡ L.parts }
     requires some { 0 < L.parts }
     ensures lock { result.0.pass.lock ≡ store.now.id }
-    ensures plays { IfOk result.1 (PlaysAll store.now session result.0 commands.now) }
+    ensures plays { IfOk result.1 (PlaysAll store.now session result.0 commands) }
 {
     let mut steps = Steps::<L>::begin(blank);
     let mut replies = Sequence::new(alloc);
     let mut watch = Watch::new(gate, session.number());
     let mut session = session;
-    for command in commands {
+    for command in commands.into_vec() {
         let (next, done) = perform(
             rt,
             store,
@@ -63,13 +63,13 @@ pub fn play_file<D: Disk, R: Wait, G: Gate>(
     alloc: Global,
     store: &Store<D>,
     session: Session<D>,
-    commands: &[Command],
+    commands: Sequence<Command>,
     gate: &G,
 ) -> (Session<D>, Result<Sequence<SessionReply>, AllocError>)
     requires session { IsSession store.now session }
     requires free { session.current ≡ None }
     ensures lock { result.0.pass.lock ≡ store.now.id }
-    ensures plays { IfOk result.1 (PlaysAll store.now session result.0 commands.now) }
+    ensures plays { IfOk result.1 (PlaysAll store.now session result.0 commands) }
 {
     play_in::<D, Brand, R, G>(rt, alloc, store, session, commands, gate, Blank::new(1))
 }

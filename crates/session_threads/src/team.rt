@@ -5,7 +5,7 @@ ghost use Rattle.session_transaction.specs.Logging.{StandsBeside};
 ghost use Rattle.store_model.specs.Store.{RecordedStore, empty_store};
 ghost use Rattle.guard_store.specs.Callers.{IsKeeper};
 ghost use Rattle.session_threads.specs.Ends.{EndsRun, HasEnd, LeavesStore};
-ghost use Rattle.session_threads.specs.Team.{AreNumbered, HasEnded, HasLock, IsSound, IsStarting, Met};
+ghost use Rattle.session_threads.specs.Team.{AreNumbered, HasEnded, HasLock, HasPlayedFile, IsSound, IsStarting, Met, files_of};
 
 use crate::play::play_file;
 use collections::Sequence;
@@ -19,17 +19,18 @@ use session_player::Run;
 use std::alloc::{AllocError, Global};
 use std::marker::Model;
 use std::sync::Wait;
-use std::thread;
 use std::thread::Threads;
+use std::{mem, thread};
 use store_model::Limits;
 
 // How many threads there are at most.
 const THREADS: usize = 64;
 
-/// A session with the number of its file.
+/// A session with the number of its file, and the commands of the file until it plays them.
 pub struct Player<D: Disk> {
     session: Option<Session<D>>,
     number: u32,
+    commands: Sequence<Command>,
     // What it was answered, once it has played its file.
     replies: Option<Sequence<SessionReply>>,
 }
@@ -39,7 +40,7 @@ impl<D: Disk> Model for Player<D> {
 
     ghost Value = { TeamPlayer };
 
-    ghost view = { λ p. record { session = p.session; number = p.number; replies = p.replies } };
+    ghost view = { λ p. record { session = p.session; number = p.number; commands = p.commands; replies = p.replies } };
 }
 
 // Written by hand, so that what owns one calls it in place of having it written out.
@@ -48,6 +49,7 @@ impl<D: Disk + Drop> Drop for Player<D> {
         let Player {
             session: _,
             number: _,
+            commands: _,
             replies: _,
         } = self;
     }
@@ -55,20 +57,13 @@ impl<D: Disk + Drop> Drop for Player<D> {
 
 impl<D: Disk + Drop> Player<D> {
     // Plays its file. Without the memory for it the player has no replies.
-    fn work<R: Wait, G: Gate>(
-        &mut self,
-        rt: &R,
-        alloc: Global,
-        store: &Store<D>,
-        files: &[Sequence<Command>],
-        gate: &G,
-    )
-        requires { IsStarting store.now (length files.now) self.old }
-        ensures ended { HasEnded store.now files.now self.new }
+    fn work<R: Wait, G: Gate>(&mut self, rt: &R, alloc: Global, store: &Store<D>, gate: &G)
+        requires { IsStarting store.now self.old }
+        ensures ended { HasPlayedFile store.now self.old.commands self.new }
         ensures number { self.new.number ≡ self.old.number }
     {
         let session = self.session.take().unwrap();
-        let commands = files[self.number as usize - 1].as_slice();
+        let commands = mem::replace(&mut self.commands, Sequence::new(alloc));
         let (session, played) = play_file(rt, alloc, store, session, commands, gate);
         self.session = Some(session);
         if let Ok(replies) = played {
@@ -83,6 +78,7 @@ impl<D: Disk + Drop> Player<D> {
         let Player {
             session,
             number: _,
+            commands: _,
             replies,
         } = self;
         (session, replies)
@@ -122,7 +118,7 @@ fn open_all<D: Disk, R: Wait>(
     alloc: Global,
     store: &Store<D>,
     keeper: Keeper<D>,
-    count: usize,
+    files: Vec<Sequence<Command>>,
 ) -> Result<(Keeper<D>, Vec<Player<D>>), Keeper<D>>
 where
     D: Drop,
@@ -130,16 +126,16 @@ where
     requires none { keeper.opened ≡ 0 }
     requires room { keeper.pass.spare ≡ 64 }
     ensures keeper { IfOk result (λ r. IsSound store.now r.0) }
-    ensures opened { IfOk result (λ r. r.0.opened ≡ count) }
-    ensures spare { IfOk result (λ r. r.0.pass.spare + count ≡ 64) }
-    ensures players { IfOk result (λ r. All (IsStarting store.now count) r.1.items) }
+    ensures opened { IfOk result (λ r. r.0.opened ≡ length files.items) }
+    ensures spare { IfOk result (λ r. r.0.pass.spare + length files.items ≡ 64) }
+    ensures players { IfOk result (λ r. All (IsStarting store.now) r.1.items) }
     ensures numbers { IfOk result (λ r. AreNumbered r.1.items) }
-    ensures count { IfOk result (λ r. vec_len r.1 ≡ count) }
+    ensures files { IfOk result (λ r. files_of r.1.items ≡ files.items) }
     ensures met { IfErr result (λ kept. IsKeeper store.now kept × (kept.pass.spare ≡ 64)) }
 {
     let mut keeper = keeper;
     let mut players = Vec::new(alloc);
-    for _i in 0..count {
+    for commands in files {
         let Ok(()) = make_room(&mut players) else {
             return Err(meet_all(store, keeper, players));
         };
@@ -151,6 +147,7 @@ where
                 players.push_reserved(Player {
                     session: Some(session),
                     number,
+                    commands,
                     replies: None,
                 });
             }
@@ -165,12 +162,11 @@ fn play_all<D: Disk + Drop + Send, R: Threads + Wait + Sync, G: Gate>(
     alloc: Global,
     store: &Store<D>,
     players: &mut [Player<D>],
-    files: &[Sequence<Command>],
     gate: &G,
 )
-    requires players { All (IsStarting store.now (length files.now)) players.old }
+    requires players { All (IsStarting store.now) players.old }
     requires numbers { AreNumbered players.old }
-    ensures players { All (HasEnded store.now files.now) players.new }
+    ensures players { All (HasEnded store.now (files_of players.old)) players.new }
     ensures numbers { AreNumbered players.new }
     ensures count { length players.new ≡ length players.old }
 {
@@ -179,39 +175,46 @@ fn play_all<D: Disk + Drop + Send, R: Threads + Wait + Sync, G: Gate>(
         players,
         THREADS,
         &|_, player: &mut Player<D>|
-            requires { IsStarting store.now (length files.now) player.old }
-            ensures ended { HasEnded store.entry.now files.entry.now player.new }
+            requires { IsStarting store.now player.old }
+            ensures ended { HasPlayedFile store.entry.now player.old.commands player.new }
             ensures number { player.new.number ≡ player.old.number }
         {
-            player.work(rt, alloc, store, files, gate);
+            player.work(rt, alloc, store, gate);
         },
     );
 }
 
-// Meets all sessions, the last first. One that has no replies ran out of memory; then no replies are given.
-fn gather<D: Disk>(
+/// A run of session files that has ended.
+#[derive(Drop)]
+pub struct EndedRun<D: Disk> {
+    pub run: Run,
+    /// How many triples the data graph has at the end.
+    pub triples: usize,
+    /// The store's log, where it has one.
+    pub log: Option<Log<D>>,
+}
+
+// Opens, plays and meets all sessions, the last first: the keeper that met them, and what they were answered, the last first. One
+// that has no replies ran out of memory; then no replies are given.
+fn play_files<D: Disk + Drop + Send, R: Threads + Wait + Sync, G: Gate>(
+    rt: &R,
     alloc: Global,
     store: &Store<D>,
     keeper: Keeper<D>,
-    players: Vec<Player<D>>,
-    files: &[Sequence<Command>],
+    files: Vec<Sequence<Command>>,
+    gate: &G,
 ) -> Result<(Keeper<D>, Vec<Sequence<SessionReply>>), Keeper<D>>
-where
-    D: Drop,
     requires keeper { IsSound store.now keeper }
-    requires opened { keeper.opened ≡ length files.now }
-    requires players { All (HasEnded store.now files.now) players.items }
-    requires numbers { AreNumbered players.items }
-    requires count { vec_len players ≡ length files.now }
+    requires none { keeper.opened ≡ 0 }
+    requires room { keeper.pass.spare ≡ 64 }
     ensures keeper { IfOk result (λ r. IsSound store.now r.0) }
-    ensures opened { IfOk result (λ r. r.0.opened ≡ length files.now) }
-    ensures spare { IfOk result (λ r. r.0.pass.spare ≡ keeper.pass.spare + length files.now) }
-    ensures met { IfOk result (λ r. Met files.now store.now 0 r.0.pass (reverse r.1.items)) }
-    ensures kept { IfErr result (λ kept. IsKeeper store.now kept × (kept.pass.spare ≡ keeper.pass.spare + length files.now)) }
+    ensures opened { IfOk result (λ r. r.0.opened ≡ length files.items) }
+    ensures spare { IfOk result (λ r. r.0.pass.spare ≡ 64) }
+    ensures met { IfOk result (λ r. Met files.items store.now 0 r.0.pass (reverse r.1.items)) }
+    ensures kept { IfErr result (λ kept. IsKeeper store.now kept × (kept.pass.spare ≡ 64)) }
 {
-    let _ = files;
-    let mut keeper = keeper;
-    let mut players = players;
+    let (mut keeper, mut players) = open_all(rt, alloc, store, keeper, files)?;
+    play_all(rt, alloc, store, &mut players, gate);
     let mut all = Vec::new(alloc);
     while let Some(player) = players.pop() {
         let (session, replies) = player.into_parts();
@@ -226,42 +229,6 @@ where
     Ok((keeper, all))
 }
 
-/// A run of session files that has ended.
-#[derive(Drop)]
-pub struct EndedRun<D: Disk> {
-    pub run: Run,
-    /// How many triples the data graph has at the end.
-    pub triples: usize,
-    /// The store's log, where it has one.
-    pub log: Option<Log<D>>,
-}
-
-// Opens, plays and gathers: the keeper that met all sessions, and what they were answered.
-fn play_files<D: Disk + Drop + Send, R: Threads + Wait + Sync, G: Gate>(
-    rt: &R,
-    alloc: Global,
-    store: &Store<D>,
-    keeper: Keeper<D>,
-    files: &[Sequence<Command>],
-    gate: &G,
-) -> Result<(Keeper<D>, Vec<Sequence<SessionReply>>), Keeper<D>>
-    requires keeper { IsSound store.now keeper }
-    requires none { keeper.opened ≡ 0 }
-    requires room { keeper.pass.spare ≡ 64 }
-    ensures keeper { IfOk result (λ r. IsSound store.now r.0) }
-    ensures opened { IfOk result (λ r. r.0.opened ≡ length files.now) }
-    ensures spare { IfOk result (λ r. r.0.pass.spare ≡ 64) }
-    ensures met { IfOk result (λ r. Met files.now store.now 0 r.0.pass (reverse r.1.items)) }
-    ensures kept { IfErr result (λ kept. IsKeeper store.now kept × (kept.pass.spare ≡ 64)) }
-{
-    let (keeper, mut players) = match open_all(rt, alloc, store, keeper, files.len()) {
-        Ok(opened) => opened,
-        Err(keeper) => return Err(keeper),
-    };
-    play_all(rt, alloc, store, &mut players, files, gate);
-    gather(alloc, store, keeper, players, files)
-}
-
 /// Runs session files beside each other over a store of this core, which has no event yet, and of its log, if it has one; each
 /// file in a thread of its own, the I-th being session I. The gate is told of each event but the openings, in the session's
 /// thread, outside turns. The log is given back, also where memory runs out.
@@ -270,15 +237,15 @@ pub fn run_all<D: Disk + Drop + Send, R: Threads + Wait + Sync, G: Gate>(
     alloc: Global,
     core: Core,
     log: Option<Log<D>>,
-    files: &[Sequence<Command>],
+    files: Vec<Sequence<Command>>,
     gate: &G,
 ) -> Result<EndedRun<D>, (AllocError, Option<Log<D>>)>
     requires fresh { core.history ≡ [] }
     requires unopened { core.start.opened ≡ 0 }
     requires running { core.state.stopped ≡ false }
     requires beside { StandsBeside core log }
-    requires few { length files.now ≤ 64 }
-    ensures ends { IfOk result (λ ended. EndsRun D.tells D.bytes D.history D.chosen D.faults files.now core log ended.run.order.items ended.run.replies.items ended.triples ended.log) }
+    requires few { length files.items ≤ 64 }
+    ensures ends { IfOk result (λ ended. EndsRun D.tells D.bytes D.history D.chosen D.faults files.items core log ended.run.order.items ended.run.replies.items ended.triples ended.log) }
     ensures back { IfErr result (λ e. (last : RecordedStore) × LeavesStore D.tells D.bytes D.history D.chosen D.faults core log last e.1) }
 {
     core.recall_consistent();
@@ -312,12 +279,12 @@ pub fn run_new<R: Threads + Wait + Sync, G: Gate>(
     rt: &R,
     alloc: Global,
     limits: Limits,
-    files: &[Sequence<Command>],
+    files: Vec<Sequence<Command>>,
     gate: &G,
 ) -> Result<EndedRun<MemDisk>, AllocError>
     requires small { limits.terms + 2 < 2 ^ 32 }
-    requires few { length files.now ≤ 64 }
-    ensures { IfOk result (λ ended. HasEnd files.now limits empty_store ended.run.order.items None ended.run.replies.items ended.triples) }
+    requires few { length files.items ≤ 64 }
+    ensures { IfOk result (λ ended. HasEnd files.items limits empty_store ended.run.order.items None ended.run.replies.items ended.triples) }
 {
     let core = Core::open(alloc, limits)?;
     match run_all(rt, alloc, core, None::<Log<MemDisk>>, files, gate) {

@@ -1,5 +1,5 @@
 use Rattle.session_transaction.proofs.Refusing.{refused_block}
 use Rattle.session_threads.proofs.perform.perform.Goals as goal
 
-pub refuse-requires-clause-refused : goal.refuse-requires-clause-refused
-refuse-requires-clause-refused g c = refused_block c.args.command.now c.in-BadAdd.is
+pub unreachable-requires : goal.unreachable-requires
+unreachable-requires g c = c.if-is_refused.ensures (refused_block _ c.in-BadAdd.is)

@@ -24,7 +24,7 @@ pub returns-in-Ok-order-clause-ends : goal.returns-in-Ok-order-clause-ends
 returns-in-Ok-order-clause-ends g c =
     let done = c.close-core.ensures in
     let played = c.in-Ok-play_files.ensures in
-    let files = c.args.files.now in
+    let files = c.args.files.items in
     let ends = run_ends g.D.Disk.tells g.D.Disk.bytes g.D.Disk.history g.D.Disk.chosen g.D.Disk.faults c.args.core c.args.log c.in-Ok.made.0 c.in-Ok.ensures.limits c.in-Ok.ensures.start c.in-Ok.ensures.log files c.in-Ok-play_files.played.0 c.close-core.result.0 c.close-core.result.1 c.in-Ok-order.order.items (reverse c.in-Ok-play_files.played.1.items) c.triples-triples.result
     played.keeper played.opened played.met done.history done.limits done.start done.replays done.log c.in-Ok-order.ensures c.triples-triples.ensures in
     subst (λ (rs : List (List SessionReply)). EndsRun g.D.Disk.tells g.D.Disk.bytes g.D.Disk.history g.D.Disk.chosen g.D.Disk.faults files c.args.core c.args.log c.in-Ok-order.order.items rs c.triples-triples.result c.close-core.result.1) (sym c.reverse.ensures.items) ends

@@ -5,5 +5,5 @@ use Rattle.session_threads.proofs.Gathering.{unlogged_end}
 use Rattle.session_threads.proofs.team.run_new.Goals as goal
 
 pub returns-in-Ok : goal.returns-in-Ok
-returns-in-Ok g c = subst (λ (s : RecordedStore). HasEnd c.args.files.now s.limits s.start c.in-Ok.ended.run.order.items None c.in-Ok.ended.run.replies.items c.in-Ok.ended.triples) c.in_ok-core.ensures
-    (unlogged_end _ _ _ _ _ c.args.files.now c.in_ok-core.core _ _ _ _ c.in-Ok.ensures.ends)
+returns-in-Ok g c = subst (λ (s : RecordedStore). HasEnd c.args.files.items s.limits s.start c.in-Ok.ended.run.order.items None c.in-Ok.ended.run.replies.items c.in-Ok.ended.triples) c.in_ok-core.ensures
+    (unlogged_end _ _ _ _ _ c.args.files.items c.in_ok-core.core _ _ _ _ c.in-Ok.ensures.ends)
