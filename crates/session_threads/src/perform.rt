@@ -68,7 +68,7 @@ fn add<D: Disk, R: Wait, G: Gate>(
     ensures plays { OnOk result.1 (Plays store.now session result.0 (Command.Add block) replies.old replies.new) }
 {
     let count = block.len();
-    let (session, answer) = store.stage_add(rt, session, block);
+    let (session, answer) = store.stage_add_block(rt, session, block);
     watch.after(answer == Err(StageFault::Memory), false);
     let reply = stage_reply(answer, SessionReply::Added(count));
     (session, tell(replies, reply))
@@ -87,7 +87,7 @@ fn remove<D: Disk, R: Wait, G: Gate>(
     ensures plays { OnOk result.1 (Plays store.now session result.0 (Command.Remove block) replies.old replies.new) }
 {
     let count = block.len();
-    let (session, answer) = store.stage_remove(rt, session, block);
+    let (session, answer) = store.stage_remove_block(rt, session, block);
     watch.after(answer == Err(StageFault::Memory), false);
     let reply = stage_reply(answer, SessionReply::Removed(count));
     (session, tell(replies, reply))
@@ -106,7 +106,7 @@ fn attach<D: Disk, R: Wait, G: Gate>(
     ensures plays { OnOk result.1 (Plays store.now session result.0 (Command.Attach block) replies.old replies.new) }
 {
     let count = block.len();
-    let (session, answer) = store.stage_attach(rt, session, block);
+    let (session, answer) = store.stage_attach_block(rt, session, block);
     let ran_out = matches!(&answer, Err(AttachFault::Memory));
     watch.after(ran_out, false);
     let reply = attach_reply(answer, SessionReply::Attached(count));
