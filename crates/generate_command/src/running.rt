@@ -59,6 +59,6 @@ pub fn run_load<R: Threads + Wait + Sync, M: Maker, G: Gate>(
         run,
         triples,
         log: _,
-    } = run_new(rt, alloc, LIMITS, all.as_slice(), gate)?;
+    } = run_new(rt, alloc, LIMITS, all.into_vec(), gate)?;
     load_text(alloc, n, &run.replies, triples)
 }

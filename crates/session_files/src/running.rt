@@ -52,18 +52,18 @@ fn run_sessions<D: Disk + Drop + Send, R: Threads + Wait + Sync, G: Gate>(
     alloc: Global,
     core: Core,
     log: Option<Log<D>>,
-    all: &[Sequence<Command>],
+    all: Sequence<Sequence<Command>>,
     gate: &G,
 ) -> (Result<String, RunFault>, Option<Log<D>>)
     requires fresh { core.history ≡ [] }
     requires unopened { core.start.opened ≡ 0 }
     requires running { core.state.stopped ≡ false }
     requires beside { StandsBeside core log }
-    requires few { length all.now ≤ 64 }
-    ensures prints { MatchResult result.0 (λ text. PrintsRun D.tells D.bytes D.history D.chosen D.faults all.now core log (string_bytes text) result.1) (λ fault. fault ≡ RunFault.Memory) }
+    requires few { length all ≤ 64 }
+    ensures prints { MatchResult result.0 (λ text. PrintsRun D.tells D.bytes D.history D.chosen D.faults all core log (string_bytes text) result.1) (λ fault. fault ≡ RunFault.Memory) }
     ensures back { IfErr result.0 (λ _. (last : RecordedStore) × LeavesStore D.tells D.bytes D.history D.chosen D.faults core log last result.1) }
 {
-    match run_all(rt, alloc, core, log, all, gate) {
+    match run_all(rt, alloc, core, log, all.into_vec(), gate) {
         Ok(ended) => {
             let EndedRun {
                 run,
@@ -81,19 +81,19 @@ fn print_replay(
     alloc: Global,
     limits: Limits,
     history: &[u8],
-    all: &[Sequence<Command>],
+    all: Sequence<Sequence<Command>>,
 ) -> Result<String, RunFault>
     requires terms { limits.terms ≤ 2000000 }
-    requires few { length all.now ≤ 64 }
-    ensures { MatchResult result (λ text. (order : List ℕ) × (history_of history.now ≡ Some (map Some order)) × IsPrint all.now limits empty_store order None (string_bytes text))
-        (λ fault. Unplayed fault (IsBadPlace all.now limits (history_of history.now))) }
+    requires few { length all ≤ 64 }
+    ensures { MatchResult result (λ text. (order : List ℕ) × (history_of history.now ≡ Some (map Some order)) × IsPrint all limits empty_store order None (string_bytes text))
+        (λ fault. Unplayed fault (IsBadPlace all limits (history_of history.now))) }
 {
     let places = match read_history(alloc, history) {
         Ok(Some(places)) => places,
         Ok(None) => return Err(RunFault::BadHistory { place: 0 }),
         Err(_) => return Err(RunFault::Memory),
     };
-    match replay_all(alloc, limits, all, places.as_slice()) {
+    match replay_all(alloc, limits, all.into_vec(), places.as_slice()) {
         Ok(run) => match text_of(alloc, &run) {
             Ok(text) => Ok(text),
             Err(_) => Err(RunFault::Memory),
@@ -162,7 +162,7 @@ fn replay_sessions<F: Files, M: Maker>(
         Ok(all) => all,
         Err(fault) => return Err(fault),
     };
-    print_replay(alloc, limits, &text, all.as_slice())
+    print_replay(alloc, limits, &text, all)
 }
 
 /// What at most 64 session files print in the order of a history, over an empty store: what a plain store gives, asked one step
@@ -223,7 +223,7 @@ pub fn run_files<D: Disk + Drop + Send, R: Threads + Wait + Sync, F: Files, M: M
         return (Err(RunFault::TooManyFiles), log);
     }
     match load_all(alloc, files, maker, first_numbers.as_slice(), names) {
-        Ok(all) => run_sessions(rt, alloc, core, log, all.as_slice(), gate),
+        Ok(all) => run_sessions(rt, alloc, core, log, all, gate),
         Err(fault) => (Err(fault), log),
     }
 }
