@@ -1,6 +1,4 @@
 // Files that run in threads, and then again in the order that the threads made.
-ghost use Rattle.std.specs.Prelude.{◌≤◌, length};
-
 use crate::held::{LIMITS, block_of, replayed};
 use collections::Sequence;
 use outside::OpenGate;
@@ -89,39 +87,43 @@ const ROWS: [Row; 14] = [
     Row::Commit,
 ];
 
-// The files run in threads; the order that they made, handed in, gives the same text.
+// So many files of these commands.
+fn files_of(alloc: Global, count: u32) -> Result<Vec<Sequence<Command>>, Fail> {
+    let mut files = Vec::new(alloc);
+    for _i in 0..count {
+        files.push(commands_of(alloc, &ROWS)?)?;
+    }
+    Ok(files)
+}
+
+// So many files run in threads; the order that they made, handed in, gives the same text.
 fn run_and_replay<R: Threads + Wait + Abort + Sync>(
     rt: &R,
     alloc: Global,
-    files: &[Sequence<Command>],
-) -> Result<(), Fail>
-    requires { length files.now ≤ 64 }
-{
+    count: u32,
+) -> Result<(), Fail> {
+    let files = files_of(alloc, count)?;
+    if files.len() > 64 {
+        return Err(Fail::new("there are few files"));
+    }
     let EndedRun {
         run,
         triples: _,
         log: _,
     } = run_new(rt, alloc, LIMITS, files, &OpenGate)?;
     let text = text_of(alloc, &run)?;
-    let again = replayed(alloc, files, &run.order)?;
+    let again = replayed(alloc, files_of(alloc, count)?, &run.order)?;
     assert_eq!(rt; text.as_str(), again.as_str());
     Ok(())
 }
 
 #[test]
 fn three_files_in_three_threads(rt: HostRuntime) -> Result<(), Fail> {
-    let alloc = rt.alloc();
-    let files = [
-        commands_of(alloc, &ROWS)?,
-        commands_of(alloc, &ROWS)?,
-        commands_of(alloc, &ROWS)?,
-    ];
-    run_and_replay(&rt, alloc, &files)
+    run_and_replay(&rt, rt.alloc(), 3)
 }
 
 #[test]
 fn one_file_and_none(rt: HostRuntime) -> Result<(), Fail> {
-    let alloc = rt.alloc();
-    run_and_replay(&rt, alloc, &[commands_of(alloc, &ROWS)?])?;
-    run_and_replay(&rt, alloc, &[])
+    run_and_replay(&rt, rt.alloc(), 1)?;
+    run_and_replay(&rt, rt.alloc(), 0)
 }

@@ -490,7 +490,7 @@ pub fn block_of(alloc: Global, text: &[u8]) -> Result<Block, Fail> {
 fn run_held<R: Threads + Wait + Abort + Sync>(
     rt: &R,
     alloc: Global,
-    files: &[Sequence<Command>],
+    files: Vec<Sequence<Command>>,
     kinds: &[&[EventKind]],
     holds: &[Hold],
     unready: &[Event],
@@ -517,7 +517,11 @@ fn places_of(alloc: Global, order: &[u32]) -> Result<Vec<Option<u32>>, AllocErro
 }
 
 // What the files print in this order.
-pub fn replayed(alloc: Global, files: &[Sequence<Command>], order: &[u32]) -> Result<String, Fail> {
+pub fn replayed(
+    alloc: Global,
+    files: Vec<Sequence<Command>>,
+    order: &[u32],
+) -> Result<String, Fail> {
     if files.len() > 64 {
         return Err(Fail::new("there are few files"));
     }
@@ -534,9 +538,9 @@ fn orders_are_forced(rt: HostRuntime) -> Result<(), Fail> {
     for row in &SCHEDULES {
         let files = commands_of(alloc, row.files)?;
         let holds = holds_of(alloc, row.order)?;
-        let run = run_held(&rt, alloc, &files, row.kinds, &holds, row.unready)?;
+        let run = run_held(&rt, alloc, files, row.kinds, &holds, row.unready)?;
         assert_eq!(rt; text_of(alloc, &run)?.as_str(), row.printed);
-        let again = replayed(alloc, &files, &run.order)?;
+        let again = replayed(alloc, commands_of(alloc, row.files)?, &run.order)?;
         assert_eq!(rt; again.as_str(), row.printed);
     }
     Ok(())
@@ -547,7 +551,7 @@ fn sessions_are_held(rt: HostRuntime) -> Result<(), Fail> {
     let alloc = rt.alloc();
     for row in &HELD {
         let files = commands_of(alloc, row.files)?;
-        let run = run_held(&rt, alloc, &files, row.kinds, row.holds, row.unready)?;
+        let run = run_held(&rt, alloc, files, row.kinds, row.holds, row.unready)?;
         let text = text_of(alloc, &run)?;
         assert!(rt; text.starts_with(row.printed), "{text}");
         assert_eq!(rt; run.order.last(), Some(&1));

@@ -142,7 +142,7 @@ fn events_are_told_outside_turns(rt: HostRuntime) -> Result<(), Fail> {
         run,
         triples: _,
         log: _,
-    } = run_new(&rt, alloc, LIMITS, &files, &gate)?;
+    } = run_new(&rt, alloc, LIMITS, files, &gate)?;
     assert!(rt; gate.is_through());
     assert_eq!(rt; text_of(alloc, &run)?.as_str(), PRINTED);
     Ok(())
