@@ -66,8 +66,8 @@ fn printed(alloc: Global, rows: &[Row]) -> Result<String, Fail> {
         triples: 100,
         mode: BlockMode::All,
     };
-    let files = [commands_of(alloc, rows)?];
-    let run = run_all(alloc, limits, &files)?;
+    let commands = commands_of(alloc, rows)?;
+    let run = run_all(alloc, limits, vec![in alloc; commands]?)?;
     Ok(text_of(alloc, &run)?)
 }
 

@@ -1,6 +1,6 @@
 // Two sessions in each order of their events: session 1 begins, finds a predicate, adds a triple and commits; session 2
 // commits two triples, the second of that predicate.
-ghost use Rattle.std.specs.Prelude.{◌≤◌};
+ghost use Rattle.std.specs.Prelude.{◌≤◌, IfOk, length};
 
 use crate::finds::{Row, commands_of};
 use crate::replay::{Answer, Ask, FIRST, Iris, SECOND, event_of, first_no_step};
@@ -175,7 +175,9 @@ fn other_text(alloc: Global, order: Order) -> Result<String, AllocError> {
 }
 
 // The commands of the two sessions.
-fn sessions(alloc: Global) -> Result<[Sequence<Command>; 2], Fail> {
+fn sessions(alloc: Global) -> Result<Vec<Sequence<Command>>, Fail>
+    ensures { IfOk result (λ files. length files.items ≤ 64) }
+{
     let own = [
         Row::Begin,
         Row::Find("e:p"),
@@ -192,15 +194,17 @@ fn sessions(alloc: Global) -> Result<[Sequence<Command>; 2], Fail> {
     ];
     let own = commands_of(alloc, &own)?;
     let other = commands_of(alloc, &other)?;
-    Ok([own, other])
+    Ok(vec![in alloc; own, other]?)
 }
 
 // What the sessions print in the order of a history's text; nothing where it isn't valid.
 fn replayed(
     alloc: Global,
-    files: &[Sequence<Command>; 2],
+    files: Vec<Sequence<Command>>,
     history: &str,
-) -> Result<String, AllocError> {
+) -> Result<String, AllocError>
+    requires { length files.items ≤ 64 }
+{
     let Some(places) = read_history(alloc, history.as_bytes())? else {
         return Ok(String::new(alloc));
     };
@@ -212,11 +216,7 @@ fn replayed(
 }
 
 // Whether in this order the store's events are steps, and the sessions print what those answer.
-fn is_played(
-    alloc: Global,
-    files: &[Sequence<Command>; 2],
-    order: Order,
-) -> Result<bool, AllocError> {
+fn is_played(alloc: Global, order: Order) -> Result<bool, Fail> {
     let rows = rows_of(alloc, order)?;
     let events = events_of(alloc, &rows)?;
     if first_no_step(alloc, LIMITS, events)? != 0 {
@@ -226,14 +226,13 @@ fn is_played(
     let own = own_text(alloc, order)?;
     let other = other_text(alloc, order)?;
     let want = format!(in alloc; "{own}{other}{history}")?;
-    let text = replayed(alloc, files, &history)?;
+    let text = replayed(alloc, sessions(alloc)?, &history)?;
     Ok(text.as_str() == want.as_str())
 }
 
 #[test]
 fn sessions_are_answered_by_the_store_in_every_order(rt: HostRuntime) -> Result<(), Fail> {
     let alloc = rt.alloc();
-    let files = sessions(alloc)?;
     for begin in 0..=OTHERS {
         for name in begin..=OTHERS {
             for head in name..=OTHERS {
@@ -244,7 +243,7 @@ fn sessions_are_answered_by_the_store_in_every_order(rt: HostRuntime) -> Result<
                         head,
                         commit,
                     };
-                    let played = is_played(alloc, &files, order)?;
+                    let played = is_played(alloc, order)?;
                     assert!(rt; played, "{begin} {name} {head} {commit}");
                 }
             }

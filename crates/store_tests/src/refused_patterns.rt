@@ -30,7 +30,7 @@ fn printed(alloc: Global, file: &str, refuse: Vec<u64>) -> Result<String, Fail> 
     let Ok(commands) = prepare(alloc, &mut maker, 1, 1, file.as_bytes()) else {
         return Err(Fail::new("the file is read"));
     };
-    let run = run_all(alloc, LIMITS, &[commands])?;
+    let run = run_all(alloc, LIMITS, vec![in alloc; commands]?)?;
     Ok(text_of(alloc, &run)?)
 }
 

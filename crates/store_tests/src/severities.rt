@@ -31,7 +31,7 @@ fn printed(alloc: Global, limits: Limits, file: &str) -> Result<String, Fail>
     let Ok(commands) = prepare(alloc, &mut maker, 1, 1, file.as_bytes()) else {
         return Err(Fail::new("the file is read"));
     };
-    let run = run_all(alloc, limits, &[commands])?;
+    let run = run_all(alloc, limits, vec![in alloc; commands]?)?;
     Ok(text_of(alloc, &run)?)
 }
 
