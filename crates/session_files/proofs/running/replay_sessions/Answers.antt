@@ -14,11 +14,11 @@ returns-in-Err-load_behind-clause-answer g c =
 pub print_replay-requires-clause-few : goal.print_replay-requires-clause-few
 print_replay-requires-clause-few g c =
     let n : length c.in-Ok-load_behind.all ≡ length c.args.names.now = count_sessions _ [] 1 _ _ (g.M.Maker.refused c.args.maker.now) (g.M.Maker.refused c.load_behind.new.maker) c.in-Ok-load_behind.ensures.answer.0 in
-    rw c.as_slice.ensures (omega (arith, n, c.requires.few))
+    omega (arith, n, c.requires.few)
 
 pub returns-clause-answer : goal.returns-clause-answer
 returns-clause-answer g c =
     let h = c.in-Ok.ensures.answer (g.M.Maker.refused c.args.maker.now) in
     let k = c.in-Ok-load_behind.ensures.answer in
     played_behind string_bytes (g.F.Files.holds c.args.files.now) c.args.limits c.args.history.now c.in-Ok.text.items c.args.names.now c.in-Ok-load_behind.all _ _ _ c.print_replay.result h.0 h.1 h.2 refl (sessions_behind _ _ _ _ _ _ c.load_file.ensures.holds k.0) k.1 c.requires.few
-    (rw c.deref.ensures.value at rw c.as_slice.ensures at c.print_replay.ensures)
+    (rw c.deref.ensures.value at c.print_replay.ensures)
