@@ -18,6 +18,7 @@ use Rattle.rdf_lexical.specs.Enclosed.{mark, closing_length}
 use Rattle.rdf_lexical.specs.Meanings.{inner, unescaped, lower_case, lower_text}
 use Rattle.rdf_lexical.specs.Productions.{joined_texts, IsEnclosed, IsLanguageTag}
 use Rattle.rdf_lexical.proofs.LowerTags.{lower_tag}
+pub use Rattle.rdf_lexical.proofs.Spelled.{scalars_drop, scalars_take}
 use Rattle.rdf_lexical.proofs.Contents.{may_stand_for, scalars_parts, pieces_value}
 use Rattle.iri_ref.specs.Scheme.{has_scheme}
 use Rattle.collections.specs.Ordered.{IsAscending, with_item}
@@ -70,16 +71,6 @@ is_token t u is h = subst (λ (x : Token × List ℕ). IsTokenOf x.0 x.1) (sym i
 bind_ok : {A B : Type 0} (r : Result A RefusalKind) (f : A → Result B RefusalKind) (y : B) → (r >>= f) ≡ Ok y → (x : A) × (r ≡ Ok x) × (f x ≡ Ok y)
 bind_ok (Ok x) f y h = (x, refl, h)
 bind_ok (Err k) f y h = cc
-
-pub scalars_drop : (n : ℕ) (cs : List ℕ) → scalars cs ≡ true → scalars (drop n cs) ≡ true
-scalars_drop zero cs s = s
-scalars_drop (suc n) [] s = refl
-scalars_drop (suc n) (c ∷ cs) s = scalars_drop n cs ((and_parts (scalar c) (scalars cs) s).1)
-
-pub scalars_take : (n : ℕ) (cs : List ℕ) → scalars cs ≡ true → scalars (take n cs) ≡ true
-scalars_take zero cs s = refl
-scalars_take (suc n) [] s = refl
-scalars_take (suc n) (c ∷ cs) s = let p = and_parts (scalar c) (scalars cs) s in and_from (scalar c) (scalars (take n cs)) p.0 (scalars_take n cs p.1)
 
 lower_scalar : (c : ℕ) → scalar c ≡ true → scalar (lower_case c) ≡ true
 lower_scalar c h = elim (is_within 65 90 c) as (λ b. is_within 65 90 c ≡ b → scalar (cond b (c + 32) c) ≡ true) [ true ↦ λ q. grind (arith, nat_tests) | false ↦ λ q. h ] refl

@@ -82,14 +82,7 @@ fn add_characters(
     Ok(number_after(number, line))
 }
 
-// The characters of a text.
-fn characters_of(alloc: Global, text: &str) -> Result<Vec<char>, AllocError>
-    ensures { IfOk result (λ v. v.items ≡ chars text.now) }
-{
-    Ok(text.chars().collect(alloc)?)
-}
-
-// Adds the triple of a line of a text, if it has one, by its bytes where the line is ASCII. The number of the next line comes back.
+// Adds the triple of a line of a text, if it has one. The number of the next line comes back.
 fn add_text(
     alloc: Global,
     labels: LabelKind,
@@ -107,25 +100,8 @@ fn add_text(
     ensures same { OnOk result ((numbering.new.session ≡ numbering.old.session) × (numbering.new.first ≡ numbering.old.first)) }
     ensures room { OnOk result (length numbering.new.labels ≤ length numbering.old.labels + length line.now) }
 {
-    if line.is_ascii() {
-        return add_characters(
-            alloc,
-            labels,
-            number,
-            &CharSlice::of_ascii(line),
-            numbering,
-            table,
-        );
-    }
-    let characters = characters_of(alloc, line)?;
-    add_characters(
-        alloc,
-        labels,
-        number,
-        &CharSlice::of_chars(&characters),
-        numbering,
-        table,
-    )
+    let characters = CharSlice::of_text(line);
+    add_characters(alloc, labels, number, &characters, numbering, table)
 }
 
 // The triples of the lines of a text, in their order there. Its labels are added to the numbering.
@@ -256,11 +232,7 @@ pub fn read_named(alloc: Global, bytes: &[u8]) -> Result<Sequence<Triple>, ReadF
 fn read_term(alloc: Global, text: &str) -> Result<Option<Term>, AllocError>
     ensures { IfOk result (λ term. term ≡ Grammar.alone (chars text.now)) }
 {
-    if text.is_ascii() {
-        return read_alone(alloc, &CharSlice::of_ascii(text));
-    }
-    let characters = characters_of(alloc, text)?;
-    read_alone(alloc, &CharSlice::of_chars(&characters))
+    read_alone(alloc, &CharSlice::of_text(text))
 }
 
 /// The term that the bytes are, as N-Triples 1.1 writes an object, with nothing before or behind

@@ -1,3 +1,4 @@
+pub mod Spelled
 pub mod Numbers
 pub mod Joined
 pub mod Runs

@@ -1,7 +1,7 @@
 //! What the texts of N-Triples 1.1 and Turtle 1.1 share: their characters, the tokens that both
 //! have, and why a text is refused.
 //!
-//! `CharSlice` has the characters of a text, which lie in the text itself where all of them are ASCII.
+//! `CharSlice` has the characters of a text, which lie in the text itself.
 //! `Class` has the classes of characters; `name_length`, `tag_length` and `enclosed_length` say how
 //! far a name, a language tag, an IRIREF or a string goes, and `iri_text`, `string_value` and
 //! `lower_text` what they stand for. Each function ensures exactly its definition;
@@ -26,7 +26,7 @@ pub use characters::{is_iri_char, is_line_end, is_pn_chars, is_pn_chars_base, is
 pub use classes::{Class, begins_with, run_length};
 pub use enclosing::{Enclosed, Piece, enclosed_length, leading_marks};
 pub use escapes::{Escape, escape_at, escaped_char, hex_value, numbered_char};
-pub use meanings::{iri_text, lower_text, plain_text, string_value};
+pub use meanings::{iri_text, lower_text, plain_text, string_value, text_without_escapes};
 pub use names::name_length;
 pub use quoting::Quotes;
 pub use refusal::{ReadFault, RefusalKind};

@@ -1,5 +1,6 @@
 //! What the characters of IRIs and strings stand for.
-ghost use Rattle.std.specs.Prelude.{◌≡◌, ◌<◌, ◌≤◌, IfOk, IfSome, length, take, drop, encode_utf8_all};
+ghost use Rattle.std.specs.Prelude.{◌≡◌, ◌<◌, ◌≤◌, ◌==◌, false, IfOk, IfSome, length, encode_utf8_all};
+ghost use Rattle.std.specs.List.{list_any};
 ghost use Rattle.rdf_lexical.specs.Meanings;
 
 use crate::escapes::{Escape, escape_at};
@@ -32,11 +33,12 @@ fn next_character(characters: &CharSlice<'_>) -> Option<(char, usize)>
     }
 }
 
-// The text of characters without a backslash, where it is kept.
-fn kept_text<'a>(characters: &CharSlice<'a>) -> Option<&'a str>
-    ensures { IfSome result (λ text. text.now ≡ Meanings.unescaped 0 characters.now) }
+/// The text that characters are, where there is no backslash among them.
+pub fn text_without_escapes<'a>(characters: &CharSlice<'a>) -> Option<&'a str>
+    ensures text { IfSome result (λ text. text.now ≡ encode_utf8_all characters.now) }
+    ensures none { IfSome result (λ _. list_any (λ c. c == 92) characters.now ≡ false) }
 {
-    let text = characters.as_text()?;
+    let text = characters.as_text();
     if text.as_bytes().contains(&b'\\') {
         None
     } else {
@@ -60,7 +62,7 @@ fn each_unescaped(alloc: Global, characters: &CharSlice<'_>) -> Result<Text, All
 fn unescaped(alloc: Global, characters: &CharSlice<'_>) -> Result<Text, AllocError>
     ensures { IfOk result (λ text. text ≡ Meanings.unescaped 0 characters.now) }
 {
-    match kept_text(characters) {
+    match text_without_escapes(characters) {
         Some(text) => Text::new(alloc, text),
         None => each_unescaped(alloc, characters),
     }
@@ -88,16 +90,7 @@ pub fn string_value(
 pub fn plain_text(alloc: Global, characters: &CharSlice<'_>) -> Result<Text, AllocError>
     ensures { IfOk result (λ text. text ≡ encode_utf8_all characters.now) }
 {
-    if let Some(text) = characters.as_text() {
-        return Text::new(alloc, text);
-    }
-    let mut text = String::new(alloc);
-    let mut rest = characters.whole();
-    while let Some((character, after)) = rest.split_first() {
-        text.push(character)?;
-        rest = after;
-    }
-    Text::from_string(text)
+    Text::new(alloc, characters.as_text())
 }
 
 fn lower_case(character: char) -> char

@@ -1,85 +1,83 @@
 //! The characters of a text, or of a part of it.
-ghost use Rattle.std.specs.Prelude.{◌≡◌, ◌+◌, ◌<◌, ◌≤◌, ◌^◌, ◌∷◌, [], ◌==◌, IfSome, MatchOption, length, take, drop, encode_utf8_all};
-ghost use Rattle.std.specs.Str.{IsAscii, chars};
+ghost use Rattle.std.specs.Prelude.{◌≡◌, ◌+◌, ◌<◌, ◌≤◌, ◌^◌, ◌∷◌, [], ◌==◌, MatchOption, length, take, drop, encode_utf8_all};
+ghost use Rattle.std.specs.Str.{chars};
 
 use std::marker::Model;
 
-// The bytes of the text itself where all its characters are ASCII, or its characters.
-#[derive(Clone, Copy, Debug)]
-enum Form<'a> {
-    Ascii(&'a str),
-    Wide(&'a [char]),
-}
-
-/// The characters of a text, or of a part of it. Where all of them are ASCII they are kept as the
-/// text itself, of one byte each, elsewhere as `char`s, of four. Contracts see the list of them.
+/// The characters of a text, or of a part of it, which lie in the text itself, and how many there
+/// are. Where they are as many as the bytes, each is one byte. Contracts see the list of them.
 #[derive(Debug, Drop)]
 pub struct CharSlice<'a> {
-    form: Form<'a>,
+    text: &'a str,
+    count: usize,
 }
 
 impl<'a> Model for CharSlice<'a> {
     ghost use Rattle.std.specs.Prelude.{List, ℕ};
+    ghost use Rattle.std.specs.Str.{chars};
+    ghost use Rattle.rdf_lexical.specs.Slices.{IsHeld};
 
     ghost Value = { List ℕ };
 
-    ghost use Rattle.rdf_lexical.specs.Slices.{listed, IsHeld};
+    ghost view = { λ s. chars s.text.now };
 
-    ghost view = { λ s. listed s.form };
-
-    ghost invariant = { λ s. IsHeld s.form };
+    ghost invariant = { λ s. IsHeld s.text.now s.count };
 }
 
-// The characters of an ASCII text, each the one of its byte.
-#[inline]
-fn ascii(text: &str) -> CharSlice<'_>
-    requires { IsAscii text.now }
-    ensures { result ≡ text.now }
+// How many characters a text has.
+fn char_count(text: &str) -> usize
+    ensures { result ≡ length (chars text.now) }
 {
-    CharSlice {
-        form: Form::Ascii(text),
+    if text.is_ascii() {
+        text.len()
+    } else {
+        text.chars().count()
     }
+}
+
+// How many bytes so many of the first characters of a text have.
+fn front_length(text: &str, count: usize) -> usize
+    requires { count ≤ length (chars text.now) }
+    ensures { result ≡ length (encode_utf8_all (take count (chars text.now))) }
+{
+    let mut rest = text.chars();
+    let mut left = count;
+    while left > 0 {
+        rest.next();
+        left -= 1;
+    }
+    text.len() - rest.as_str().len()
 }
 
 impl<'a> CharSlice<'a> {
-    /// The characters of an ASCII text.
-    #[inline]
-    pub fn of_ascii(text: &'a str) -> CharSlice<'a>
-        requires { IsAscii text.now }
+    /// The characters of a text.
+    pub fn of_text(text: &'a str) -> CharSlice<'a>
         ensures { result ≡ chars text.now }
     {
-        ascii(text)
-    }
-
-    /// These characters.
-    #[inline]
-    pub fn of_chars(characters: &'a [char]) -> CharSlice<'a>
-        ensures { result ≡ characters.now }
-    {
         CharSlice {
-            form: Form::Wide(characters),
+            text,
+            count: char_count(text),
         }
     }
 
-    /// The same characters.
+    /// These characters, once more.
     #[inline]
     pub fn whole(&self) -> CharSlice<'a>
         ensures value { result ≡ self.now }
         ensures size { length self.now < 2 ^ 63 }
     {
-        CharSlice { form: self.form }
+        CharSlice {
+            text: self.text,
+            count: self.count,
+        }
     }
 
-    /// The text that the characters are, where it is kept: where all of them are ASCII.
+    /// The text that the characters are.
     #[inline]
-    pub fn as_text(&self) -> Option<&'a str>
-        ensures text { IfSome result (λ text. text.now ≡ encode_utf8_all self.now) }
-        ensures bytes { IfSome result (λ text. text.now ≡ self.now) }
+    pub fn as_text(&self) -> &'a str
+        ensures { result.now ≡ encode_utf8_all self.now }
     {
-        match self.form {
-            Form::Ascii(text) => Some(text),
-            Form::Wide(_) => None,
-        }
+        self.text
     }
 
     /// How many characters there are.
@@ -88,10 +86,7 @@ impl<'a> CharSlice<'a> {
         ensures value { result ≡ length self.now }
         ensures size { result < 2 ^ 63 }
     {
-        match self.form {
-            Form::Ascii(text) => text.len(),
-            Form::Wide(characters) => characters.len(),
-        }
+        self.count
     }
 
     #[inline]
@@ -101,18 +96,72 @@ impl<'a> CharSlice<'a> {
         self.len() == 0
     }
 
+    // The first character, by as many bytes as it has, and the others.
+    fn split_decoded(&self) -> Option<(char, CharSlice<'a>)>
+        ensures { MatchOption result (self.now ≡ []) (λ parts. self.now ≡ parts.0 ∷ parts.1) }
+    {
+        let mut characters = self.text.chars();
+        match characters.next() {
+            Some(first) => Some((
+                first,
+                CharSlice {
+                    text: characters.as_str(),
+                    count: self.count - 1,
+                },
+            )),
+            None => None,
+        }
+    }
+
     /// The first character, and the others.
     #[inline]
     pub fn split_first(&self) -> Option<(char, CharSlice<'a>)>
         ensures { MatchOption result (self.now ≡ []) (λ parts. self.now ≡ parts.0 ∷ parts.1) }
     {
-        match self.form {
-            Form::Ascii(text) => match text.as_bytes() {
-                [byte, ..] => Some((*byte as char, ascii(&text[1..]))),
-                [] => None,
+        match self.text.as_bytes() {
+            [byte, ..] => {
+                if *byte >= 128 {
+                    return self.split_decoded();
+                }
+                let rest = CharSlice {
+                    text: &self.text[1..],
+                    count: self.count - 1,
+                };
+                Some((*byte as char, rest))
+            }
+            [] => None,
+        }
+    }
+
+    /// The first so many characters, which have so many bytes, and the others. It goes over none of them.
+    #[inline]
+    pub fn split_at_byte(&self, count: usize, bytes: usize) -> (CharSlice<'a>, CharSlice<'a>)
+        requires count { count ≤ length self.now }
+        requires bytes { bytes ≡ length (encode_utf8_all (take count self.now)) }
+        ensures front { result.0 ≡ take count self.now }
+        ensures back { result.1 ≡ drop count self.now }
+        ensures size { length (encode_utf8_all self.now) < 2 ^ 63 }
+    {
+        let (front, back) = self.text.split_at(bytes);
+        (
+            CharSlice { text: front, count },
+            CharSlice {
+                text: back,
+                count: self.count - count,
             },
-            Form::Wide([character, rest @ ..]) => Some((*character, CharSlice::of_chars(rest))),
-            Form::Wide([]) => None,
+        )
+    }
+
+    // How many bytes so many of the first characters have.
+    #[inline]
+    fn bytes_before(&self, count: usize) -> usize
+        requires { count ≤ length self.now }
+        ensures { result ≡ length (encode_utf8_all (take count self.now)) }
+    {
+        if self.count == self.text.len() {
+            count
+        } else {
+            front_length(self.text, count)
         }
     }
 
@@ -125,13 +174,7 @@ impl<'a> CharSlice<'a> {
         ensures count { length result.1 + count ≡ length self.now }
         ensures size { length self.now < 2 ^ 63 }
     {
-        match self.form {
-            Form::Ascii(text) => (ascii(&text[..count]), ascii(&text[count..])),
-            Form::Wide(characters) => {
-                let (front, back) = characters.split_at(count);
-                (CharSlice::of_chars(front), CharSlice::of_chars(back))
-            }
-        }
+        self.split_at_byte(count, self.bytes_before(count))
     }
 
     /// The characters after so many.
@@ -155,7 +198,7 @@ impl<'a> CharSlice<'a> {
         if count < self.len() {
             self.after(count)
         } else {
-            CharSlice::of_chars(&[])
+            CharSlice { text: "", count: 0 }
         }
     }
 

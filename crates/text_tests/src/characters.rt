@@ -106,7 +106,7 @@ fn characters(rt: HostRuntime) {
 }
 
 #[test]
-fn escapes(rt: HostRuntime) -> Result<(), Fail> {
+fn escapes(rt: HostRuntime) {
     for (character, meaning) in ESCAPES {
         same(
             &rt,
@@ -116,15 +116,8 @@ fn escapes(rt: HostRuntime) -> Result<(), Fail> {
         );
     }
     for (text, meaning) in NUMBERS {
-        let digits: Vec<char> = text.chars().collect(rt.alloc())?;
-        same(
-            &rt,
-            text,
-            numbered_char(&CharSlice::of_chars(&digits)),
-            meaning,
-        );
+        same(&rt, text, numbered_char(&CharSlice::of_text(text)), meaning);
     }
-    Ok(())
 }
 
 const KINDS: [(RefusalKind, u8); 14] = [

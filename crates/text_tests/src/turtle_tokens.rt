@@ -34,15 +34,10 @@ fn listing(alloc: Global, characters: &CharSlice<'_>) -> Result<String, Fail> {
     Ok(found)
 }
 
-// Whether the text has these tokens, as `listing` gives them: by its characters, and where it is ASCII by its bytes.
+// Whether the text has these tokens, as `listing` gives them.
 fn expect_tokens(rt: &impl Abort, alloc: Global, text: &str, wanted: &str) -> Result<(), Fail> {
-    let characters: Vec<char> = text.chars().collect(alloc)?;
-    let found = listing(alloc, &CharSlice::of_chars(&characters))?;
+    let found = listing(alloc, &CharSlice::of_text(text))?;
     same(rt, text, found.as_str(), wanted);
-    if text.is_ascii() {
-        let found = listing(alloc, &CharSlice::of_ascii(text))?;
-        same(rt, text, found.as_str(), wanted);
-    }
     Ok(())
 }
 
@@ -146,7 +141,7 @@ fn directives_and_tags(rt: HostRuntime) -> Result<(), Fail> {
     Ok(())
 }
 
-const WORDS: [(&str, &str); 11] = [
+const WORDS: [(&str, &str); 12] = [
     ("true", "True 4, "),
     ("false.", "False 5, Dot 6, "),
     ("true.x:y", "PrefixedName 8, "),
@@ -158,6 +153,10 @@ const WORDS: [(&str, &str); 11] = [
     ("aa\u{300} ", "NoToken in 1, "),
     ("\n\n{", "NoToken in 3, "),
     ("\n\u{FEFF}a:", "PrefixName 4, "),
+    (
+        "<e:\u{E9}> \u{8A9E}:\u{10400}x \"\u{1F600}\" .",
+        "IriRef 5, PrefixedName 10, StringLiteral(Double) 14, Dot 16, ",
+    ),
 ];
 
 #[test]
@@ -247,19 +246,16 @@ fn meanings(rt: HostRuntime) -> Result<(), Fail> {
         (Quotes::LongSingle, "''''x'''", "'x"),
     ];
     for (quotes, text, value) in strings {
-        let characters: Vec<char> = text.chars().collect(alloc)?;
         same(
             &rt,
             value,
-            string_value(alloc, quotes, &CharSlice::of_chars(&characters))?.as_str(),
+            string_value(alloc, quotes, &CharSlice::of_text(text))?.as_str(),
             value,
         );
     }
-    let iri: Vec<char> = "<\\u0065:a>".chars().collect(alloc)?;
-    let iri = iri_text(alloc, &CharSlice::of_chars(&iri))?;
+    let iri = iri_text(alloc, &CharSlice::of_text("<\\u0065:a>"))?;
     same(&rt, "e:a", iri.as_str(), "e:a");
-    let name: Vec<char> = "a.b:\\~c:%41".chars().collect(alloc)?;
-    let (prefix, local) = split_name(&CharSlice::of_chars(&name));
+    let (prefix, local) = split_name(&CharSlice::of_text("a.b:\\~c:%41"));
     same(&rt, "a.b", plain_text(alloc, &prefix)?.as_str(), "a.b");
     same(&rt, "~c:%41", local_name(alloc, &local)?.as_str(), "~c:%41");
     Ok(())

@@ -13,3 +13,4 @@ pub mod Sound
 pub mod TokenLaws
 pub mod Stays
 pub mod EarlyEnd
+mod Letters

@@ -1,18 +1,23 @@
 -- The words of the grammar, and what `@` begins (Turtle 1.1 sections 6.2 and 6.5).
 use Rattle.std.specs.Prelude.{ℕ, suc, Bool, true, false, ◌&&◌, ◌||◌, List, [], ◌∷◌, length, take, codes, Option, Some, None, Result, Ok, Err, ◌==◌, nat_eq, if◌then◌else◌, bytes_eq}
-use Rattle.std.specs.List.{starts_with}
+use Rattle.std.specs.List.{list_all, starts_with}
 use Rattle.std.specs.Char.{to_ascii_lowercase}
 use Rattle.turtle_lex.specs.declared.token.TokenKind.{TokenKind}
 use Rattle.turtle_lex.specs.declared.token.TokenKind.TheVariants.{A, True, False, Prefix, Base, AtPrefix, AtBase, LanguageTag}
 use Rattle.rdf_lexical.specs.declared.refusal.RefusalKind.{RefusalKind}
 use Rattle.rdf_lexical.specs.declared.refusal.RefusalKind.TheVariants.{NoToken, UnexpectedEnd}
 use Rattle.rdf_lexical.specs.declared.classes.Class.TheVariants.{Name, NameOrDot}
+use Rattle.rdf_lexical.specs.Characters.{is_within}
 use Rattle.rdf_lexical.specs.Tags.{tag_length}
 use Rattle.rdf_lexical.specs.Classes.{run_length}
 
 -- the kind of a token and how many characters it has, or why there is none
 abbrev pub Lexeme : Type 0
 Lexeme = Result (TokenKind × ℕ) RefusalKind
+
+-- small ASCII letters alone
+abbrev pub has_small_letters : List ℕ → Bool
+has_small_letters cs = list_all (is_within 97 122) cs
 
 -- the same letters, the word's in any case
 abbrev pub is_in_any_case : List ℕ → List ℕ → Bool

@@ -226,7 +226,7 @@ fn find_token(
     ensures value { result ≡ Tokens.next_token characters.now place.at after_string }
     ensures span { IfOk result (λ found. IfSome found (HasSpan characters.now)) }
 {
-    let rest = characters.after(place.at);
+    let (_, rest) = characters.split_at_byte(place.at, place.byte);
     let blanks = blank_length(&rest);
     let rest = rest.after(blanks);
     if rest.is_empty() {

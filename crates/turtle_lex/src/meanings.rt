@@ -1,30 +1,22 @@
 //! What the characters of tokens stand for.
-ghost use Rattle.std.specs.Prelude.{◌≡◌, ◌≤◌, ◌++◌, IfOk, IfSome, OnOk, length, string_bytes};
+ghost use Rattle.std.specs.Prelude.{◌≡◌, ◌≤◌, ◌++◌, IfOk, OnOk, length, string_bytes};
 ghost use Rattle.turtle_lex.specs.Meanings;
+ghost use Rattle.turtle_lex.specs.Places.{HasSpan};
 
 use crate::token::Token;
-use rdf_lexical::CharSlice;
+use rdf_lexical::{CharSlice, text_without_escapes};
 use rdf_text::Text;
 use std::alloc::{AllocError, Global};
 
 /// The characters of a token of this text.
 pub fn token_text<'a>(characters: &CharSlice<'a>, token: Token) -> CharSlice<'a>
+    requires { HasSpan characters.now token }
     ensures { result ≡ Meanings.token_text characters.now token }
 {
-    let length = token.end.at.saturating_sub(token.start.at);
-    characters.behind(token.start.at).front(length)
-}
-
-// The local name of characters without a backslash, where their text is kept.
-fn kept_local_name<'a>(characters: &CharSlice<'a>) -> Option<&'a str>
-    ensures { IfSome result (λ text. text.now ≡ Meanings.local_text characters.now) }
-{
-    let text = characters.as_text()?;
-    if text.as_bytes().contains(&b'\\') {
-        None
-    } else {
-        Some(text)
-    }
+    let Token { start, end, .. } = token;
+    let (_, behind) = characters.split_at_byte(start.at, start.byte);
+    let (text, _) = behind.split_at_byte(end.at - start.at, end.byte - start.byte);
+    text
 }
 
 // Puts the local name behind a text, a character after the other.
@@ -46,7 +38,7 @@ fn push_each(text: &mut String, characters: &CharSlice<'_>) -> Result<(), AllocE
 pub fn push_local_name(text: &mut String, characters: &CharSlice<'_>) -> Result<(), AllocError>
     ensures { OnOk result (string_bytes text.new ≡ string_bytes text.old ++ Meanings.local_text characters.now) }
 {
-    match kept_local_name(characters) {
+    match text_without_escapes(characters) {
         Some(name) => text.push_str(name),
         None => push_each(text, characters),
     }

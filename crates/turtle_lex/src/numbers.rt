@@ -31,6 +31,7 @@ fn point_length(characters: &CharSlice<'_>) -> usize
 fn signed_digits(characters: &CharSlice<'_>) -> usize
     ensures value { result ≡ Numbers.signed_digits characters.now }
     ensures bound { result ≤ length characters.now }
+    ensures size { result < 2 ^ 63 }
 {
     let sign = sign_length(characters);
     let digits = run_length(Class::Digit, &characters.after(sign));

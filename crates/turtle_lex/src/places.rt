@@ -18,23 +18,12 @@ fn line_feed_bytes(bytes: &[u8]) -> u64
     count
 }
 
-/// How many of the characters are LF.
+/// How many of the characters are LF, which as many of their bytes are.
 pub fn line_feeds(characters: &CharSlice<'_>) -> u64
     ensures value { result ≡ line_feeds characters.now }
     ensures bound { result ≤ length characters.now }
 {
-    if let Some(text) = characters.as_text() {
-        return line_feed_bytes(text.as_bytes());
-    }
-    let mut count = 0;
-    let mut rest = characters.whole();
-    while let Some((character, after)) = rest.split_first() {
-        if character == '\n' {
-            count += 1;
-        }
-        rest = after;
-    }
-    count
+    line_feed_bytes(characters.as_text().as_bytes())
 }
 
 impl TextPlace {
@@ -42,7 +31,11 @@ impl TextPlace {
     pub fn start() -> TextPlace
         ensures { result ≡ place_at [] 0 }
     {
-        TextPlace { at: 0, line: 1 }
+        TextPlace {
+            at: 0,
+            byte: 0,
+            line: 1,
+        }
     }
 }
 
@@ -52,9 +45,11 @@ pub fn place_after(characters: &CharSlice<'_>, place: TextPlace, count: usize) -
     requires count { place.at + count ≤ length characters.now }
     ensures { result ≡ place_at characters.now (place.at + count) }
 {
-    let passed = characters.after(place.at).front(count);
+    let (_, rest) = characters.split_at_byte(place.at, place.byte);
+    let passed = rest.front(count);
     TextPlace {
         at: place.at + count,
+        byte: place.byte + passed.as_text().len(),
         line: place.line + line_feeds(&passed),
     }
 }

@@ -40,10 +40,12 @@ pub enum TokenKind {
     AtBase,
 }
 
-/// A place in a text: how many characters stand before it, and its line, counted from 1 by LF.
+/// A place in a text: how many characters stand before it and how many bytes those have in UTF-8, and
+/// its line, counted from 1 by LF.
 #[derive(Clone, Copy, Debug, PartialEq, Eq)]
 pub struct TextPlace {
     pub at: usize,
+    pub byte: usize,
     pub line: u64,
 }
 

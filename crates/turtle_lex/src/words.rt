@@ -1,97 +1,58 @@
 //! Words, with `@` before them or not.
-ghost use Rattle.std.specs.Prelude.{◌≡◌, ◌<◌, ◌≤◌, suc, IfOk, bytes_eq, length, nat_eq};
+ghost use Rattle.std.specs.Prelude.{◌≡◌, ◌<◌, ◌≤◌, suc, true, IfOk, bytes_eq, length, nat_eq};
 ghost use Rattle.std.specs.List.{starts_with};
 ghost use Rattle.turtle_lex.specs.Words;
 
 use crate::token::TokenKind;
 use rdf_lexical::{CharSlice, Class, RefusalKind, run_length, tag_length};
 
-const A: [char; 1] = ['a'];
+const A: &str = "a";
 
-const TRUE: [char; 4] = ['t', 'r', 'u', 'e'];
+const TRUE: &str = "true";
 
-const FALSE: [char; 5] = ['f', 'a', 'l', 's', 'e'];
+const FALSE: &str = "false";
 
-const PREFIX: [char; 6] = ['p', 'r', 'e', 'f', 'i', 'x'];
+const PREFIX: &str = "prefix";
 
-const BASE: [char; 4] = ['b', 'a', 's', 'e'];
+const BASE: &str = "base";
 
-// Whether a word is another.
-fn is_same(word: &CharSlice<'_>, other: &[char]) -> bool
+// Whether a word is another, of small letters.
+fn is_same(word: &CharSlice<'_>, other: &str) -> bool
+    requires { Words.has_small_letters other.now ≡ true }
     ensures { result ≡ bytes_eq word.now other.now }
 {
-    let mut rest = word.whole();
-    let mut letters = other;
-    while let Some((character, after)) = rest.split_first() {
-        match letters {
-            [letter, more @ ..] => {
-                if character != *letter {
-                    return false;
-                }
-                rest = after;
-                letters = more;
-            }
-            [] => return false,
-        }
-    }
-    letters.is_empty()
+    word.as_text() == other
 }
 
-// Whether a word is another in any case.
-fn is_in_any_case(word: &CharSlice<'_>, other: &[char]) -> bool
+// Whether a word is another, of small letters, in any case.
+fn is_in_any_case(word: &CharSlice<'_>, other: &str) -> bool
+    requires { Words.has_small_letters other.now ≡ true }
     ensures { result ≡ Words.is_in_any_case word.now other.now }
 {
-    let mut rest = word.whole();
-    let mut letters = other;
-    while let Some((character, after)) = rest.split_first() {
-        match letters {
-            [letter, more @ ..] => {
-                if character.to_ascii_lowercase() != *letter {
-                    return false;
-                }
-                rest = after;
-                letters = more;
-            }
-            [] => return false,
-        }
-    }
-    letters.is_empty()
+    word.as_text().eq_ignore_ascii_case(other)
 }
 
-// Whether the characters are the beginning of a word.
-fn begins_word(word: &[char], characters: &CharSlice<'_>) -> bool
+// Whether the characters are the beginning of a word, of small letters.
+fn begins_word(word: &str, characters: &CharSlice<'_>) -> bool
+    requires { Words.has_small_letters word.now ≡ true }
     ensures { result ≡ starts_with nat_eq word.now characters.now }
 {
-    let mut rest = characters.whole();
-    let mut letters = word;
-    while let Some((character, after)) = rest.split_first() {
-        match letters {
-            [letter, more @ ..] => {
-                if character != *letter {
-                    return false;
-                }
-                rest = after;
-                letters = more;
-            }
-            [] => return false,
-        }
-    }
-    true
+    word.as_bytes().starts_with(characters.as_text().as_bytes())
 }
 
 // The kind of a word without a colon, if it is one of the grammar's.
 fn word_kind(word: &CharSlice<'_>) -> Option<TokenKind>
     ensures { result ≡ Words.word_kind word.now }
 {
-    if is_same(word, &A) {
+    if is_same(word, A) {
         Some(TokenKind::A)
-    } else if is_same(word, &TRUE) {
+    } else if is_same(word, TRUE) {
         Some(TokenKind::True)
-    } else if is_same(word, &FALSE) {
+    } else if is_same(word, FALSE) {
         Some(TokenKind::False)
-    } else if is_in_any_case(word, &PREFIX) {
+    } else if is_in_any_case(word, PREFIX) {
         Some(TokenKind::Prefix)
-    } else if is_in_any_case(word, &BASE) {
+    } else if is_in_any_case(word, BASE) {
         Some(TokenKind::Base)
     } else {
         None
@@ -102,9 +63,9 @@ fn word_kind(word: &CharSlice<'_>) -> Option<TokenKind>
 fn directive_kind(word: &CharSlice<'_>) -> Option<TokenKind>
     ensures { result ≡ Words.directive_kind word.now }
 {
-    if is_same(word, &PREFIX) {
+    if is_same(word, PREFIX) {
         Some(TokenKind::AtPrefix)
-    } else if is_same(word, &BASE) {
+    } else if is_same(word, BASE) {
         Some(TokenKind::AtBase)
     } else {
         None
@@ -115,7 +76,7 @@ fn directive_kind(word: &CharSlice<'_>) -> Option<TokenKind>
 fn begins_directive(characters: &CharSlice<'_>) -> bool
     ensures { result ≡ Words.begins_directive characters.now }
 {
-    begins_word(&PREFIX, characters) || begins_word(&BASE, characters)
+    begins_word(PREFIX, characters) || begins_word(BASE, characters)
 }
 
 fn language_tag(characters: &CharSlice<'_>) -> Result<(TokenKind, usize), RefusalKind>

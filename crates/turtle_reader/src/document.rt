@@ -80,16 +80,7 @@ fn read_slice(
     Ok(found_in(state))
 }
 
-// The characters of a text, in as much room as they need.
-fn characters_of(alloc: Global, text: &str) -> Result<Vec<char>, ReadFault>
-    ensures { MatchResult result (λ v. (v.items ≡ chars text.now) × (length v.items ≤ length text.now)) (λ fault. fault ≡ ReadFault.Memory) }
-{
-    let mut characters = Vec::with_capacity(alloc, text.chars().count())?;
-    characters.extend(text.chars())?;
-    Ok(characters)
-}
-
-// The triples of a text in their order there, and the next number of a blank node, by its bytes where it is ASCII.
+// The triples of a text in their order there, and the next number of a blank node.
 fn read_characters(
     alloc: Global,
     session: u32,
@@ -101,11 +92,7 @@ fn read_characters(
         MatchResult result (λ found. reading ≡ Ok found) (λ fault. Refuses fault reading) }
     ensures room { IfOk result (λ found. (first ≤ found.1) × (found.1 ≤ first + length text.now)) }
 {
-    if text.is_ascii() {
-        return read_slice(alloc, session, first, &CharSlice::of_ascii(text));
-    }
-    let characters = characters_of(alloc, text)?;
-    read_slice(alloc, session, first, &CharSlice::of_chars(&characters))
+    read_slice(alloc, session, first, &CharSlice::of_text(text))
 }
 
 // The triples of a text in their order there. Blank nodes are numbered from `next` on.

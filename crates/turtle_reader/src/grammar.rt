@@ -3,7 +3,7 @@ ghost use Rattle.std.specs.Prelude.{◌≡◌, suc, ◌+◌, ◌<◌, ◌≤◌,
 ghost use Rattle.turtle_reader.specs.Grammar;
 ghost use Rattle.turtle_reader.specs.Parsers.{left};
 ghost use Rattle.turtle_reader.specs.Stack as stack;
-ghost use Rattle.turtle_reader.specs.Progress.{Gives, Goes, IsReady, Moved, need, weight};
+ghost use Rattle.turtle_reader.specs.Progress.{Gives, Goes, IsReady, IsTokenOf, Moved, need, weight};
 
 use crate::objects::{next_predicate, read_collection, read_object};
 use crate::state::State;
@@ -69,6 +69,7 @@ fn read_subject(
     token: Token,
     levels: usize,
 ) -> Result<Term, ReadFault>
+    requires token { IsTokenOf text.now token }
     requires ready { IsReady text.now state.old }
     requires size { length text.now < 2 ^ 32 }
     requires room { need text.now state.old + weight token.kind < 2 ^ 32 }
@@ -94,6 +95,7 @@ fn read_subject_triples(
     token: Token,
     levels: usize,
 ) -> Result<(), ReadFault>
+    requires token { IsTokenOf text.now token }
     requires ready { IsReady text.now state.old }
     requires size { length text.now < 2 ^ 32 }
     requires room { need text.now state.old + weight token.kind < 2 ^ 32 }
@@ -177,6 +179,7 @@ fn read_triples(
     token: Token,
     levels: usize,
 ) -> Result<(), ReadFault>
+    requires token { IsTokenOf text.now token }
     requires ready { IsReady text.now state.old }
     requires size { length text.now < 2 ^ 32 }
     requires room { need text.now state.old + weight token.kind < 2 ^ 32 }
@@ -198,6 +201,7 @@ fn read_dotted(
     token: Token,
     levels: usize,
 ) -> Result<(), ReadFault>
+    requires token { IsTokenOf text.now token }
     requires ready { IsReady text.now state.old }
     requires size { length text.now < 2 ^ 32 }
     requires room { need text.now state.old + weight token.kind < 2 ^ 32 }
@@ -219,6 +223,7 @@ fn read_to_dot(
     token: Token,
     levels: usize,
 ) -> Result<(), ReadFault>
+    requires token { IsTokenOf text.now token }
     requires ready { IsReady text.now state.old }
     requires size { length text.now < 2 ^ 32 }
     requires room { need text.now state.old + weight token.kind < 2 ^ 32 }

@@ -1,7 +1,7 @@
 //! Literals, by their tokens.
 ghost use Rattle.std.specs.Prelude.{◌≡◌, ◌+◌, ◌<◌, ◌≤◌, ◌^◌, length, IfOk, OnOk, codes};
 ghost use Rattle.turtle_reader.specs.declared.state.State.{State as StateData};
-ghost use Rattle.turtle_reader.specs.Progress.{Gives, IsReady, Moved};
+ghost use Rattle.turtle_reader.specs.Progress.{Gives, IsReady, IsTokenOf, Moved};
 ghost use Rattle.turtle_reader.specs.Terms;
 
 use crate::names::read_iri;
@@ -36,6 +36,7 @@ pub fn plain(
     datatype: &str,
     token: Token,
 ) -> Result<Term, ReadFault>
+    requires { IsTokenOf text.now token }
     ensures { (state : StateData) → Gives result state (Terms.plain text.now datatype.now token state) }
 {
     let lexical = plain_text(alloc, &token_text(text, token))?;
@@ -52,6 +53,7 @@ pub fn plain(
 
 // The tag of a LANGTAG, in lower case.
 fn tag_of(alloc: Global, text: &CharSlice<'_>, token: Token) -> Result<Text, AllocError>
+    requires { IsTokenOf text.now token }
     ensures { IfOk result (λ tag. tag ≡ Terms.tag_of text.now token) }
 {
     lower_text(alloc, &token_text(text, token).behind(1))
@@ -156,6 +158,7 @@ pub fn read_string(
     quotes: Quotes,
     token: Token,
 ) -> Result<Term, ReadFault>
+    requires token { IsTokenOf text.now token }
     requires ready { IsReady text.now state.old }
     requires size { length text.now < 2 ^ 32 }
     ensures reads { Gives result state.new (Terms.string text.now quotes token state.old) }

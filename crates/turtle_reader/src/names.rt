@@ -2,7 +2,7 @@
 ghost use Rattle.std.specs.Prelude.{◌≡◌, ◌+◌, ◌<◌, ◌≤◌, ◌^◌, true, ◌++◌, length, Ok, Some, None, IfOk, IfSome, OnOk};
 ghost use Rattle.iri_ref.specs.Resolution;
 ghost use Rattle.iri_ref.specs.Scheme;
-ghost use Rattle.turtle_reader.specs.Progress.{Gives, IsReady, Moved, need};
+ghost use Rattle.turtle_reader.specs.Progress.{Gives, IsReady, IsTokenOf, Moved, need};
 ghost use Rattle.turtle_reader.specs.Terms;
 
 use crate::state::State;
@@ -59,6 +59,7 @@ pub fn resolved_iri(
     state: &State,
     token: Token,
 ) -> Result<Text, ReadFault>
+    requires token { IsTokenOf text.now token }
     requires ready { IsReady text.now state.now }
     ensures reads { Gives result state.now (Terms.resolved_iri text.now token state.now) }
     ensures scheme { IfOk result (λ iri. Scheme.has_scheme iri ≡ true) }
@@ -72,6 +73,7 @@ pub fn resolved_iri(
 
 /// The prefix of a PNAME_NS or PNAME_LN.
 pub fn prefix_of(alloc: Global, text: &CharSlice<'_>, token: Token) -> Result<Name, AllocError>
+    requires { IsTokenOf text.now token }
     ensures { IfOk result (λ prefix. prefix ≡ Terms.prefix_of text.now token) }
 {
     let (prefix, _) = split_name(&token_text(text, token));
@@ -87,6 +89,7 @@ fn named_iri(
     iri: &Text,
     token: Token,
 ) -> Result<Text, AllocError>
+    requires { IsTokenOf text.now token }
     ensures { IfOk result (λ named. named ≡ iri.now ++ Terms.local_of text.now token) }
 {
     let (_, local) = split_name(&token_text(text, token));
@@ -104,6 +107,7 @@ fn prefixed_iri(
     state: &State,
     token: Token,
 ) -> Result<Text, ReadFault>
+    requires { IsTokenOf text.now token }
     ensures { Gives result state.now (Terms.prefixed_iri text.now token state.now) }
 {
     let prefix = prefix_of(alloc, text, token)?;
@@ -121,6 +125,7 @@ pub fn read_iri(
     state: &State,
     token: Token,
 ) -> Result<Text, ReadFault>
+    requires token { IsTokenOf text.now token }
     requires ready { IsReady text.now state.now }
     ensures { Gives result state.now (Terms.iri text.now token state.now) }
 {
@@ -133,6 +138,7 @@ pub fn read_iri(
 
 // The label of a BLANK_NODE_LABEL.
 fn label_of(alloc: Global, text: &CharSlice<'_>, token: Token) -> Result<Name, AllocError>
+    requires { IsTokenOf text.now token }
     ensures { IfOk result (λ label. label ≡ Terms.label_of text.now token) }
 {
     let label = token_text(text, token).behind(2);
@@ -149,6 +155,7 @@ pub fn labelled(
     state: &mut State,
     token: Token,
 ) -> Result<Term, ReadFault>
+    requires token { IsTokenOf text.now token }
     requires ready { IsReady text.now state.old }
     requires room { need text.now state.old + 1 < 2 ^ 32 }
     ensures reads { Gives result state.new (Terms.labelled text.now token state.old) }

@@ -5,7 +5,7 @@ ghost use Rattle.turtle_reader.specs.declared.frame.Frame.TheVariants as frames;
 ghost use Rattle.turtle_reader.specs.Grammar;
 ghost use Rattle.turtle_reader.specs.Parsers.{left};
 ghost use Rattle.turtle_reader.specs.Stack as stack;
-ghost use Rattle.turtle_reader.specs.Progress.{Gives, Goes, IsReady, Moved, need, spare, weight};
+ghost use Rattle.turtle_reader.specs.Progress.{Gives, Goes, IsReady, IsTokenOf, Moved, need, spare, weight};
 
 use crate::frame::Frame;
 use crate::open::Open;
@@ -305,6 +305,7 @@ fn after_token(
     brackets: &mut Open,
     token: Token,
 ) -> Result<Option<Term>, ReadFault>
+    requires token { IsTokenOf text.now token }
     requires ready { IsReady text.now state.old }
     requires size { length text.now < 2 ^ 32 }
     requires room { need text.now state.old + weight token.kind < 2 ^ 32 }

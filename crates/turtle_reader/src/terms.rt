@@ -2,7 +2,7 @@
 ghost use Rattle.std.specs.Prelude.{◌≡◌, ℕ, ◌+◌, ◌<◌, ◌≤◌, ◌^◌, true, List, length, Ok, Some, IfOk, OnOk};
 ghost use Rattle.iri_ref.specs.Scheme;
 ghost use Rattle.turtle_reader.specs.Grammar;
-ghost use Rattle.turtle_reader.specs.Progress.{Gives, IsReady, Moved, need, weight};
+ghost use Rattle.turtle_reader.specs.Progress.{Gives, IsReady, IsTokenOf, Moved, need, weight};
 ghost use Rattle.turtle_reader.specs.Terms;
 
 use crate::literals::{plain, read_string};
@@ -55,6 +55,7 @@ fn iri_term(
     state: &State,
     token: Token,
 ) -> Result<Term, ReadFault>
+    requires token { IsTokenOf text.now token }
     requires ready { IsReady text.now state.now }
     ensures { Gives result state.now (Grammar.iri_term text.now token state.now) }
 {
@@ -69,6 +70,7 @@ pub fn read_term(
     state: &mut State,
     token: Token,
 ) -> Result<Term, ReadFault>
+    requires token { IsTokenOf text.now token }
     requires ready { IsReady text.now state.old }
     requires room { need text.now state.old + weight token.kind < 2 ^ 32 }
     requires size { length text.now < 2 ^ 32 }
@@ -104,6 +106,7 @@ fn verb_of(
     state: &State,
     token: Token,
 ) -> Result<Term, ReadFault>
+    requires token { IsTokenOf text.now token }
     requires ready { IsReady text.now state.now }
     ensures { Gives result state.now (Grammar.verb_of token.kind text.now token state.now) }
 {

@@ -1,33 +1,18 @@
-use Rattle.std.proofs.Common.{◌∙◌, ◌<◌, List, ℕ, length, sym, subst, arith}
+use Rattle.std.proofs.Common.{◌<◌, List, ℕ, length, sym, subst, arith}
 use Rattle.ntriples_text.proofs.Characters.{fewer_chars}
 use Rattle.ntriples_text.proofs.Lines.{some_chars, more_room}
 use Rattle.ntriples_text.proofs.document.add_text.Goals as goal
 
 pub add_characters-requires-clause-line : goal.add_characters-requires-clause-line
 add_characters-requires-clause-line c =
-    subst (λ (cs : List ℕ). 0 < length cs) (sym c.of_ascii.ensures) (some_chars c.args.line.now c.utf8.line c.requires.line)
+    subst (λ (cs : List ℕ). 0 < length cs) (sym c.of_text-characters.ensures) (some_chars c.args.line.now c.utf8.line c.requires.line)
 
 pub add_characters-requires-clause-room : goal.add_characters-requires-clause-room
 add_characters-requires-clause-room c =
-    let fewer = fewer_chars c.args.line.now c.of_ascii.result c.utf8.line c.of_ascii.ensures in
-    omega (arith, fewer.1)
-
-pub returns-then-is_ascii-clause-room : goal.returns-then-is_ascii-clause-room
-returns-then-is_ascii-clause-room c =
-    let fewer = fewer_chars c.args.line.now c.of_ascii.result c.utf8.line c.of_ascii.ensures in
-    more_room c.add_characters.result _ _ _ _ fewer.1 c.add_characters.ensures.room
-
-pub add_characters-requires-2-clause-line : goal.add_characters-requires-2-clause-line
-add_characters-requires-2-clause-line c =
-    let same = c.of_chars.ensures ∙ c.deref.ensures.value ∙ c.in_ok-characters.ensures in
-    subst (λ (cs : List ℕ). 0 < length cs) (sym same) (some_chars c.args.line.now c.utf8.line c.requires.line)
-
-pub add_characters-requires-2-clause-room : goal.add_characters-requires-2-clause-room
-add_characters-requires-2-clause-room c =
-    let fewer = fewer_chars c.args.line.now c.of_chars.result c.utf8.line (c.of_chars.ensures ∙ c.deref.ensures.value ∙ c.in_ok-characters.ensures) in
+    let fewer = fewer_chars c.args.line.now c.of_text-characters.result c.utf8.line c.of_text-characters.ensures in
     omega (arith, fewer.1)
 
 pub returns-clause-room : goal.returns-clause-room
 returns-clause-room c =
-    let fewer = fewer_chars c.args.line.now c.of_chars.result c.utf8.line (c.of_chars.ensures ∙ c.deref.ensures.value ∙ c.in_ok-characters.ensures) in
-    more_room c.add_characters-2.result _ _ _ _ fewer.1 c.add_characters-2.ensures.room
+    let fewer = fewer_chars c.args.line.now c.of_text-characters.result c.utf8.line c.of_text-characters.ensures in
+    more_room c.add_characters.result _ _ _ _ fewer.1 c.add_characters.ensures.room
