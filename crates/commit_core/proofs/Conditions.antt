@@ -1,5 +1,5 @@
 -- The tests of what may be asked for tell exactly the plain store's conditions.
-use Rattle.std.proofs.Common.{◌≡◌, ℕ, ◌+◌, ◌≤◌, Bool, true, false, ◌&&◌, cond, nat_le, nat_lt, List, [], ◌∷◌, Option, Some, None, refl, sym, ◌∙◌, subst, arith}
+use Rattle.std.proofs.Common.{◌≡◌, ℕ, zero, suc, ◌+◌, ◌<◌, ◌≤◌, Bool, true, false, ◌&&◌, cond, nat_le, nat_lt, List, [], ◌∷◌, length, get_or, map, Option, Some, None, refl, sym, ap, ◌∙◌, subst, arith}
 use Rattle.std.specs.Prelude.{MatchBool}
 use Rattle.std.specs.List.{AllByRecursion, list_all}
 use Rattle.std.proofs.lemmas.Bool.Decides.{nat_tests}
@@ -18,6 +18,8 @@ use Rattle.store_model.specs.declared.event.Limits.{Limits}
 use Rattle.store_model.specs.declared.event.Reply.{Reply}
 use Rattle.store_model.specs.Logs.{IsUnlogged}
 use Rattle.store_model.specs.Store.{AreNamed, HasChange, IsCommittable, IsOpened, OpensNext, OpensNothing, RecordedStore, StagedNamed, State, StepOf, TakesStep, VerdictFits, changed_triple, looked_at, terms_of, version}
+use Rattle.triple_index.specs.Changes.{change_at}
+use Rattle.triple_index.specs.declared.change.NumberedChange.{NumberedChange}
 use Rattle.commit_core.specs.Conditions.{change_named, has_change, look_named, may_ask, may_commit, next_session, staged_named, triple_named, verdict_fits, was_opened}
 use Rattle.commit_core.specs.Replaying.{Performs}
 
@@ -28,6 +30,16 @@ both false b h = cc
 pub joined : (a b : Bool) → a ≡ true → b ≡ true → (a && b) ≡ true
 joined true b e h = h
 joined false b e h = cc
+
+-- a change that isn't named
+and_false : (a b : Bool) → b ≡ false → (a && b) ≡ false
+and_false true b h = h
+and_false false b h = refl
+
+pub not_all_named : (named ts : List Term) (cs : List NumberedChange) (k : ℕ) (d : NumberedChange) → k < length cs → change_named named (change_at ts (get_or cs k d)) ≡ false → list_all (change_named named) (map (change_at ts) cs) ≡ false
+not_all_named named ts [] k d lt e = absurd (omega (arith, lt))
+not_all_named named ts (c ∷ cs) zero d lt e = ap (λ b. b && list_all (change_named named) (map (change_at ts) cs)) e
+not_all_named named ts (c ∷ cs) (suc k) d lt e = and_false (change_named named (change_at ts c)) (list_all (change_named named) (map (change_at ts) cs)) (not_all_named named ts cs k d (omega (arith, lt)) e)
 
 -- a test of each element
 told : {X : Type 0} (test : X → Bool) (P : X → Type 0) → ((x : X) → test x ≡ true → P x) → (xs : List X) → list_all test xs ≡ true → AllByRecursion P xs

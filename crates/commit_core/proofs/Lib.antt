@@ -1,4 +1,5 @@
 pub mod NamedTerms
+mod NamedLists
 pub mod Running
 pub mod Consistency
 pub mod Outcomes

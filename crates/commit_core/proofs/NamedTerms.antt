@@ -45,7 +45,7 @@ found : (b : Bool) (named : List Term) (t : Term) → has named t ≡ true → (
 found true named t h = refl
 found false named t h = h
 
-name_has : (named : List Term) (t : Term) → Contains named t → has named t ≡ true
+pub name_has : (named : List Term) (t : Term) → Contains named t → has named t ≡ true
 name_has [] t c = absurd (omega arith)
 name_has (x ∷ xs) t c = elim (has_cases x xs t c) [
   | inl e ↦ ap (λ b. b || has xs t) (equal_same x t e)
@@ -216,12 +216,19 @@ module _ (kind : NameKind) (graph : NamedGraph) (given terms : List Term) (n : N
   block_follows first b =
       begins_then first graph.terms n.graph.terms b (subst (λ (us : List Term). IsBeginning graph.terms us) (sym (ap (λ (g : NamedGraph). g.terms) is.graph_is)) (begins_with graph.terms terms))
 
-  block_numbers : AreNumbersOf n.names.terms terms n.kept
-  block_numbers =
-      subst (λ (us : List Term). AreNumbersOf us terms n.kept) (sym is.names_are) (subst (λ (ns : List ℕ). AreNumbersOf n.graph.terms terms ns) (sym is.kept_are) is.numbers_are)
+  module _ (numbers : List ℕ) (are : AreNumbersOf n.graph.terms terms numbers) where
+    block_numbers : AreNumbersOf n.names.terms terms numbers
+    block_numbers = subst (λ (us : List Term). AreNumbersOf us terms numbers) (sym is.names_are) are
 
-  pub block_told : terms_at n.names.terms n.kept ≡ terms
-  block_told = numbers_told n.names.terms terms n.kept block_numbers
+    pub block_told : terms_at n.names.terms numbers ≡ terms
+    block_told = numbers_told n.names.terms terms numbers block_numbers
 
-  pub block_has : AllByRecursion (λ i. i < length n.names.terms) n.kept
-  block_has = numbers_have n.names.terms terms n.kept block_numbers
+    pub block_has : AllByRecursion (λ i. i < length n.names.terms) numbers
+    block_has = numbers_have n.names.terms terms numbers block_numbers
+
+    -- they are the numbers that the terms have
+    pub block_own : IsNumbering graph.terms → numbers ≡ numbers_of n.names.terms terms
+    block_own k =
+        let all : n.graph.terms ≡ named_with graph.terms terms = ap (λ (g : NamedGraph). g.terms) is.graph_is ∙ same_names graph.terms terms in
+        let apart = subst (λ (us : List Term). IsNumbering us) (sym all) (numbered_with graph.terms terms k) in
+        subst (λ (us : List Term). numbers ≡ numbers_of us terms) (sym is.names_are) (numbers_at n.graph.terms terms numbers apart are)

@@ -4,7 +4,7 @@ use Rattle.std.specs.Prelude.{◌⊎◌, MatchOption}
 use Rattle.std.specs.Borrow.{Bor}
 use Rattle.std.specs.List.{All, Contains, flat_map}
 use Rattle.std.proofs.lemmas.List.{map-append, take_all, take_more}
-use Rattle.std.proofs.lemmas.List.Elements.{All-contains, Contains-append_cases, Contains-append_left, Contains-append_right}
+use Rattle.std.proofs.lemmas.List.Elements.{All-contains, Contains-append_left, Contains-append_right}
 use Rattle.rdf_model.specs.declared.term.Term.{Term}
 use Rattle.rdf_model.specs.declared.triple.Triple.{Triple}
 use Rattle.rdf_model.specs.declared.change.Change.{Change}
@@ -12,12 +12,11 @@ use Rattle.rdf_model.specs.declared.change.Change.TheVariants.{Add}
 use Rattle.rdf_model.specs.Graphs.{after, with_each}
 use Rattle.rdf_model.specs.declared.ids.Ids.{Ids}
 use Rattle.rdf_model.specs.Numbers.{AreNumbered, IsNumbering, graph_of, triple_at}
-use Rattle.rdf_model.specs.Orders.{triple_exact, triple_total}
+use Rattle.rdf_model.specs.Orders.{triple_total}
 use Rattle.rdf_model.specs.Terms.{term_cmp, triple_cmp}
-use Rattle.collections.specs.Listings.{IsListing}
 use Rattle.collections.specs.Ordered.{IsAscending, has_item, with_item, without_item}
 use Rattle.collections.proofs.Ascending.{IsAscending-with_item, IsAscending-without_item}
-use Rattle.collections.proofs.Members.{has_cases, has_equal, has_head, has_tail, same_lists, with_cases, with_new, with_old, without_old}
+use Rattle.collections.proofs.Members.{has_cases, has_equal, has_head, has_tail, with_cases, without_old}
 use Rattle.record_text.specs.declared.record.Record.{Record}
 use Rattle.commit_log.specs.Format.{AreRecordsFrom}
 use Rattle.store_model.specs.declared.commit.Accepted.{Accepted}

@@ -2,14 +2,18 @@
 ghost use Rattle.std.specs.Prelude.{◌≡◌};
 ghost use Rattle.std.specs.List.{list_all};
 ghost use Rattle.collections.specs.Ordered.{has_item};
+ghost use Rattle.rdf_model.specs.Numbers.{triple_at};
 ghost use Rattle.rdf_model.specs.Terms.{term_cmp};
+ghost use Rattle.triple_index.specs.Changes.{IsNumbered, IsNumberedChange, change_at};
 ghost use Rattle.commit_core.specs.Conditions;
 ghost use Rattle.commit_core.specs.Conditions.{change_named, has_change, look_named, staged_named, triple_named, triples_named, verdict_fits};
 
-use rdf_model::{Change, Look, Names, Term, Triple};
+use numbered_lists::Net;
+use rdf_model::{Ids, Look, Names, Term, Triple};
 use shapes_graph::ShapesGraph;
 use store_model::{Transaction, Verdict};
 use term_dict::Dict;
+use triple_index::NumberedChange;
 
 fn has_name(named: &Dict, term: &Term) -> bool
     ensures { result ≡ has_item term_cmp term.now named.now.terms }
@@ -31,12 +35,23 @@ fn are_triples_named(named: &Dict, triples: &[Triple]) -> bool
     triples.iter().all(|triple| is_triple_named(named, triple))
 }
 
-fn is_change_named(named: &Dict, change: &Change) -> bool
-    ensures { result ≡ change_named named.now.terms change.now }
+// Whether the triple of these places in the terms is named.
+fn is_place_named(named: &Dict, terms: &[Term], ids: &Ids) -> bool
+    requires { IsNumbered terms.now ids.now }
+    ensures { result ≡ triple_named named.now.terms (triple_at terms.now ids.now) }
+{
+    has_name(named, &terms[ids.subject as usize])
+        && has_name(named, &terms[ids.predicate as usize])
+        && has_name(named, &terms[ids.object as usize])
+}
+
+fn is_change_named(named: &Dict, terms: &[Term], change: &NumberedChange) -> bool
+    requires { IsNumberedChange terms.now change.now }
+    ensures { result ≡ change_named named.now.terms (change_at terms.now change.now) }
 {
     match change {
-        Change::Add(triple) => is_triple_named(named, triple),
-        Change::Remove(triple) => is_triple_named(named, triple),
+        NumberedChange::Add(ids) => is_place_named(named, terms, ids),
+        NumberedChange::Remove(ids) => is_place_named(named, terms, ids),
     }
 }
 
@@ -78,7 +93,7 @@ fn does_verdict_fit(version: u64, named: &Dict, verdict: &Option<Verdict>) -> bo
 }
 
 // Whether there is a change or a staged shapes graph.
-fn changes_something(net: &[Change], staged: &Option<ShapesGraph>) -> bool
+fn changes_something(net: &Net, staged: &Option<ShapesGraph>) -> bool
     ensures { result ≡ has_change net.now staged.now }
 {
     match staged {
@@ -87,17 +102,23 @@ fn changes_something(net: &[Change], staged: &Option<ShapesGraph>) -> bool
     }
 }
 
-fn are_changes_named(named: &Dict, net: &[Change]) -> bool
+fn are_changes_named(named: &Dict, net: &Net) -> bool
     ensures { result ≡ list_all (change_named named.now.terms) net.now }
 {
-    net.iter().all(|change| is_change_named(named, change))
+    let (terms, changes) = net.parts();
+    for change in changes {
+        if !is_change_named(named, terms, change) {
+            return false;
+        }
+    }
+    true
 }
 
 /// Whether the transaction may be committed at this version, where these terms are named.
 pub fn may_commit(version: u64, named: &Dict, transaction: &Transaction) -> bool
     ensures { result ≡ Conditions.may_commit version named.now.terms transaction.now }
 {
-    let net = transaction.net.as_slice();
+    let net = &transaction.net;
     transaction.base <= version
         && changes_something(net, &transaction.staged)
         && are_changes_named(named, net)

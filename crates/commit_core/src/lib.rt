@@ -15,6 +15,7 @@ mod bounds;
 mod checked;
 mod commit;
 mod logging;
+mod name_list;
 mod naming;
 mod outcome;
 mod reasons;

@@ -10,7 +10,6 @@ ghost use Rattle.term_dict.specs.Names.{AreNumbersOf, with_terms};
 ghost use Rattle.data_graph.specs.DataGraphs.{names_of, with_names};
 ghost use Rattle.commit_core.specs.Naming.{IsNaming, first_of};
 
-use collections::Sequence;
 use data_graph::ValidatedGraph;
 use page_index::Pages;
 use rdf_model::Term;
@@ -119,14 +118,12 @@ pub(crate) fn unknown_node(
     }
 }
 
-/// The terms of a block as they are named: the graph with their names, the nodes that are given out then, a share of the names,
-/// and the numbers of the terms, for the answer and for the history.
+/// The terms of a block as they are named: the graph with their names, the nodes that are given out then, and a share of the
+/// names.
 pub(crate) struct NamedTerms {
     pub(crate) graph: ValidatedGraph,
     pub(crate) given: Pages<Term>,
     pub(crate) names: Dict,
-    pub(crate) numbers: Sequence<u32>,
-    pub(crate) kept: Sequence<u32>,
 }
 
 // Written by hand, so that what owns one calls it in place of having it written out.
@@ -136,32 +133,21 @@ impl Drop for NamedTerms {
             graph: _,
             given: _,
             names: _,
-            numbers: _,
-            kept: _,
         } = self;
     }
 }
 
 impl NamedTerms {
-    pub(crate) fn into_parts(
-        self,
-    ) -> (
-        ValidatedGraph,
-        Pages<Term>,
-        Dict,
-        Sequence<u32>,
-        Sequence<u32>,
-    )
-        ensures { result ≡ (self.graph, self.given, self.names, self.numbers, self.kept) }
+    // The graph, the nodes, and the names.
+    pub(crate) fn into_parts(self) -> (ValidatedGraph, Pages<Term>, Dict)
+        ensures { result ≡ (self.graph, self.given, self.names) }
     {
         let NamedTerms {
             graph,
             given,
             names,
-            numbers,
-            kept,
         } = self;
-        (graph, given, names, numbers, kept)
+        (graph, given, names)
     }
 }
 
@@ -180,26 +166,24 @@ fn with_numbers(
     Ok((named, numbers))
 }
 
-/// Names the terms of a block of this kind in another graph.
+/// Names the terms of a block of this kind in another graph, and gives their numbers.
 pub(crate) fn name_terms(
-    alloc: Global,
     graph: &ValidatedGraph,
     kind: NameKind,
     given: &Pages<Term>,
     terms: &[Term],
-) -> Result<NamedTerms, NameFault>
-    ensures named { IfOk result (IsNaming kind graph.now given.now terms.now) }
+) -> Result<(NamedTerms, Vec<u32>), NameFault>
+    ensures named { IfOk result (λ named. IsNaming kind graph.now given.now terms.now named.0) }
+    ensures numbers { IfOk result (λ named. AreNumbersOf named.0.graph.terms terms.now named.1.items) }
     ensures cause { IfErr result (λ fault. IsCause fault (names_of graph.now) terms.now) }
 {
     let given = given_after(kind, given, terms)?;
     let (graph, numbers) = with_numbers(graph, terms)?;
     let names = graph.names().share()?;
-    let kept = Vec::from_slice(alloc, &numbers)?;
-    Ok(NamedTerms {
+    let named = NamedTerms {
         graph,
         given,
         names,
-        numbers: Sequence::from_vec(numbers),
-        kept: Sequence::from_vec(kept),
-    })
+    };
+    Ok((named, numbers))
 }

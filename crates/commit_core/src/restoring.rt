@@ -1,6 +1,7 @@
 //! A store restored from the records of a log.
 ghost use Rattle.std.specs.Prelude.{◌≡◌, ◌≤◌, ◌<◌, ◌+◌, ◌^◌, ◌∷◌, ◌++◌, [], IfErr, IfOk, MatchOption, MatchResult, OnOk, length, map, not};
 ghost use Rattle.std.specs.List.{All, list_all};
+ghost use Rattle.rdf_model.specs.declared.change.Change.TheVariants as changes;
 ghost use Rattle.rdf_model.specs.Graphs.{with_each};
 ghost use Rattle.rdf_model.specs.Numbers.{AreNumbered, graph_of};
 ghost use Rattle.rdf_model.specs.Terms.{triple_cmp};
@@ -21,9 +22,10 @@ use crate::outcome::Outcome;
 use crate::store::{Core, new_history};
 use collections::Sequence;
 use data_graph::{DataGraph, NumberHints};
+use numbered_lists::{Net, TripleList};
 use page_index::Pages;
 use parallel_validate::number_triple;
-use rdf_model::{Change, Ids, Term, Triple};
+use rdf_model::{Ids, Term, Triple};
 use record_text::Record;
 use shape_eval::Steps;
 use shapes_graph::ShapesGraph;
@@ -279,13 +281,12 @@ fn commits_of(alloc: Global, names: &Dict, records: &[Record]) -> Result<Commits
 }
 
 // The changes that add these triples.
-fn additions(alloc: Global, triples: &Pages<Triple>) -> Result<Vec<Change>, AllocError>
-    ensures { IfOk result (λ net. net.items ≡ map Change.Add triples.now) }
+fn additions(alloc: Global, triples: &Pages<Triple>) -> Result<Net, AllocError>
+    ensures { IfOk result (λ net. net ≡ map changes.Add triples.now) }
 {
-    let mut net = Vec::with_capacity(alloc, triples.len())?;
-    for triple in triples.iter() {
-        net.push(Change::Add(triple.clone()?))?;
-    }
+    let keys = triples.keys()?;
+    let mut net = Net::new(alloc);
+    net.add_all(alloc, TripleList::copied_from(alloc, &keys)?)?;
     Ok(net)
 }
 

@@ -16,7 +16,8 @@ use crate::checked::CheckedNet;
 use bgp_query::{JoinFault, JoinPattern};
 use collections::Sequence;
 use data_graph::{NumberHints, ValidatedGraph};
-use rdf_model::{Change, Pattern, Term, Triple};
+use numbered_lists::Net;
+use rdf_model::{Pattern, Term, Triple};
 use shape_eval::Steps;
 use shape_model::ResultRow;
 use shapes_graph::ShapesGraph;
@@ -107,7 +108,7 @@ impl Snap {
     pub fn find(
         &self,
         alloc: Global,
-        net: &[Change],
+        net: &Net,
         pattern: &Pattern,
     ) -> Result<Vec<Triple>, AllocError>
         ensures { IfOk result (λ v. v.items ≡ found (after self.now.graph net.now) pattern.now) }
@@ -120,7 +121,7 @@ impl Snap {
     /// are more than 100,000.
     pub fn select(
         &self,
-        net: &[Change],
+        net: &Net,
         patterns: &[JoinPattern<Term>],
     ) -> Result<Vec<Sequence<Term>>, JoinFault>
         ensures rows { IfOk result (λ rows. AreSelected (after self.now.graph net.now) patterns.now rows.items) }
@@ -136,7 +137,7 @@ impl Snap {
     /// or more.
     pub fn check<L: Ledger>(
         &self,
-        net: &[Change],
+        net: &Net,
         hints: &NumberHints,
         steps: &mut Steps<L>,
     ) -> Result<CheckedNet, AllocError>

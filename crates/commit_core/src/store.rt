@@ -3,6 +3,8 @@ ghost use Rattle.std.specs.Prelude.{false, ◌≡◌, ◌+◌, ◌≤◌, ◌<�
 ghost use Rattle.store_model.specs.Store.{RecordedStore, empty_store, Step, TakesStep, IsOpened, IsCommittable, NetNamed, numbers_of, version};
 ghost use Rattle.store_model.specs.Snapshots.{snapshot_of};
 ghost use Rattle.store_model.specs.Nodes.{unknown_by};
+ghost use Rattle.std.specs.List.{AllByRecursion};
+ghost use Rattle.event_history.specs.Named.{terms_at};
 ghost use Rattle.parallel_validate.specs.Counting.{GrowsByCount};
 ghost use Rattle.parallel_validate.specs.Verdicts.{IsEvaluated};
 ghost use Rattle.shape_model.specs.Validation.{Listing};
@@ -14,13 +16,14 @@ ghost use Rattle.commit_core.specs.Work.{AnswerSteps, CommitSteps, IsByResults, 
 ghost use Rattle.commit_core.specs.Consistent.{IsConsistent};
 ghost use Rattle.commit_core.specs.Outcomes.{IsOutcome};
 ghost use Rattle.commit_core.specs.Faults.{OpensNone, NamesNone};
+ghost use Rattle.commit_core.specs.Naming.{IsNaming};
 
 use crate::bounds::Bounds;
 use crate::commit::{
     Acceptance, CheckedTransaction, Commit, Plan, Reasons, Refusal, accepting, refusing,
     stage_shapes,
 };
-use crate::naming::{NamingFault, name_terms, unknown_node};
+use crate::naming::{NamedTerms, NamingFault, name_terms, unknown_node};
 use crate::outcome::Outcome;
 use crate::reasons::{find_reasons, has_held};
 use crate::snapshot::Snap;
@@ -29,8 +32,9 @@ use collections::Sequence;
 use data_graph::{DataGraph, NumberHints, ValidatedGraph};
 use event_history::{AcceptedCommit, History, NamedBlock, Slip};
 use kept_rows::PairRows;
+use numbered_lists::Net;
 use page_index::Pages;
-use rdf_model::{Change, Ids, Term};
+use rdf_model::{Ids, Term};
 use record_text::Record;
 use shape_eval::Steps;
 use shape_model::ResultRow;
@@ -254,6 +258,21 @@ impl Core {
         Ok(snap)
     }
 
+    // Puts the names of a block in place, and records it.
+    pub(crate) fn put_named(&mut self, slip: Slip, block: NamedBlock, named: NamedTerms)
+        requires opened { IsOpened self.old.state block.session }
+        requires known { unknown_by block.kind self.old.state.given (terms_at named.names.terms block.numbers) ≡ [] }
+        requires named { IsNaming block.kind (data_of self.old) self.old.state.given (terms_at named.names.terms block.numbers) named }
+        requires numbers { AllByRecursion (λ n. n < length named.names.terms) block.numbers }
+        ensures step { TakesStep self.old self.new (record { session = block.session; action = Action.Name block.kind (terms_at named.names.terms block.numbers); reply = Reply.Named }) }
+        ensures named { self.new.state.named ≡ named.names.terms }
+    {
+        let (graph, given, names) = named.into_parts();
+        self.history.push_named(slip, block, names);
+        self.graph = graph;
+        self.given = given;
+    }
+
     // Names the terms of a block for which no blank node stands in the way.
     fn name_known(
         &mut self,
@@ -269,18 +288,16 @@ impl Core {
             (λ fault. NamesNone fault self.old self.new session kind terms.now) }
         ensures numbers { IfOk result (λ numbers. numbers.items ≡ numbers_of self.new.state.named terms.now) }
     {
-        match name_terms(self.alloc, &self.graph, kind, &self.given, terms) {
-            Ok(named) => {
-                let (graph, given, names, numbers, kept) = named.into_parts();
+        match name_terms(&self.graph, kind, &self.given, terms) {
+            Ok((named, numbers)) => {
+                let kept = Vec::from_slice(self.alloc, &numbers)?;
                 let block = NamedBlock {
                     session,
                     kind,
-                    numbers: kept,
+                    numbers: Sequence::from_vec(kept),
                 };
-                self.history.push_named(slip, block, names);
-                self.graph = graph;
-                self.given = given;
-                Ok(numbers.into_vec())
+                self.put_named(slip, block, named);
+                Ok(numbers)
             }
             Err(NameFault::Full { count }) => {
                 let asked = Sequence::copied_from(self.alloc, terms)?;
@@ -348,7 +365,7 @@ impl Core {
     fn changed<L: Ledger>(
         &self,
         next: DataGraph,
-        net: &[Change],
+        net: &Net,
         hints: &NumberHints,
         steps: &mut Steps<L>,
     ) -> Result<Outcome, AllocError>
@@ -382,7 +399,7 @@ impl Core {
         let transaction = &checked.transaction;
         match &transaction.staged {
             Some(_) => Outcome::whole(self.bounds.mode, next, steps),
-            None => self.changed(next, transaction.net.as_slice(), &checked.hints, steps),
+            None => self.changed(next, &transaction.net, &checked.hints, steps),
         }
     }
 
@@ -465,7 +482,7 @@ impl Core {
         let (next, changed, net) = self
             .graph
             .graph()
-            .after_with_changed(transaction.net.as_slice(), &checked.hints)?;
+            .after_with_changed(&transaction.net, &checked.hints)?;
         let count = next.len();
         if count > self.bounds.triples {
             return Ok(Plan::TooLarge(count));

@@ -1,7 +1,7 @@
 -- What a find gives after changes is what it gave, after those changes that it asks for.
 use Rattle.std.proofs.Common.{◌≡◌, ◌∙◌, Bool, true, false, List, [], ◌∷◌, refl, sym, ap, subst, cond, inl, inr}
-use Rattle.std.specs.Prelude.{filter, ◌||◌}
-use Rattle.std.specs.List.{Contains, list_any}
+use Rattle.std.specs.Prelude.{filter}
+use Rattle.std.specs.List.{Contains}
 use Rattle.collections.specs.Listings.{IsListing}
 use Rattle.collections.specs.Ordered.{IsAscending, with_item, without_item}
 use Rattle.collections.proofs.Ascending.{IsAscending-with_item, IsAscending-without_item}
@@ -90,13 +90,6 @@ module _ (p : Pattern) where
     | true ↦ λ k. ap (λ (ts : List Triple). after ts (changes_asked p net)) (asked g c a k)
     | false ↦ λ f. ap (λ (ts : List Triple). after ts (changes_asked p net)) (other g c a f)
   ] refl)
-
-  pub none_asked : (net : List Change) → list_any (λ c. matches p (changed_triple c)) net ≡ false → changes_asked p net ≡ []
-  none_asked [] e = refl
-  none_asked (c ∷ net) e = elim (matches p (changed_triple c)) as (λ b. (b || list_any (λ c. matches p (changed_triple c)) net) ≡ false → cond b (c ∷ changes_asked p net) (changes_asked p net) ≡ []) [
-    | true ↦ λ h. cc h
-    | false ↦ λ h. none_asked net h
-  ] e
 
   -- by the numbers of an index
   pub found_indexed : (terms : List Term) (ids : List Ids) (g ts : List Triple) → IsAscending triple_cmp g → IsIndexOf terms ids g → IsListing triple_cmp (λ t. Contains (graph_of terms ids) t × (matches p t ≡ true)) ts → ts ≡ found g p

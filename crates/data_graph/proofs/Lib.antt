@@ -13,4 +13,5 @@ mod Existing
 mod Keeping
 mod Moved
 mod NoChecks
+mod ByPlaces
 mod Selecting

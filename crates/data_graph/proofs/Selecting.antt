@@ -1,11 +1,10 @@
 -- The terms of changes are named, and the bindings by number are those of the graph after them.
-use Rattle.std.proofs.Common.{◌≡◌, ◌∙◌, ℕ, List, [], ◌∷◌, get_or, sym, subst, arith, inl, inr}
+use Rattle.std.proofs.Common.{◌≡◌, ◌∙◌, ℕ, List, [], ◌∷◌, subst, arith, inl, inr}
 use Rattle.std.specs.Prelude.{Result, Ok, Err, IfOk, IfErr}
-use Rattle.std.specs.List.{Contains, flat_map}
+use Rattle.std.specs.List.{Contains}
 use Rattle.std.proofs.lemmas.List.{get_or_default}
-use Rattle.std.proofs.lemmas.List.Elements.{Contains-get_or}
 use Rattle.collections.specs.Ordered.{IsAscending}
-use Rattle.collections.proofs.Members.{has_cases, has_head, has_tail}
+use Rattle.collections.proofs.Members.{has_cases}
 use Rattle.rdf_model.specs.declared.change.Change.{Change}
 use Rattle.rdf_model.specs.declared.ids.Ids.{Ids}
 use Rattle.rdf_model.specs.declared.term.Term.{Term}
@@ -14,42 +13,25 @@ use Rattle.rdf_model.specs.declared.triple.Triple.{Triple}
 use Rattle.rdf_model.specs.Graphs.{after}
 use Rattle.rdf_model.specs.Numbers.{graph_of}
 use Rattle.rdf_model.specs.Terms.{triple_cmp}
-use Rattle.store_model.specs.Store.{changed_triple, terms_of}
 use Rattle.bgp_query.specs.declared.fault.JoinFault.{JoinFault}
 use Rattle.bgp_query.specs.declared.pattern.JoinPattern.{JoinPattern}
 use Rattle.bgp_query.specs.Selected.{AreSelected, IsJoinFault}
 use Rattle.term_dict.specs.Names.{AreNumbersOf, IsNumberOf, with_terms}
-use Rattle.term_joins.proofs.Assigned.{in_flat}
 use Rattle.term_joins.proofs.Selecting.{fault_as, selected_as}
-use Rattle.data_graph.specs.DataGraphs.{AreNamedChanges, IsIndexOf, KeepsIndex}
+use Rattle.data_graph.specs.DataGraphs.{IsIndexOf, KeepsIndex}
 use Rattle.data_graph.proofs.Growing.{named_more}
 
 -- a term that has a number is named
 number_named : (terms : List Term) (t : Term) (n : ℕ) → IsNumberOf terms t n → Contains terms t
 number_named terms t n i = (n, i.within, get_or_default terms n t (Blank 0 0) i.within ∙ i.is)
 
-numbers_named : (terms ts : List Term) (ns : List ℕ) → AreNumbersOf terms ts ns → (t : Term) → Contains ts t → Contains terms t
+pub numbers_named : (terms ts : List Term) (ns : List ℕ) → AreNumbersOf terms ts ns → (t : Term) → Contains ts t → Contains terms t
 numbers_named terms [] ns z t c = absurd (omega arith)
 numbers_named terms (u ∷ us) [] z t c = absurd z
 numbers_named terms (u ∷ us) (n ∷ ns) z t c = elim (has_cases u us t c) [
   | inl e ↦ subst (λ (v : Term). Contains terms v) e (number_named terms u n z.0)
   | inr d ↦ numbers_named terms us ns z.1 t d
 ]
-
--- the terms of changes that have numbers
-abbrev pub terms_changed : List Change → List Term
-terms_changed net = flat_map (λ c. terms_of (changed_triple c)) net
-
-pub changes_named : (terms : List Term) (net : List Change) (ts : List Term) (ns : List ℕ) → ts ≡ terms_changed net → AreNumbersOf terms ts ns → AreNamedChanges terms net
-changes_named terms net ts ns e z k d l =
-    let c = get_or net k d in
-    let t = changed_triple c in
-    let there = Contains-get_or net k d l in
-    let named = λ (x : Term) (i : Contains (terms_of t) x). numbers_named terms ts ns z x (subst (λ (us : List Term). Contains us x) (sym e) (in_flat (λ (c : Change). terms_of (changed_triple c)) net c x there i)) in (
-      named t.subject (has_head t.subject (t.predicate ∷ t.object ∷ [])),
-      named t.predicate (has_tail t.subject (t.predicate ∷ t.object ∷ []) t.predicate (has_head t.predicate (t.object ∷ []))),
-      named t.object (has_tail t.subject (t.predicate ∷ t.object ∷ []) t.object (has_tail t.predicate (t.object ∷ []) t.object (has_head t.object []))),
-    )
 
 -- the numbers after changes stand for the graph after them
 module _ (terms more ts : List Term) (grown : more ≡ with_terms terms ts) (ids later : List Ids) (net : List Change) (keeps : KeepsIndex more ids net later) where

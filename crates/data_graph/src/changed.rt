@@ -14,8 +14,8 @@ use std::alloc::{AllocError, Global};
 use term_dict::Dict;
 use triple_index::{Index, NumberedChange};
 
-// The numbers of the triple that a change adds or removes.
-fn numbers_of(change: &NumberedChange) -> Ids
+/// The numbers of the triple that a change adds or removes.
+pub(crate) fn numbers_of(change: &NumberedChange) -> Ids
     ensures { result ≡ ids_changed change.now }
 {
     match change {

@@ -31,8 +31,9 @@ use bgp_query::{JoinFault, JoinPattern};
 use bound_shapes::BoundShapes;
 use collections::{Sequence, both};
 use kept_rows::{KeptRows, PairRows};
+use numbered_lists::Net;
 use parallel_validate::is_without_shapes;
-use rdf_model::{Change, Ids, Pattern, Term, Triple};
+use rdf_model::{Ids, Pattern, Term, Triple};
 use shape_eval::Steps;
 use shapes_graph::ShapesGraph;
 use std::alloc::{AllocError, Global};
@@ -166,7 +167,7 @@ impl DataGraph {
     }
 
     /// The graph after the changes, whose terms are all named. It shares with this one what they leave.
-    pub fn after(&self, net: &[Change], hints: &NumberHints) -> Result<DataGraph, AllocError>
+    pub fn after(&self, net: &Net, hints: &NumberHints) -> Result<DataGraph, AllocError>
         requires { AreNamedChanges self.now.terms net.now }
         ensures { IfOk result (λ next. next ≡ with_changes self.now net.now) }
     {
@@ -178,7 +179,7 @@ impl DataGraph {
     /// one, in any order, and some maybe more than once; and the changes by the numbers of their terms, in their order.
     pub fn after_with_changed(
         &self,
-        net: &[Change],
+        net: &Net,
         hints: &NumberHints,
     ) -> Result<(DataGraph, Vec<Ids>, Vec<NumberedChange>), AllocError>
         requires { AreNamedChanges self.now.terms net.now }
@@ -221,7 +222,7 @@ impl DataGraph {
     pub fn find(
         &self,
         alloc: Global,
-        net: &[Change],
+        net: &Net,
         pattern: &Pattern,
     ) -> Result<Vec<Triple>, AllocError>
         ensures { IfOk result (λ v. v.items ≡ found (after self.now.triples net.now) pattern.now) }
@@ -235,7 +236,7 @@ impl DataGraph {
     /// are more than 100,000.
     pub fn select(
         &self,
-        net: &[Change],
+        net: &Net,
         patterns: &[JoinPattern<Term>],
     ) -> Result<Vec<Sequence<Term>>, JoinFault>
         ensures rows { IfOk result (λ rows. AreSelected (after self.now.triples net.now) patterns.now rows.items) }
@@ -261,7 +262,7 @@ impl DataGraph {
     // What checking the changes finds, by number.
     fn checked_after<L: Ledger>(
         &self,
-        net: &[Change],
+        net: &Net,
         hints: &NumberHints,
         next: &DataGraph,
         steps: &mut Steps<L>,
@@ -290,7 +291,7 @@ impl DataGraph {
     /// what it was, or more.
     pub fn pairs_after<L: Ledger>(
         &self,
-        net: &[Change],
+        net: &Net,
         hints: &NumberHints,
         next: &DataGraph,
         steps: &mut Steps<L>,
@@ -313,7 +314,7 @@ impl DataGraph {
     /// shapes.
     pub fn paired_after<L: Ledger>(
         &self,
-        net: &[Change],
+        net: &Net,
         hints: &NumberHints,
         steps: &mut Steps<L>,
     ) -> Result<PairedChanges, AllocError>

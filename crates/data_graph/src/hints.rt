@@ -1,20 +1,19 @@
 //! Numbers that terms are likely to have.
 ghost use Rattle.std.specs.Prelude.{◌≡◌, ◌<◌, MatchBool, length};
-ghost use Rattle.rdf_model.specs.Numbers.{term_at, triple_at};
-ghost use Rattle.parallel_validate.specs.Named.{IsNamedTriple, IsNumbered};
+ghost use Rattle.rdf_model.specs.Numbers.{term_at};
+ghost use Rattle.data_graph.specs.Numbering.{IsNumberWhereNamed};
 
-use parallel_validate::number_triple;
-use rdf_model::{Ids, Names, Term, Triple};
+use rdf_model::{Names, Term};
 use std::alloc::Global;
 use std::marker::Model;
 use term_dict::Dict;
 
-/// The numbers that the terms of changes are likely to have, change by change: those that naming them gave. Nothing rests on
+/// The numbers that the terms of a net are likely to have, by their places: those that naming them gave. Nothing rests on
 /// them: a number is taken only where its term is the one that is asked for, and else the term is looked up. So contracts see
 /// nothing of them.
 #[derive(Drop)]
 pub struct NumberHints {
-    triples: Vec<Ids>,
+    numbers: Vec<u32>,
 }
 
 impl Model for NumberHints {
@@ -27,31 +26,25 @@ impl NumberHints {
     /// No hint.
     pub fn new(alloc: Global) -> NumberHints {
         NumberHints {
-            triples: Vec::new(alloc),
+            numbers: Vec::new(alloc),
         }
     }
 
-    /// Adds those of further triples: the numbers of each one's subject, predicate and object. Where there is no memory for
-    /// them, they are left out.
-    pub fn add(&mut self, numbers: &[u32]) {
-        let mut rest = numbers;
-        while let [subject, predicate, object, more @ ..] = rest {
-            let hint = Ids {
-                subject: *subject,
-                predicate: *predicate,
-                object: *object,
-            };
-            if self.triples.push(hint).is_err() {
-                return;
-            }
-            rest = more;
-        }
+    /// The number for the term at each place.
+    pub fn from_numbers(numbers: Vec<u32>) -> NumberHints {
+        NumberHints { numbers }
     }
 
-    // That of the change at a place.
-    pub(crate) fn of(&self, place: usize) -> Option<Ids> {
-        match self.triples.get(place) {
-            Some(ids) => Some(*ids),
+    /// Adds those of the terms that come behind the others. Where there is no memory for them, they are left out.
+    pub fn append(&mut self, more: NumberHints) {
+        let NumberHints { mut numbers } = more;
+        let _ = self.numbers.append(&mut numbers);
+    }
+
+    // That of the term at a place.
+    pub(crate) fn of(&self, place: usize) -> Option<u32> {
+        match self.numbers.get(place) {
+            Some(number) => Some(*number),
             None => None,
         }
     }
@@ -67,25 +60,17 @@ fn has_number(names: &Dict, number: u32, term: &Term) -> bool
     }
 }
 
-// Whether the numbers are those of the triple's terms.
-fn has_numbers(names: &Dict, ids: Ids, triple: &Triple) -> bool
-    ensures { MatchBool result (IsNumbered names.now.terms ids × (triple_at names.now.terms ids ≡ triple.now)) (Unit {0}) }
+/// The number of a term, where it is named; else any. The hint is tried before the term is looked up.
+pub(crate) fn number_by_hint(names: &Dict, hint: Option<u32>, term: &Term) -> u32
+    ensures { IsNumberWhereNamed names.now.terms term.now result }
 {
-    has_number(names, ids.subject, &triple.subject)
-        && has_number(names, ids.predicate, &triple.predicate)
-        && has_number(names, ids.object, &triple.object)
-}
-
-/// The numbers of a triple's terms. The hint is tried before the terms are looked up.
-pub(crate) fn number_by_hint(names: &Dict, hint: Option<Ids>, triple: &Triple) -> Ids
-    requires { IsNamedTriple names.now.terms triple.now }
-    ensures bound { IsNumbered names.now.terms result }
-    ensures triple { triple_at names.now.terms result ≡ triple.now }
-{
-    if let Some(ids) = hint {
-        if has_numbers(names, ids, triple) {
-            return ids;
+    if let Some(number) = hint {
+        if has_number(names, number, term) {
+            return number;
         }
     }
-    number_triple(names, triple)
+    match names.id(term) {
+        Some(number) => number,
+        None => 0,
+    }
 }

@@ -1,23 +1,25 @@
 //! Data graphs and changes by the numbers of terms.
-ghost use Rattle.std.specs.Prelude.{◌≡◌, ◌≤◌, IfOk, OnOk, map};
+ghost use Rattle.std.specs.Prelude.{◌≡◌, ◌≤◌, ◌<◌, IfOk, OnOk, length, map};
 ghost use Rattle.std.specs.List.{AllByRecursion};
 ghost use Rattle.rdf_model.specs.Numbers.{AreNumbered, graph_of};
 ghost use Rattle.store_model.specs.Store.{changed_triple};
 ghost use Rattle.parallel_validate.specs.Counting.{GrowsByCount, IsTargetPair};
 ghost use Rattle.bound_shapes.specs.Bound.{IsBoundTo};
 ghost use Rattle.kept_rows.specs.Laws.{KeepsResults};
-ghost use Rattle.parallel_validate.specs.Named.{IsNamedTriple};
 ghost use Rattle.triple_index.specs.Changes.{IsNumberedChange, change_at};
 ghost use Rattle.data_graph.specs.DataGraphs.{AreNamedChanges, KeepsIndex};
+ghost use Rattle.data_graph.specs.Nets.{ids_changed};
+ghost use Rattle.data_graph.specs.Numbering.{AreNumbersWhereNamed, HasPlaces, change_by, ids_at};
 
-use crate::asked::triple_of;
 use crate::at_once::set_after;
+use crate::changed::numbers_of;
 use crate::hints::{NumberHints, number_by_hint};
 use bound_shapes::BoundShapes;
 use kept_rows::KeptRows;
 use kept_validation::whole_kept;
+use numbered_lists::Net;
 use path_eval::ClassWords;
-use rdf_model::{Change, Ids};
+use rdf_model::{Ids, Term};
 use shape_eval::Steps;
 use std::alloc::{AllocError, Global};
 use std::sync::ledger::Ledger;
@@ -30,50 +32,101 @@ pub(crate) const CLASS_WORDS: ClassWords = ClassWords {
     sub_class_of: 1,
 };
 
-/// The triples that are added or removed, by the numbers of their terms.
-pub(crate) fn number_changed(
+// The numbers of the terms that are named, by their places; any at the place of another.
+fn number_terms(
     alloc: Global,
     names: &Dict,
-    net: &[Change],
+    terms: &[Term],
     hints: &NumberHints,
-) -> Result<Vec<Ids>, AllocError>
-    requires { AreNamedChanges names.now.terms net.now }
-    ensures { IfOk result (λ ids. AreNumbered names.now.terms ids.items × (graph_of names.now.terms ids.items ≡ map changed_triple net.now)) }
+) -> Result<Vec<u32>, AllocError>
+    ensures { IfOk result (λ numbers. AreNumbersWhereNamed names.now.terms terms.now numbers.items) }
 {
-    let mut ids = Vec::with_capacity(alloc, net.len())?;
-    for (place, change) in net.iter().enumerate() {
-        ids.push(number_by_hint(names, hints.of(place), triple_of(change)))?;
+    let mut numbers = Vec::with_capacity(alloc, terms.len())?;
+    for (place, term) in terms.iter().enumerate() {
+        numbers.push(number_by_hint(names, hints.of(place), term))?;
     }
-    Ok(ids)
+    Ok(numbers)
 }
 
-// A change by the numbers of its terms.
-fn number_change(names: &Dict, change: &Change, hint: Option<Ids>) -> NumberedChange
-    requires { IsNamedTriple names.now.terms (changed_triple change.now) }
-    ensures numbered { IsNumberedChange names.now.terms result }
-    ensures change { change_at names.now.terms result ≡ change.now }
+// The numbers at the places of a triple.
+fn numbers_at(numbers: &[u32], places: &Ids) -> Ids
+    requires { (places.now.subject < length numbers.now) × (places.now.predicate < length numbers.now) × (places.now.object < length numbers.now) }
+    ensures { result ≡ ids_at numbers.now places.now }
+{
+    Ids {
+        subject: numbers[places.subject as usize],
+        predicate: numbers[places.predicate as usize],
+        object: numbers[places.object as usize],
+    }
+}
+
+// A change by the numbers at its places.
+fn number_change(numbers: &[u32], change: &NumberedChange) -> NumberedChange
+    requires { HasPlaces numbers.now change.now }
+    ensures { result ≡ change_by numbers.now change.now }
 {
     match change {
-        Change::Add(triple) => NumberedChange::Add(number_by_hint(names, hint, triple)),
-        Change::Remove(triple) => NumberedChange::Remove(number_by_hint(names, hint, triple)),
+        NumberedChange::Add(places) => NumberedChange::Add(numbers_at(numbers, places)),
+        NumberedChange::Remove(places) => NumberedChange::Remove(numbers_at(numbers, places)),
     }
 }
 
-/// The changes by the numbers of their terms, in their order.
+// The changes by the numbers at their places, in their order.
+fn changes_by(
+    alloc: Global,
+    numbers: &[u32],
+    changes: &[NumberedChange],
+) -> Result<Vec<NumberedChange>, AllocError>
+    requires { AllByRecursion (HasPlaces numbers.now) changes.now }
+    ensures { IfOk result (λ numbered. numbered.items ≡ map (change_by numbers.now) changes.now) }
+{
+    let mut numbered = Vec::with_capacity(alloc, changes.len())?;
+    for change in changes {
+        numbered.push(number_change(numbers, change))?;
+    }
+    Ok(numbered)
+}
+
+/// The changes by the numbers of their terms, in their order. Each term is looked up once.
 pub(crate) fn number_changes(
     alloc: Global,
     names: &Dict,
-    net: &[Change],
+    net: &Net,
     hints: &NumberHints,
 ) -> Result<Vec<NumberedChange>, AllocError>
     requires { AreNamedChanges names.now.terms net.now }
     ensures { IfOk result (λ changes. AllByRecursion (IsNumberedChange names.now.terms) changes.items × (map (change_at names.now.terms) changes.items ≡ net.now)) }
 {
-    let mut changes = Vec::with_capacity(alloc, net.len())?;
-    for (place, change) in net.iter().enumerate() {
-        changes.push(number_change(names, change, hints.of(place)))?;
+    let (terms, changes) = net.parts();
+    let numbers = number_terms(alloc, names, terms, hints)?;
+    let numbered = changes_by(alloc, &numbers, changes)?;
+    Ok(numbered)
+}
+
+// The numbers of the triples that the changes add or remove.
+fn triples_changed(alloc: Global, changes: &[NumberedChange]) -> Result<Vec<Ids>, AllocError>
+    ensures { IfOk result (λ ids. ids.items ≡ map ids_changed changes.now) }
+{
+    let mut ids = Vec::with_capacity(alloc, changes.len())?;
+    for change in changes {
+        ids.push(numbers_of(change))?;
     }
-    Ok(changes)
+    Ok(ids)
+}
+
+/// The triples that are added or removed, by the numbers of their terms.
+pub(crate) fn number_changed(
+    alloc: Global,
+    names: &Dict,
+    net: &Net,
+    hints: &NumberHints,
+) -> Result<Vec<Ids>, AllocError>
+    requires { AreNamedChanges names.now.terms net.now }
+    ensures { IfOk result (λ ids. AreNumbered names.now.terms ids.items × (graph_of names.now.terms ids.items ≡ map changed_triple net.now)) }
+{
+    let changes = number_changes(alloc, names, net, hints)?;
+    let ids = triples_changed(alloc, &changes)?;
+    Ok(ids)
 }
 
 /// The index after the changes. It shares with the index what they leave.
@@ -81,7 +134,7 @@ pub(crate) fn index_after(
     alloc: Global,
     names: &Dict,
     index: &Index,
-    net: &[Change],
+    net: &Net,
     hints: &NumberHints,
 ) -> Result<Index, AllocError>
     requires { AreNamedChanges names.now.terms net.now }

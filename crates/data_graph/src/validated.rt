@@ -13,7 +13,8 @@ use crate::graph::DataGraph;
 use bgp_query::{JoinFault, JoinPattern};
 use collections::{Sequence, both};
 use kept_rows::{KeptRows, PairRows};
-use rdf_model::{Change, Term};
+use numbered_lists::Net;
+use rdf_model::Term;
 use shape_eval::Steps;
 use shape_model::ResultRow;
 use shapes_graph::ShapesGraph;
@@ -126,7 +127,7 @@ impl ValidatedGraph {
     /// The bindings of the patterns in the graph with these changes, as by `DataGraph::select`.
     pub fn select(
         &self,
-        net: &[Change],
+        net: &Net,
         patterns: &[JoinPattern<Term>],
     ) -> Result<Vec<Sequence<Term>>, JoinFault>
         ensures rows { IfOk result (λ rows. AreSelected (after self.now.triples net.now) patterns.now rows.items) }

@@ -7,8 +7,9 @@ ghost use Rattle.event_history.specs.Replies.{same_reply};
 
 use crate::replies::is_same_reply;
 use collections::Sequence;
+use numbered_lists::Net;
 use numbered_patterns::{read_change, read_term};
-use rdf_model::{Net, Term};
+use rdf_model::Term;
 use std::alloc::{AllocError, Global};
 use store_model::{Action, Event, NameKind, Reply, Transaction};
 use term_dict::Dict;
@@ -131,11 +132,11 @@ fn net_of(alloc: Global, names: &Dict, net: &[NumberedChange]) -> Result<Net, Al
     requires { AllByRecursion (IsNumberedChange names.now.terms) net.now }
     ensures { IfOk result (λ read. read ≡ net_at names.now.terms net.now) }
 {
-    let mut changes = Vec::with_capacity(alloc, net.len())?;
+    let mut read = Net::new(alloc);
     for change in net {
-        changes.push(read_change(names, change)?)?;
+        read.push(alloc, read_change(names, change)?)?;
     }
-    Ok(Sequence::from_vec(changes))
+    Ok(read)
 }
 
 /// An event as it is kept.

@@ -79,11 +79,11 @@ pub(crate) fn index_beside_shapes<M: Maker, R: Threads + Sync>(
     rt: &R,
     alloc: Global,
     maker: &mut M,
-    data: &[Ids],
+    triples: &[Ids],
     shapes_graph: &[Triple],
 ) -> (Result<Index, AllocError>, Result<Shapes, ShapeFault>)
     requires { IsAscending triple_cmp shapes_graph.now }
-    ensures index { IfOk result.0 (λ index. IsListing ids_cmp (Contains data.now) index) }
+    ensures index { IfOk result.0 (λ index. IsListing ids_cmp (Contains triples.now) index) }
     ensures answer { MatchResult result.1 (λ shapes. IsWellFormed shapes_graph.now × AreCompiled shapes.shapes shapes_graph.now)
         (λ fault. reader.IsCause shapes_graph.now fault (M.refused maker.old) (M.refused maker.new)) }
     ensures once { IfOk result.1 (λ shapes. AreOnce shapes.shapes) }
@@ -93,7 +93,7 @@ pub(crate) fn index_beside_shapes<M: Maker, R: Threads + Sync>(
 {
     join_mut(
         rt,
-        &mut || index_by_threads(rt, alloc, data),
+        &mut || index_by_threads(rt, alloc, triples),
         &mut || read_shapes(alloc, maker, shapes_graph),
     )
 }

@@ -143,7 +143,7 @@ fn graphs_in_turn<M: Maker>(
     Ok((graph, shapes_graph))
 }
 
-// The same graphs, with the index of the data made beside the shapes.
+// The data graph and the shapes graph of two texts that were read; the index of the data is made beside the shapes.
 fn graphs_by_threads<M: Maker, R: Threads + Sync>(
     rt: &R,
     alloc: Global,

@@ -22,17 +22,19 @@ use Rattle.commit_core.specs.declared.naming.NamingFault.TheVariants as names
 use Rattle.guard_store.specs.Slots.{Origin}
 use Rattle.guard_store.specs.Sessions.{StoreSession}
 use Rattle.guard_store.specs.declared.faults.StageFault.{StageFault}
+use Rattle.guard_store.specs.declared.faults.StageFault.TheVariants as stages
 use Rattle.guard_store.specs.declared.faults.AttachFault.{AttachFault}
 use Rattle.guard_store.specs.declared.faults.AttachFault.TheVariants as attaches
 use Rattle.session_transaction.specs.declared.committing.Committed.{Committed}
 use Rattle.session_transaction.specs.declared.committing.Committed.TheVariants.{ReadOnly, Done, Conflict, FullTriples, Refused, LogFault, Stopped}
 use Rattle.session_transaction.specs.declared.transaction.OpenTransaction.{OpenTransaction}
 use Rattle.session_transaction.specs.declared.transaction.ChangeKind.{ChangeKind}
+use Rattle.session_transaction.specs.declared.transaction.ChangeKind.TheVariants.{Addition, Removal, Attachment}
 use Rattle.session_transaction.specs.Commits.{CountsFor, IsAnswer}
 use Rattle.guard_store.specs.Fronts.{SharedStore, Turn, Fails}
 use Rattle.guard_store.specs.Callers.{IsSession}
 use Rattle.session_transaction.specs.Checks.{committing}
-use Rattle.session_transaction.specs.Transactions.{begun_at, changes_of, with_changes}
+use Rattle.session_transaction.specs.Transactions.{begun_at, changes_of, name_kind_of, with_changes}
 use Rattle.session_transaction.proofs.Fitting.{after_unnamed, unknown_attaches}
 use Rattle.std.specs.List.{AllByRecursion}
 use Rattle.ntriples_text.specs.Laws.{IsReadable, IsStored}
@@ -40,7 +42,7 @@ use Rattle.guard_store.proofs.Cases.{at_ok, at_err}
 use Rattle.guard_store.proofs.Fitting.{stages_session, not_staged_session}
 use Rattle.commit_core.specs.Work.{StepsBy}
 use Rattle.guard_store.specs.declared.faults.CommitFault.{CommitFault}
-use Rattle.guard_store.specs.Answers.{Attaches, AttachesNot, Begins, Heads, NamesFor, NamesForNot, NamesNot, Stages, StagesNot, IsOpen, AnswersCommit, CommitCounts, Commits, EndsReading, TurnCommits, TurnCounts, attach_answer, attach_fault, event_of, naming_of, unknown_at}
+use Rattle.guard_store.specs.Answers.{Attaches, AttachesNot, Begins, Heads, NamesFor, NamesForNot, NamesNot, Stages, StagesBlock, StagesBlockNot, StagesNot, IsOpen, AnswersCommit, CommitCounts, Commits, EndsReading, TurnCommits, TurnCounts, attach_answer, attach_fault, event_of, naming_of, unknown_at}
 
 pub begins_now : (store : SharedStore) (old : StoreSession) (pass : Caller Event Origin) (snap : Snapshot) (v : ℕ) (new : StoreSession) → old.current ≡ None
     → (t : Turn store old.pass pass (event_of old.number actions.Begin (replies.Version snap.number))) × (snap ≡ snapshot_of store.limits.mode t.before) → v ≡ snap.number → new ≡ record old { pass = pass; current = Some (begun_at snap); head = None } → Begins store old new v
@@ -200,3 +202,24 @@ pub attach_answered : {U : Type 0} (store : SharedStore) (old new : StoreSession
     → MatchResult r (λ _. Stages store old new kinds.Attach ts (λ w. with_changes w (additions ts))) (λ fault. NamesForNot fault store old new kinds.Attach ts) → MatchResult r (λ _. Attaches store old new ts) (λ fault. AttachesNot fault store old new ts)
 attach_answered {U} store old new ts (Ok u) h = attaches_now store old new ts h
 attach_answered {U} store old new ts (Err f) h = attaches_not store old new ts f h
+
+-- and of a block, by its kind
+fault_staged : (store : SharedStore) (old new : StoreSession) (kind : NameKind) (ts : List Triple) (f : AttachFault) → kind ≢ kinds.Attach → NamesForNot f store old new kind ts → (g : StageFault) × (f ≡ attach_fault g) × StagesNot g store old new kind ts
+fault_staged store old new kind ts attaches.NoTransaction other h = (stages.NoTransaction, refl, h)
+fault_staged store old new kind ts (attaches.Unknown node) other h = absurd (none_unknown store old new kind ts other node h)
+fault_staged store old new kind ts (attaches.Full n) other h = (stages.Full n, refl, h)
+fault_staged store old new kind ts attaches.Memory other h = (stages.Memory, refl, h)
+
+pub block_answered : {U : Type 0} (store : SharedStore) (old new : StoreSession) (k : ChangeKind) (ts : List Triple) (r : Result U AttachFault)
+    → MatchResult r (λ _. Stages store old new (name_kind_of k) ts (λ w. with_changes w (changes_of k ts))) (λ fault. NamesForNot fault store old new (name_kind_of k) ts)
+    → MatchResult r (λ _. StagesBlock k store old new ts) (λ fault. StagesBlockNot k fault store old new ts)
+block_answered {U} store old new Addition ts (Ok u) h = h
+block_answered {U} store old new Addition ts (Err f) h = fault_staged store old new kinds.Fresh ts f (λ e. cc) h
+block_answered {U} store old new Removal ts (Ok u) h = h
+block_answered {U} store old new Removal ts (Err f) h = fault_staged store old new kinds.Known ts f (λ e. cc) h
+block_answered {U} store old new Attachment ts r h = attach_answered store old new ts r h
+
+pub closed_block : (store : SharedStore) (s : StoreSession) (k : ChangeKind) (ts : List Triple) → s.current ≡ None → StagesBlockNot k attaches.NoTransaction store s s ts
+closed_block store s Addition ts none = (stages.NoTransaction, refl, (none, refl))
+closed_block store s Removal ts none = (stages.NoTransaction, refl, (none, refl))
+closed_block store s Attachment ts none = (none, refl)

@@ -17,7 +17,7 @@ use Rattle.store_model.specs.Snapshots.{Snapshot, snapshot_of}
 use Rattle.store_model.specs.Nodes.{not_given}
 use Rattle.store_model.specs.Store.{again, State, HasChange, shapes_under}
 use Rattle.session_model.specs.Reports.{ReportedGraph}
-use Rattle.session_model.specs.Sessions.{additions, parts_of}
+use Rattle.session_model.specs.Sessions.{additions, parts_of, removals}
 use Rattle.commit_core.specs.Work.{StepsBy}
 use Rattle.commit_core.specs.declared.naming.NamingFault.{NamingFault}
 use Rattle.commit_core.specs.declared.naming.NamingFault.TheVariants as names
@@ -49,6 +49,8 @@ use Rattle.bgp_query.specs.TermBindings.{opened}
 use Rattle.session_transaction.specs.declared.committing.Committed.{Committed}
 use Rattle.session_transaction.specs.declared.committing.Committed.TheVariants.{ReadOnly, Done, Conflict, FullTriples, Refused, LogFault, Stopped}
 use Rattle.session_transaction.specs.declared.transaction.OpenTransaction.{OpenTransaction}
+use Rattle.session_transaction.specs.declared.transaction.ChangeKind.{ChangeKind}
+use Rattle.session_transaction.specs.declared.transaction.ChangeKind.TheVariants.{Addition, Removal, Attachment}
 use Rattle.guard_store.specs.Fronts.{SharedStore, Turn, Fails}
 use Rattle.session_transaction.specs.Checks.{CheckSteps, Checks, committing}
 use Rattle.session_transaction.specs.Transactions.{begun_at, graph_so_far, with_changes, with_finds}
@@ -185,6 +187,18 @@ AttachesNot (attaches.Unknown node) store old new ts = ((w : OpenTransaction) ×
 AttachesNot (attaches.Full count) store old new ts = ((w : OpenTransaction) × IsOpen old w)
     × ((t : Turn store old.pass new.pass (naming_of old.number kinds.Attach ts (replies.Full count))) × (unknown_at t.before ts ≡ []) × (t.after ≡ t.before)) × (new ≡ record old { pass = new.pass })
 AttachesNot attaches.Memory store old new ts = ((w : OpenTransaction) × IsOpen old w) × (Fails store old.pass new.pass old.number ⊎ Turn store old.pass new.pass (naming_of old.number kinds.Attach ts replies.Named)) × (new ≡ record old { pass = new.pass })
+
+-- A block was staged as its kind says: added about nodes of its own, removed, or attached to nodes of the store.
+abbrev pub StagesBlock : ChangeKind → SharedStore → StoreSession → StoreSession → List Triple → Type 0
+StagesBlock Addition store old new ts = Stages store old new kinds.Fresh ts (λ w. with_changes w (additions ts))
+StagesBlock Removal store old new ts = Stages store old new kinds.Known ts (λ w. with_changes w (removals ts))
+StagesBlock Attachment store old new ts = Attaches store old new ts
+
+-- Nothing of it was staged. Only an attachment is told of an unknown node.
+abbrev pub StagesBlockNot : ChangeKind → AttachFault → SharedStore → StoreSession → StoreSession → List Triple → Type 0
+StagesBlockNot Addition f store old new ts = (g : StageFault) × (f ≡ attach_fault g) × StagesNot g store old new kinds.Fresh ts
+StagesBlockNot Removal f store old new ts = (g : StageFault) × (f ≡ attach_fault g) × StagesNot g store old new kinds.Known ts
+StagesBlockNot Attachment f store old new ts = AttachesNot f store old new ts
 
 -- The newest version, whose snapshot the session keeps.
 abbrev pub Heads : SharedStore → StoreSession → StoreSession → ℕ → Type 0

@@ -8,16 +8,17 @@ ghost use Rattle.session_model.specs.Sessions.{additions, removals};
 ghost use Rattle.session_transaction.specs.Transactions;
 ghost use Rattle.session_transaction.specs.Transactions.{changes_of, name_kind_of};
 ghost use Rattle.guard_store.specs.Callers.{HasWork, IsSession};
-ghost use Rattle.guard_store.specs.Answers.{Attaches, AttachesNot, Begins, BeginsNot, CommitCounts, Commits, CommitsNot, Heads, HeadsNot, NamesFor, NamesForNot, Stages, StagesNot, attach_answer};
+ghost use Rattle.guard_store.specs.Answers.{Attaches, AttachesNot, Begins, BeginsNot, CommitCounts, Commits, CommitsNot, Heads, HeadsNot, NamesFor, NamesForNot, Stages, StagesBlock, StagesBlockNot, StagesNot, attach_answer};
 
 use crate::faults::{AttachFault, BeginFault, CommitFault, HeadFault, StageFault};
 use crate::session::Session;
 use crate::store::Store;
-use commit_core::NamingFault;
+use commit_core::{NamingFault, NumberHints};
 use disk::Disk;
+use numbered_lists::TripleList;
 use rdf_model::Triple;
 use session_model::Block;
-use session_transaction::{BlockTerms, ChangeKind, Committed, OpenTransaction};
+use session_transaction::{ChangeKind, Committed, OpenTransaction};
 use shape_eval::Steps;
 use shapes_graph::ShapesGraph;
 use std::sync::Wait;
@@ -70,14 +71,15 @@ impl<D: Disk> Store<D> {
         }
     }
 
-    // Names the terms of the block, which is of this kind, that the open transaction is to stage, and gives their numbers.
+    // Names the terms of the block, which is of this kind, that the open transaction is to stage, and gives the hints for their
+    // numbers.
     fn name_for<R: Wait>(
         &self,
         rt: &R,
         session: Session<D>,
         kind: NameKind,
-        block: &BlockTerms,
-    ) -> (Session<D>, Result<Vec<u32>, AttachFault>)
+        block: &TripleList,
+    ) -> (Session<D>, Result<NumberHints, AttachFault>)
         requires session { IsSession self.now session }
         requires open { session.current ≢ None }
         ensures { MatchResult result.1
@@ -85,23 +87,23 @@ impl<D: Disk> Store<D> {
             (λ fault. NamesForNot fault self.now session result.0 kind block.now) }
     {
         let (pass, number, current, head) = session.into_parts();
-        let (pass, answer) = self.name_parts(rt, pass, number, kind, block);
+        let (pass, answer) = self.take_names(rt, pass, number, kind, block);
         let session = Session::from_parts(pass, number, current, head);
         match answer {
-            Ok(numbers) => (session, Ok(numbers)),
+            Ok(hints) => (session, Ok(hints)),
             Err(NamingFault::Unknown { node }) => (session, Err(AttachFault::Unknown { node })),
             Err(NamingFault::Full { count }) => (session, Err(AttachFault::Full { count })),
             Err(NamingFault::Memory) => (session, Err(AttachFault::Memory)),
         }
     }
 
-    // Stages the changes of the triples of these terms in the open transaction.
-    fn stage_terms<R: Wait>(
+    // Stages a change of this kind of each of these triples in the open transaction. Unknown comes of an attachment alone.
+    fn stage_list<R: Wait>(
         &self,
         rt: &R,
         session: Session<D>,
         kind: ChangeKind,
-        block: BlockTerms,
+        block: TripleList,
     ) -> (Session<D>, Result<(), AttachFault>)
         requires session { IsSession self.now session }
         requires open { session.current ≢ None }
@@ -113,33 +115,9 @@ impl<D: Disk> Store<D> {
     {
         let (session, answer) = self.name_for(rt, session, kind.name_kind(), &block);
         match answer {
-            Ok(numbers) => session.with_block(self.alloc, kind, block, &numbers),
+            Ok(hints) => session.with_block(self.alloc, kind, block, hints),
             Err(fault) => (session, Err(fault)),
         }
-    }
-
-    // Stages a change of this kind of each triple of the block, which is moved into the open transaction. Unknown comes of an
-    // attachment alone.
-    fn stage_moved<R: Wait>(
-        &self,
-        rt: &R,
-        session: Session<D>,
-        kind: ChangeKind,
-        block: Block,
-    ) -> (Session<D>, Result<(), AttachFault>)
-        requires { IsSession self.now session }
-        ensures session { IsSession self.now result.0 }
-        ensures stages { MatchResult result.1
-            (λ _. Stages self.now session result.0 (name_kind_of kind) block (λ w. Transactions.with_changes w (changes_of kind block)))
-            (λ fault. NamesForNot fault self.now session result.0 (name_kind_of kind) block) }
-    {
-        if !session.is_open() {
-            return (session, Err(AttachFault::NoTransaction));
-        }
-        let Ok(block) = BlockTerms::new(self.alloc, block.into_triples()) else {
-            return (session, Err(AttachFault::Memory));
-        };
-        self.stage_terms(rt, session, kind, block)
     }
 
     // Stages a change of this kind of each of the triples, whose terms are copied. Unknown comes of an attachment alone.
@@ -160,10 +138,10 @@ impl<D: Disk> Store<D> {
         if !session.is_open() {
             return (session, Err(AttachFault::NoTransaction));
         }
-        let Ok(block) = BlockTerms::copied_from(self.alloc, triples) else {
+        let Ok(block) = TripleList::copied_from(self.alloc, triples) else {
             return (session, Err(AttachFault::Memory));
         };
-        self.stage_terms(rt, session, kind, block)
+        self.stage_list(rt, session, kind, block)
     }
 
     /// Stages an addition of each triple, whose terms it names and whose blank nodes it gives out. NoTransaction comes where
@@ -221,55 +199,25 @@ impl<D: Disk> Store<D> {
         self.stage_copied(rt, session, ChangeKind::Attachment, triples)
     }
 
-    /// Does what `stage_add` does with the triples of a block, which is moved into the transaction: no term of it is copied. After a
-    /// fault the block is dropped.
-    pub fn stage_add_block<R: Wait>(
+    /// Does with the triples of a block what `stage_add`, `stage_remove` or `stage_attach` does, by the kind. The block is moved into
+    /// the transaction: no term of it is copied. Unknown comes of an attachment alone. After a fault the block is dropped.
+    pub fn stage_block<R: Wait>(
         &self,
         rt: &R,
         session: Session<D>,
-        block: Block,
-    ) -> (Session<D>, Result<(), StageFault>)
-        requires { IsSession self.now session }
-        ensures session { IsSession self.now result.0 }
-        ensures stages { MatchResult result.1
-            (λ _. Stages self.now session result.0 NameKind.Fresh block (λ w. Transactions.with_changes w (additions block)))
-            (λ fault. StagesNot fault self.now session result.0 NameKind.Fresh block) }
-    {
-        let (session, answer) = self.stage_moved(rt, session, ChangeKind::Addition, block);
-        (session, stage_answer(answer))
-    }
-
-    /// Does what `stage_remove` does with the triples of a block, which is moved into the transaction. After a fault the block is
-    /// dropped.
-    pub fn stage_remove_block<R: Wait>(
-        &self,
-        rt: &R,
-        session: Session<D>,
-        block: Block,
-    ) -> (Session<D>, Result<(), StageFault>)
-        requires { IsSession self.now session }
-        ensures session { IsSession self.now result.0 }
-        ensures stages { MatchResult result.1
-            (λ _. Stages self.now session result.0 NameKind.Known block (λ w. Transactions.with_changes w (removals block)))
-            (λ fault. StagesNot fault self.now session result.0 NameKind.Known block) }
-    {
-        let (session, answer) = self.stage_moved(rt, session, ChangeKind::Removal, block);
-        (session, stage_answer(answer))
-    }
-
-    /// Does what `stage_attach` does with the triples of a block, which is moved into the transaction. After a fault the block is
-    /// dropped.
-    pub fn stage_attach_block<R: Wait>(
-        &self,
-        rt: &R,
-        session: Session<D>,
+        kind: ChangeKind,
         block: Block,
     ) -> (Session<D>, Result<(), AttachFault>)
         requires { IsSession self.now session }
         ensures session { IsSession self.now result.0 }
-        ensures attaches { MatchResult result.1 (λ _. Attaches self.now session result.0 block) (λ fault. AttachesNot fault self.now session result.0 block) }
+        ensures stages { MatchResult result.1
+            (λ _. StagesBlock kind self.now session result.0 block)
+            (λ fault. StagesBlockNot kind fault self.now session result.0 block) }
     {
-        self.stage_moved(rt, session, ChangeKind::Attachment, block)
+        if !session.is_open() {
+            return (session, Err(AttachFault::NoTransaction));
+        }
+        self.stage_list(rt, session, kind, block.into_list())
     }
 
     /// Stages a shapes graph in place of the store's, names its terms, and gives out its blank nodes. Where it is refused,
@@ -290,7 +238,7 @@ impl<D: Disk> Store<D> {
         if !session.is_open() {
             return (session, Err(StageFault::NoTransaction));
         }
-        let Ok(block) = BlockTerms::copied_from(self.alloc, shapes.triples()) else {
+        let Ok(block) = TripleList::copied_from(self.alloc, shapes.triples()) else {
             return (session, Err(StageFault::Memory));
         };
         let (session, answer) = self.name_for(rt, session, NameKind::Fresh, &block);

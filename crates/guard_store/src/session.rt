@@ -9,9 +9,10 @@ ghost use Rattle.guard_store.specs.Answers.{EndsReading};
 use crate::faults::{AttachFault, CommitFault};
 use crate::shared::Shared;
 use collections::let_go;
-use commit_core::Snap;
+use commit_core::{NumberHints, Snap};
 use disk::Disk;
-use session_transaction::{BlockTerms, ChangeKind, Committed, OpenTransaction};
+use numbered_lists::TripleList;
+use session_transaction::{ChangeKind, Committed, OpenTransaction};
 use shapes_graph::ShapesGraph;
 use std::alloc::Global;
 use std::marker::Model;
@@ -153,13 +154,13 @@ impl<D: Disk> Session<D> {
         pass
     }
 
-    // Stages the changes of a block, whose terms have these numbers, in the open transaction.
+    // Stages the changes of a block in the open transaction. The hints are those that naming it gave.
     pub(crate) fn with_block(
         self,
         alloc: Global,
         kind: ChangeKind,
-        block: BlockTerms,
-        numbers: &[u32],
+        block: TripleList,
+        hints: NumberHints,
     ) -> (Session<D>, Result<(), AttachFault>)
         requires { self.current ≢ None }
         ensures { MatchResult result.1
@@ -168,7 +169,7 @@ impl<D: Disk> Session<D> {
     {
         let (pass, number, current, head) = self.into_parts();
         let Some(open) = current else { unreachable!() };
-        let (open, staged) = open.with_block(alloc, kind, block, numbers);
+        let (open, staged) = open.with_block(alloc, kind, block, hints);
         if staged {
             return (Session::from_parts(pass, number, Some(open), None), Ok(()));
         }

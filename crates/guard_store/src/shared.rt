@@ -2,6 +2,7 @@
 ghost use Rattle.std.specs.Prelude.{◌≡◌, ◌≤◌, [], false, IfOk, OnErr, MatchResult};
 ghost use Rattle.store_model.specs.Store.{IsCommittable, IsOpened, TakesStep};
 ghost use Rattle.store_model.specs.Snapshots.{snapshot_of};
+ghost use Rattle.session_model.specs.Sessions.{parts_of};
 ghost use Rattle.commit_core.specs.Consistent.{IsConsistent};
 ghost use Rattle.commit_core.specs.Faults.{NamesNone, OpensNone};
 ghost use Rattle.commit_core.specs.Logged.{IsLoggable};
@@ -12,10 +13,10 @@ ghost use Rattle.guard_store.specs.Fronts.{void_of};
 ghost use Rattle.guard_store.specs.Slots.{HasItsLog, log_origin};
 ghost use Rattle.guard_store.specs.Answers.{event_of};
 
-use commit_core::{CheckedTransaction, Core, NamingFault, SessionFault, Slip, Snap};
+use commit_core::{CheckedTransaction, Core, NamingFault, NumberHints, SessionFault, Slip, Snap};
 use commit_log::Log;
 use disk::Disk;
-use rdf_model::Term;
+use numbered_lists::TripleList;
 use session_transaction::{Committed, commit_beside};
 use shape_eval::Steps;
 use std::alloc::AllocError;
@@ -158,21 +159,21 @@ impl<D: Disk> Shared<D> {
         self.core.head(session)
     }
 
-    /// Names the terms of a block, all or none.
+    /// Names the terms of the triples of a block, all or none, and gives the hints for their numbers.
     pub(crate) fn name(
         &mut self,
         session: u32,
         kind: NameKind,
-        terms: &[Term],
-    ) -> Result<Vec<u32>, NamingFault>
+        block: &TripleList,
+    ) -> Result<NumberHints, NamingFault>
         requires { IsOpened self.old.core.state session }
         ensures step { MatchResult result
-            (λ _. TakesStep self.old.core self.new.core (event_of session (Action.Name kind terms.now) Reply.Named))
-            (λ fault. NamesNone fault self.old.core self.new.core session kind terms.now) }
+            (λ _. TakesStep self.old.core self.new.core (event_of session (Action.Name kind (parts_of block.now)) Reply.Named))
+            (λ fault. NamesNone fault self.old.core self.new.core session kind (parts_of block.now)) }
         ensures origin { self.new.origin ≡ self.old.origin }
     {
         self.core.recall_consistent();
-        self.core.name(session, kind, terms)
+        self.core.name_list(session, kind, block)
     }
 
     /// Records a turn for which memory ran out.

@@ -11,10 +11,10 @@ ghost use Rattle.guard_store.specs.Answers.{NamesNot, TurnCommits, TurnCounts, e
 
 use crate::shared::Shared;
 use crate::store::Store;
-use commit_core::{CheckedTransaction, NamingFault, Snap, slip};
+use commit_core::{CheckedTransaction, NamingFault, NumberHints, Snap, slip};
 use disk::Disk;
-use rdf_model::Term;
-use session_transaction::{BlockTerms, Committed};
+use numbered_lists::TripleList;
+use session_transaction::Committed;
 use shape_eval::Steps;
 use std::alloc::AllocError;
 use std::sync::Wait;
@@ -73,26 +73,26 @@ impl<D: Disk> Store<D> {
         }
     }
 
-    // Names terms of a block of this kind, all or none, and gives their numbers.
-    fn take_names<R: Wait>(
+    /// Names the terms of the triples of a block of this kind, all or none, and gives the hints for their numbers.
+    pub(crate) fn take_names<R: Wait>(
         &self,
         rt: &R,
         pass: Pass<Shared<D>>,
         number: u32,
         kind: NameKind,
-        terms: &[Term],
-    ) -> (Pass<Shared<D>>, Result<Vec<u32>, NamingFault>)
+        block: &TripleList,
+    ) -> (Pass<Shared<D>>, Result<NumberHints, NamingFault>)
         requires { IsCaller self.now number pass }
         ensures { MatchResult result.1
-            (λ _. Turn self.now pass result.0 (event_of number (Action.Name kind terms.now) Reply.Named))
-            (λ fault. NamesNot fault self.now pass result.0 number kind terms.now) }
+            (λ _. Turn self.now pass result.0 (event_of number (Action.Name kind (parts_of block.now)) Reply.Named))
+            (λ fault. NamesNot fault self.now pass result.0 number kind (parts_of block.now)) }
     {
         let Ok(slip) = slip(self.alloc) else {
             return (pass, Err(NamingFault::Memory));
         };
         let (held, mut shared) = self.start(rt, pass);
-        match shared.name(number, kind, terms) {
-            Ok(numbers) => (self.finish(held, shared), Ok(numbers)),
+        match shared.name(number, kind, block) {
+            Ok(hints) => (self.finish(held, shared), Ok(hints)),
             Err(NamingFault::Unknown { node }) => {
                 (
                     self.finish(held, shared),
@@ -107,23 +107,6 @@ impl<D: Disk> Store<D> {
                 (self.finish(held, shared), Err(NamingFault::Memory))
             }
         }
-    }
-
-    /// Names the terms of the triples of a block of this kind, all or none, and gives their numbers.
-    pub(crate) fn name_parts<R: Wait>(
-        &self,
-        rt: &R,
-        pass: Pass<Shared<D>>,
-        number: u32,
-        kind: NameKind,
-        block: &BlockTerms,
-    ) -> (Pass<Shared<D>>, Result<Vec<u32>, NamingFault>)
-        requires { IsCaller self.now number pass }
-        ensures { MatchResult result.1
-            (λ _. Turn self.now pass result.0 (event_of number (Action.Name kind (parts_of block.now)) Reply.Named))
-            (λ fault. NamesNot fault self.now pass result.0 number kind (parts_of block.now)) }
-    {
-        self.take_names(rt, pass, number, kind, block.terms())
     }
 
     /// Commits a transaction that changes something or stages shapes, with what is kept of its check, and counts its

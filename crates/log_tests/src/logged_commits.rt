@@ -7,6 +7,7 @@ use collections::Sequence;
 use commit_core::{BlockMode, CheckedTransaction, Commit, Core, Limits, Transaction};
 use commit_log::{Log, create, open};
 use disk::MemDisk;
+use numbered_lists::Net;
 use shape_eval::Steps;
 use shapes_graph::ShapesGraph;
 use std::alloc::{AllocError, Global};
@@ -48,7 +49,7 @@ fn staging(alloc: Global) -> Result<Transaction, AllocError>
     ensures loggable { IfOk result IsLoggable }
 {
     let staged = ShapesGraph::empty(alloc)?;
-    let net = Sequence::new(alloc);
+    let net = Net::new(alloc);
     let finds = Sequence::new(alloc);
     Ok(Transaction {
         base: 0,

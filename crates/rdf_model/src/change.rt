@@ -2,7 +2,7 @@
 ghost use Rattle.std.specs.Prelude.{◌≡◌};
 
 use crate::Triple;
-use collections::{ExactClone, Sequence};
+use collections::ExactClone;
 use std::alloc::AllocError;
 
 /// A change of one triple.
@@ -11,9 +11,6 @@ pub enum Change {
     Add(Triple),
     Remove(Triple),
 }
-
-/// The changes of a transaction, in order: the last change to each triple wins.
-pub type Net = Sequence<Change>;
 
 impl Clone for Change {
     ghost is_clone = { λ source copy. copy ≡ source };

@@ -1,9 +1,8 @@
 //! Terms, triples and graphs of RDF 1.1, with their orders, and what is said about them.
 //!
 //! `Term::cmp` and `Triple::cmp` are exactly the orders of `specs/Terms.antt`, total, and equal only
-//! where the terms are. A graph is a list of triples that ascends strictly in that order. A `Net` is the
-//! list of a transaction's changes, and `Pattern::matches` and `Look::reads` say which triples a
-//! pattern and a look ask for.
+//! where the terms are. A graph is a list of triples that ascends strictly in that order. `Pattern::matches` and
+//! `Look::reads` say which triples a pattern and a look ask for.
 //!
 //! `ListNames` and `ListGraph` are the plainest `Names` and `Triples`, in vectors: tests of the crates above use them, and no
 //! crate of the program does.
@@ -22,7 +21,7 @@ mod term;
 mod triple;
 mod triples;
 
-pub use change::{Change, Net};
+pub use change::Change;
 pub use footprint::Footprint;
 pub use ids::Ids;
 pub use look::Look;

@@ -51,12 +51,19 @@ impl ExactClone for Pattern {
 }
 
 impl Pattern {
+    /// Whether the triple of three terms has the pattern's terms at their places.
+    pub fn matches_terms(&self, subject: &Term, predicate: &Term, object: &Term) -> bool
+        ensures { result ≡ Matching.matches self.now (record { subject = subject.now; predicate = predicate.now; object = object.now }) }
+    {
+        is_wanted(&self.subject, subject)
+            && is_wanted(&self.predicate, predicate)
+            && is_wanted(&self.object, object)
+    }
+
     /// Whether the triple has the pattern's terms at their places.
     pub fn matches(&self, triple: &Triple) -> bool
         ensures { result ≡ Matching.matches self.now triple.now }
     {
-        is_wanted(&self.subject, &triple.subject)
-            && is_wanted(&self.predicate, &triple.predicate)
-            && is_wanted(&self.object, &triple.object)
+        self.matches_terms(&triple.subject, &triple.predicate, &triple.object)
     }
 }

@@ -1,21 +1,22 @@
 // What stands in the blocks of commands.
-ghost use Rattle.std.specs.Prelude.{◌≡◌, ◌+◌, ◌<◌, ◌^◌, Ok, MatchResult, length};
+ghost use Rattle.std.specs.Prelude.{◌≡◌, ◌+◌, ◌<◌, ◌^◌, [], Ok, IfOk, MatchResult, length};
 ghost use Rattle.rdf_lexical.specs.Refusals.{Refuses};
 ghost use Rattle.ntriples_text.specs.Document.{reads_named};
 ghost use Rattle.record_text.specs.Records.{IsReadableGraph};
 
 use collections::Sequence;
 use ntriples_text::ReadFault;
+use numbered_lists::TripleList;
 use rdf_model::Triple;
 use shapes_graph::ShapesGraph;
-use std::alloc::Global;
+use std::alloc::{AllocError, Global};
 use std::marker::Model;
 
-/// The triples of a block, each once, ascending: such as a text can give, with the blank nodes that the store names.
-/// Contracts see the list of them.
+/// The triples of a block, each once, ascending: such as a text can give, with the blank nodes that the store names. They are kept
+/// by the places of their terms. Contracts see the list of them.
 #[derive(Debug, Drop)]
 pub struct Block {
-    triples: Sequence<Triple>,
+    list: TripleList,
 }
 
 impl Model for Block {
@@ -25,18 +26,28 @@ impl Model for Block {
 
     ghost Value = { List Triple };
 
-    ghost view = { λ b. b.triples };
+    ghost view = { λ b. b.list };
 
-    ghost invariant = { λ b. IsReadableGraph b.triples };
+    ghost invariant = { λ b. IsReadableGraph b.list };
 }
 
 impl Block {
-    /// The block of these triples.
-    pub fn new(triples: Sequence<Triple>) -> Block
+    /// The block of these triples. It fails for want of memory, or where there are more than 2^32 - 1 terms.
+    pub fn new(alloc: Global, triples: Sequence<Triple>) -> Result<Block, AllocError>
         requires { IsReadableGraph triples }
-        ensures { result ≡ triples }
+        ensures { IfOk result (λ block. block ≡ triples) }
     {
-        Block { triples }
+        let list = TripleList::copied_from(alloc, triples.as_slice())?;
+        Ok(Block { list })
+    }
+
+    /// The block of no triple. It takes no memory.
+    pub fn empty(alloc: Global) -> Block
+        ensures { result ≡ [] }
+    {
+        Block {
+            list: TripleList::new(alloc),
+        }
     }
 
     /// The block of a text of N-Triples 1.1 whose labels are those of the store, or the refusal that counts.
@@ -46,39 +57,25 @@ impl Block {
             MatchResult result (λ block. reading ≡ Ok block) (λ fault. Refuses fault reading) }
     {
         match ntriples_text::read_named(alloc, text) {
-            Ok(triples) => Ok(Block::new(triples)),
+            Ok(triples) => Ok(Block::new(alloc, triples)?),
             Err(fault) => Err(fault),
         }
     }
 
-    /// The triples, in their order.
-    pub fn triples(&self) -> &[Triple]
-        ensures { result.now ≡ self.now }
-    {
-        self.triples.as_slice()
-    }
-
     /// The triples, in their order, which ascend, and each of which a text can give.
-    pub fn into_triples(self) -> Sequence<Triple>
+    pub fn into_list(self) -> TripleList
         ensures triples { result ≡ self }
         ensures readable { IsReadableGraph result }
     {
-        let Block { triples } = self;
-        triples
+        let Block { list } = self;
+        list
     }
 
     /// How many triples there are.
     pub fn len(&self) -> usize
         ensures { result ≡ length self.now }
     {
-        self.triples.len()
-    }
-
-    /// The triples ascend, and a text can give each.
-    pub fn recall_readable(&self)
-        ensures { IsReadableGraph self.now }
-    {
-        let _ = &self.triples;
+        self.list.len()
     }
 }
 

@@ -10,9 +10,7 @@ use crate::stage::{change, refuse, stage};
 use collections::{Sequence, let_go};
 use commit_core::Core;
 use session_model::{Command, SessionReply};
-use session_transaction::{
-    ChangeKind, OpenTransaction, commit, is_refused, reply_of_commit, take_block,
-};
+use session_transaction::{ChangeKind, OpenTransaction, commit, is_refused, reply_of_commit};
 use shape_eval::Steps;
 use std::alloc::{AllocError, Global};
 use std::sync::ledger::Ledger;
@@ -126,17 +124,14 @@ pub fn perform<L: Ledger>(
         Command::Begin => begin(alloc, core, session, current, replies),
         Command::Add(block) => {
             let kind = ChangeKind::Addition;
-            let block = take_block(alloc, block);
             change(alloc, core, session, current, kind, block, replies)
         }
         Command::Remove(block) => {
             let kind = ChangeKind::Removal;
-            let block = take_block(alloc, block);
             change(alloc, core, session, current, kind, block, replies)
         }
         Command::Attach(block) => {
             let kind = ChangeKind::Attachment;
-            let block = take_block(alloc, block);
             change(alloc, core, session, current, kind, block, replies)
         }
         Command::Shapes(shapes) => stage(alloc, core, session, current, shapes, replies),

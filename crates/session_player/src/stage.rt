@@ -6,60 +6,63 @@ ghost use Rattle.session_transaction.specs.Transactions.{command_of, plain_in};
 ghost use Rattle.session_player.specs.Ready.{IsReady, NamesAll, Performs};
 
 use collections::Sequence;
-use commit_core::{Core, NameKind, NamingFault};
+use commit_core::{Core, NameKind, NamingFault, NumberHints};
+use numbered_lists::TripleList;
 use session_model::{Block, Command, SessionReply, ShapesBlock};
-use session_transaction::{BlockTerms, ChangeKind, OpenTransaction, block_refusal};
+use session_transaction::{ChangeKind, OpenTransaction, block_refusal, take_block};
 use std::alloc::{AllocError, Global};
 
-// Names the terms of a block of this kind, and gives their numbers, or else the reply to a block whose terms may
+// Names the terms of a block of this kind, and gives the hints for their numbers, or else the reply to a block whose terms may
 // not be named.
 fn name_terms(
     core: &mut Core,
     session: u32,
     kind: NameKind,
-    block: &BlockTerms,
-) -> Result<Result<Vec<u32>, SessionReply>, AllocError>
+    block: &TripleList,
+) -> Result<Result<NumberHints, SessionReply>, AllocError>
     requires { IsOpened core.old.state session }
     ensures { IfOk result (λ named. MatchResult named
         (λ _. NamesAll None core.old core.new session kind block.now)
         (λ reply. NamesAll (Some reply) core.old core.new session kind block.now)) }
 {
-    match core.name(session, kind, block.terms()) {
-        Ok(numbers) => Ok(Ok(numbers)),
+    match core.name_list(session, kind, block) {
+        Ok(hints) => Ok(Ok(hints)),
         Err(NamingFault::Unknown { node }) => Ok(Err(SessionReply::UnknownNode(node))),
         Err(NamingFault::Full { count: _ }) => Ok(Err(SessionReply::FullTerms)),
         Err(NamingFault::Memory) => Err(AllocError),
     }
 }
 
-/// Adds the triples in the open transaction, removes them, or attaches them to stored blank nodes.
+/// Adds the triples in the open transaction, removes them, or attaches them to stored blank nodes. They are moved out of the
+/// command's block.
 pub fn change(
     alloc: Global,
     core: &mut Core,
     session: u32,
     current: Option<OpenTransaction>,
     kind: ChangeKind,
-    block: Block,
+    block: &mut Block,
     replies: &mut Sequence<SessionReply>,
 ) -> Result<Option<OpenTransaction>, AllocError>
     requires { IsReady core.old session (plain_in current) }
-    ensures { IfOk result (λ next. Performs session core.old core.new (plain_in current) (plain_in next) (command_of kind block) replies.old replies.new) }
+    ensures { IfOk result (λ next. Performs session core.old core.new (plain_in current) (plain_in next) (command_of kind block.old) replies.old replies.new) }
 {
     let Some(open) = current else {
         replies.push(SessionReply::NoTransaction)?;
         return Ok(None);
     };
+    let block = take_block(alloc, block);
     let count = block.len();
-    let block = BlockTerms::new(alloc, block.into_triples())?;
-    let named = name_terms(core, session, kind.name_kind(), &block)?;
-    let numbers = match named {
-        Ok(numbers) => numbers,
+    let list = block.into_list();
+    let named = name_terms(core, session, kind.name_kind(), &list)?;
+    let hints = match named {
+        Ok(hints) => hints,
         Err(reply) => {
             replies.push(reply)?;
             return Ok(Some(open));
         }
     };
-    let (open, staged) = open.with_block(alloc, kind, block, &numbers);
+    let (open, staged) = open.with_block(alloc, kind, list, hints);
     if !staged {
         return Err(AllocError);
     }
@@ -84,7 +87,7 @@ pub fn stage(
         return Ok(None);
     };
     let graph = shapes.graph();
-    let block = BlockTerms::copied_from(alloc, graph.triples())?;
+    let block = TripleList::copied_from(alloc, graph.triples())?;
     let named = name_terms(core, session, NameKind::Fresh, &block)?;
     match named {
         Ok(_) => {}

@@ -4,16 +4,20 @@ ghost use Rattle.shape_reader.specs.Asked.{AsksSome};
 ghost use Rattle.session_reader.specs.Asked.{AsksFirst, AsksOf, AsksOfEach, AsksOfGraph, AsksPart};
 ghost use Rattle.session_reader.specs.Checking.{AreChecked, IsChecked, IsCheckedGraph, OnlyGrows};
 
-use crate::read_command::ReadCommand;
+use crate::read_command::{ReadCommand, ShapesTriples};
 use collections::Sequence;
 use outside::Maker;
-use session_model::{Block, Command, ShapesBlock};
+use session_model::{Command, ShapesBlock};
 use shape_reader::{ShapeFault, read_shapes};
 use shapes_graph::ShapesGraph;
 use std::alloc::{AllocError, Global};
 
 // The command of a shapes graph that was read.
-fn check_graph<M: Maker>(alloc: Global, maker: &mut M, block: Block) -> Result<Command, AllocError>
+fn check_graph<M: Maker>(
+    alloc: Global,
+    maker: &mut M,
+    block: ShapesTriples,
+) -> Result<Command, AllocError>
     ensures command { IfOk result (λ command. IsCheckedGraph block command (M.refused maker.old) (M.refused maker.new)) }
     ensures refused { OnlyGrows (M.refused maker.old) (M.refused maker.new) }
     ensures asked { MatchResult result (λ command. AsksOfGraph block command (M.asked maker.old) (M.asked maker.new))

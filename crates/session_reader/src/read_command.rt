@@ -1,8 +1,50 @@
 //! A command before its shapes graph is judged.
+ghost use Rattle.std.specs.Prelude.{◌≡◌};
+ghost use Rattle.record_text.specs.Records.{IsReadableGraph};
+
 use bgp_query::JoinPattern;
 use collections::Sequence;
-use rdf_model::{Pattern, Term};
+use rdf_model::{Pattern, Term, Triple};
 use session_model::Block;
+use std::marker::Model;
+
+/// The triples of a shapes graph, well-formed or not, each once, ascending: such as a text can give. Contracts see the list of
+/// them.
+#[derive(Debug, Drop)]
+pub struct ShapesTriples {
+    triples: Sequence<Triple>,
+}
+
+impl Model for ShapesTriples {
+    ghost use Rattle.std.specs.Prelude.{List};
+    ghost use Rattle.rdf_model.specs.declared.triple.Triple.{Triple};
+    ghost use Rattle.record_text.specs.Records.{IsReadableGraph};
+
+    ghost Value = { List Triple };
+
+    ghost view = { λ s. s.triples };
+
+    ghost invariant = { λ s. IsReadableGraph s.triples };
+}
+
+impl ShapesTriples {
+    /// These triples.
+    pub fn new(triples: Sequence<Triple>) -> ShapesTriples
+        requires { IsReadableGraph triples }
+        ensures { result ≡ triples }
+    {
+        ShapesTriples { triples }
+    }
+
+    /// The triples, in their order, which ascend, and each of which a text can give.
+    pub fn into_triples(self) -> Sequence<Triple>
+        ensures triples { result ≡ self }
+        ensures readable { IsReadableGraph result }
+    {
+        let ShapesTriples { triples } = self;
+        triples
+    }
+}
 
 /// A command as its lines are read, before its shapes graph is judged.
 #[derive(Debug, Drop)]
@@ -21,7 +63,7 @@ pub enum ReadCommand {
     /// An attachment whose block can't be read: the line of the block, from 1, and the number of the refusal's kind.
     BadAttach { line: u64, kind: u8 },
     /// A shapes graph, well-formed or not.
-    Shapes(Block),
+    Shapes(ShapesTriples),
     /// Shapes whose block can't be read: the line of the block, from 1, and the number of the refusal's kind.
     BadShapes { line: u64, kind: u8 },
     Commit,

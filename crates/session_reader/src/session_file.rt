@@ -2,6 +2,7 @@
 ghost use Rattle.std.specs.Prelude.{◌≡◌, ℕ, ◌+◌, ◌<◌, ◌≤◌, ◌^◌, [], List, Result, Ok, drop, slice_index_or, IfOk, IfSome, MatchResult, OnErr, map, length, ◌==◌};
 ghost use Rattle.std.specs.List.{slice_split};
 ghost use Rattle.rdf_lexical.specs.Refusals.{Refuses};
+ghost use Rattle.record_text.specs.Records.{IsReadableGraph};
 ghost use Rattle.session_reader.specs.declared.line.LineKind.TheVariants as kinds;
 ghost use Rattle.session_reader.specs.declared.read_command.ReadCommand.{ReadCommand as CommandData};
 ghost use Rattle.session_reader.specs.SessionFile;
@@ -14,7 +15,7 @@ ghost use Rattle.session_reader.specs.Faults.{Fails, MakesNone};
 use crate::checking::check_commands;
 use crate::line::{BlockKind, Language, LineKind, Syntax, is_block_end, kind_of, trimmed};
 use crate::prepare_fault::PrepareFault;
-use crate::read_command::ReadCommand;
+use crate::read_command::{ReadCommand, ShapesTriples};
 use crate::select_block::read_select;
 use collections::Sequence;
 use ntriples_text::{ReadFault, RefusalKind};
@@ -43,14 +44,19 @@ fn text_of_block(alloc: Global, lines: &[&[u8]]) -> Result<Vec<u8>, AllocError>
 }
 
 // The command of a block of this kind with these triples.
-fn accepted_block(kind: BlockKind, block: Block) -> ReadCommand
-    ensures { (next : ℕ) → result ≡ block_command kind (Ok (block, next)) }
+fn accepted_block(
+    alloc: Global,
+    kind: BlockKind,
+    triples: Sequence<Triple>,
+) -> Result<ReadCommand, AllocError>
+    requires { IsReadableGraph triples }
+    ensures { (next : ℕ) → IfOk result (λ command. command ≡ block_command kind (Ok (triples, next))) }
 {
     match kind {
-        BlockKind::Add(_) => ReadCommand::Add(block),
-        BlockKind::Remove => ReadCommand::Remove(block),
-        BlockKind::Attach => ReadCommand::Attach(block),
-        BlockKind::Shapes(_) => ReadCommand::Shapes(block),
+        BlockKind::Add(_) => Ok(ReadCommand::Add(Block::new(alloc, triples)?)),
+        BlockKind::Remove => Ok(ReadCommand::Remove(Block::new(alloc, triples)?)),
+        BlockKind::Attach => Ok(ReadCommand::Attach(Block::new(alloc, triples)?)),
+        BlockKind::Shapes(_) => Ok(ReadCommand::Shapes(ShapesTriples::new(triples))),
     }
 }
 
@@ -68,7 +74,7 @@ fn refused_block(kind: BlockKind, line: u64, refusal: RefusalKind) -> ReadComman
 }
 
 // The triples of a text in this language, whose blank nodes are new.
-fn read_text(
+fn read_new(
     alloc: Global,
     session: u32,
     next: &mut u32,
@@ -89,29 +95,7 @@ fn read_text(
     }
 }
 
-// The block of a text in this language, whose blank nodes are new.
-fn read_new(
-    alloc: Global,
-    session: u32,
-    next: &mut u32,
-    syntax: Syntax,
-    text: &[u8],
-) -> Result<Block, ReadFault>
-    requires session { (1 ≤ session) × (session ≤ 64) }
-    requires next { 1 ≤ next.old }
-    requires room { next.old + length text.now < 2 ^ 32 }
-    ensures reads { let reading = new_reading syntax text.now session next.old in
-        MatchResult result (λ block. reading ≡ Ok (block, next.new)) (λ fault. Refuses fault reading) }
-    ensures unchanged { OnErr result (next.new ≡ next.old) }
-    ensures room { (next.old ≤ next.new) × (next.new ≤ next.old + length text.now) }
-{
-    match read_text(alloc, session, next, syntax, text) {
-        Ok(triples) => Ok(Block::new(triples)),
-        Err(fault) => Err(fault),
-    }
-}
-
-// The block of this kind. The blank nodes of a removal and of an attachment are those of the store; those of
+// The triples of a block of this kind. The blank nodes of a removal and of an attachment are those of the store; those of
 // the others are new.
 fn read_kind(
     alloc: Global,
@@ -119,17 +103,17 @@ fn read_kind(
     next: &mut u32,
     kind: BlockKind,
     text: &[u8],
-) -> Result<Block, ReadFault>
+) -> Result<Sequence<Triple>, ReadFault>
     requires session { (1 ≤ session) × (session ≤ 64) }
     requires next { 1 ≤ next.old }
     requires room { next.old + length text.now < 2 ^ 32 }
     ensures reads { let reading = block_reading kind text.now session next.old in
-        MatchResult result (λ block. reading ≡ Ok (block, next.new)) (λ fault. Refuses fault reading) }
+        MatchResult result (λ triples. reading ≡ Ok (triples, next.new)) (λ fault. Refuses fault reading) }
     ensures unchanged { OnErr result (next.new ≡ next.old) }
     ensures room { (next.old ≤ next.new) × (next.new ≤ next.old + length text.now) }
 {
     match kind {
-        BlockKind::Remove | BlockKind::Attach => Block::read_named(alloc, text),
+        BlockKind::Remove | BlockKind::Attach => ntriples_text::read_named(alloc, text),
         BlockKind::Add(syntax) | BlockKind::Shapes(syntax) => {
             read_new(alloc, session, next, syntax, text)
         }
@@ -153,7 +137,7 @@ fn read_block(
 {
     let text = text_of_block(alloc, lines)?;
     match read_kind(alloc, session, next, kind, &text) {
-        Ok(block) => Ok(accepted_block(kind, block)),
+        Ok(triples) => accepted_block(alloc, kind, triples),
         Err(
             ReadFault::Refusal {
                 line,

@@ -21,12 +21,12 @@ use Rattle.store_model.specs.declared.commit.Transaction.{Transaction}
 use Rattle.store_model.specs.Snapshots.{snapshot_of}
 use Rattle.store_model.specs.Store.{version, HasChange}
 use Rattle.session_model.specs.declared.command.Command.{Command}
-use Rattle.session_model.specs.declared.command.Command.TheVariants.{Attach, Begin, Commit, Find, Report, Select, Abort}
+use Rattle.session_model.specs.declared.command.Command.TheVariants.{Begin, Commit, Find, Report, Select, Abort}
 use Rattle.session_model.specs.declared.reply.SessionReply.{SessionReply}
 use Rattle.session_model.specs.declared.reply.SessionReply.TheVariants as said
 use Rattle.session_model.specs.Reports.{ReportedGraph}
 use Rattle.session_model.specs.Sessions as Sessions
-use Rattle.session_model.specs.Sessions.{SessionState, local_answer, answers, action_of, after_reply, GoesOn, up_to_event, additions, begun, parts_of, found_by}
+use Rattle.session_model.specs.Sessions.{SessionState, local_answer, answers, action_of, after_reply, GoesOn, up_to_event, begun, parts_of, found_by}
 use Rattle.session_model.proofs.Walking.{up_to_event-local, up_to_event-event}
 use Rattle.report_writer.specs.Report.{report_text}
 use Rattle.session_player.proofs.Playing.{local-none, local-change}
@@ -49,15 +49,16 @@ use Rattle.guard_store.specs.declared.faults.CommitFault.TheVariants as commits
 use Rattle.session_transaction.specs.declared.committing.Committed.{Committed}
 use Rattle.session_transaction.specs.declared.committing.Committed.TheVariants.{ReadOnly, Done, Conflict, FullTriples, Refused, LogFault, Stopped}
 use Rattle.session_transaction.specs.declared.transaction.OpenTransaction.{OpenTransaction}
-use Rattle.session_transaction.specs.declared.transaction.ChangeKind.TheVariants.{Attachment}
+use Rattle.session_transaction.specs.declared.transaction.ChangeKind.{ChangeKind}
+use Rattle.session_transaction.specs.declared.transaction.ChangeKind.TheVariants.{Addition, Removal, Attachment}
 use Rattle.guard_store.specs.Sessions.{StoreSession}
 use Rattle.guard_store.specs.Fronts.{SharedStore, Turn}
 use Rattle.guard_store.specs.Callers.{IsCaller, IsSession, HasWork, OnlyReads}
-use Rattle.session_transaction.specs.Transactions.{FitsState, plain, plain_in, begun_at, graph_so_far, with_changes, with_find, with_finds}
+use Rattle.session_transaction.specs.Transactions.{FitsState, plain, plain_in, begun_at, changes_of, command_of, graph_so_far, name_kind_of, reply_of, with_changes, with_find, with_finds}
 use Rattle.session_transaction.specs.Checks.{committing}
 use Rattle.session_transaction.proofs.Checking.{check_same}
 use Rattle.guard_store.specs.declared.faults.CheckFault.{CheckFault}
-use Rattle.guard_store.specs.Answers.{Attaches, AttachesNot, ChecksHead, ChecksNot, Begins, BeginsNot, NamesForNot, Stages, StagesNot, Heads, HeadsNot, Commits, CommitsNot, AnswersCommit, FindsNot, Reports, ReportsNot, SelectsNot, IsOpen, attach_fault, event_of}
+use Rattle.guard_store.specs.Answers.{AttachesNot, ChecksHead, ChecksNot, Begins, BeginsNot, NamesForNot, Stages, StagesBlock, StagesBlockNot, StagesNot, Heads, HeadsNot, Commits, CommitsNot, AnswersCommit, FindsNot, Reports, ReportsNot, SelectsNot, IsOpen, attach_fault, event_of}
 use Rattle.guard_store.proofs.Turning.{front_is}
 use Rattle.guard_store.proofs.Fitting.{fits_before, found_session, open_fits, selected_session, session_ended}
 use Rattle.session_transaction.specs.Replies.{IsCommitReply, IsListed, IsRefused, answer_in}
@@ -65,7 +66,7 @@ use Rattle.session_transaction.proofs.Blocks.{IsBlock, block_change}
 use Rattle.session_transaction.proofs.Fitting.{unknown_attaches}
 use Rattle.session_transaction.proofs.Refusing.{refused_by}
 use Rattle.session_transaction.proofs.Selecting.{too_many_selected}
-use Rattle.session_threads.specs.Replies.{Tells, IsAttachReply, IsBeginReply, IsBlockRefusal, IsStageReply, IsFindRefusal, IsReportRefusal, IsSelectRefusal, IsAbortReply}
+use Rattle.session_threads.specs.Replies.{Tells, IsBlockReply, IsBeginReply, IsBlockRefusal, IsStageReply, IsFindRefusal, IsReportRefusal, IsSelectRefusal, IsAbortReply}
 use Rattle.session_threads.specs.Playing.{HasPlayed, Plays, PlaysAll}
 use Rattle.session_threads.proofs.Keeping.{played_still, played_on}
 
@@ -178,12 +179,26 @@ pub plays_stage : {U : Type 0} (store : SharedStore) (old new : StoreSession) (c
 plays_stage {U} store old new c kind ts staged done k (Ok u) r rs more was is b told em = plays_staged store old new c kind ts staged done k rs more was is b (em ∙ ap (λ x. rs ++ x ∷ []) told)
 plays_stage {U} store old new c kind ts staged done k (Err f) r rs more was is b told em = plays_not_staged store old new c kind ts staged done k (attach_fault f) r rs more was is b told em
 
-pub plays_attach : {U : Type 0} (store : SharedStore) (old new : StoreSession) (ts : List Triple) (a : Result U AttachFault) (r : SessionReply) (rs more : List SessionReply) → IsSession store old → IsSession store new
-    → MatchResult a (λ _. Attaches store old new ts) (λ f. AttachesNot f store old new ts) → IsAttachReply a (said.Attached (length ts)) r → more ≡ rs ++ r ∷ [] → Plays store old new (Attach ts) rs more
-plays_attach {U} store old new ts (Ok u) r rs more was is b told em =
-    plays_staged store old new (Attach ts) kinds.Attach ts (λ w. with_changes w (additions ts)) (said.Attached (length ts)) (block_change Attachment ts) rs more was is (b.0, b.1, b.2.0, b.3) (em ∙ ap (λ x. rs ++ x ∷ []) told)
-plays_attach {U} store old new ts (Err f) r rs more was is b told em =
-    plays_not_staged store old new (Attach ts) kinds.Attach ts (λ w. with_changes w (additions ts)) (said.Attached (length ts)) (block_change Attachment ts) f r rs more was is (not_attached store old new ts f b) told em
+-- a block of changes, by its kind
+staged_block : (store : SharedStore) (old new : StoreSession) (k : ChangeKind) (ts : List Triple) → StagesBlock k store old new ts → Stages store old new (name_kind_of k) ts (λ w. with_changes w (changes_of k ts))
+staged_block store old new Addition ts b = b
+staged_block store old new Removal ts b = b
+staged_block store old new Attachment ts b = (b.0, b.1, b.2.0, b.3)
+
+named_not : (store : SharedStore) (old new : StoreSession) (kind : NameKind) (ts : List Triple) (f : AttachFault) → (g : StageFault) × (f ≡ attach_fault g) × StagesNot g store old new kind ts → NamesForNot f store old new kind ts
+named_not store old new kind ts f b = subst (λ (x : AttachFault). NamesForNot x store old new kind ts) (sym b.1) b.2
+
+not_staged_block : (store : SharedStore) (old new : StoreSession) (k : ChangeKind) (ts : List Triple) (f : AttachFault) → StagesBlockNot k f store old new ts → NamesForNot f store old new (name_kind_of k) ts
+not_staged_block store old new Addition ts f b = named_not store old new kinds.Fresh ts f b
+not_staged_block store old new Removal ts f b = named_not store old new kinds.Known ts f b
+not_staged_block store old new Attachment ts f b = not_attached store old new ts f b
+
+pub plays_block : {U : Type 0} (store : SharedStore) (old new : StoreSession) (k : ChangeKind) (ts : List Triple) (a : Result U AttachFault) (r : SessionReply) (rs more : List SessionReply) → IsSession store old → IsSession store new
+    → MatchResult a (λ _. StagesBlock k store old new ts) (λ f. StagesBlockNot k f store old new ts) → IsBlockReply a (reply_of k (length ts)) r → more ≡ rs ++ r ∷ [] → Plays store old new (command_of k ts) rs more
+plays_block {U} store old new k ts (Ok u) r rs more was is b told em =
+    plays_staged store old new (command_of k ts) (name_kind_of k) ts (λ w. with_changes w (changes_of k ts)) (reply_of k (length ts)) (block_change k ts) rs more was is (staged_block store old new k ts b) (em ∙ ap (λ x. rs ++ x ∷ []) told)
+plays_block {U} store old new k ts (Err f) r rs more was is b told em =
+    plays_not_staged store old new (command_of k ts) (name_kind_of k) ts (λ w. with_changes w (changes_of k ts)) (reply_of k (length ts)) (block_change k ts) f r rs more was is (not_staged_block store old new k ts f b) told em
 
 -- a command whose block is refused
 pub plays_refused : (store : SharedStore) (s : StoreSession) (c : Command) (r : SessionReply) (rs more : List SessionReply) → IsSession store s → IsRefused c r → more ≡ rs ++ answer_in (plain_in s.current) r ∷ [] → Plays store s s c rs more

@@ -20,9 +20,10 @@ use Rattle.session_threads.proofs.ShapesCrossing as compiled
 use Rattle.rdf_text.proofs.text.Text.TheSendSync as text_sent
 use Rattle.rdf_model.proofs.term.Term.TheSendSync as term_sent
 use Rattle.rdf_model.proofs.triple.Triple.TheSendSync as triple_sent
-use Rattle.rdf_model.proofs.change.Change.TheSendSync as change_sent
 use Rattle.rdf_model.proofs.pattern.Pattern.TheSendSync as pattern_sent
 use Rattle.rdf_model.proofs.look.Look.TheSendSync as look_sent
+use Rattle.numbered_lists.proofs.net.Net.TheSendSync as net_sent
+use Rattle.numbered_lists.proofs.triples.TripleList.TheSendSync as list_sent
 use Rattle.rdf_model.specs.contracts.term.Term as term
 use Rattle.rdf_model.specs.contracts.term.TermOrd.TheImpl as term_order
 use Rattle.rdf_model.specs.contracts.term.TermPartialEq.TheImpl as term_equality
@@ -142,7 +143,7 @@ verdict_send : IsSend verdict.the_row
 verdict_send = search (look_sent.the_send, term_sent.the_send, sequence_sent.the_send, crosses, sendable) depth 60 fits 20000
 
 transaction_send : IsSend (transaction.the_field).row
-transaction_send = search (change_sent.the_send, shapes_send, pattern_sent.the_send, verdict_send, sequence_sent.the_send, crosses, sendable) depth 60 fits 20000
+transaction_send = search (net_sent.the_send, shapes_send, pattern_sent.the_send, verdict_send, sequence_sent.the_send, crosses, sendable) depth 60 fits 20000
 
 action_send : IsSend (action.the_field).row
 action_send = search (term_sent.the_send, transaction_send, sequence_sent.the_send, crosses, sendable) depth 60 fits 20000
@@ -232,7 +233,7 @@ join_send : IsSend (join_pattern.the_row term.the_row)
 join_send = search (part_send, crosses, sendable) depth 60 fits 20000
 
 command_send : IsSend command.the_row
-command_send = search (join_send, triple_sent.the_send, shapes_send, term_sent.the_send, sequence_sent.the_send, crosses, sendable) depth 60 fits 20000
+command_send = search (join_send, list_sent.the_send, shapes_send, term_sent.the_send, sequence_sent.the_send, crosses, sendable) depth 60 fits 20000
 
 player_inside_send : (D : RattleType) (d : disks.Ghosts D.Denot) → IsSend D → IsSend (player_inside.the_row D d)
 player_inside_send D d sent = declared_send (player_inside.the_type D d) (

@@ -36,9 +36,9 @@ abbrev pub IsStageReply : {U : Type 0} → Result U StageFault → SessionReply 
 IsStageReply (Ok u) done r = r ≡ done
 IsStageReply (Err f) done r = IsBlockRefusal (attach_fault f) r
 
-abbrev pub IsAttachReply : {U : Type 0} → Result U AttachFault → SessionReply → SessionReply → Type 0
-IsAttachReply (Ok u) done r = r ≡ done
-IsAttachReply (Err f) done r = IsBlockRefusal f r
+abbrev pub IsBlockReply : {U : Type 0} → Result U AttachFault → SessionReply → SessionReply → Type 0
+IsBlockReply (Ok u) done r = r ≡ done
+IsBlockReply (Err f) done r = IsBlockRefusal f r
 
 abbrev pub IsFindRefusal : FindFault → SessionReply → Type 0
 IsFindRefusal finds.NoTransaction r = r ≡ told.NoTransaction

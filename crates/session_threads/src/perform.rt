@@ -1,14 +1,14 @@
 //! What one command does.
 ghost use Rattle.std.specs.Prelude.{◌≡◌, OnOk};
 ghost use Rattle.record_text.specs.Records.{IsReadableGraph};
-ghost use Rattle.session_transaction.specs.Transactions.{plain_in};
+ghost use Rattle.session_transaction.specs.Transactions.{command_of, plain_in};
 ghost use Rattle.guard_store.specs.Callers.{HasWork, IsSession, OnlyReads};
 ghost use Rattle.session_transaction.specs.Replies.{IsRefusedBlock, answer_in};
 ghost use Rattle.session_threads.specs.Playing.{Plays};
 ghost use Rattle.session_threads.specs.Replies.{Tells};
 
 use crate::replies::{
-    abort_reply, attach_reply, begin_reply, commit_reply, find_reply, report_reply, select_reply,
+    abort_reply, begin_reply, block_reply, commit_reply, find_reply, report_reply, select_reply,
     stage_reply,
 };
 use crate::watch::{Watch, is_ready, next_event};
@@ -19,7 +19,7 @@ use guard_store::{AttachFault, BeginFault, CommitFault, Session, StageFault, Sto
 use outside::{EventKind, Gate};
 use rdf_model::{Pattern, Term};
 use session_model::{Block, Command, SessionReply};
-use session_transaction::{block_refusal, is_refused, take_block};
+use session_transaction::{ChangeKind, block_refusal, is_refused, take_block};
 use shape_eval::Steps;
 use shapes_graph::ShapesGraph;
 use std::alloc::AllocError;
@@ -55,61 +55,26 @@ fn begin<D: Disk, R: Wait, G: Gate>(
     (session, tell(replies, reply))
 }
 
-fn add<D: Disk, R: Wait, G: Gate>(
+// Adds the triples, removes them, or attaches them to stored blank nodes. They are moved out of the command's block.
+fn change<D: Disk, R: Wait, G: Gate>(
     rt: &R,
     store: &Store<D>,
     watch: &mut Watch<G>,
     session: Session<D>,
-    block: Block,
+    kind: ChangeKind,
+    block: &mut Block,
     replies: &mut Sequence<SessionReply>,
 ) -> (Session<D>, Result<(), AllocError>)
     requires { IsSession store.now session }
     ensures lock { result.0.pass.lock ≡ store.now.id }
-    ensures plays { OnOk result.1 (Plays store.now session result.0 (Command.Add block) replies.old replies.new) }
+    ensures plays { OnOk result.1 (Plays store.now session result.0 (command_of kind block.old) replies.old replies.new) }
 {
+    let block = take_block(store.allocator(), block);
     let count = block.len();
-    let (session, answer) = store.stage_add_block(rt, session, block);
-    watch.after(answer == Err(StageFault::Memory), false);
-    let reply = stage_reply(answer, SessionReply::Added(count));
-    (session, tell(replies, reply))
-}
-
-fn remove<D: Disk, R: Wait, G: Gate>(
-    rt: &R,
-    store: &Store<D>,
-    watch: &mut Watch<G>,
-    session: Session<D>,
-    block: Block,
-    replies: &mut Sequence<SessionReply>,
-) -> (Session<D>, Result<(), AllocError>)
-    requires { IsSession store.now session }
-    ensures lock { result.0.pass.lock ≡ store.now.id }
-    ensures plays { OnOk result.1 (Plays store.now session result.0 (Command.Remove block) replies.old replies.new) }
-{
-    let count = block.len();
-    let (session, answer) = store.stage_remove_block(rt, session, block);
-    watch.after(answer == Err(StageFault::Memory), false);
-    let reply = stage_reply(answer, SessionReply::Removed(count));
-    (session, tell(replies, reply))
-}
-
-fn attach<D: Disk, R: Wait, G: Gate>(
-    rt: &R,
-    store: &Store<D>,
-    watch: &mut Watch<G>,
-    session: Session<D>,
-    block: Block,
-    replies: &mut Sequence<SessionReply>,
-) -> (Session<D>, Result<(), AllocError>)
-    requires { IsSession store.now session }
-    ensures lock { result.0.pass.lock ≡ store.now.id }
-    ensures plays { OnOk result.1 (Plays store.now session result.0 (Command.Attach block) replies.old replies.new) }
-{
-    let count = block.len();
-    let (session, answer) = store.stage_attach_block(rt, session, block);
+    let (session, answer) = store.stage_block(rt, session, kind, block);
     let ran_out = matches!(&answer, Err(AttachFault::Memory));
     watch.after(ran_out, false);
-    let reply = attach_reply(answer, SessionReply::Attached(count));
+    let reply = block_reply(answer, kind.reply(count));
     (session, tell(replies, reply))
 }
 
@@ -324,16 +289,16 @@ pub fn perform<D: Disk, L: Ledger, R: Wait, G: Gate>(
     match &mut command {
         Command::Begin => begin(rt, store, watch, session, replies),
         Command::Add(block) => {
-            let block = take_block(store.allocator(), block);
-            add(rt, store, watch, session, block, replies)
+            let kind = ChangeKind::Addition;
+            change(rt, store, watch, session, kind, block, replies)
         }
         Command::Remove(block) => {
-            let block = take_block(store.allocator(), block);
-            remove(rt, store, watch, session, block, replies)
+            let kind = ChangeKind::Removal;
+            change(rt, store, watch, session, kind, block, replies)
         }
         Command::Attach(block) => {
-            let block = take_block(store.allocator(), block);
-            attach(rt, store, watch, session, block, replies)
+            let kind = ChangeKind::Attachment;
+            change(rt, store, watch, session, kind, block, replies)
         }
         Command::Shapes(block) => {
             block.recall_readable();

@@ -3,7 +3,7 @@ ghost use Rattle.std.specs.Prelude.{◌≡◌, ◌≤◌, IfOk, MatchResult, len
 ghost use Rattle.bgp_query.specs.Bindings.{most_bindings};
 ghost use Rattle.session_model.specs.Sessions;
 ghost use Rattle.session_transaction.specs.Replies.{IsCommitReply, IsListed};
-ghost use Rattle.session_threads.specs.Replies.{IsAbortReply, IsAttachReply, IsBeginReply, IsFindRefusal, IsReportRefusal, IsSelectRefusal, IsStageReply};
+ghost use Rattle.session_threads.specs.Replies.{IsAbortReply, IsBeginReply, IsBlockReply, IsFindRefusal, IsReportRefusal, IsSelectRefusal, IsStageReply};
 
 use collections::Sequence;
 use guard_store::{
@@ -41,12 +41,12 @@ pub fn stage_reply(
     }
 }
 
-/// The reply to a block to be attached, which is `done` where it was staged.
-pub fn attach_reply(
+/// The reply to a block of changes, which is `done` where it was staged.
+pub fn block_reply(
     answer: Result<(), AttachFault>,
     done: SessionReply,
 ) -> Result<SessionReply, AllocError>
-    ensures { IfOk result (IsAttachReply answer done) }
+    ensures { IfOk result (IsBlockReply answer done) }
 {
     match answer {
         Ok(()) => Ok(done),

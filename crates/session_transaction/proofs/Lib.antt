@@ -6,4 +6,3 @@ pub mod Listed
 pub mod Logging
 pub mod Checking
 pub mod Selecting
-pub mod Parts

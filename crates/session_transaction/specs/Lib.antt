@@ -3,4 +3,3 @@ pub mod Replies
 pub mod Commits
 pub mod Logging
 pub mod Checks
-pub mod Blocks

@@ -4,7 +4,6 @@ use Rattle.rdf_model.specs.declared.term.Term.{Term}
 use Rattle.rdf_model.specs.declared.triple.Triple.{Triple}
 use Rattle.rdf_model.specs.declared.pattern.Pattern.{Pattern}
 use Rattle.rdf_model.specs.declared.change.Change.{Change}
-use Rattle.rdf_model.specs.declared.change.Change.TheVariants as changes
 use Rattle.rdf_model.specs.Graphs.{after}
 use Rattle.bgp_query.specs.declared.fault.JoinFault.{JoinFault}
 use Rattle.bgp_query.specs.declared.fault.JoinFault.TheVariants.{TooMany, Memory}
@@ -25,11 +24,6 @@ use Rattle.session_model.specs.Sessions.{additions, removals}
 use Rattle.session_transaction.specs.declared.transaction.OpenTransaction.{OpenTransaction}
 use Rattle.session_transaction.specs.declared.transaction.ChangeKind.{ChangeKind}
 use Rattle.session_transaction.specs.declared.transaction.ChangeKind.TheVariants.{Addition, Removal, Attachment}
-
-abbrev pub change_of : ChangeKind → Triple → Change
-change_of Addition t = changes.Add t
-change_of Removal t = changes.Remove t
-change_of Attachment t = changes.Add t
 
 abbrev pub changes_of : ChangeKind → List Triple → List Change
 changes_of Addition ts = additions ts

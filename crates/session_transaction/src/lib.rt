@@ -13,10 +13,9 @@ mod block;
 mod committing;
 mod replies;
 mod select;
-mod terms;
 mod transaction;
 
-pub use block::{BlockTerms, take_block};
+pub use block::take_block;
 pub use committing::{Committed, commit, commit_beside};
 pub use replies::{block_refusal, is_refused, reply_of_commit, reply_of_find, reply_of_select};
 pub use transaction::{ChangeKind, OpenTransaction};

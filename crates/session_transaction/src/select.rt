@@ -1,11 +1,11 @@
 //! The bindings of patterns in the graph of an open transaction.
-ghost use Rattle.std.specs.Prelude.{◌≡◌, IfOk, MatchBool, MatchResult, map};
+ghost use Rattle.std.specs.Prelude.{◌≡◌, ◌++◌, IfOk, MatchBool, MatchResult, map};
 ghost use Rattle.bgp_query.specs.Selected.{AreSelected};
 ghost use Rattle.bgp_query.specs.TermBindings;
 ghost use Rattle.bgp_query.specs.TermBindings.{part_opened};
 ghost use Rattle.session_transaction.specs.Transactions.{SelectsNot, graph_so_far, with_finds};
 
-use crate::transaction::{OpenTransaction, appended};
+use crate::transaction::OpenTransaction;
 use bgp_query::{JoinFault, JoinPattern, Part};
 use collections::Sequence;
 use rdf_model::{Pattern, Term};
@@ -43,6 +43,19 @@ fn all_opened(alloc: Global, patterns: &[JoinPattern<Term>]) -> Result<Vec<Patte
     Ok(asked)
 }
 
+// Puts items at the end, or answers false where there is no room for them.
+fn appended<T: Drop>(list: Sequence<T>, more: Vec<T>) -> (Sequence<T>, bool)
+    ensures { MatchBool result.1 (result.0 ≡ list ++ more.items) (result.0 ≡ list) }
+{
+    let mut items = list.into_vec();
+    if items.is_empty() {
+        return (Sequence::from_vec(more), true);
+    }
+    let mut more = more;
+    let grew = items.append(&mut more).is_ok();
+    (Sequence::from_vec(items), grew)
+}
+
 impl OpenTransaction {
     // Records the patterns of finds, or answers false where there is no room for them.
     fn record_finds(&mut self, alloc: Global, asked: Vec<Pattern>) -> bool
@@ -67,7 +80,7 @@ impl OpenTransaction {
             (λ fault. SelectsNot fault patterns.now self.old self.new) }
     {
         let asked = all_opened(alloc, patterns)?;
-        let selected = self.snap.select(self.transaction.net.as_slice(), patterns);
+        let selected = self.snap.select(&self.transaction.net, patterns);
         match selected {
             Err(JoinFault::Memory) => Err(JoinFault::Memory),
             answer => {

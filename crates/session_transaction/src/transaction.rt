@@ -4,18 +4,17 @@ ghost use Rattle.store_model.specs.Store.{HasChange, NetNamed};
 ghost use Rattle.session_model.specs.Sessions.{found_by};
 ghost use Rattle.session_transaction.specs.Checks.{CheckSteps, Checks, checked_of, handed_back, handed_in, pairs_of, verdict_of};
 ghost use Rattle.session_transaction.specs.Transactions;
-ghost use Rattle.session_transaction.specs.Transactions.{begun_at, change_of, changes_of, name_kind_of, plain};
+ghost use Rattle.session_transaction.specs.Transactions.{begun_at, changes_of, name_kind_of, plain};
 
-use crate::block::BlockTerms;
 use collections::Sequence;
 use commit_core::{CheckedNet, CheckedTransaction, NumberHints, Snap, Transaction, Verdict};
 use kept_rows::PairRows;
-use rdf_model::{Change, Net, Pattern, Triple};
+use numbered_lists::{Net, TripleList};
+use rdf_model::{Pattern, Triple};
 use session_model::{Report, SessionReply};
 use shape_eval::Steps;
 use shapes_graph::ShapesGraph;
 use std::alloc::{AllocError, Global};
-use std::mem;
 use std::sync::ledger::Ledger;
 use store_model::NameKind;
 
@@ -51,14 +50,14 @@ pub enum ChangeKind {
 }
 
 impl ChangeKind {
-    // The change of this kind of a triple.
-    pub(crate) fn of(self, triple: Triple) -> Change
-        ensures { result ≡ change_of self triple }
+    // Puts a change of this kind of each triple at the end of the changes, or leaves them as they were.
+    fn stage(self, alloc: Global, net: &mut Net, block: TripleList) -> Result<(), AllocError>
+        ensures ok { OnOk result (net.new ≡ net.old ++ changes_of self block) }
+        ensures err { OnErr result (net.new ≡ net.old) }
     {
         match self {
-            ChangeKind::Addition => Change::Add(triple),
-            ChangeKind::Removal => Change::Remove(triple),
-            ChangeKind::Attachment => Change::Add(triple),
+            ChangeKind::Addition | ChangeKind::Attachment => net.add_all(alloc, block),
+            ChangeKind::Removal => net.remove_all(alloc, block),
         }
     }
 
@@ -83,19 +82,6 @@ impl ChangeKind {
             ChangeKind::Attachment => NameKind::Attach,
         }
     }
-}
-
-/// Puts items at the end, or answers false where there is no room for them.
-pub(crate) fn appended<T: Drop>(list: Sequence<T>, more: Vec<T>) -> (Sequence<T>, bool)
-    ensures { MatchBool result.1 (result.0 ≡ list ++ more.items) (result.0 ≡ list) }
-{
-    let mut items = list.into_vec();
-    if items.is_empty() {
-        return (Sequence::from_vec(more), true);
-    }
-    let mut more = more;
-    let grew = items.append(&mut more).is_ok();
-    (Sequence::from_vec(items), grew)
 }
 
 fn record_find(finds: &mut Sequence<Pattern>, pattern: &Pattern) -> Result<(), AllocError>
@@ -185,52 +171,23 @@ impl OpenTransaction {
         }
     }
 
-    // The transaction with these changes at the end, and nothing checked; without the memory for them, as it was.
-    fn with_more(self, alloc: Global, more: Vec<Change>, numbers: &[u32]) -> (OpenTransaction, bool)
-        ensures { MatchBool result.1 (result.0 ≡ Transactions.with_changes self more.items) (result.0 ≡ self) }
-    {
-        let OpenTransaction {
-            transaction,
-            checked,
-            hints,
-            snap,
-        } = self;
-        let mut transaction = transaction;
-        let mut hints = hints;
-        let net = mem::replace(&mut transaction.net, Net::new(alloc));
-        let (net, grew) = appended(net, more);
-        transaction.net = net;
-        if grew {
-            hints.add(numbers);
-        }
-        let open = OpenTransaction {
-            transaction,
-            checked,
-            hints,
-            snap,
-        };
-        if grew {
-            (open.unchecked(), true)
-        } else {
-            (open, false)
-        }
-    }
-
     /// The transaction with a change of each triple of the block, which is moved into it, and nothing checked; without the memory
-    /// for them, as it was. The numbers are those that naming the block gave.
+    /// for them, as it was. The hints are those that naming the block gave.
     pub fn with_block(
         self,
         alloc: Global,
         kind: ChangeKind,
-        block: BlockTerms,
-        numbers: &[u32],
+        block: TripleList,
+        hints: NumberHints,
     ) -> (OpenTransaction, bool)
         ensures { MatchBool result.1 (result.0 ≡ Transactions.with_changes self (changes_of kind block)) (result.0 ≡ self) }
     {
-        let Ok(more) = block.into_changes(alloc, kind) else {
-            return (self, false);
+        let mut open = self;
+        let Ok(()) = kind.stage(alloc, &mut open.transaction.net, block) else {
+            return (open, false);
         };
-        self.with_more(alloc, more, numbers)
+        open.hints.append(hints);
+        (open.unchecked(), true)
     }
 
     /// The transaction with these shapes staged, and nothing checked.
@@ -248,9 +205,7 @@ impl OpenTransaction {
         ensures recorded { OnOk result (self.new ≡ Transactions.with_find self.old pattern.now) }
         ensures same { OnErr result (self.new ≡ self.old) }
     {
-        let found = self
-            .snap
-            .find(alloc, self.transaction.net.as_slice(), pattern)?;
+        let found = self.snap.find(alloc, &self.transaction.net, pattern)?;
         record_find(&mut self.transaction.finds, pattern)?;
         Ok(found)
     }
@@ -284,7 +239,7 @@ impl OpenTransaction {
             self.checked = None;
             return Ok(false);
         }
-        let found = head.check(self.transaction.net.as_slice(), &self.hints, steps)?;
+        let found = head.check(&self.transaction.net, &self.hints, steps)?;
         self.checked = Some(found);
         Ok(true)
     }

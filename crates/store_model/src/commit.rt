@@ -1,6 +1,7 @@
 //! Transactions, their verdicts and accepted commits.
 use collections::Sequence;
-use rdf_model::{Look, Net, Pattern, Term, Triple};
+use numbered_lists::Net;
+use rdf_model::{Look, Pattern, Term, Triple};
 use shapes_graph::ShapesGraph;
 use std::alloc::AllocError;
 

@@ -7,6 +7,7 @@ use commit_core::{
     Again, BlockMode, CheckedTransaction, Commit, Core, Limits, NameKind, NamingFault, Transaction,
     slip,
 };
+use numbered_lists::Net;
 use rdf_model::{Pattern, Term, Text};
 use shape_eval::Steps;
 use shapes_graph::ShapesGraph;
@@ -154,7 +155,7 @@ fn staging(alloc: Global) -> Result<Transaction, AllocError>
     ensures unchecked { IfOk result (λ x. x.verdict ≡ None) }
 {
     let staged = ShapesGraph::empty(alloc)?;
-    let net = Sequence::new(alloc);
+    let net = Net::new(alloc);
     let finds = Sequence::new(alloc);
     Ok(Transaction {
         base: 0,

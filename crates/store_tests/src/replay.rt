@@ -3,7 +3,8 @@ ghost use Rattle.std.specs.Prelude.{◌≡◌, ◌<◌, ◌≤◌};
 
 use collections::Sequence;
 use commit_core::{Again, BlockMode, Core, Event, Limits, NameKind, ReplayFault, Transaction};
-use rdf_model::{Change, Net, Pattern, Term, Text, Triple};
+use numbered_lists::Net;
+use rdf_model::{Change, Pattern, Term, Text, Triple};
 use shape_eval::Steps;
 use std::alloc::{AllocError, Global};
 use std::marker::Brand;
@@ -94,7 +95,7 @@ fn finds(alloc: Global, predicate: Option<&str>) -> Result<Sequence<Pattern>, Al
 
 fn additions(alloc: Global, iris: Iris) -> Result<Net, AllocError> {
     let mut net = Net::new(alloc);
-    net.push(Change::Add(triple(alloc, iris)?))?;
+    net.push(alloc, Change::Add(triple(alloc, iris)?))?;
     Ok(net)
 }
 

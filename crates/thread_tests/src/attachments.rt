@@ -2,7 +2,7 @@
 ghost use Rattle.std.specs.Prelude.{◌≡◌, ◌<◌, IfOk};
 ghost use Rattle.guard_store.specs.Callers.{IsSession};
 
-use crate::held::block_of;
+use crate::held::triples_of;
 use commit_core::{BlockMode, Core, Limits};
 use disk::MemDisk;
 use guard_store::{AttachFault, Committed, Session, Store};
@@ -88,9 +88,8 @@ fn attach<R: Wait + Abort>(
     requires { IsSession store.now session }
     ensures { IfOk result (IsSession store.now) }
 {
-    let block = block_of(alloc, row.block)?;
-    block.recall_readable();
-    let (session, answer) = store.stage_attach(rt, session, block.triples());
+    let triples = triples_of(alloc, row.block)?;
+    let (session, answer) = store.stage_attach(rt, session, triples.as_slice());
     assert!(rt; is_told(&answer, &row.told));
     Ok(session)
 }
@@ -107,9 +106,8 @@ fn give<R: Wait + Abort>(
 {
     let (session, begun) = store.begin(rt, session);
     assert_eq!(rt; begun, Ok(0));
-    let block = block_of(alloc, b"_:s1x1 <e:p> <e:a> .\n_:s1x2 <e:p> <e:a> .\n")?;
-    block.recall_readable();
-    let (session, added) = store.stage_add(rt, session, block.triples());
+    let triples = triples_of(alloc, b"_:s1x1 <e:p> <e:a> .\n_:s1x2 <e:p> <e:a> .\n")?;
+    let (session, added) = store.stage_add(rt, session, triples.as_slice());
     assert_eq!(rt; added, Ok(()));
     Ok(session)
 }
@@ -124,9 +122,8 @@ fn attach_all<R: Wait + Abort>(
     requires { IsSession store.now session }
     ensures { IfOk result (IsSession store.now) }
 {
-    let block = block_of(alloc, b"_:s1x1 <e:p> <e:a> .\n")?;
-    block.recall_readable();
-    let (session, answer) = store.stage_attach(rt, session, block.triples());
+    let triples = triples_of(alloc, b"_:s1x1 <e:p> <e:a> .\n")?;
+    let (session, answer) = store.stage_attach(rt, session, triples.as_slice());
     assert!(rt; matches!(answer, Err(AttachFault::NoTransaction)));
     let (session, begun) = store.begin(rt, session);
     assert_eq!(rt; begun, Ok(0));

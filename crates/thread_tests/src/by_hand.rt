@@ -1,9 +1,11 @@
 // A store that is asked by hand, and its history replayed.
 ghost use Rattle.std.specs.Prelude.{◌≡◌, ◌<◌, IfOk};
+ghost use Rattle.std.specs.List.{AllByRecursion};
+ghost use Rattle.ntriples_text.specs.Laws.{IsReadable, IsStored};
 ghost use Rattle.record_text.specs.Records.{IsReadableGraph};
 ghost use Rattle.guard_store.specs.Callers.{IsKeeper, IsSession};
 
-use crate::held::{self, STAGES, block_of, commands_of};
+use crate::held::{self, STAGES, commands_of, triples_of};
 use commit_core::{Again, BlockMode, Core, Limits};
 use disk::MemDisk;
 use guard_store::{
@@ -11,7 +13,7 @@ use guard_store::{
     Session, StageFault, Store,
 };
 use rdf_model::{Pattern, Term, Text, Triple};
-use session_model::{Block, Command};
+use session_model::Command;
 use shape_eval::Steps;
 use shapes_graph::ShapesGraph;
 use std::alloc::{AllocError, Global};
@@ -55,11 +57,10 @@ fn ask_locally<R: Wait + Abort>(
     requires { IsSession store.now session }
     ensures { IfOk result (IsSession store.now) }
 {
-    let block = block_of(alloc, b"<e:a> <e:p> <e:b> .\n")?;
-    block.recall_readable();
-    let (session, added) = store.stage_add(rt, session, block.triples());
+    let triples = triples_of(alloc, b"<e:a> <e:p> <e:b> .\n")?;
+    let (session, added) = store.stage_add(rt, session, triples.as_slice());
     assert_eq!(rt; added, Err(StageFault::NoTransaction));
-    let (session, removed) = store.stage_remove(rt, session, block.triples());
+    let (session, removed) = store.stage_remove(rt, session, triples.as_slice());
     assert_eq!(rt; removed, Err(StageFault::NoTransaction));
     let (session, head) = store.head(rt, session);
     assert_eq!(rt; head, Err(HeadFault::NoTransaction));
@@ -80,13 +81,11 @@ fn add_one<R: Wait + Abort>(
     requires { IsSession store.now session }
     ensures { IfOk result (IsSession store.now) }
 {
-    let block = block_of(alloc, b"<e:a> <e:p> <e:b> .\n")?;
-    block.recall_readable();
-    let (session, added) = store.stage_add(rt, session, block.triples());
+    let triples = triples_of(alloc, b"<e:a> <e:p> <e:b> .\n")?;
+    let (session, added) = store.stage_add(rt, session, triples.as_slice());
     assert_eq!(rt; added, Ok(()));
-    let other = block_of(alloc, b"<e:c> <e:p> <e:d> .\n")?;
-    other.recall_readable();
-    let (session, full) = store.stage_add(rt, session, other.triples());
+    let others = triples_of(alloc, b"<e:c> <e:p> <e:d> .\n")?;
+    let (session, full) = store.stage_add(rt, session, others.as_slice());
     assert_eq!(rt; full, Err(StageFault::Full { count: 5 }));
     let (session, head) = store.head(rt, session);
     assert_eq!(rt; head, Ok(0));
@@ -179,16 +178,16 @@ fn add_checked<L: Ledger, R: Wait + Abort>(
     rt: &R,
     store: &Store<MemDisk>,
     session: Session<MemDisk>,
-    block: &Block,
+    triples: &[Triple],
     steps: &mut Steps<L>,
 ) -> Result<Session<MemDisk>, Fail>
-    requires { IsSession store.now session }
+    requires session { IsSession store.now session }
+    requires readable { AllByRecursion (IsReadable IsStored) triples.now }
     ensures { IfOk result (IsSession store.now) }
 {
     let (session, begun) = store.begin(rt, session);
     assert!(rt; begun.is_ok());
-    block.recall_readable();
-    let (session, added) = store.stage_add(rt, session, block.triples());
+    let (session, added) = store.stage_add(rt, session, triples);
     assert_eq!(rt; added, Ok(()));
     let mut session = session;
     let early = session.check(steps);
@@ -246,10 +245,10 @@ fn overtaken<L: Ledger, R: Wait + Abort>(
         return Err(Fail::new("another session is opened"));
     };
     let first = commit_shapes(rt, &store, first, shapes, steps)?;
-    let value = block_of(alloc, b"<e:a> <e:p> <e:b> .\n")?;
-    let first = add_checked(rt, &store, first, &value, steps)?;
-    let other = block_of(alloc, text)?;
-    let second = add_checked(rt, &store, second, &other, steps)?;
+    let value = triples_of(alloc, b"<e:a> <e:p> <e:b> .\n")?;
+    let first = add_checked(rt, &store, first, value.as_slice(), steps)?;
+    let others = triples_of(alloc, text)?;
+    let second = add_checked(rt, &store, second, others.as_slice(), steps)?;
     let (_second, done) = store.commit(rt, second, steps);
     assert!(rt; has_held(&done, 2));
     let (_first, answer) = store.commit(rt, first, steps);
@@ -362,9 +361,8 @@ fn report_around_shapes<L: Ledger, R: Wait + Abort>(
     assert_eq!(rt; reported(&session), Err(ReportFault::NoTransaction));
     let (session, begun) = store.begin(rt, session);
     assert_eq!(rt; begun, Ok(1));
-    let block = block_of(alloc, b"<e:a> <e:p> <e:b> .\n")?;
-    block.recall_readable();
-    let (session, added) = store.stage_add(rt, session, block.triples());
+    let triples = triples_of(alloc, b"<e:a> <e:p> <e:b> .\n")?;
+    let (session, added) = store.stage_add(rt, session, triples.as_slice());
     assert_eq!(rt; added, Ok(()));
     assert_eq!(rt; reported(&session), Ok((1, 5)));
     Ok(())

@@ -1,9 +1,14 @@
 // Session files that run beside each other, held at their events so that their turns come in a known order.
+ghost use Rattle.std.specs.Prelude.{IfOk};
+ghost use Rattle.record_text.specs.Records.{IsReadableGraph};
+
 use crate::holding_gate::{Event, Hold, HoldingGate, holds_of};
 use collections::Sequence;
 use commit_core::{BlockMode, Limits};
+use ntriples_text::read_named;
 use outside::EventKind::{Begin, Commit, Head, Name};
 use outside::{EventKind, RegexMaker};
+use rdf_model::Triple;
 use session_model::{Block, Command};
 use session_player::{Run, replay_all, text_of};
 use session_reader::prepare;
@@ -483,6 +488,19 @@ pub fn block_of(alloc: Global, text: &[u8]) -> Result<Block, Fail> {
         return Err(Fail::new("the block is read"));
     };
     Ok(block)
+}
+
+// The triples of a text of N-Triples whose labels are those of the store.
+pub fn triples_of(alloc: Global, text: &[u8]) -> Result<Sequence<Triple>, Fail>
+    ensures { IfOk result IsReadableGraph }
+{
+    if text.len() > 1000 {
+        return Err(Fail::new("the text is short"));
+    }
+    let Ok(triples) = read_named(alloc, text) else {
+        return Err(Fail::new("the text is read"));
+    };
+    Ok(triples)
 }
 
 // Runs the files, held so; each session is to call at each of its places, each commit ready but these, and no hold to spend its

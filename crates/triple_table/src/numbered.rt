@@ -62,6 +62,18 @@ impl NumberedTerms {
         &self.terms
     }
 
+    /// The terms, in the order of their numbers.
+    pub fn into_list(self) -> Vec<Term>
+        ensures { result.items ≡ self }
+    {
+        let NumberedTerms {
+            terms,
+            newest: _,
+            older: _,
+        } = self;
+        terms
+    }
+
     /// No term has two numbers. It does nothing: its contract is what the type keeps.
     pub fn recall_numbering(&self)
         ensures { IsNumbering self.now }

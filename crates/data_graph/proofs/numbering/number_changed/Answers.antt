@@ -1,10 +1,8 @@
-use Rattle.std.proofs.Common.{subst, sym}
-use Rattle.rdf_model.specs.declared.change.Change.{Change}
-use Rattle.store_model.specs.Store.{changed_triple}
-use Rattle.parallel_validate.specs.Named.{IsNamedTriple}
+use Rattle.std.proofs.Common.{◌∙◌, ap, map}
+use Rattle.data_graph.specs.Nets.{ids_changed}
+use Rattle.data_graph.proofs.ByPlaces.{ids_of_changes}
 use Rattle.data_graph.proofs.numbering.number_changed.Goals as goal
 
-pub number_by_hint-requires : goal.number_by_hint-requires
-number_by_hint-requires c =
-    let named = subst (λ (x : Change). IsNamedTriple c.args.names.now.terms (changed_triple x)) (sym c.index-net-place.is) (c.requires c.loop-place.place c.index-net-place.result c.loop-place-test.true) in
-    rw c.triple_of.ensures named
+pub returns : goal.returns
+returns c =
+    ids_of_changes c.args.names.now.terms c.in_ok-changes.changes.items c.args.net.now c.in_ok-ids.ids.items c.in_ok-changes.ensures.0 c.in_ok-changes.ensures.1 (c.in_ok-ids.ensures ∙ ap (map ids_changed) c.deref.ensures.value)

@@ -1,8 +1,16 @@
-use Rattle.std.proofs.Common.{subst, sym}
-use Rattle.rdf_model.specs.declared.change.Change.{Change}
-use Rattle.store_model.specs.Store.{changed_triple}
-use Rattle.parallel_validate.specs.Named.{IsNamedTriple}
+use Rattle.std.proofs.Common.{◌∙◌, ℕ, List, ap, map, subst, sym}
+use Rattle.std.specs.List.{AllByRecursion}
+use Rattle.data_graph.specs.Numbering.{HasPlaces, change_by}
+use Rattle.data_graph.proofs.ByPlaces.{all_numbered, have_places}
 use Rattle.data_graph.proofs.numbering.number_changes.Goals as goal
 
-pub number_change-requires : goal.number_change-requires
-number_change-requires c = subst (λ (x : Change). IsNamedTriple c.args.names.now.terms (changed_triple x)) (sym c.index-net-place.is) (c.requires c.loop-place.place c.index-net-place.result c.loop-place-test.true)
+pub changes_by-requires : goal.changes_by-requires
+changes_by-requires c =
+    let changes = c.parts.result.1.now in
+    subst (λ (ns : List ℕ). AllByRecursion (HasPlaces ns) changes) (sym c.deref.ensures.value) (have_places c.args.names.now.terms c.parts.result.0.now c.in_ok-numbers.numbers.items c.in_ok-numbers.ensures changes c.parts.ensures.numbered)
+
+pub returns : goal.returns
+returns c =
+    let changes = c.parts.result.1.now in
+    let made = c.in_ok-numbered.ensures ∙ ap (λ (ns : List ℕ). map (change_by ns) changes) c.deref.ensures.value in
+    all_numbered c.args.names.now.terms c.parts.result.0.now c.in_ok-numbers.numbers.items c.in_ok-numbers.ensures changes c.in_ok-numbered.numbered.items c.args.net.now c.parts.ensures.changes c.parts.ensures.numbered c.requires made

@@ -1,4 +1,4 @@
-use Rattle.std.proofs.Common.{◌≡◌, ◌∙◌, List, [], ◌∷◌, ◌++◌, sym, ap, length, subst}
+use Rattle.std.proofs.Common.{◌∙◌, List, [], ◌∷◌, ◌++◌, sym, ap, length, subst}
 use Rattle.std.specs.List.{AllByRecursion}
 use Rattle.rdf_model.specs.declared.term.Term.{Term}
 use Rattle.rdf_model.specs.Graphs.{with_each}
@@ -6,7 +6,7 @@ use Rattle.rdf_model.specs.Numbers.{AreNumbered, graph_of}
 use Rattle.store_model.specs.declared.event.Event.{Event}
 use Rattle.store_model.specs.Store.{RecordedStore}
 use Rattle.triple_index.specs.Changes.{IsNumberedChange}
-use Rattle.event_history.specs.Named.{IsBeginning, NamedHistory, net_at}
+use Rattle.event_history.specs.Named.{IsBeginning, net_at}
 use Rattle.snapshot_store.specs.Named.{NamedCommits}
 use Rattle.record_text.specs.declared.record.Record.{Record}
 use Rattle.commit_core.specs.Logged.{IsAppended, IsFailed}

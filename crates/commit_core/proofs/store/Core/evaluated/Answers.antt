@@ -1,11 +1,9 @@
-use Rattle.std.proofs.Common.{◌≡◌, ◌∙◌, List, ap, sym, subst}
+use Rattle.std.proofs.Common.{◌∙◌, ap, subst}
 use Rattle.std.specs.Prelude.{false, IfOk, OnOk}
-use Rattle.rdf_model.specs.declared.change.Change.{Change}
 use Rattle.parallel_validate.specs.Counting.{GrowsByCount, IsTargetPair}
-use Rattle.parallel_validate.specs.Verdicts.{IsEvaluated}
 use Rattle.store_model.specs.declared.event.BlockMode.{BlockMode}
-use Rattle.store_model.specs.Store.{NetNamed, RecordedStore}
-use Rattle.data_graph.specs.DataGraphs.{NamedGraph, with_changes}
+use Rattle.store_model.specs.Store.{RecordedStore}
+use Rattle.data_graph.specs.DataGraphs.{NamedGraph}
 use Rattle.commit_core.specs.Commits.{data_of}
 use Rattle.commit_core.specs.Outcomes.{IsOutcome}
 use Rattle.commit_core.specs.Work.{ResultSteps}
@@ -14,13 +12,11 @@ use Rattle.commit_core.proofs.Work.{changed_steps, on_ok, whole_steps}
 use Rattle.commit_core.proofs.store.Core.evaluated.Goals as goal
 
 pub changed-requires-clause-named : goal.changed-requires-clause-named
-changed-requires-clause-named g c = subst (λ (cs : List Change). NetNamed c.args.self.now.state.named cs) (sym c.as_slice.ensures) c.requires.committable.net
+changed-requires-clause-named g c = c.requires.committable.net
 
 pub changed-requires-clause-next : goal.changed-requires-clause-next
 changed-requires-clause-next g c =
-    let x = c.args.checked.now.transaction in
-    let next = c.requires.next ∙ unstaged (data_of c.args.self.now) x c.in-None.is in
-    subst (λ (cs : List Change). c.args.next ≡ with_changes (data_of c.args.self.now) cs) (sym c.as_slice.ensures) next
+    c.requires.next ∙ unstaged (data_of c.args.self.now) c.args.checked.now.transaction c.in-None.is
 
 pub returns-in-Some-clause-outcome : goal.returns-in-Some-clause-outcome
 returns-in-Some-clause-outcome g c = subst (λ (m : BlockMode). IfOk c.whole.result (IsOutcome m c.args.next)) (ap (λ (s : RecordedStore). s.limits.mode) c.self.view_is) c.whole.ensures.outcome
@@ -40,5 +36,4 @@ returns-in-None-clause-steps g c =
     let s = c.args.self.now.state in
     let old = c.args.steps.now in
     let new = c.changed.new.steps in
-    let count = subst (λ (cs : List Change). OnOk c.changed.result (GrowsByCount (IsEvaluated s.graph s.shapes cs) old new)) c.as_slice.ensures c.changed.ensures.steps in
-    on_ok c.changed.result _ (ResultSteps false s x old new) (changed_steps s x old new c.in-None.is) count
+    on_ok c.changed.result _ (ResultSteps false s x old new) (changed_steps s x old new c.in-None.is) c.changed.ensures.steps

@@ -1,5 +1,4 @@
-use Rattle.std.proofs.Common.{rules, ◌≡◌, ◌∙◌, List, ap, subst, sym}
-use Rattle.rdf_model.specs.declared.change.Change.{Change}
+use Rattle.std.proofs.Common.{rules, ◌∙◌, ap, subst, sym}
 use Rattle.store_model.specs.Store.{RecordedStore}
 use Rattle.data_graph.specs.DataGraphs.{AreNamedChanges, NamedGraph, with_changes}
 use Rattle.commit_core.specs.Commits.{AreChanged, AreNumberedChanges, data_of}
@@ -11,29 +10,26 @@ pub after_with_changed-requires : goal.after_with_changed-requires
 after_with_changed-requires g c =
     let net = c.args.checked.now.transaction.net in
     let named = subst (λ (s : RecordedStore). AreNamedChanges s.state.named net) (sym c.self.view_is) (net_named _ _ c.requires.committable.net) in
-    let own = subst (λ (cs : List Change). AreNamedChanges c.self.inside.graph.terms cs) (sym c.as_slice.ensures) named in
-    subst (λ (d : NamedGraph). AreNamedChanges d.terms c.as_slice.result.now) (sym c.graph.ensures) own
+    subst (λ (d : NamedGraph). AreNamedChanges d.terms net) (sym c.graph.ensures) named
 
 pub judge-requires-clause-next : goal.judge-requires-clause-next
 judge-requires-clause-next g c =
-    c.in_ok-next.ensures.next ∙ ap (λ (d : NamedGraph). with_changes d c.as_slice.result.now) c.graph.ensures ∙ ap (λ (cs : List Change). with_changes c.self.inside.graph cs) c.as_slice.ensures
-    ∙ ap (λ (s : RecordedStore). with_changes (data_of s) c.args.checked.now.transaction.net) c.self.view_is
+    let net = c.args.checked.now.transaction.net in
+    c.in_ok-next.ensures.next ∙ ap (λ (d : NamedGraph). with_changes d net) c.graph.ensures ∙ ap (λ (s : RecordedStore). with_changes (data_of s) net) c.self.view_is
 
 pub judge-requires-clause-changed : goal.judge-requires-clause-changed
 judge-requires-clause-changed g c =
     let changed = c.in_ok-next.changed.items in
     let net = c.args.checked.now.transaction.net in
-    let told = subst (λ (d : NamedGraph). AreChanged d c.as_slice.result.now changed) c.graph.ensures c.in_ok-next.ensures.changed in
-    let own = subst (λ (cs : List Change). AreChanged c.self.inside.graph cs changed) c.as_slice.ensures told in
-    subst (λ (s : RecordedStore). AreChanged (data_of s) net changed) c.self.view_is own
+    let told = subst (λ (d : NamedGraph). AreChanged d net changed) c.graph.ensures c.in_ok-next.ensures.changed in
+    subst (λ (s : RecordedStore). AreChanged (data_of s) net changed) c.self.view_is told
 
 pub judge-requires-clause-net : goal.judge-requires-clause-net
 judge-requires-clause-net g c =
     let numbered = c.in_ok-next.net.items in
     let net = c.args.checked.now.transaction.net in
-    let told = subst (λ (d : NamedGraph). AreNumberedChanges d c.as_slice.result.now numbered) c.graph.ensures c.in_ok-next.ensures.net in
-    let own = subst (λ (cs : List Change). AreNumberedChanges c.self.inside.graph cs numbered) c.as_slice.ensures told in
-    subst (λ (s : RecordedStore). AreNumberedChanges (data_of s) net numbered) c.self.view_is own
+    let told = subst (λ (d : NamedGraph). AreNumberedChanges d net numbered) c.graph.ensures c.in_ok-next.ensures.net in
+    subst (λ (s : RecordedStore). AreNumberedChanges (data_of s) net numbered) c.self.view_is told
 
 pub returns-clause-plan : goal.returns-clause-plan
 returns-clause-plan g c = judged_result c.args.self.now.limits (data_of c.args.self.now) c.args.self.now.state.commits c.args.checked.now.transaction _ (search rules, search rules) c.judge.ensures.judged

@@ -6,7 +6,7 @@ use Rattle.rdf_model.specs.Graphs.{after, differing, with_each}
 use Rattle.rdf_model.specs.Numbers.{AreNumbered, graph_of}
 use Rattle.store_model.specs.Store.{RecordedStore, version}
 use Rattle.data_graph.specs.DataGraphs.{NamedGraph}
-use Rattle.commit_core.specs.Logged.{IsRecordOf, record_of}
+use Rattle.commit_core.specs.Logged.{IsRecordOf}
 use Rattle.commit_core.proofs.LoggedCommits.{record_is, record_read}
 use Rattle.commit_core.proofs.store.Core.record_of_commit.Goals as goal
 

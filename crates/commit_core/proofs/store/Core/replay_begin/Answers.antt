@@ -1,4 +1,3 @@
-use Rattle.std.proofs.Common.{ap, ◌∙◌, length}
 use Rattle.commit_core.proofs.Consistency.{consistent_begin}
 use Rattle.commit_core.proofs.store.Core.replay_begin.Goals as goal
 

@@ -1,4 +1,3 @@
-use Rattle.std.proofs.Common.{ap, ◌∙◌, length}
 use Rattle.commit_core.proofs.Consistency.{consistent_head}
 use Rattle.commit_core.proofs.store.Core.replay_head.Goals as goal
 

@@ -1,4 +1,4 @@
-use Rattle.std.proofs.Common.{◌≡◌, ◌∙◌, List, [], sym, ap, subst}
+use Rattle.std.proofs.Common.{◌∙◌, [], sym, ap, subst}
 use Rattle.rdf_model.specs.Graphs.{with_each}
 use Rattle.rdf_model.specs.Numbers.{AreNumbered, graph_of}
 use Rattle.data_graph.specs.DataGraphs.{NamedGraph}

@@ -10,7 +10,7 @@ returns-in_default-clause-stages g c =
     let is = subst (λ (b : Bool). MatchBool b ((w : OpenTransaction) × (c.args.session.current ≡ Some w)) (c.args.session.current ≡ None)) c.if-not-is_open.false c.is_open.ensures in
     never_named c.args.self.now c.args.session (name_kind_of c.args.kind) c.args.triples.now is
 
-pub stage_terms-requires-clause-open : goal.stage_terms-requires-clause-open
-stage_terms-requires-clause-open g c =
+pub stage_list-requires-clause-open : goal.stage_list-requires-clause-open
+stage_list-requires-clause-open g c =
     let is = subst (λ (b : Bool). MatchBool b ((w : OpenTransaction) × (c.args.session.current ≡ Some w)) (c.args.session.current ≡ None)) c.if-not-is_open.false c.is_open.ensures in
     not_none _ is

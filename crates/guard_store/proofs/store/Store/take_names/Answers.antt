@@ -1,5 +1,6 @@
 use Rattle.std.proofs.Common.{◌≤◌, inr, sym, subst}
 use Rattle.store_model.specs.Store.{RecordedStore, TakesStep}
+use Rattle.session_model.specs.Sessions.{parts_of}
 use Rattle.commit_core.specs.declared.naming.NamingFault.{NamingFault}
 use Rattle.commit_core.specs.Faults.{NamesNone}
 use Rattle.guard_store.specs.Fronts.{void_of}
@@ -26,12 +27,12 @@ returns-in-Ok-name g c =
 
 pub returns-in-Err-Unknown : goal.returns-in-Err-Unknown
 returns-in-Err-Unknown g c =
-    let step = subst (λ (f : NamingFault). NamesNone f c.start-held.result.1.core c.name.new.self.core c.args.number c.args.kind c.args.terms.now) c.in-Err-Unknown.field-0-is c.in-Err-Unknown.ensures.step in
+    let step = subst (λ (f : NamingFault). NamesNone f c.start-held.result.1.core c.name.new.self.core c.args.number c.args.kind (parts_of c.args.block.now)) c.in-Err-Unknown.field-0-is c.in-Err-Unknown.ensures.step in
     turned c.args.self.now c.args.pass c.start-held.result.0 c.finish-in-Err-Unknown.result c.start-held.result.1.core c.name.new.self.core _ c.start-held.ensures.entered step
     (c.finish-in-Err-Unknown.ensures c.args.pass c.start-held.result.1.core _ c.start-held.ensures.entered step)
 
 pub returns-in-Err-Full : goal.returns-in-Err-Full
 returns-in-Err-Full g c =
-    let step = subst (λ (f : NamingFault). NamesNone f c.start-held.result.1.core c.name.new.self.core c.args.number c.args.kind c.args.terms.now) c.in-Err-Full.field-0-is c.in-Err-Full.ensures.step in
+    let step = subst (λ (f : NamingFault). NamesNone f c.start-held.result.1.core c.name.new.self.core c.args.number c.args.kind (parts_of c.args.block.now)) c.in-Err-Full.field-0-is c.in-Err-Full.ensures.step in
     turned c.args.self.now c.args.pass c.start-held.result.0 c.finish-in-Err-Full.result c.start-held.result.1.core c.name.new.self.core _ c.start-held.ensures.entered step
     (c.finish-in-Err-Full.ensures c.args.pass c.start-held.result.1.core _ c.start-held.ensures.entered step)
