@@ -38,13 +38,13 @@ fn next(seed: u32) -> u32 {
 fn iri(alloc: Global, number: u32) -> Result<Term, AllocError> {
     let digits = 100_000_000_000u64.wrapping_add(u64::from(number));
     let text = format!(in alloc; "http://example.org/resource/{digits}")?;
-    Ok(Term::Iri(Text::from_string(text)))
+    Ok(Term::Iri(Text::from_string(text)?))
 }
 
 fn literal(alloc: Global, number: u32) -> Result<Term, AllocError> {
     let text = format!(in alloc; "Product number {number}")?;
     Ok(Term::Literal {
-        lexical: Text::from_string(text),
+        lexical: Text::from_string(text)?,
         datatype: Text::new(alloc, "http://www.w3.org/2001/XMLSchema#string")?,
         language: None,
     })
