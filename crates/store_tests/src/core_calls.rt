@@ -62,7 +62,7 @@ fn an_empty_store_is_handed_out(rt: HostRuntime) -> Result<(), Fail> {
     assert_eq!(rt; session, 1);
     let snap = core.begin(session)?;
     assert_eq!(rt; snap.number(), 0);
-    assert!(rt; snap.find(alloc, &[], &ALL)?.is_empty());
+    assert!(rt; snap.find(alloc, &Net::new(alloc), &ALL)?.is_empty());
     assert_eq!(rt; core.triples(), 0);
     assert_eq!(rt; core.order()?.as_slice(), [1, 1].as_slice());
     Ok(())
@@ -75,7 +75,7 @@ fn the_newest_version_is_handed_out(rt: HostRuntime) -> Result<(), Fail> {
     let (mut core, session) = opened(alloc)?;
     let snap = core.head(session)?;
     assert_eq!(rt; snap.number(), 0);
-    assert!(rt; snap.find(alloc, &[], &ALL)?.is_empty());
+    assert!(rt; snap.find(alloc, &Net::new(alloc), &ALL)?.is_empty());
     assert_eq!(rt; core.order()?.as_slice(), [1, 1].as_slice());
     Ok(())
 }
