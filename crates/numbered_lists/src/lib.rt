@@ -7,6 +7,7 @@
 #![tactic(auto)]
 
 mod net;
+mod ordered;
 mod triples;
 
 pub use net::{Net, copied_change, copied_triple};

@@ -1,7 +1,11 @@
 //! A list of triples.
 ghost use Rattle.std.specs.Prelude.{◌≡◌, [], ◌∷◌, ◌==◌, IfOk, length};
+ghost use Rattle.std.specs.List.{Contains};
+ghost use Rattle.collections.specs.Listings.{IsListing};
 ghost use Rattle.rdf_model.specs.Numbers.{AreNumbered, graph_of};
+ghost use Rattle.rdf_model.specs.Terms.{triple_cmp};
 
+use crate::ordered::in_order;
 use rdf_model::{Ids, Term, Triple};
 use std::alloc::{AllocError, Global};
 use std::marker::Model;
@@ -76,6 +80,14 @@ impl TripleList {
             terms: terms.into_list(),
             triples,
         })
+    }
+
+    /// The triples of a table, each once, in their order. No term is copied; they stand in the order in which the triples have them.
+    pub fn from_table(alloc: Global, table: TripleTable) -> Result<TripleList, AllocError>
+        ensures { IfOk result (λ list. IsListing triple_cmp (Contains table) list) }
+    {
+        let (terms, triples) = table.into_sorted_list()?;
+        in_order(alloc, terms, &triples)
     }
 
     /// One triple.

@@ -1,4 +1,5 @@
 mod Found
+mod KeyOrder
 mod Listed
 pub mod Places
 mod Ranking

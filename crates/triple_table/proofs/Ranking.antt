@@ -20,7 +20,9 @@ use Rattle.rdf_model.specs.declared.term.Term.TheVariants.{Blank}
 use Rattle.rdf_model.specs.Numbers.{AreNumbered, IsNumbering, term_at}
 use Rattle.rdf_model.specs.Orders.{term_exact}
 use Rattle.rdf_model.specs.Terms.{term_cmp}
-use Rattle.triple_table.specs.Ranks.{AreMarks, AreRanks, AreWithin, HasRank, IsRanking, Placed, is_marked, is_used, placed_at, placed_cmp, placed_from, placed_marked, rank_at, terms_of}
+use Rattle.triple_table.specs.Keys.{HasBytes, term_key}
+use Rattle.triple_table.proofs.KeyOrder.{key_then}
+use Rattle.triple_table.specs.Ranks.{AreMarks, AreRanks, AreWithin, HasRank, HaveBytes, IsRanking, Placed, is_marked, is_used, placed_at, placed_cmp, placed_from, placed_marked, rank_at, terms_of}
 
 -- what stands at a place, whatever would be taken where nothing does
 pub get_or-other : {X : Type 0} (xs : List X) (n : ℕ) (d e : X) → n < length xs → get_or xs n d ≡ get_or xs n e
@@ -28,37 +30,47 @@ get_or-other [] n d e l = absurd (omega arith)
 get_or-other (x ∷ xs) zero d e l = refl
 get_or-other (x ∷ xs) (suc n) d e l = get_or-other xs n d e (omega arith)
 
+abbrev placed_as : List ℕ → Term → ℕ → Placed
+placed_as bs t n = record { key = term_key bs t; term = t; place = n }
+
 -- one more term with its place
-placed_push : (n : ℕ) (ts : List Term) (t : Term) → placed_from n (ts ++ t ∷ []) ≡ placed_from n ts ++ record { term = t; place = n + length ts } ∷ []
-placed_push n [] t = let k : n ≡ n + 0 = omega arith in λ j. record { term = t; place = k j } ∷ []
-placed_push n (u ∷ ts) t =
+placed_push : (bs : List ℕ) (n : ℕ) (ts : List Term) (t : Term) → placed_from bs n (ts ++ t ∷ []) ≡ placed_from bs n ts ++ placed_as bs t (n + length ts) ∷ []
+placed_push bs n [] t = let k : n ≡ n + 0 = omega arith in λ j. placed_as bs t (k j) ∷ []
+placed_push bs n (u ∷ ts) t =
     let k : n + 1 + length ts ≡ n + length (u ∷ ts) = omega arith in
-    ap (λ (ps : List Placed). record { term = u; place = n } ∷ ps) (placed_push (n + 1) ts t ∙ (λ j. placed_from (n + 1) ts ++ record { term = t; place = k j } ∷ []))
+    ap (λ (ps : List Placed). placed_as bs u n ∷ ps) (placed_push bs (n + 1) ts t ∙ (λ j. placed_from bs (n + 1) ts ++ placed_as bs t (k j) ∷ []))
 
 length-taken : (i : ℕ) (ts : List Term) → i < length ts → length (take i ts) ≡ i
 length-taken zero ts l = refl
 length-taken (suc i) [] l = absurd (omega arith)
 length-taken (suc i) (t ∷ ts) l = ap suc (length-taken i ts (omega arith))
 
-placed_more : (ts : List Term) (i : ℕ) (t : Term) → i < length ts → t ≡ get_or ts i t → placed_from 0 (take (i + 1) ts) ≡ placed_from 0 (take i ts) ++ record { term = t; place = i } ∷ []
-placed_more ts i t lt is =
+placed_more : (bs : List ℕ) (ts : List Term) (i : ℕ) (t : Term) → i < length ts → t ≡ get_or ts i t → placed_from bs 0 (take (i + 1) ts) ≡ placed_from bs 0 (take i ts) ++ placed_as bs t i ∷ []
+placed_more bs ts i t lt is =
     let long : 0 + length (take i ts) ≡ i = (let k = length-taken i ts lt in omega arith) in
-    ap (λ (us : List Term). placed_from 0 us) (take_more ts i t lt)
-    ∙ placed_push 0 (take i ts) (get_or ts i t)
-    ∙ (λ j. placed_from 0 (take i ts) ++ record { term = sym is j; place = long j } ∷ [])
+    ap (λ (us : List Term). placed_from bs 0 us) (take_more ts i t lt)
+    ∙ placed_push bs 0 (take i ts) (get_or ts i t)
+    ∙ (λ j. placed_from bs 0 (take i ts) ++ placed_as bs (sym is j) (long j) ∷ [])
 
-marked_more : (marks : List Bool) (ts : List Term) (i : ℕ) (t : Term) (b : Bool) → i < length ts → t ≡ get_or ts i t → is_marked marks i ≡ b → placed_marked marks (take (i + 1) ts) ≡ placed_marked marks (take i ts) ++ cond b (record { term = t; place = i } ∷ []) []
-marked_more marks ts i t b lt is m =
-    ap (λ (ps : List Placed). filter (λ (p : Placed). is_marked marks p.place) ps) (placed_more ts i t lt is)
-    ∙ filter-append (λ (p : Placed). is_marked marks p.place) (placed_from 0 (take i ts)) (record { term = t; place = i } ∷ [])
-    ∙ ap (λ c. placed_marked marks (take i ts) ++ cond c (record { term = t; place = i } ∷ []) []) m
+marked_more : (bs : List ℕ) (marks : List Bool) (ts : List Term) (i : ℕ) (t : Term) (b : Bool) → i < length ts → t ≡ get_or ts i t → is_marked marks i ≡ b → placed_marked bs marks (take (i + 1) ts) ≡ placed_marked bs marks (take i ts) ++ cond b (placed_as bs t i ∷ []) []
+marked_more bs marks ts i t b lt is m =
+    ap (λ (ps : List Placed). filter (λ (p : Placed). is_marked marks p.place) ps) (placed_more bs ts i t lt is)
+    ∙ filter-append (λ (p : Placed). is_marked marks p.place) (placed_from bs 0 (take i ts)) (placed_as bs t i ∷ [])
+    ∙ ap (λ c. placed_marked bs marks (take i ts) ++ cond c (placed_as bs t i ∷ []) []) m
 
-pub placed_step : (marks : List Bool) (ts : List Term) (i p : ℕ) (t u : Term) (old new : List Placed) → i < length ts → u ≡ get_or ts i u → t ≡ u → p ≡ i → is_marked marks i ≡ true → old ≡ placed_marked marks (take i ts) → new ≡ old ++ record { term = t; place = p } ∷ [] → new ≡ placed_marked marks (take (i + 1) ts)
-placed_step marks ts i p t u old new lt is same at m o n =
-    n ∙ (λ j. o j ++ record { term = same j; place = at j } ∷ []) ∙ sym (marked_more marks ts i u true lt is m)
+bytes_push : (ps : List Placed) (p : Placed) → HaveBytes ps → HasBytes p.term → HaveBytes (ps ++ p ∷ [])
+bytes_push [] p a h = (h, tt)
+bytes_push (q ∷ ps) p a h = (a.0, bytes_push ps p a.1 h)
 
-pub passed_step : (marks : List Bool) (ts : List Term) (i : ℕ) (u : Term) (old : List Placed) → i < length ts → u ≡ get_or ts i u → is_marked marks i ≡ false → old ≡ placed_marked marks (take i ts) → old ≡ placed_marked marks (take (i + 1) ts)
-passed_step marks ts i u old lt is m o = o ∙ sym (append-nil (placed_marked marks (take i ts))) ∙ sym (marked_more marks ts i u false lt is m)
+pub placed_step : (bs : List ℕ) (marks : List Bool) (ts : List Term) (i k p : ℕ) (t u : Term) (old new : List Placed) → i < length ts → u ≡ get_or ts i u → t ≡ u → p ≡ i → is_marked marks i ≡ true → k ≡ term_key bs t → HasBytes t → (old ≡ placed_marked bs marks (take i ts)) × HaveBytes old
+    → new ≡ old ++ record { key = k; term = t; place = p } ∷ [] → (new ≡ placed_marked bs marks (take (i + 1) ts)) × HaveBytes new
+placed_step bs marks ts i k p t u old new lt is same at m key has o n = (
+  n ∙ (λ j. o.0 j ++ record { key = (key ∙ ap (term_key bs) same) j; term = same j; place = at j } ∷ []) ∙ sym (marked_more bs marks ts i u true lt is m),
+  subst (λ (ps : List Placed). HaveBytes ps) (sym n) (bytes_push old (record { key = k; term = t; place = p }) o.1 has),
+)
+
+pub passed_step : (bs : List ℕ) (marks : List Bool) (ts : List Term) (i : ℕ) (u : Term) (old : List Placed) → i < length ts → u ≡ get_or ts i u → is_marked marks i ≡ false → old ≡ placed_marked bs marks (take i ts) → old ≡ placed_marked bs marks (take (i + 1) ts)
+passed_step bs marks ts i u old lt is m o = o ∙ sym (append-nil (placed_marked bs marks (take i ts))) ∙ sym (marked_more bs marks ts i u false lt is m)
 
 -- the tests of numbers
 or_true : (b : Bool) → (b || true) ≡ true
@@ -131,27 +143,34 @@ marks_step ts ids n i marks lt is a long m =
     (second ∙ first ∙ long, λ k. marks_push marks (take n ids) i one two m k ∙ sym (used_push (take n ids) i k) ∙ ap (λ (is : List Ids). is_used is k) more)
 
 -- a term stands with its place, and what stands there is such
-placed_there : (m i : ℕ) (ts : List Term) → i < length ts → Contains (placed_from m ts) (record { term = term_at ts i; place = m + i })
-placed_there m i [] l = absurd (omega arith)
-placed_there m zero (t ∷ ts) l = has_equal (record { term = t; place = m }) (placed_from (m + 1) ts) (record { term = t; place = m + 0 }) (let k : m ≡ m + 0 = omega arith in λ j. record { term = t; place = k j })
-placed_there m (suc i) (t ∷ ts) l =
-    has_tail (record { term = t; place = m }) (placed_from (m + 1) ts) (record { term = term_at ts i; place = m + suc i })
-    (subst (λ (n : ℕ). Contains (placed_from (m + 1) ts) (record { term = term_at ts i; place = n })) (let k : m + 1 + i ≡ m + suc i = omega arith in k) (placed_there (m + 1) i ts (omega arith)))
+placed_there : (bs : List ℕ) (m i : ℕ) (ts : List Term) → i < length ts → Contains (placed_from bs m ts) (placed_as bs (term_at ts i) (m + i))
+placed_there bs m i [] l = absurd (omega arith)
+placed_there bs m zero (t ∷ ts) l = has_equal (placed_as bs t m) (placed_from bs (m + 1) ts) (placed_as bs t (m + 0)) (let k : m ≡ m + 0 = omega arith in λ j. placed_as bs t (k j))
+placed_there bs m (suc i) (t ∷ ts) l =
+    has_tail (placed_as bs t m) (placed_from bs (m + 1) ts) (placed_as bs (term_at ts i) (m + suc i))
+    (subst (λ (n : ℕ). Contains (placed_from bs (m + 1) ts) (placed_as bs (term_at ts i) n)) (let k : m + 1 + i ≡ m + suc i = omega arith in k) (placed_there bs (m + 1) i ts (omega arith)))
 
-record IsPlaced (m : ℕ) (ts : List Term) (p : Placed) : Type 0 where
+record IsPlaced (bs : List ℕ) (m : ℕ) (ts : List Term) (p : Placed) : Type 0 where
   at : ℕ
   within : at < length ts
+  key : p.key ≡ term_key bs p.term
   place : p.place ≡ m + at
   term : p.term ≡ term_at ts at
 
-placed_is : (m : ℕ) (ts : List Term) (p : Placed) → Contains (placed_from m ts) p → IsPlaced m ts p
-placed_is m [] p c = absurd (omega arith)
-placed_is m (t ∷ ts) p c = elim (has_cases (record { term = t; place = m }) (placed_from (m + 1) ts) p c) [
-  | inl e ↦ record { at = 0; within = omega arith; place = sym (ap (λ (q : Placed). q.place) e) ∙ (let k : m ≡ m + 0 = omega arith in k); term = sym (ap (λ (q : Placed). q.term) e) }
+placed_is : (bs : List ℕ) (m : ℕ) (ts : List Term) (p : Placed) → Contains (placed_from bs m ts) p → IsPlaced bs m ts p
+placed_is bs m [] p c = absurd (omega arith)
+placed_is bs m (t ∷ ts) p c = elim (has_cases (placed_as bs t m) (placed_from bs (m + 1) ts) p c) [
+  | inl e ↦ record {
+    at = 0;
+    within = omega arith;
+    key = sym (ap (λ (q : Placed). q.key) e) ∙ ap (λ (q : Placed). term_key bs q.term) e;
+    place = sym (ap (λ (q : Placed). q.place) e) ∙ (let k : m ≡ m + 0 = omega arith in k);
+    term = sym (ap (λ (q : Placed). q.term) e);
+  }
   | inr d ↦
-      let r = placed_is (m + 1) ts p d in
+      let r = placed_is bs (m + 1) ts p d in
       let in_rest = r.within in
-      record { at = suc r.at; within = omega arith; place = r.place ∙ (let k : m + 1 + r.at ≡ m + suc r.at = omega arith in k); term = r.term }
+      record { at = suc r.at; within = omega arith; key = r.key; place = r.place ∙ (let k : m + 1 + r.at ≡ m + suc r.at = omega arith in k); term = r.term }
 ]
 
 -- what stands in a filtered list
@@ -185,19 +204,19 @@ into_filter q (y ∷ ys) x c h = elim (has_cases y ys x c) [
   ]
 ]
 
-marked_is : (marks : List Bool) (ts : List Term) (p : Placed) → Contains (placed_marked marks ts) p → IsPlaced 0 ts p
-marked_is marks ts p c = placed_is 0 ts p (from_filter (λ (q : Placed). is_marked marks q.place) (placed_from 0 ts) p c)
+marked_is : (bs : List ℕ) (marks : List Bool) (ts : List Term) (p : Placed) → Contains (placed_marked bs marks ts) p → IsPlaced bs 0 ts p
+marked_is bs marks ts p c = placed_is bs 0 ts p (from_filter (λ (q : Placed). is_marked marks q.place) (placed_from bs 0 ts) p c)
 
-within_from : (marks : List Bool) (ts : List Term) (sorted : List Placed) → ((p : Placed) → Contains sorted p → Contains (placed_marked marks ts) p) → AreWithin (length ts) sorted
-within_from marks ts [] from = tt
-within_from marks ts (p ∷ ps) from =
-    let r = marked_is marks ts p (from p (has_equal p ps p refl)) in
+within_from : (bs : List ℕ) (marks : List Bool) (ts : List Term) (sorted : List Placed) → ((p : Placed) → Contains sorted p → Contains (placed_marked bs marks ts) p) → AreWithin (length ts) sorted
+within_from bs marks ts [] from = tt
+within_from bs marks ts (p ∷ ps) from =
+    let r = marked_is bs marks ts p (from p (has_equal p ps p refl)) in
     let at = r.place in
     let lt = r.within in
-    (omega arith, within_from marks ts ps (λ q c. from q (has_tail p ps q c)))
+    (omega arith, within_from bs marks ts ps (λ q c. from q (has_tail p ps q c)))
 
-pub all_within : (marks : List Bool) (ts : List Term) (placed sorted : List Placed) → placed ≡ placed_marked marks ts → IsListing placed_cmp (Contains placed) sorted → AreWithin (length ts) sorted
-all_within marks ts placed sorted e l = within_from marks ts sorted (λ p c. subst (λ (ps : List Placed). Contains ps p) e ((l.members p).0 c))
+pub all_within : (bs : List ℕ) (marks : List Bool) (ts : List Term) (placed sorted : List Placed) → placed ≡ placed_marked bs marks ts → IsListing placed_cmp (Contains placed) sorted → AreWithin (length ts) sorted
+all_within bs marks ts placed sorted e l = within_from bs marks ts sorted (λ p c. subst (λ (ps : List Placed). Contains ps p) e ((l.members p).0 c))
 
 pub place_within : (count i : ℕ) (placed : List Placed) (p : Placed) → AreWithin count placed → i < length placed → p ≡ get_or placed i p → p.place < count
 place_within count i [] p a l is = absurd (omega arith)
@@ -224,35 +243,58 @@ ranks_step placed i q ranks lt is h k less = elim (cases_eq (placed_at placed k)
 pub ranks_step_as : (placed : List Placed) (i q : ℕ) (p : Placed) (old new : List ℕ) → q < length old → i < length placed → p ≡ get_or placed i p → q ≡ p.place → new ≡ set old q i → AreRanks placed i old → AreRanks placed (i + 1) new
 ranks_step_as placed i q p old new lt inside is at e h =
     subst (λ (ranks : List ℕ). AreRanks placed (i + 1) ranks) (sym e)
-    (ranks_step placed i q old lt (at ∙ ap (λ (w : Placed). w.place) (is ∙ get_or-other placed i p (record { term = Blank 0 0; place = 0 }) inside)) h)
+    (ranks_step placed i q old lt (at ∙ ap (λ (w : Placed). w.place) (is ∙ get_or-other placed i p (record { key = 0; term = Blank 0 0; place = 0 }) inside)) h)
 
 -- terms that are apart ascend by themselves
-apart : (o : Ordering) (n m : ℕ) → (o ≡ Equal → n ≡ m) → ordering_then o (nat_cmp n m) ≡ Less → o ≡ Less
+pub apart : (o : Ordering) (n m : ℕ) → (o ≡ Equal → n ≡ m) → ordering_then o (nat_cmp n m) ≡ Less → o ≡ Less
 apart Less n m f h = refl
 apart Equal n m f h = let k : nat_cmp n m ≡ Equal = subst (λ (z : ℕ). nat_cmp n z ≡ Equal) (f refl) (tied_itself nat_cmp_total n) in cc (h, k)
 apart Greater n m f h = cc h
 
-module _ (ts : List Term) (one : IsNumbering ts) where
-  same_place : (p q : Placed) → IsPlaced 0 ts p → IsPlaced 0 ts q → term_cmp p.term q.term ≡ Equal → p.place ≡ q.place
-  same_place p q a b e = a.place ∙ ap (λ (n : ℕ). 0 + n) (one a.at b.at a.within b.within (sym a.term ∙ term_exact p.term q.term e ∙ b.term)) ∙ sym b.place
+-- the IRI of what stands there is one of bytes
+has_bytes : (ps : List Placed) (p : Placed) → HaveBytes ps → Contains ps p → HasBytes p.term
+has_bytes [] p a c = absurd (omega arith)
+has_bytes (q ∷ ps) p a c = elim (has_cases q ps p c) [
+  | inl e ↦ subst (λ (w : Placed). HasBytes w.term) e a.0
+  | inr d ↦ has_bytes ps p a.1 d
+]
 
-  term_above : (p : Placed) (ps : List Placed) → IsPlaced 0 ts p → ((q : Placed) → Contains ps q → IsPlaced 0 ts q) → AllAbove placed_cmp p ps → AllAbove term_cmp p.term (terms_of ps)
+module _ (bs : List ℕ) (ts : List Term) (one : IsNumbering ts) where
+  -- a term in its place, whose IRI is one of bytes
+  abbrev Stands : Placed → Type 0
+  Stands p = IsPlaced bs 0 ts p × HasBytes p.term
+
+  same_place : (p q : Placed) → Stands p → Stands q → term_cmp p.term q.term ≡ Equal → p.place ≡ q.place
+  same_place p q a b e =
+      let k = a.0 in
+      let m = b.0 in
+      k.place ∙ ap (λ (n : ℕ). 0 + n) (one k.at m.at k.within m.within (sym k.term ∙ term_exact p.term q.term e ∙ m.term)) ∙ sym m.place
+
+  one_above : (p q : Placed) → Stands p → Stands q → placed_cmp p q ≡ Less → term_cmp p.term q.term ≡ Less
+  one_above p q a b less =
+      let o = ordering_then (nat_cmp p.key q.key) (term_cmp p.term q.term) in
+      let k = a.0 in
+      let m = b.0 in
+      let f = key_then bs p.term q.term a.1 b.1 o (λ i. ordering_then (nat_cmp (k.key i) (m.key i)) (term_cmp p.term q.term)) in
+      f.0 (apart o p.place q.place (λ e. same_place p q a b (f.1 e)) less)
+
+  term_above : (p : Placed) (ps : List Placed) → Stands p → ((q : Placed) → Contains ps q → Stands q) → AllAbove placed_cmp p ps → AllAbove term_cmp p.term (terms_of ps)
   term_above p [] a from above = tt
   term_above p (q ∷ ps) a from above = (
-    apart (term_cmp p.term q.term) p.place q.place (same_place p q a (from q (has_equal q ps q refl))) above.0,
+    one_above p q a (from q (has_equal q ps q refl)) above.0,
     term_above p ps a (λ w c. from w (has_tail q ps w c)) above.1,
   )
 
-  terms_ascend : (ps : List Placed) → ((q : Placed) → Contains ps q → IsPlaced 0 ts q) → IsAscending placed_cmp ps → IsAscending term_cmp (terms_of ps)
+  terms_ascend : (ps : List Placed) → ((q : Placed) → Contains ps q → Stands q) → IsAscending placed_cmp ps → IsAscending term_cmp (terms_of ps)
   terms_ascend [] from a = tt
   terms_ascend (p ∷ ps) from a = (term_above p ps (from p (has_equal p ps p refl)) (λ w c. from w (has_tail p ps w c)) a.0, terms_ascend ps (λ w c. from w (has_tail p ps w c)) a.1)
 
-  module _ (marks : List Bool) (sorted : List Placed) (ranks : List ℕ) (l : IsListing placed_cmp (Contains (placed_marked marks ts)) sorted) (h : AreRanks sorted (length sorted) ranks) where
-    from_terms : (q : Placed) → Contains sorted q → IsPlaced 0 ts q
-    from_terms q c = marked_is marks ts q ((l.members q).0 c)
+  module _ (marks : List Bool) (sorted : List Placed) (ranks : List ℕ) (l : IsListing placed_cmp (Contains (placed_marked bs marks ts)) sorted) (h : AreRanks sorted (length sorted) ranks) where
+    from_terms : (q : Placed) → Contains sorted q → IsPlaced bs 0 ts q
+    from_terms q c = marked_is bs marks ts q ((l.members q).0 c)
 
     -- what stands at a rank
-    stands_at : (n : ℕ) → n < length sorted → IsPlaced 0 ts (placed_at sorted n)
+    stands_at : (n : ℕ) → n < length sorted → IsPlaced bs 0 ts (placed_at sorted n)
     stands_at n lt = from_terms (placed_at sorted n) (n, lt, get_or-other sorted n _ _ lt)
 
     at_rank : (p k r : ℕ) → (placed_at sorted k).place ≡ p → (rank_at ranks (placed_at sorted k).place < length sorted) × ((placed_at sorted (rank_at ranks (placed_at sorted k).place)).place ≡ (placed_at sorted k).place) → r ≡ rank_at ranks p → (r < length sorted) × ((placed_at sorted r).place ≡ p)
@@ -262,9 +304,9 @@ module _ (ts : List Term) (one : IsNumbering ts) where
 
     rank_of : (p : ℕ) → p < length ts → is_marked marks p ≡ true → (rank_at ranks p < length sorted) × ((placed_at sorted (rank_at ranks p)).place ≡ p)
     rank_of p lt m =
-        let x : Placed = record { term = term_at ts p; place = 0 + p } in
+        let x : Placed = placed_as bs (term_at ts p) (0 + p) in
         let k : 0 + p ≡ p = omega arith in
-        let there = (l.members x).1 (into_filter (λ (q : Placed). is_marked marks q.place) (placed_from 0 ts) x (placed_there 0 p ts lt) (ap (is_marked marks) k ∙ m)) in
+        let there = (l.members x).1 (into_filter (λ (q : Placed). is_marked marks q.place) (placed_from bs 0 ts) x (placed_there bs 0 p ts lt) (ap (is_marked marks) k ∙ m)) in
         let same : placed_at sorted there.0 ≡ x = get_or-other sorted there.0 _ x there.1 ∙ there.2 in
         at_rank p there.0 (rank_at ranks p) (ap (λ (w : Placed). w.place) same ∙ k) (h there.0 there.1) refl
 
@@ -274,28 +316,30 @@ module _ (ts : List Term) (one : IsNumbering ts) where
         let s = stands_at (rank_at ranks p) r.0 in
         let at : s.at ≡ p = (let k = s.place in let m = r.1 in omega arith) in (
           subst (λ (n : ℕ). rank_at ranks p < n) (sym (length-map sorted (λ (q : Placed). q.term))) r.0,
-          get_or-map (λ (q : Placed). q.term) sorted (rank_at ranks p) (record { term = Blank 0 0; place = 0 }) (Blank 0 0) r.0 ∙ s.term ∙ ap (term_at ts) at,
+          get_or-map (λ (q : Placed). q.term) sorted (rank_at ranks p) (record { key = 0; term = Blank 0 0; place = 0 }) (Blank 0 0) r.0 ∙ s.term ∙ ap (term_at ts) at,
         )
 
     -- what is ranked is marked
-    only_marked : (qs : List Placed) → ((q : Placed) → Contains qs q → Contains (placed_marked marks ts) q) → AllByRecursion (λ t. (n : ℕ) × IsTrue (is_marked marks n) × (term_at ts n ≡ t)) (terms_of qs)
+    only_marked : (qs : List Placed) → ((q : Placed) → Contains qs q → Contains (placed_marked bs marks ts) q) → AllByRecursion (λ t. (n : ℕ) × IsTrue (is_marked marks n) × (term_at ts n ≡ t)) (terms_of qs)
     only_marked [] from = tt
     only_marked (q ∷ qs) from =
         let c = from q (has_equal q qs q refl) in
-        let p = marked_is marks ts q c in
+        let p = marked_is bs marks ts q c in
         let at : q.place ≡ p.at = (let k = p.place in omega arith) in
-        ((q.place, passes_filter (λ (w : Placed). is_marked marks w.place) (placed_from 0 ts) q c, ap (term_at ts) at ∙ sym p.term), only_marked qs (λ w d. from w (has_tail q qs w d)))
+        ((q.place, passes_filter (λ (w : Placed). is_marked marks w.place) (placed_from bs 0 ts) q c, ap (term_at ts) at ∙ sym p.term), only_marked qs (λ w d. from w (has_tail q qs w d)))
 
 only_used : (marks : List Bool) (ts us : List Term) (ids : List Ids) → AreMarks marks ids → AllByRecursion (λ t. (n : ℕ) × IsTrue (is_marked marks n) × (term_at ts n ≡ t)) us → AllByRecursion (λ t. (n : ℕ) × IsTrue (is_used ids n) × (term_at ts n ≡ t)) us
 only_used marks ts [] ids m a = tt
 only_used marks ts (u ∷ us) ids m a = ((a.0.0, sym (m a.0.0) ∙ a.0.1, a.0.2), only_used marks ts us ids m a.1)
 
-pub ranking : (marks : List Bool) (ts : List Term) (ids : List Ids) (placed sorted : List Placed) (ranks : List ℕ) → IsNumbering ts → AreMarks marks ids → placed ≡ placed_marked marks ts → IsListing placed_cmp (Contains placed) sorted → length ranks ≡ length ts → AreRanks sorted (length sorted) ranks → IsRanking ts (terms_of sorted) ranks ids
-ranking marks ts ids placed sorted ranks one k e l long h =
-    let m : IsListing placed_cmp (Contains (placed_marked marks ts)) sorted = subst (λ (ps : List Placed). IsListing placed_cmp (Contains ps) sorted) e l in
+pub ranking : (bs : List ℕ) (marks : List Bool) (ts : List Term) (ids : List Ids) (placed sorted : List Placed) (ranks : List ℕ) → IsNumbering ts → AreMarks marks ids → placed ≡ placed_marked bs marks ts → HaveBytes placed → IsListing placed_cmp (Contains placed) sorted → length ranks ≡ length ts
+    → AreRanks sorted (length sorted) ranks → IsRanking ts sorted ranks ids
+ranking bs marks ts ids placed sorted ranks one k e has l long h =
+    let m : IsListing placed_cmp (Contains (placed_marked bs marks ts)) sorted = subst (λ (ps : List Placed). IsListing placed_cmp (Contains ps) sorted) e l in
     record {
-      ascending = terms_ascend ts one sorted (λ q c. marked_is marks ts q ((m.members q).0 c)) m.ascending;
+      ascending = terms_ascend bs ts one sorted (λ q c. (marked_is bs marks ts q ((m.members q).0 c), has_bytes placed q has ((l.members q).0 c))) m.ascending;
       long = long;
-      stand = λ n lt u. has_rank ts one marks sorted ranks m h n lt (k n ∙ u);
-      only = only_used marks ts (terms_of sorted) ids k (only_marked ts one marks sorted ranks m h sorted (λ q c. (m.members q).0 c));
+      stand = λ n lt u. has_rank bs ts one marks sorted ranks m h n lt (k n ∙ u);
+      back = λ n lt u. (let r = rank_of bs ts one marks sorted ranks m h n lt (k n ∙ u) in r.1);
+      only = only_used marks ts (terms_of sorted) ids k (only_marked bs ts one marks sorted ranks m h sorted (λ q c. (m.members q).0 c));
     }

@@ -1,4 +1,5 @@
 pub mod Hashes
+pub mod Keys
 pub mod Orders
 pub mod Ranks
 pub mod Tables

@@ -8,23 +8,28 @@ use Rattle.collections.specs.Ordered.{IsAscending}
 use Rattle.rdf_model.specs.declared.ids.Ids.{Ids}
 use Rattle.rdf_model.specs.declared.term.Term.{Term}
 use Rattle.rdf_model.specs.declared.term.Term.TheVariants.{Blank}
-use Rattle.rdf_model.specs.declared.triple.Triple.{Triple}
 use Rattle.rdf_model.specs.Numbers.{term_at}
 use Rattle.rdf_model.specs.Terms.{term_cmp}
+use Rattle.triple_table.specs.Keys.{HasBytes, term_key}
 
--- a term and its place among others
+-- a term, its key and its place among others
 pub record Placed : Type 0 where
+  pub key : ℕ
   pub term : Term
   pub place : ℕ
 
--- by term, then by place
+-- by key, then by term, then by place
 abbrev pub placed_cmp : Placed → Placed → Ordering
-placed_cmp a b = ordering_then (term_cmp a.term b.term) (nat_cmp a.place b.place)
+placed_cmp a b = ordering_then (ordering_then (nat_cmp a.key b.key) (term_cmp a.term b.term)) (nat_cmp a.place b.place)
 
--- the terms, whose places are counted from one on
-abbrev pub placed_from : ℕ → List Term → List Placed
-placed_from n [] = []
-placed_from n (t ∷ ts) = record { term = t; place = n } ∷ placed_from (n + 1) ts
+-- the terms with their keys behind a beginning, whose places are counted from one on
+abbrev pub placed_from : List ℕ → ℕ → List Term → List Placed
+placed_from beginning n [] = []
+placed_from beginning n (t ∷ ts) = record { key = term_key beginning t; term = t; place = n } ∷ placed_from beginning (n + 1) ts
+
+-- the IRIs among the terms are ones of bytes
+abbrev pub HaveBytes : List Placed → Type 0
+HaveBytes placed = AllByRecursion (λ (p : Placed). HasBytes p.term) placed
 
 abbrev pub terms_of : List Placed → List Term
 terms_of placed = map (λ (p : Placed). p.term) placed
@@ -35,7 +40,7 @@ AreWithin count placed = AllByRecursion (λ (p : Placed). p.place < count) place
 
 -- what stands at a rank
 abbrev pub placed_at : List Placed → ℕ → Placed
-placed_at placed n = get_or placed n (record { term = Blank 0 0; place = 0 })
+placed_at placed n = get_or placed n (record { key = 0; term = Blank 0 0; place = 0 })
 
 -- the rank of a place
 abbrev pub rank_at : List ℕ → ℕ → ℕ
@@ -58,37 +63,40 @@ abbrev pub AreMarks : List Bool → List Ids → Type 0
 AreMarks marks ids = (n : ℕ) → is_marked marks n ≡ is_used ids n
 
 -- the terms whose numbers are marked, each with its number as its place
-abbrev pub placed_marked : List Bool → List Term → List Placed
-placed_marked marks terms = filter (λ (p : Placed). is_marked marks p.place) (placed_from 0 terms)
+abbrev pub placed_marked : List ℕ → List Bool → List Term → List Placed
+placed_marked beginning marks terms = filter (λ (p : Placed). is_marked marks p.place) (placed_from beginning 0 terms)
 
 -- the term of a number stands at the number's rank
 abbrev pub HasRank : List Term → List Term → List ℕ → ℕ → Type 0
 HasRank terms sorted ranks n = (rank_at ranks n < length sorted) × (term_at sorted (rank_at ranks n) ≡ term_at terms n)
 
--- The sorted terms ascend and are just those of subjects and predicates, and the number of each has its rank among them.
-pub record IsRanking (terms sorted : List Term) (ranks : List ℕ) (ids : List Ids) : Type 0 where
-  pub ascending : IsAscending term_cmp sorted
+-- The sorted terms ascend and are just those of subjects and predicates, and the number of each has its rank among them, where the
+-- number stands as its place.
+pub record IsRanking (terms : List Term) (placed : List Placed) (ranks : List ℕ) (ids : List Ids) : Type 0 where
+  pub ascending : IsAscending term_cmp (terms_of placed)
   pub long : length ranks ≡ length terms
-  pub stand : (n : ℕ) → n < length terms → IsTrue (is_used ids n) → HasRank terms sorted ranks n
-  pub only : AllByRecursion (λ t. (n : ℕ) × IsTrue (is_used ids n) × (term_at terms n ≡ t)) sorted
+  pub stand : (n : ℕ) → n < length terms → IsTrue (is_used ids n) → HasRank terms (terms_of placed) ranks n
+  pub back : (n : ℕ) → n < length terms → IsTrue (is_used ids n) → (placed_at placed (rank_at ranks n)).place ≡ n
+  pub only : AllByRecursion (λ t. (n : ℕ) × IsTrue (is_used ids n) × (term_at terms n ≡ t)) (terms_of placed)
 
--- a triple by the ranks of its subject and predicate, with its object
+-- a triple by the ranks of its subject and predicate, with its object and that one's number
 pub record Ranked : Type 0 where
   pub subject : ℕ
   pub predicate : ℕ
   pub object : Term
+  pub number : ℕ
 
--- by the ranks, then by the object
+-- by the ranks, then by the object, then by its number
 abbrev pub ranked_cmp : Ranked → Ranked → Ordering
-ranked_cmp a b = ordering_then (nat_cmp a.subject b.subject) (ordering_then (nat_cmp a.predicate b.predicate) (term_cmp a.object b.object))
+ranked_cmp a b = ordering_then (nat_cmp a.subject b.subject) (ordering_then (nat_cmp a.predicate b.predicate) (ordering_then (term_cmp a.object b.object) (nat_cmp a.number b.number)))
 
 -- the ranks and the object of a triple of three numbers
 abbrev pub ranked : List Term → List ℕ → Ids → Ranked
-ranked terms ranks i = record { subject = rank_at ranks i.subject; predicate = rank_at ranks i.predicate; object = term_at terms i.object }
+ranked terms ranks i = record { subject = rank_at ranks i.subject; predicate = rank_at ranks i.predicate; object = term_at terms i.object; number = i.object }
 
--- the triple of ranks among sorted terms and an object
-abbrev pub unranked : List Term → Ranked → Triple
-unranked sorted r = record { subject = term_at sorted r.subject; predicate = term_at sorted r.predicate; object = r.object }
+-- the three numbers of a triple of ranks
+abbrev pub unranked : List Placed → Ranked → Ids
+unranked placed r = record { subject = (placed_at placed r.subject).place; predicate = (placed_at placed r.predicate).place; object = r.number }
 
 -- both ranks are below a count
 abbrev pub IsBelow : ℕ → Ranked → Type 0

@@ -8,6 +8,7 @@
 #![tactic(auto)]
 
 mod hashed;
+mod keys;
 mod narrowed;
 mod numbered;
 mod placed;

@@ -6,7 +6,7 @@ ghost use Rattle.triple_table.specs.Hashes.{term_hash};
 ghost use Rattle.triple_table.specs.Tables.{HasGrown, IsNewest, IsPlaceOf, IsTripleOf, with_term};
 
 use crate::hashed::hash_of;
-use rdf_model::{Ids, Names, Term};
+use rdf_model::{Ids, Names, Term, Text};
 use std::alloc::{AllocError, Global};
 use std::collections::HashMap;
 use std::marker::Model;
@@ -18,6 +18,26 @@ pub struct NumberedTerms {
     // (the newest number of a term with a hash, and for each number the next older one of a term with its hash)
     newest: HashMap<u64, u32>,
     older: Vec<Option<u32>>,
+    // (datatypes and language tags that were met, which the literals share that have them)
+    met: Vec<Text>,
+}
+
+// So many datatypes and language tags are shared: most graphs have few.
+const MOST_SHARED: usize = 16;
+
+// The text, which shares its characters with one that was met, where it is among those; it joins them while there is room.
+fn shared(met: &mut Vec<Text>, text: &Text) -> Result<Text, AllocError>
+    ensures { IfOk result (λ shared. shared ≡ text.now) }
+{
+    for other in &*met {
+        if *other == *text {
+            return other.clone();
+        }
+    }
+    if met.len() < MOST_SHARED {
+        met.push(text.clone()?)?;
+    }
+    text.clone()
 }
 
 // Written by hand, so that what owns such terms calls it in place of having it written out.
@@ -27,6 +47,7 @@ impl Drop for NumberedTerms {
             terms: _,
             newest: _,
             older: _,
+            met: _,
         } = self;
     }
 }
@@ -52,6 +73,7 @@ impl NumberedTerms {
             terms: Vec::new(alloc),
             newest: HashMap::new(alloc),
             older: Vec::new(alloc),
+            met: Vec::new(alloc),
         }
     }
 
@@ -70,6 +92,7 @@ impl NumberedTerms {
             terms,
             newest: _,
             older: _,
+            met: _,
         } = self;
         terms
     }
@@ -132,8 +155,27 @@ impl NumberedTerms {
         Ok(count as u32)
     }
 
-    // Adds a term that is new, whose hash is given.
-    fn push(&mut self, term: Term, hash: u64) -> Result<u32, AllocError>
+    // Lets a literal share the characters of its datatype and of its language tag with others that have them.
+    fn share_parts(&mut self, term: &mut Term) -> Result<(), AllocError>
+        ensures term { term.new ≡ term.old }
+        ensures terms { self.new ≡ self.old }
+    {
+        if let Term::Literal {
+            datatype,
+            language,
+            ..
+        } = term
+        {
+            *datatype = shared(&mut self.met, datatype)?;
+            if let Some(tag) = language {
+                *tag = shared(&mut self.met, tag)?;
+            }
+        }
+        Ok(())
+    }
+
+    // Puts a term that is new, whose hash is given, behind the others.
+    fn append(&mut self, term: Term, hash: u64) -> Result<u32, AllocError>
         requires new { Contains self.old term → ⊥ }
         requires hash { hash ≡ term_hash term }
         ensures ok { OnOk result (self.new ≡ self.old ++ term ∷ []) }
@@ -147,6 +189,19 @@ impl NumberedTerms {
         self.older.push(older).unwrap();
         self.terms.push(term).unwrap();
         Ok(number)
+    }
+
+    // Adds a term that is new, whose hash is given.
+    fn push(&mut self, term: Term, hash: u64) -> Result<u32, AllocError>
+        requires new { Contains self.old term → ⊥ }
+        requires hash { hash ≡ term_hash term }
+        ensures ok { OnOk result (self.new ≡ self.old ++ term ∷ []) }
+        ensures number { IfOk result (λ number. IsPlaceOf self.new number term) }
+        ensures err { OnErr result (self.new ≡ self.old) }
+    {
+        let mut term = term;
+        self.share_parts(&mut term)?;
+        Ok(self.append(term, hash)?)
     }
 
     /// The number of a term, which becomes the last one where it has none. It fails for want of memory, or of numbers, and the

@@ -1,4 +1,4 @@
-//! A term and its place among others, in the order of the terms.
+//! A term with its key and its place among others, in the order of the terms.
 ghost use Rattle.std.specs.Prelude.{◌≡◌};
 
 use collections::ExactOrder;
@@ -6,9 +6,10 @@ use rdf_model::Term;
 use std::cmp::Ordering;
 use std::marker::Model;
 
-// A term and its place among others.
+// A term, its key and its place among others.
 #[derive(Drop)]
 pub(crate) struct PlacedTerm<'a> {
+    pub(crate) key: u64,
     pub(crate) term: &'a Term,
     pub(crate) place: u32,
 }
@@ -18,7 +19,7 @@ impl<'a> Model for PlacedTerm<'a> {
 
     ghost Value = { Placed };
 
-    ghost view = { λ p. record { term = p.term.now; place = p.place } };
+    ghost view = { λ p. record { key = p.key; term = p.term.now; place = p.place } };
 }
 
 impl<'a> Ord for PlacedTerm<'a> {
@@ -35,7 +36,10 @@ impl<'a> Ord for PlacedTerm<'a> {
     ghost matches_eq = { λ x y. refl };
 
     fn cmp(&self, other: &PlacedTerm<'a>) -> Ordering {
-        self.term.cmp(other.term).then(self.place.cmp(&other.place))
+        self.key
+            .cmp(&other.key)
+            .then_with(|| self.term.cmp(other.term))
+            .then(self.place.cmp(&other.place))
     }
 }
 

@@ -6,12 +6,13 @@ use rdf_model::Term;
 use std::cmp::Ordering;
 use std::marker::Model;
 
-// A triple by the ranks of its subject and predicate, with its object.
+// A triple by the ranks of its subject and predicate, with its object and that one's number.
 #[derive(Drop)]
 pub(crate) struct RankedTriple<'a> {
     pub(crate) subject: u32,
     pub(crate) predicate: u32,
     pub(crate) object: &'a Term,
+    pub(crate) number: u32,
 }
 
 impl<'a> Model for RankedTriple<'a> {
@@ -19,7 +20,7 @@ impl<'a> Model for RankedTriple<'a> {
 
     ghost Value = { Ranked };
 
-    ghost view = { λ r. record { subject = r.subject; predicate = r.predicate; object = r.object.now } };
+    ghost view = { λ r. record { subject = r.subject; predicate = r.predicate; object = r.object.now; number = r.number } };
 }
 
 impl<'a> Ord for RankedTriple<'a> {
@@ -41,6 +42,7 @@ impl<'a> Ord for RankedTriple<'a> {
             .cmp(&other.subject)
             .then(self.predicate.cmp(&other.predicate))
             .then_with(|| object.cmp(others))
+            .then(self.number.cmp(&other.number))
     }
 }
 

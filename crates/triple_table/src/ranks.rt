@@ -2,10 +2,11 @@
 ghost use Rattle.std.specs.Prelude.{◌≡◌, ◌<◌, IfOk, length, map};
 ghost use Rattle.std.specs.List.{AllByRecursion, Contains};
 ghost use Rattle.collections.specs.Listings.{IsListing};
-ghost use Rattle.rdf_model.specs.Numbers.{AreNumbered, IsNumbering, graph_of, term_at};
+ghost use Rattle.rdf_model.specs.Numbers.{AreNumbered, IsNumbering, graph_of, triple_at};
 ghost use Rattle.rdf_model.specs.Terms.{triple_cmp};
-ghost use Rattle.triple_table.specs.Ranks.{AreMarks, AreRanks, AreWithin, IsBelow, IsRanking, placed_marked, ranked, terms_of, unranked};
+ghost use Rattle.triple_table.specs.Ranks.{AreMarks, AreRanks, AreWithin, HaveBytes, IsBelow, IsRanking, placed_at, placed_marked, ranked, unranked};
 
+use crate::keys::{beginning_of, key_of};
 use crate::narrowed::narrowed;
 use crate::placed::PlacedTerm;
 use crate::ranked::RankedTriple;
@@ -34,20 +35,23 @@ fn marks_of(alloc: Global, terms: &[Term], triples: &[Ids]) -> Result<Vec<bool>,
     Ok(marks)
 }
 
-// The terms whose numbers are marked, with their numbers.
+// The terms whose numbers are marked, with their keys and numbers.
 fn placed_of<'a>(
     alloc: Global,
+    beginning: &[u8],
     terms: &'a [Term],
     marks: &[bool],
 ) -> Result<Vec<PlacedTerm<'a>>, AllocError>
     requires { length marks.now ≡ length terms.now }
-    ensures { IfOk result (λ placed. placed.items ≡ placed_marked marks.now terms.now) }
+    ensures placed { IfOk result (λ placed. placed.items ≡ placed_marked beginning.now marks.now terms.now) }
+    ensures bytes { IfOk result (λ placed. HaveBytes placed.items) }
 {
     let mut placed = Vec::new(alloc);
     for (place, term) in terms.iter().enumerate() {
         if marks[place] {
             let place = narrowed(place)?;
-            placed.push(PlacedTerm { term, place })?;
+            let key = key_of(beginning, term);
+            placed.push(PlacedTerm { key, term, place })?;
         }
     }
     Ok(placed)
@@ -74,10 +78,11 @@ fn ranking_of<'a>(
 ) -> Result<Ranking<'a>, AllocError>
     requires numbering { IsNumbering terms.now }
     requires numbered { AreNumbered terms.now triples.now }
-    ensures { IfOk result (λ ranking. IsRanking terms.now (terms_of ranking.sorted.items) ranking.ranks.items triples.now) }
+    ensures { IfOk result (λ ranking. IsRanking terms.now ranking.sorted.items ranking.ranks.items triples.now) }
 {
     let marks = marks_of(alloc, terms, triples)?;
-    let placed = placed_of(alloc, terms, &marks)?;
+    let beginning = beginning_of(terms, triples);
+    let placed = placed_of(alloc, beginning, terms, &marks)?;
     let sorted = sorted_once(placed)?;
     let ranks = ranks_of(alloc, &sorted, terms.len())?;
     Ok(Ranking { sorted, ranks })
@@ -100,59 +105,90 @@ fn ranked_of<'a>(
             subject: ranks[triple.subject as usize],
             predicate: ranks[triple.predicate as usize],
             object: &terms[triple.object as usize],
+            number: triple.object,
         })?;
     }
     Ok(found)
 }
 
-// The term of a rank.
-fn term_of(sorted: &[PlacedTerm], rank: u32) -> Result<Term, AllocError>
+// The number of the term of a rank.
+fn number_of(sorted: &[PlacedTerm], rank: u32) -> u32
     requires { rank < length sorted.now }
-    ensures { IfOk result (λ term. term ≡ term_at (terms_of sorted.now) rank) }
+    ensures { result ≡ (placed_at sorted.now rank).place }
 {
     let placed = &sorted[rank as usize];
-    Ok(placed.term.clone()?)
+    placed.place
 }
 
-// The triple of two ranks and an object.
-fn triple_of(sorted: &[PlacedTerm], triple: &RankedTriple) -> Result<Triple, AllocError>
+// The numbers of a triple of ranks.
+fn numbers_of(sorted: &[PlacedTerm], triple: &RankedTriple) -> Ids
     requires { IsBelow (length sorted.now) triple.now }
-    ensures { IfOk result (λ made. made ≡ unranked (terms_of sorted.now) triple.now) }
+    ensures { result ≡ unranked sorted.now triple.now }
 {
-    Ok(Triple {
-        subject: term_of(sorted, triple.subject)?,
-        predicate: term_of(sorted, triple.predicate)?,
-        object: triple.object.clone()?,
-    })
+    Ids {
+        subject: number_of(sorted, triple.subject),
+        predicate: number_of(sorted, triple.predicate),
+        object: triple.number,
+    }
 }
 
-// The triples of ranks and objects.
-fn triples_of(
+// The numbers of triples of ranks.
+fn unranked_of(
     alloc: Global,
     sorted: &[PlacedTerm],
     ranked: &[RankedTriple],
-) -> Result<Sequence<Triple>, AllocError>
+) -> Result<Vec<Ids>, AllocError>
     requires { AllByRecursion (IsBelow (length sorted.now)) ranked.now }
-    ensures { IfOk result (λ found. found ≡ map (unranked (terms_of sorted.now)) ranked.now) }
+    ensures { IfOk result (λ found. found.items ≡ map (unranked sorted.now) ranked.now) }
 {
     let mut found = Vec::with_capacity(alloc, ranked.len())?;
     for triple in ranked {
-        found.push(triple_of(sorted, triple)?)?;
+        found.push(numbers_of(sorted, triple))?;
     }
-    Ok(Sequence::from_vec(found))
+    Ok(found)
 }
 
-// The triples of the numbers of terms, each once, in their order.
-pub(crate) fn sorted_triples(
+// The numbers of the triples of the numbers of terms, each triple once, in the order of the triples.
+pub(crate) fn sorted_numbers(
+    alloc: Global,
+    terms: &[Term],
+    triples: &[Ids],
+) -> Result<Vec<Ids>, AllocError>
+    requires numbering { IsNumbering terms.now }
+    requires numbered { AreNumbered terms.now triples.now }
+    ensures numbered { IfOk result (λ sorted. AreNumbered terms.now sorted.items) }
+    ensures sorted { IfOk result (λ sorted. IsListing triple_cmp (Contains (graph_of terms.now triples.now)) (graph_of terms.now sorted.items)) }
+{
+    let ranking = ranking_of(alloc, terms, triples)?;
+    let ranked = sorted_once(ranked_of(alloc, terms, triples, &ranking.ranks)?)?;
+    let numbers = unranked_of(alloc, &ranking.sorted, &ranked)?;
+    Ok(numbers)
+}
+
+// The triple of three numbers, whose terms are copied.
+fn triple_of(terms: &[Term], ids: &Ids) -> Result<Triple, AllocError>
+    requires { (ids.now.subject < length terms.now) × (ids.now.predicate < length terms.now) × (ids.now.object < length terms.now) }
+    ensures { IfOk result (λ triple. triple ≡ triple_at terms.now ids.now) }
+{
+    Ok(Triple {
+        subject: terms[ids.subject as usize].clone()?,
+        predicate: terms[ids.predicate as usize].clone()?,
+        object: terms[ids.object as usize].clone()?,
+    })
+}
+
+// The triples of numbers, whose terms are copied.
+pub(crate) fn triples_of(
     alloc: Global,
     terms: &[Term],
     triples: &[Ids],
 ) -> Result<Sequence<Triple>, AllocError>
-    requires numbering { IsNumbering terms.now }
-    requires numbered { AreNumbered terms.now triples.now }
-    ensures { IfOk result (λ sorted. IsListing triple_cmp (Contains (graph_of terms.now triples.now)) sorted) }
+    requires { AreNumbered terms.now triples.now }
+    ensures { IfOk result (λ found. found ≡ graph_of terms.now triples.now) }
 {
-    let ranking = ranking_of(alloc, terms, triples)?;
-    let ranked = sorted_once(ranked_of(alloc, terms, triples, &ranking.ranks)?)?;
-    Ok(triples_of(alloc, &ranking.sorted, &ranked)?)
+    let mut found = Vec::with_capacity(alloc, triples.len())?;
+    for ids in triples {
+        found.push(triple_of(terms, ids)?)?;
+    }
+    Ok(Sequence::from_vec(found))
 }

@@ -6,7 +6,7 @@ ghost use Rattle.rdf_model.specs.Numbers.{AreNumbered, IsNumbering, graph_of};
 ghost use Rattle.rdf_model.specs.Terms.{triple_cmp};
 
 use crate::numbered::NumberedTerms;
-use crate::ranks::sorted_triples;
+use crate::ranks::{sorted_numbers, triples_of};
 use collections::Sequence;
 use rdf_model::{Ids, Term, Triple};
 use std::alloc::{AllocError, Global};
@@ -96,7 +96,23 @@ impl TripleTable {
             triples,
         } = self;
         terms.recall_numbering();
-        sorted_triples(alloc, terms.terms(), &triples)
+        let sorted = sorted_numbers(alloc, terms.terms(), &triples)?;
+        triples_of(alloc, terms.terms(), &sorted)
+    }
+
+    /// The triples, each once, in their order, by the places of their terms in a list of terms, each of which stands there once.
+    pub fn into_sorted_list(self) -> Result<(Vec<Term>, Vec<Ids>), AllocError>
+        ensures numbered { IfOk result (λ list. AreNumbered list.0.items list.1.items) }
+        ensures sorted { IfOk result (λ list. IsListing triple_cmp (Contains self) (graph_of list.0.items list.1.items)) }
+    {
+        let TripleTable {
+            alloc,
+            terms,
+            triples,
+        } = self;
+        terms.recall_numbering();
+        let sorted = sorted_numbers(alloc, terms.terms(), &triples)?;
+        Ok((terms.into_list(), sorted))
     }
 
     /// The terms, each once, and the triples by the numbers of their terms.

@@ -1,6 +1,6 @@
-use Rattle.std.proofs.Common.{◌≡◌, map, take}
-use Rattle.triple_table.specs.Ranks.{terms_of, unranked}
+use Rattle.std.proofs.Common.{◌≡◌, take}
+use Rattle.rdf_model.specs.Numbers.{graph_of}
 use Rattle.triple_table.proofs.ranks.triples_of.Given as goal
 
-abbrev pub invariant-loop-triple : goal.invariant-loop-triple
-invariant-loop-triple l = l.found.items ≡ map (unranked (terms_of l.sorted)) (take l.triple-index l.ranked)
+abbrev pub invariant-loop-ids : goal.invariant-loop-ids
+invariant-loop-ids l = l.found.items ≡ graph_of l.terms (take l.ids-index l.triples)

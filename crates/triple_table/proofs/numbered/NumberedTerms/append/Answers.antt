@@ -4,7 +4,7 @@ use Rattle.std.specs.List.{Contains}
 use Rattle.std.specs.HashMap.{get}
 use Rattle.rdf_model.specs.declared.term.Term.{Term}
 use Rattle.triple_table.proofs.Found.{one_more}
-use Rattle.triple_table.proofs.numbered.NumberedTerms.push.Goals as goal
+use Rattle.triple_table.proofs.numbered.NumberedTerms.append.Goals as goal
 
 pub invariant_of-self-2 : goal.invariant_of-self-2
 invariant_of-self-2 c =
