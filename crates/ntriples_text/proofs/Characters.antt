@@ -34,18 +34,19 @@ of_text labels bs session first u = ap (λ b. cond b (numbered session first (re
 pub of_no_text : (labels : LabelKind) (bs : List ℕ) (session first : ℕ) → (IsUtf8 bs → ⊥) → reads_by labels bs session first ≡ Err (line_of bs (utf8_valid_len bs), NotUtf8)
 of_no_text labels bs session first n = ap (λ b. cond b (numbered session first (reading_of labels bs)) (refused bs)) (false_from_ne_true (is_utf8 bs) (λ e. n (IsUtf8-from_is_utf8 bs e)))
 
-pub whole_text : (labels : LabelKind) (r : Result (List Triple) ReadFault) (bs text : List ℕ) (session first next : ℕ) → IsUtf8 bs → text ≡ bs
-    → MatchResult r (λ triples. numbered session first (reading_of labels text) ≡ Ok (triples, next)) (λ fault. Refuses fault (numbered session first (reading_of labels text)))
-    → MatchResult r (λ triples. reads_by labels bs session first ≡ Ok (triples, next)) (λ fault. Refuses fault (reads_by labels bs session first))
-whole_text labels (Ok ts) bs text session first next u e h = of_text labels bs session first u ∙ ap (λ t. numbered session first (reading_of labels t)) (sym e) ∙ h
-whole_text labels (Err f) bs text session first next u e h = subst (λ x. Refuses f x) (ap (λ t. numbered session first (reading_of labels t)) e ∙ sym (of_text labels bs session first u)) h
+-- what is made of a reading of the characters is made of that of the bytes
+pub whole_text : {T : Type 0} (f : T → List Triple) (labels : LabelKind) (r : Result T ReadFault) (bs text : List ℕ) (session first next : ℕ) → IsUtf8 bs → text ≡ bs
+    → MatchResult r (λ read. numbered session first (reading_of labels text) ≡ Ok (f read, next)) (λ fault. Refuses fault (numbered session first (reading_of labels text)))
+    → MatchResult r (λ read. reads_by labels bs session first ≡ Ok (f read, next)) (λ fault. Refuses fault (reads_by labels bs session first))
+whole_text f labels (Ok read) bs text session first next u e h = of_text labels bs session first u ∙ ap (λ t. numbered session first (reading_of labels t)) (sym e) ∙ h
+whole_text f labels (Err fault) bs text session first next u e h = subst (λ x. Refuses fault x) (ap (λ t. numbered session first (reading_of labels t)) e ∙ sym (of_text labels bs session first u)) h
 
 -- a reading of names, by the reading with numbers
-pub named_reading : (r : Result (List Triple) ReadFault) (reading : Result (List Triple × ℕ) (ℕ × RefusalKind)) (next : ℕ) → MatchResult r (λ ts. reading ≡ Ok (ts, next)) (λ fault. Refuses fault reading)
-    → MatchResult r (λ ts. triples_of reading ≡ Ok ts) (λ fault. Refuses fault (triples_of reading))
-named_reading (Ok ts) reading next h = ap triples_of h
-named_reading (Err Memory) reading next h = tt
-named_reading (Err (Refusal n k)) reading next h = ap triples_of h
+pub named_reading : {T : Type 0} (f : T → List Triple) (r : Result T ReadFault) (reading : Result (List Triple × ℕ) (ℕ × RefusalKind)) (next : ℕ) → MatchResult r (λ read. reading ≡ Ok (f read, next)) (λ fault. Refuses fault reading)
+    → MatchResult r (λ read. triples_of reading ≡ Ok (f read)) (λ fault. Refuses fault (triples_of reading))
+named_reading f (Ok read) reading next h = ap triples_of h
+named_reading f (Err Memory) reading next h = tt
+named_reading f (Err (Refusal n k)) reading next h = ap triples_of h
 
 -- a term alone
 pub alone_text : (bs text : List ℕ) (r : Result (Option Term) AllocError) → IsUtf8 bs → text ≡ bs → IfOk r (λ t. t ≡ alone (chars text)) → IfOk r (λ t. t ≡ named_term bs)

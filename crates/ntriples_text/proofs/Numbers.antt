@@ -210,12 +210,9 @@ nothing_left labels s f n ts known rest r empty h =
     ∙ (ap (λ cs. going_on s f ts known (lines_from labels n (lines cs))) (ap chars (nil_from_length rest empty) ∙ chars-nil)
     ∙ ap (λ us. Ok (us, known)) (append-nil ts))
 
-pub read_all : (labels : LabelKind) (s f n : ℕ) (cs : List ℕ) (ts out : List Triple) (known : Texts) → going_on s f [] [] (lines_from labels 1 (lines cs)) ≡ Ok (ts, known) → out ≡ with_each [] ts → n ≡ length known
-    → numbered s f (lines_from labels 1 (lines cs)) ≡ Ok (out, f + n)
-read_all labels s f n cs ts out known hr ho hn =
-    numbered_found s f (lines_from labels 1 (lines cs)) ts known hr
-    ∙ (ap (λ us. Ok (us, f + length known)) (sym ho)
-    ∙ ap (λ m. Ok (out, f + m)) (sym hn))
+pub read_all : (labels : LabelKind) (s f n : ℕ) (cs : List ℕ) (ts : List Triple) (known : Texts) → going_on s f [] [] (lines_from labels 1 (lines cs)) ≡ Ok (ts, known) → n ≡ length known
+    → numbered s f (lines_from labels 1 (lines cs)) ≡ Ok (with_each [] ts, f + n)
+read_all labels s f n cs ts known hr hn = numbered_found s f (lines_from labels 1 (lines cs)) ts known hr ∙ ap (λ m. Ok (with_each [] ts, f + m)) (sym hn)
 
 -- labels of a text have places, each its own
 known_of : (ls known : Texts) (l : List ℕ) → is_known ls l ≡ true → is_known (with_more known ls) l ≡ true

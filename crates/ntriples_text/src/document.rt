@@ -1,6 +1,7 @@
 //! Texts of N-Triples 1.1, read line by line.
 ghost use Rattle.std.specs.Prelude.{◌≡◌, ℕ, ◌+◌, ◌<◌, ◌≤◌, ◌^◌, ◌∷◌, Ok, [], List, Result, length, IfOk, MatchResult, OnOk, OnErr};
 ghost use Rattle.std.specs.Str.{chars};
+ghost use Rattle.rdf_model.specs.Graphs.{with_each};
 ghost use Rattle.rdf_lexical.specs.declared.refusal.RefusalKind.{RefusalKind as KindData};
 ghost use Rattle.ntriples_text.specs.declared.statement.Statement.{Statement as StatementData};
 ghost use Rattle.ntriples_text.specs.Document;
@@ -129,17 +130,17 @@ fn read_lines(
     Ok(table)
 }
 
-// The triples of a text, each once, in their order. Blank nodes are numbered from `next` on.
+// The triples of a text in their order there. Blank nodes are numbered from `next` on.
 fn read_text(
     alloc: Global,
     labels: LabelKind,
     session: u32,
     next: &mut u32,
     text: &str,
-) -> Result<Sequence<Triple>, ReadFault>
+) -> Result<TripleTable, ReadFault>
     requires { next.old + length text.now < 2 ^ 32 }
     ensures reads { let reading = numbered session next.old (lines_from labels 1 (lines (chars text.now))) in
-        MatchResult result (λ triples. reading ≡ Ok (triples, next.new)) (λ fault. Refuses fault reading) }
+        MatchResult result (λ table. reading ≡ Ok (with_each [] table, next.new)) (λ fault. Refuses fault reading) }
     ensures unchanged { OnErr result (next.new ≡ next.old) }
     ensures room { (next.old ≤ next.new) × (next.new ≤ next.old + length text.now) }
 {
@@ -149,9 +150,8 @@ fn read_text(
         labels: Labels::new(alloc),
     };
     let table = read_lines(alloc, labels, text, &mut numbering)?;
-    let sorted = table.into_sorted()?;
     *next += numbering.labels.len() as u32;
-    Ok(sorted)
+    Ok(table)
 }
 
 // The line of the byte at a place.
@@ -169,17 +169,17 @@ fn line_of(bytes: &[u8], at: usize) -> u64
     line
 }
 
-// The triples of a text with labels of this kind, or its refusal.
+// The triples of a text with labels of this kind, in their order there, or its refusal.
 fn read_by(
     alloc: Global,
     labels: LabelKind,
     session: u32,
     next: &mut u32,
     bytes: &[u8],
-) -> Result<Sequence<Triple>, ReadFault>
+) -> Result<TripleTable, ReadFault>
     requires { next.old + length bytes.now < 2 ^ 32 }
     ensures reads { let reading = reads_by labels bytes.now session next.old in
-        MatchResult result (λ triples. reading ≡ Ok (triples, next.new)) (λ fault. Refuses fault reading) }
+        MatchResult result (λ table. reading ≡ Ok (with_each [] table, next.new)) (λ fault. Refuses fault reading) }
     ensures unchanged { OnErr result (next.new ≡ next.old) }
     ensures room { (next.old ≤ next.new) × (next.new ≤ next.old + length bytes.now) }
 {
@@ -190,6 +190,25 @@ fn read_by(
             kind: RefusalKind::NotUtf8,
         }),
     }
+}
+
+/// The triples of a text of N-Triples 1.1 by the numbers of their terms, in the order in which they stand there. All else is as
+/// `read` has it.
+pub fn read_numbered(
+    alloc: Global,
+    session: u32,
+    next: &mut u32,
+    bytes: &[u8],
+) -> Result<TripleTable, ReadFault>
+    requires session { (1 ≤ session) × (session ≤ 64) }
+    requires next { 1 ≤ next.old }
+    requires room { next.old + length bytes.now < 2 ^ 32 }
+    ensures reads { let reading = reads bytes.now session next.old in
+        MatchResult result (λ table. reading ≡ Ok (with_each [] table, next.new)) (λ fault. Refuses fault reading) }
+    ensures unchanged { OnErr result (next.new ≡ next.old) }
+    ensures room { (next.old ≤ next.new) × (next.new ≤ next.old + length bytes.now) }
+{
+    read_by(alloc, LabelKind::OfText, session, next, bytes)
 }
 
 /// The triples of a text of N-Triples 1.1, each once, in their order. Blank nodes belong to the
@@ -211,7 +230,22 @@ pub fn read(
     ensures unchanged { OnErr result (next.new ≡ next.old) }
     ensures room { (next.old ≤ next.new) × (next.new ≤ next.old + length bytes.now) }
 {
-    read_by(alloc, LabelKind::OfText, session, next, bytes)
+    let mut free = *next;
+    let table = read_numbered(alloc, session, &mut free, bytes)?;
+    let sorted = table.into_sorted()?;
+    *next = free;
+    Ok(sorted)
+}
+
+/// The triples of a text of N-Triples 1.1 by the numbers of their terms, in the order in which they stand there. All else is as
+/// `read_named` has it.
+pub fn read_named_numbered(alloc: Global, bytes: &[u8]) -> Result<TripleTable, ReadFault>
+    requires { 1 + length bytes.now < 2 ^ 32 }
+    ensures { let reading = reads_named bytes.now in
+        MatchResult result (λ table. reading ≡ Ok (with_each [] table)) (λ fault. Refuses fault reading) }
+{
+    let mut next = 1;
+    read_by(alloc, LabelKind::OfStore, 1, &mut next, bytes)
 }
 
 /// The triples of a text of N-Triples 1.1, each once, in their order. Its labels are those of the
@@ -224,8 +258,9 @@ pub fn read_named(alloc: Global, bytes: &[u8]) -> Result<Sequence<Triple>, ReadF
     ensures { let reading = reads_named bytes.now in
         MatchResult result (λ triples. reading ≡ Ok triples) (λ fault. Refuses fault reading) }
 {
-    let mut next = 1;
-    read_by(alloc, LabelKind::OfStore, 1, &mut next, bytes)
+    let table = read_named_numbered(alloc, bytes)?;
+    let sorted = table.into_sorted()?;
+    Ok(sorted)
 }
 
 // The term that the text is alone.

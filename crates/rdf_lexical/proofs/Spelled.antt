@@ -1,16 +1,18 @@
 -- The characters of a text and its bytes, cut at the same place.
-use Rattle.std.proofs.Common.{◌≡◌, ◌∙◌, ℕ, zero, suc, ◌+◌, ◌-◌, ◌<◌, ◌≤◌, ◌==◌, ◌||◌, Bool, true, false, List, [], ◌∷◌, ◌++◌, length, take, drop, refl, sym, ap, subst, arith}
+use Rattle.std.proofs.Common.{◌≡◌, ◌∙◌, ℕ, zero, suc, ◌+◌, ◌-◌, ◌<◌, ◌≤◌, ◌/◌, ltb, cond, ◌==◌, ◌||◌, Bool, true, false, List, [], ◌∷◌, ◌++◌, length, take, drop, refl, sym, ap, subst, arith}
 use Rattle.std.specs.Prelude.{◌^◌, MatchOption, slice_index}
 use Rattle.std.specs.Option.{IsSome}
 use Rattle.std.specs.declared.option.Option.{Option}
 use Rattle.std.specs.declared.option.Option.TheVariants.{None, Some}
 use Rattle.std.specs.List.{list_any}
 use Rattle.std.specs.Str.{IsUtf8, IsCharBoundary, chars}
-use Rattle.std.proofs.lemmas.Bool.{and_parts, and_from, eqb-true, eq-eqb}
+use Rattle.std.proofs.lemmas.Bool.{and_parts, and_from}
+use Rattle.std.proofs.lemmas.Bool.Decides.{nat_tests}
 use Rattle.std.proofs.lemmas.List.{length-append, take-append-drop, length-take-le, drop-drop, length-take, length-drop}
+use Rattle.std.proofs.lemmas.List.Folds.{list_any-append}
 use Rattle.std.proofs.lemmas.Str.{chars-nil, chars-encodes, encodes-append, encodes-chars, scalars-chars, encode_ascii, length-le-encodes, chars_past_char, IsUtf8-past_char, IsCharBoundary-at_seam, IsCharBoundary-after_ascii, cons_from_encodes}
 use Rattle.std.proofs.Math.Seq.{take-append_seam, drop-append_seam}
-use lib.Utf8.{encode, encodes, scalar, scalars}
+use lib.Utf8.{encode, encodes, next, scalar, scalars}
 use Rattle.rdf_lexical.specs.Slices.{IsHeld}
 
 pub scalars_drop : (n : ℕ) (cs : List ℕ) → scalars cs ≡ true → scalars (drop n cs) ≡ true
@@ -130,23 +132,50 @@ one_more P cs rest next k (Some c) less is step some =
     let after : drop (k + 1) cs ≡ parts.0 = sym (drop-drop 1 k cs) ∙ ap (drop 1) parts.1 in
     sym parts.2 ∙ ap encodes (sym after)
 
-any_or : (p : ℕ → Bool) (xs ys : List ℕ) → list_any p (xs ++ ys) ≡ false → (list_any p xs ≡ false) × (list_any p ys ≡ false)
-any_or p [] ys e = (refl, e)
-any_or p (x ∷ xs) ys e = elim (p x) as (λ b. (b || list_any p (xs ++ ys)) ≡ false → ((b || list_any p xs) ≡ false) × (list_any p ys ≡ false)) [
-  | true ↦ λ h. cc
-  | false ↦ λ h. any_or p xs ys h
-] e
+abbrev one_of : ℕ → List ℕ → Bool
+one_of a xs = list_any (λ x. x == a) xs
 
--- an ASCII character is not among those of a text that has no such byte
-pub no_such_byte : (a : ℕ) → a < 128 → (cs : List ℕ) → list_any (λ b. b == a) (encodes cs) ≡ false → list_any (λ c. c == a) cs ≡ false
-no_such_byte a h [] e = refl
-no_such_byte a h (c ∷ cs) e =
-    let parts = any_or (λ b. b == a) (encode c) (encodes cs) e in
-    elim (c == a) as (λ x. (c == a) ≡ x → (x || list_any (λ d. d == a) cs) ≡ false) [
-      | true ↦ λ is.
-          let same : encode c ≡ a ∷ [] = ap encode (eqb-true c a is) ∙ encode_ascii a h in
-          let itself : (a == a) ≡ true = eq-eqb a a refl in
-          let absent : (a == a || false) ≡ false = sym (ap (list_any (λ b. b == a)) same) ∙ parts.0 in
-          cc
-      | false ↦ λ is. no_such_byte a h cs parts.1
-    ] refl
+past : (a b : ℕ) (bs : List ℕ) → a < 128 → 128 ≤ b → one_of a (b ∷ bs) ≡ one_of a bs
+past a b bs h k = let no : (b == a) ≡ false = grind (arith, nat_tests) in ap (λ x. x || one_of a bs) no
+
+none_of_two : (a b c : ℕ) → a < 128 → 128 ≤ b → 128 ≤ c → one_of a (b ∷ c ∷ []) ≡ false
+none_of_two a b c h k l = past a b (c ∷ []) h k ∙ past a c [] h l
+
+none_of_three : (a b c d : ℕ) → a < 128 → 128 ≤ b → 128 ≤ c → 128 ≤ d → one_of a (b ∷ c ∷ d ∷ []) ≡ false
+none_of_three a b c d h k l m = past a b (c ∷ d ∷ []) h k ∙ none_of_two a c d h l m
+
+none_of_four : (a b c d e : ℕ) → a < 128 → 128 ≤ b → 128 ≤ c → 128 ≤ d → 128 ≤ e → one_of a (b ∷ c ∷ d ∷ e ∷ []) ≡ false
+none_of_four a b c d e h k l m n = past a b (c ∷ d ∷ e ∷ []) h k ∙ none_of_three a c d e h l m n
+
+abbrev two : ℕ → List ℕ
+two c = (192 + c / 64) ∷ next c ∷ []
+
+abbrev three : ℕ → List ℕ
+three c = (224 + c / 4096) ∷ next (c / 64) ∷ next c ∷ []
+
+abbrev four : ℕ → List ℕ
+four c = (240 + c / 262144) ∷ next (c / 4096) ∷ next (c / 64) ∷ next c ∷ []
+
+same_byte : (a c : ℕ) → a < 128 → one_of a (encode c) ≡ one_of a (c ∷ [])
+unfolding encode
+same_byte a c h = elim (ltb c 128) as (λ x. ltb c 128 ≡ x → one_of a (cond x (c ∷ []) (cond (ltb c 2048) (two c) (cond (ltb c 65536) (three c) (four c)))) ≡ one_of a (c ∷ [])) [
+  | true ↦ λ is. refl
+  | false ↦ λ is.
+      let none : false ≡ one_of a (c ∷ []) = sym (past a c [] h (grind (arith, nat_tests))) in
+      elim (ltb c 2048) as (λ x. one_of a (cond x (two c) (cond (ltb c 65536) (three c) (four c))) ≡ one_of a (c ∷ [])) [
+        | true ↦ none_of_two a (192 + c / 64) (next c) h (omega arith) (omega arith) ∙ none
+        | false ↦ elim (ltb c 65536) as (λ x. one_of a (cond x (three c) (four c)) ≡ one_of a (c ∷ [])) [
+          | true ↦ none_of_three a (224 + c / 4096) (next (c / 64)) (next c) h (omega arith) (omega arith) (omega arith) ∙ none
+          | false ↦ none_of_four a (240 + c / 262144) (next (c / 4096)) (next (c / 64)) (next c) h (omega arith) (omega arith) (omega arith) (omega arith) ∙ none
+        ]
+      ]
+] refl
+
+-- an ASCII character is among those of a text exactly where its byte is
+pub same_bytes : (a : ℕ) → a < 128 → (cs : List ℕ) → one_of a (encodes cs) ≡ one_of a cs
+same_bytes a h [] = refl
+same_bytes a h (c ∷ cs) =
+    list_any-append (λ x. x == a) (encode c) (encodes cs)
+    ∙ ap (λ b. b || one_of a (encodes cs)) (same_byte a c h)
+    ∙ sym (list_any-append (λ x. x == a) (c ∷ []) (encodes cs))
+    ∙ ap (λ b. (c == a) || b) (same_bytes a h cs)

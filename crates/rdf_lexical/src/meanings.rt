@@ -1,5 +1,5 @@
 //! What the characters of IRIs and strings stand for.
-ghost use Rattle.std.specs.Prelude.{◌≡◌, ◌<◌, ◌≤◌, ◌==◌, false, IfOk, IfSome, length, encode_utf8_all};
+ghost use Rattle.std.specs.Prelude.{◌≡◌, ◌<◌, ◌≤◌, ◌==◌, true, false, IfOk, IfSome, MatchOption, length, encode_utf8_all};
 ghost use Rattle.std.specs.List.{list_any};
 ghost use Rattle.rdf_lexical.specs.Meanings;
 
@@ -33,10 +33,10 @@ fn next_character(characters: &CharSlice<'_>) -> Option<(char, usize)>
     }
 }
 
-/// The text that characters are, where there is no backslash among them.
+/// The text that characters are; `None` where there is a backslash among them.
 pub fn text_without_escapes<'a>(characters: &CharSlice<'a>) -> Option<&'a str>
-    ensures text { IfSome result (λ text. text.now ≡ encode_utf8_all characters.now) }
-    ensures none { IfSome result (λ _. list_any (λ c. c == 92) characters.now ≡ false) }
+    ensures { MatchOption result (list_any (λ c. c == 92) characters.now ≡ true)
+        (λ text. (list_any (λ c. c == 92) characters.now ≡ false) × (text.now ≡ encode_utf8_all characters.now)) }
 {
     let text = characters.as_text();
     if text.as_bytes().contains(&b'\\') {

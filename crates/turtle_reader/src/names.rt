@@ -13,7 +13,7 @@ use rdf_lexical::{CharSlice, ReadFault, RefusalKind};
 use rdf_model::Term;
 use rdf_text::Text;
 use std::alloc::{AllocError, Global};
-use turtle_lex::{Token, TokenKind, iri_text, plain_text, push_local_name, split_name, token_text};
+use turtle_lex::{Token, TokenKind, iri_text, push_local_name, split_name, token_text};
 
 /// The refusal of a token, of this kind.
 pub fn refused(token: Token, kind: RefusalKind) -> ReadFault
@@ -72,14 +72,12 @@ pub fn resolved_iri(
 }
 
 /// The prefix of a PNAME_NS or PNAME_LN.
-pub fn prefix_of(alloc: Global, text: &CharSlice<'_>, token: Token) -> Result<Name, AllocError>
+pub fn prefix_of<'a>(text: &CharSlice<'a>, token: Token) -> &'a str
     requires { IsTokenOf text.now token }
-    ensures { IfOk result (λ prefix. prefix ≡ Terms.prefix_of text.now token) }
+    ensures { result.now ≡ Terms.prefix_of text.now token }
 {
     let (prefix, _) = split_name(&token_text(text, token));
-    Ok(Name {
-        text: plain_text(alloc, &prefix)?,
-    })
+    prefix.as_text()
 }
 
 // The IRI of a name whose prefix stands for this one: the local name of a PNAME_LN behind it, of a PNAME_NS nothing.
@@ -110,8 +108,7 @@ fn prefixed_iri(
     requires { IsTokenOf text.now token }
     ensures { Gives result state.now (Terms.prefixed_iri text.now token state.now) }
 {
-    let prefix = prefix_of(alloc, text, token)?;
-    match state.prefixes.get(&prefix) {
+    match state.prefixes.get(prefix_of(text, token)) {
         Some(iri) => Ok(named_iri(alloc, text, iri, token)?),
         None => Err(refused(token, RefusalKind::UndeclaredPrefix)),
     }
@@ -137,14 +134,11 @@ pub fn read_iri(
 }
 
 // The label of a BLANK_NODE_LABEL.
-fn label_of(alloc: Global, text: &CharSlice<'_>, token: Token) -> Result<Name, AllocError>
+fn label_of<'a>(text: &CharSlice<'a>, token: Token) -> &'a str
     requires { IsTokenOf text.now token }
-    ensures { IfOk result (λ label. label ≡ Terms.label_of text.now token) }
+    ensures { result.now ≡ Terms.label_of text.now token }
 {
-    let label = token_text(text, token).behind(2);
-    Ok(Name {
-        text: plain_text(alloc, &label)?,
-    })
+    token_text(text, token).behind(2).as_text()
 }
 
 /// The blank node of a label (Turtle section 2.6): a new one at its first use.
@@ -161,14 +155,15 @@ pub fn labelled(
     ensures reads { Gives result state.new (Terms.labelled text.now token state.old) }
     ensures moved { OnOk result (Moved text.now 0 0 1 state.old state.new) }
 {
-    let label = label_of(alloc, text, token)?;
-    match state.labels.get(&label) {
+    let label = label_of(text, token);
+    match state.labels.get(label) {
         Some(number) => Ok(Term::Blank {
             session: state.session,
             number: *number,
         }),
         None => {
             let number = state.next;
+            let label = Name::new(alloc, label)?;
             state.labels.set(label, number)?;
             state.next += 1;
             Ok(Term::Blank {

@@ -8,6 +8,7 @@ ghost use Rattle.turtle_reader.specs.Terms;
 use crate::literals::{plain, read_string};
 use crate::names::{labelled, prefix_of, read_iri, refused, resolved_iri};
 use crate::state::State;
+use crate::table::Name;
 use crate::tokens::{expect_prefix_name, next, unexpected};
 use rdf_lexical::{CharSlice, ReadFault, RefusalKind};
 use rdf_model::Term;
@@ -191,7 +192,7 @@ pub fn prefix_declared(
 {
     let token = expect_prefix_name(text, state)?;
     let iri = iri_reference(alloc, text, state)?;
-    let prefix = prefix_of(alloc, text, token)?;
+    let prefix = Name::new(alloc, prefix_of(text, token))?;
     state.prefixes.set(prefix, iri)?;
     Ok(())
 }

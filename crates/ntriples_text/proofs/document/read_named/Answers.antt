@@ -1,5 +1,6 @@
-use Rattle.ntriples_text.proofs.Characters.{named_reading}
+use Rattle.std.proofs.Common.{◌∙◌, sym, ap, Ok}
+use Rattle.ntriples_text.proofs.Sorting.{listing_each}
 use Rattle.ntriples_text.proofs.document.read_named.Goals as goal
 
 pub returns : goal.returns
-returns c = named_reading c.read_by.result _ _ c.read_by.ensures.reads
+returns c = c.in_ok-table.ensures ∙ ap Ok (sym (listing_each _ _ c.in_ok-sorted.ensures))

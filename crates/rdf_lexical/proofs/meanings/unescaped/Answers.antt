@@ -5,5 +5,5 @@ use Rattle.rdf_lexical.proofs.meanings.unescaped.Goals as goal
 
 pub returns-in-Some : goal.returns-in-Some
 returns-in-Some c =
-    let itself = c.in-Some.ensures.text ∙ sym (no_escape c.args.characters.now c.in-Some.ensures.none) in
+    let itself = c.in-Some.ensures.1 ∙ sym (no_escape c.args.characters.now c.in-Some.ensures.0) in
     subst (λ (is : List ℕ). IfOk c.new.result (λ text. text ≡ is)) itself c.new.ensures
