@@ -1,13 +1,12 @@
 // What stands in the blocks of commands.
 ghost use Rattle.std.specs.Prelude.{◌≡◌, ◌+◌, ◌<◌, ◌^◌, [], Ok, IfOk, MatchResult, length};
 ghost use Rattle.rdf_lexical.specs.Refusals.{Refuses};
+ghost use Rattle.rdf_model.specs.Graphs.{with_each};
 ghost use Rattle.ntriples_text.specs.Document.{reads_named};
 ghost use Rattle.record_text.specs.Records.{IsReadableGraph};
 
-use collections::Sequence;
-use ntriples_text::ReadFault;
+use ntriples_text::{ReadFault, TripleTable};
 use numbered_lists::TripleList;
-use rdf_model::Triple;
 use shapes_graph::ShapesGraph;
 use std::alloc::{AllocError, Global};
 use std::marker::Model;
@@ -32,12 +31,13 @@ impl Model for Block {
 }
 
 impl Block {
-    /// The block of these triples. It fails for want of memory, or where there are more than 2^32 - 1 terms.
-    pub fn new(alloc: Global, triples: Sequence<Triple>) -> Result<Block, AllocError>
-        requires { IsReadableGraph triples }
-        ensures { IfOk result (λ block. block ≡ triples) }
+    /// The block of the triples of a table, each once, in their order. It fails for want of memory, or where there are more than
+    /// 2^32 - 1 terms.
+    pub fn from_table(alloc: Global, table: TripleTable) -> Result<Block, AllocError>
+        requires { IsReadableGraph (with_each [] table) }
+        ensures { IfOk result (λ block. block ≡ with_each [] table) }
     {
-        let list = TripleList::copied_from(alloc, triples.as_slice())?;
+        let list = TripleList::from_table(alloc, table)?;
         Ok(Block { list })
     }
 
@@ -56,10 +56,9 @@ impl Block {
         ensures { let reading = reads_named text.now in
             MatchResult result (λ block. reading ≡ Ok block) (λ fault. Refuses fault reading) }
     {
-        match ntriples_text::read_named(alloc, text) {
-            Ok(triples) => Ok(Block::new(alloc, triples)?),
-            Err(fault) => Err(fault),
-        }
+        let table = ntriples_text::read_named_numbered(alloc, text)?;
+        let block = Block::from_table(alloc, table)?;
+        Ok(block)
     }
 
     /// The triples, in their order, which ascend, and each of which a text can give.

@@ -1,11 +1,14 @@
 //! A command before its shapes graph is judged.
-ghost use Rattle.std.specs.Prelude.{◌≡◌};
+ghost use Rattle.std.specs.Prelude.{◌≡◌, [], IfOk};
+ghost use Rattle.rdf_model.specs.Graphs.{with_each};
 ghost use Rattle.record_text.specs.Records.{IsReadableGraph};
 
 use bgp_query::JoinPattern;
 use collections::Sequence;
+use ntriples_text::TripleTable;
 use rdf_model::{Pattern, Term, Triple};
 use session_model::Block;
+use std::alloc::AllocError;
 use std::marker::Model;
 
 /// The triples of a shapes graph, well-formed or not, each once, ascending: such as a text can give. Contracts see the list of
@@ -28,12 +31,13 @@ impl Model for ShapesTriples {
 }
 
 impl ShapesTriples {
-    /// These triples.
-    pub fn new(triples: Sequence<Triple>) -> ShapesTriples
-        requires { IsReadableGraph triples }
-        ensures { result ≡ triples }
+    /// The triples of a table, each once, in their order.
+    pub fn from_table(table: TripleTable) -> Result<ShapesTriples, AllocError>
+        requires { IsReadableGraph (with_each [] table) }
+        ensures { IfOk result (λ shapes. shapes ≡ with_each [] table) }
     {
-        ShapesTriples { triples }
+        let triples = table.into_sorted()?;
+        Ok(ShapesTriples { triples })
     }
 
     /// The triples, in their order, which ascend, and each of which a text can give.

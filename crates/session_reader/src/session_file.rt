@@ -2,6 +2,7 @@
 ghost use Rattle.std.specs.Prelude.{◌≡◌, ℕ, ◌+◌, ◌<◌, ◌≤◌, ◌^◌, [], List, Result, Ok, drop, slice_index_or, IfOk, IfSome, MatchResult, OnErr, map, length, ◌==◌};
 ghost use Rattle.std.specs.List.{slice_split};
 ghost use Rattle.rdf_lexical.specs.Refusals.{Refuses};
+ghost use Rattle.rdf_model.specs.Graphs.{with_each};
 ghost use Rattle.record_text.specs.Records.{IsReadableGraph};
 ghost use Rattle.session_reader.specs.declared.line.LineKind.TheVariants as kinds;
 ghost use Rattle.session_reader.specs.declared.read_command.ReadCommand.{ReadCommand as CommandData};
@@ -18,9 +19,8 @@ use crate::prepare_fault::PrepareFault;
 use crate::read_command::{ReadCommand, ShapesTriples};
 use crate::select_block::read_select;
 use collections::Sequence;
-use ntriples_text::{ReadFault, RefusalKind};
+use ntriples_text::{ReadFault, RefusalKind, TripleTable};
 use outside::Maker;
-use rdf_model::Triple;
 use session_model::{Block, Command};
 use std::alloc::{AllocError, Global};
 
@@ -43,20 +43,20 @@ fn text_of_block(alloc: Global, lines: &[&[u8]]) -> Result<Vec<u8>, AllocError>
     Ok(text)
 }
 
-// The command of a block of this kind with these triples.
+// The command of a block of this kind with the triples of a table.
 fn accepted_block(
     alloc: Global,
     kind: BlockKind,
-    triples: Sequence<Triple>,
+    table: TripleTable,
 ) -> Result<ReadCommand, AllocError>
-    requires { IsReadableGraph triples }
-    ensures { (next : ℕ) → IfOk result (λ command. command ≡ block_command kind (Ok (triples, next))) }
+    requires { IsReadableGraph (with_each [] table) }
+    ensures { (next : ℕ) → IfOk result (λ command. command ≡ block_command kind (Ok (with_each [] table, next))) }
 {
     match kind {
-        BlockKind::Add(_) => Ok(ReadCommand::Add(Block::new(alloc, triples)?)),
-        BlockKind::Remove => Ok(ReadCommand::Remove(Block::new(alloc, triples)?)),
-        BlockKind::Attach => Ok(ReadCommand::Attach(Block::new(alloc, triples)?)),
-        BlockKind::Shapes(_) => Ok(ReadCommand::Shapes(ShapesTriples::new(triples))),
+        BlockKind::Add(_) => Ok(ReadCommand::Add(Block::from_table(alloc, table)?)),
+        BlockKind::Remove => Ok(ReadCommand::Remove(Block::from_table(alloc, table)?)),
+        BlockKind::Attach => Ok(ReadCommand::Attach(Block::from_table(alloc, table)?)),
+        BlockKind::Shapes(_) => Ok(ReadCommand::Shapes(ShapesTriples::from_table(table)?)),
     }
 }
 
@@ -73,47 +73,47 @@ fn refused_block(kind: BlockKind, line: u64, refusal: RefusalKind) -> ReadComman
     }
 }
 
-// The triples of a text in this language, whose blank nodes are new.
+// The triples of a text in this language in their order there, whose blank nodes are new.
 fn read_new(
     alloc: Global,
     session: u32,
     next: &mut u32,
     syntax: Syntax,
     text: &[u8],
-) -> Result<Sequence<Triple>, ReadFault>
+) -> Result<TripleTable, ReadFault>
     requires session { (1 ≤ session) × (session ≤ 64) }
     requires next { 1 ≤ next.old }
     requires room { next.old + length text.now < 2 ^ 32 }
     ensures reads { let reading = new_reading syntax text.now session next.old in
-        MatchResult result (λ triples. reading ≡ Ok (triples, next.new)) (λ fault. Refuses fault reading) }
+        MatchResult result (λ table. reading ≡ Ok (with_each [] table, next.new)) (λ fault. Refuses fault reading) }
     ensures unchanged { OnErr result (next.new ≡ next.old) }
     ensures room { (next.old ≤ next.new) × (next.new ≤ next.old + length text.now) }
 {
     match syntax {
-        Syntax::NTriples => ntriples_text::read(alloc, session, next, text),
-        Syntax::Turtle => turtle_reader::read(alloc, session, next, text),
+        Syntax::NTriples => ntriples_text::read_numbered(alloc, session, next, text),
+        Syntax::Turtle => turtle_reader::read_numbered(alloc, session, next, text),
     }
 }
 
-// The triples of a block of this kind. The blank nodes of a removal and of an attachment are those of the store; those of
-// the others are new.
+// The triples of a block of this kind in the order of its text. The blank nodes of a removal and of an attachment are those of
+// the store; those of the others are new.
 fn read_kind(
     alloc: Global,
     session: u32,
     next: &mut u32,
     kind: BlockKind,
     text: &[u8],
-) -> Result<Sequence<Triple>, ReadFault>
+) -> Result<TripleTable, ReadFault>
     requires session { (1 ≤ session) × (session ≤ 64) }
     requires next { 1 ≤ next.old }
     requires room { next.old + length text.now < 2 ^ 32 }
     ensures reads { let reading = block_reading kind text.now session next.old in
-        MatchResult result (λ triples. reading ≡ Ok (triples, next.new)) (λ fault. Refuses fault reading) }
+        MatchResult result (λ table. reading ≡ Ok (with_each [] table, next.new)) (λ fault. Refuses fault reading) }
     ensures unchanged { OnErr result (next.new ≡ next.old) }
     ensures room { (next.old ≤ next.new) × (next.new ≤ next.old + length text.now) }
 {
     match kind {
-        BlockKind::Remove | BlockKind::Attach => ntriples_text::read_named(alloc, text),
+        BlockKind::Remove | BlockKind::Attach => ntriples_text::read_named_numbered(alloc, text),
         BlockKind::Add(syntax) | BlockKind::Shapes(syntax) => {
             read_new(alloc, session, next, syntax, text)
         }
@@ -137,7 +137,7 @@ fn read_block(
 {
     let text = text_of_block(alloc, lines)?;
     match read_kind(alloc, session, next, kind, &text) {
-        Ok(triples) => accepted_block(alloc, kind, triples),
+        Ok(table) => accepted_block(alloc, kind, table),
         Err(
             ReadFault::Refusal {
                 line,
