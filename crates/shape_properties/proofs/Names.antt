@@ -1,7 +1,12 @@
 -- Each property has a name of its own.
 use Rattle.std.proofs.Common.{◌≡◌, ◌∙◌, ℕ, List, [], ◌∷◌, ◌++◌, true, false, cond, Option, Some, None, refl, sym, ap, subst, codes}
+use Rattle.std.proofs.Common.{length, nat_eq, take}
+use Rattle.std.proofs.Math.Seq.{take-append_seam}
+use Rattle.std.proofs.lemmas.Cmp.{nat_list_eq_equiv}
 use Rattle.std.specs.Prelude.{bytes_eq}
-use Rattle.std.specs.List.{Contains}
+use Rattle.std.specs.List.{Contains, starts_with}
+use lib.Pointwise.{pointwise}
+use Rattle.rdf_model.specs.declared.term.Term.TheVariants.{Iri}
 use Rattle.collections.proofs.Members.{has_head, has_tail}
 use Rattle.shape_model.specs.Vocabulary.{sh}
 use Rattle.shape_properties.specs.Properties.{local_name, property_iri}
@@ -85,3 +90,14 @@ pub one_property : (p q : ShapeProperty) → property_iri p ≡ property_iri q �
 one_property p q e =
     let d : Some p ≡ Some q = sym (by_name p) ∙ ap (named_in ALL) (sh_exact (local_name p) (local_name q) e) ∙ by_name q in
     cc
+
+starts_itself : (xs : List ℕ) → pointwise nat_eq xs xs ≡ true
+starts_itself xs = nat_list_eq_equiv.refl xs
+
+starts_before : (s xs ys : List ℕ) → s ≡ xs ++ ys → starts_with nat_eq s xs ≡ true
+starts_before s xs ys e = ap (λ (zs : List ℕ). pointwise nat_eq xs (take (length xs) zs)) e ∙ ap (λ (zs : List ℕ). pointwise nat_eq xs zs) (take-append_seam xs ys) ∙ starts_itself xs
+
+-- how each of their IRIs begins
+pub starts_shacl : (s : List ℕ) (p : ShapeProperty) → Iri s ≡ property_iri p → starts_with nat_eq s (codes "http://www.w3.org/ns/shacl#") ≡ true
+unfolding sh
+starts_shacl s p e = starts_before s (codes "http://www.w3.org/ns/shacl#") (local_name p) (let d : s ≡ codes "http://www.w3.org/ns/shacl#" ++ local_name p = cc in d)

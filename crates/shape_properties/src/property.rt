@@ -1,5 +1,5 @@
 //! The properties of the SHACL vocabulary.
-ghost use Rattle.std.specs.Prelude.{◌≡◌, ◌≢◌, ◌↔◌, IsTrue, MatchOption};
+ghost use Rattle.std.specs.Prelude.{◌≡◌, ◌≢◌, ◌↔◌, false, IsTrue, MatchOption};
 ghost use Rattle.rdf_model.specs.declared.term.Term.TheVariants.{Iri};
 ghost use Rattle.shape_properties.specs.Properties.{property_iri};
 ghost use Rattle.shape_properties.specs.declared.property.ShapeProperty.{ShapeProperty as PropertyData};
@@ -179,12 +179,25 @@ fn find_property(iri: &str) -> Option<ShapeProperty>
     None
 }
 
+// Whether the IRI begins as those of SHACL do. Of others no property needs to be asked.
+fn is_shacl(iri: &str) -> bool
+    ensures { (result ≡ false) → (p : PropertyData) → Iri iri.now ≢ property_iri p }
+{
+    iri.starts_with("http://www.w3.org/ns/shacl#")
+}
+
 /// The property that the term is the IRI of.
 pub fn property_of(term: &Term) -> Option<ShapeProperty>
     ensures { MatchOption result ((p : PropertyData) → term.now ≢ property_iri p) (λ p. term.now ≡ property_iri p) }
 {
     match term {
-        Term::Iri(iri) => find_property(iri.as_str()),
+        Term::Iri(iri) => {
+            if is_shacl(iri.as_str()) {
+                find_property(iri.as_str())
+            } else {
+                None
+            }
+        }
         _ => None,
     }
 }

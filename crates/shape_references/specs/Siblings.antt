@@ -18,6 +18,13 @@ IsReversed s t = (t.predicate ≡ property_iri ShProperty) × Has s t.object t.p
 abbrev pub IsReverseOf : Triple → Triple → Type 0
 IsReverseOf u t = (u.predicate ≡ property_iri ShProperty) × (t ≡ record { subject = u.object; predicate = u.predicate; object = u.subject })
 
+-- it has a sh:property, by the triple, or by one of the graph
+abbrev pub IsParentBy : Triple → Term → Type 0
+IsParentBy t n = (t.predicate ≡ property_iri ShProperty) × (t.subject ≡ n)
+
+abbrev pub IsParent : List Triple → Term → Type 0
+IsParent s n = (v : Term) × HasProperty s n ShProperty v
+
 -- it may have siblings: a property shape whose sh:qualifiedValueShapesDisjoint is true
 abbrev pub MayHaveSiblings : List Triple → Term → Type 0
 MayHaveSiblings s shape = ((n : Term) × HasProperty s shape ShPath n) × HasProperty s shape ShQualifiedValueShapesDisjoint true_literal

@@ -24,6 +24,7 @@ mod loops;
 mod marks;
 mod names;
 mod nodes;
+mod parents;
 mod ranks;
 mod siblings;
 mod steps;
@@ -33,6 +34,7 @@ pub use bundle::Bundle;
 pub use chains::{least_with_chain, nodes_with_chain};
 pub use loops::least_on_loop;
 pub use names::{name_at, name_in};
+pub use parents::parent_nodes;
 pub use siblings::{
     may_share, only_parent, push_sibling_bundle, push_siblings, qualified_under,
     reversed_properties,

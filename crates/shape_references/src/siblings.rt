@@ -337,7 +337,7 @@ pub fn only_parent<'a>(graph: &[Triple], reversed: &'a [Triple], shape: &Term) -
 }
 
 #[tactic(auto, unfolding(shape_model::specs::Vocabulary::sh))]
-fn is_property(term: &Term) -> bool
+pub(crate) fn is_property(term: &Term) -> bool
     ensures { IsTrue result ↔ (term.now ≡ property_iri ShProperty) }
 {
     is_named(term, SH_PROPERTY)

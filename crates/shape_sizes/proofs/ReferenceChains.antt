@@ -12,11 +12,10 @@ use Rattle.rdf_model.specs.declared.triple.Triple.{Triple}
 use Rattle.rdf_model.specs.Terms.{triple_cmp}
 use Rattle.rdf_model.specs.Orders.{triple_exact, triple_total}
 use Rattle.shape_syntax.proofs.Values.{value_of}
-use Rattle.shape_syntax.specs.Subjects.{IsSubject}
 use Rattle.shape_references.specs.declared.bundle.Bundle.{Bundle}
 use Rattle.shape_references.specs.Bundles.{HasBound, IsBound, IsLeastNode}
 use Rattle.shape_references.specs.Chains.{Chain, HasChain, IsOnLoop}
-use Rattle.shape_references.specs.Siblings.{AreUnder}
+use Rattle.shape_references.specs.Siblings.{AreUnder, IsParent}
 use Rattle.shape_references.proofs.BoundSteps.{bound_nothing}
 use Rattle.shape_properties.specs.declared.property.ShapeProperty.TheVariants as properties
 use Rattle.shape_properties.specs.Properties.{property_iri}
@@ -50,9 +49,9 @@ by_parent s parent a b h = elim (has_or_not s (record { subject = a; predicate =
   | inr foreign ↦ inr (h.0.1.0, h.0.1.1, foreign, (parent, h.1.0, h.0.0, h.1.1, h.1.2))
 ]
 
-pub are_references : (s : List Triple) (parents : List Term) (new direct all : List Bundle) → new ≡ [] → ((n : Term) → Contains parents n ↔ IsSubject s n)
+pub are_references : (s : List Triple) (parents : List Term) (new direct all : List Bundle) → new ≡ [] → ((n : Term) → Contains parents n ↔ IsParent s n)
     → HasBound (IsReferredBy s) s new direct → HasBound (AreUnder s) parents direct all → AreReferences s all
-are_references s parents new direct all none subjects first second a b = (
+are_references s parents new direct all none each first second a b = (
   λ h. elim ((second a b).0 h) [
     | inl d ↦ elim ((first a b).0 d) [
       | inl n ↦ absurd (bound_nothing new a b none n)
@@ -64,7 +63,7 @@ are_references s parents new direct all none subjects first second a b = (
     | inl k ↦ (second a b).1 (inl ((first a b).1 (inr (record { subject = a; predicate = property_iri k.0; object = k.1 }, k.2, (refl, (k.0, refl, k.3))))))
     | inr k ↦
         let q = k.3 in
-        (second a b).1 (inr (q.0, (subjects q.0).1 (record { subject = q.0; predicate = property_iri properties.Property; object = a }, q.2, refl), ((q.2, (k.0, k.1)), (q.1, q.3, q.4))))
+        (second a b).1 (inr (q.0, (each q.0).1 (a, q.2), ((q.2, (k.0, k.1)), (q.1, q.3, q.4))))
   ],
 )
 

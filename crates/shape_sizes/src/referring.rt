@@ -13,8 +13,9 @@ ghost use Rattle.shape_sizes.specs.Referring.{IsReferredBy};
 use collections::Sequence;
 use rdf_model::{Term, Triple};
 use shape_properties::shapes::push_taken;
-use shape_references::{Bundle, least_bound_on_loop, least_bound_with_chain, push_sibling_bundle};
-use shape_syntax::subjects::subjects;
+use shape_references::{
+    Bundle, least_bound_on_loop, least_bound_with_chain, parent_nodes, push_sibling_bundle,
+};
 use std::alloc::{AllocError, Global};
 
 // Adds the references of the triple's subject by it.
@@ -74,10 +75,10 @@ pub fn references(alloc: Global, graph: &[Triple]) -> Result<Vec<Bundle>, AllocE
     requires { IsAscending triple_cmp graph.now }
     ensures { IfOk result (λ references. AreReferences graph.now references.items) }
 {
-    let parents = subjects(alloc, graph)?;
+    let nodes = parent_nodes(alloc, graph)?;
     let mut bundles = Sequence::new(alloc);
     push_all_direct(alloc, graph, &mut bundles)?;
-    push_all_siblings(alloc, graph, parents.as_slice(), &mut bundles)?;
+    push_all_siblings(alloc, graph, nodes.as_slice(), &mut bundles)?;
     Ok(bundles.into_vec())
 }
 

@@ -14,8 +14,7 @@ ghost use Rattle.shape_sizes.specs.Counted.{HaveNames, HaveStandIns};
 use collections::{Sequence, sorted_once};
 use rdf_model::{Term, Triple};
 use reference_totals::WeightedPlace;
-use shape_references::{may_share, name_at, qualified_under};
-use shape_syntax::subjects::subjects;
+use shape_references::{may_share, name_at, parent_nodes, qualified_under};
 use std::alloc::{AllocError, Global};
 
 // Whether the node is none of the names, which are blank nodes of session 0.
@@ -60,9 +59,9 @@ fn all_parents(alloc: Global, graph: &[Triple]) -> Result<Vec<Term>, AllocError>
     requires { IsAscending triple_cmp graph.now }
     ensures { IfOk result (λ parents. IsAscending term_cmp parents.items) }
 {
-    let nodes = subjects(alloc, graph)?;
-    let parents = parents_among(alloc, graph, nodes.as_slice())?;
-    let sorted = sorted_once(parents.into_vec())?;
+    let nodes = parent_nodes(alloc, graph)?;
+    let sharing = parents_among(alloc, graph, nodes.as_slice())?;
+    let sorted = sorted_once(sharing.into_vec())?;
     Ok(sorted)
 }
 

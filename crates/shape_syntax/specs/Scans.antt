@@ -10,6 +10,10 @@ use Rattle.shape_model.specs.Vocabulary.{rdf_type, sub_class_of}
 abbrev pub IsValueTriple : List Triple → Term → Term → Triple → Type 0
 IsValueTriple g n p t = Contains g t × (t.subject ≡ n) × (t.predicate ≡ p)
 
+-- the triple has a value of the predicate at the node
+abbrev pub IsAt : Term → Term → Triple → Type 0
+IsAt n p t = (t.subject ≡ n) × (t.predicate ≡ p)
+
 -- the other triple has a different value of the triple's predicate at its subject
 abbrev pub IsAnotherValue : Triple → Triple → Type 0
 IsAnotherValue t other = (other.subject ≡ t.subject) × (other.predicate ≡ t.predicate) × (t.object ≢ other.object)

@@ -7,7 +7,7 @@ ghost use Rattle.rdf_model.specs.declared.term.Term.{Term as TermData};
 ghost use Rattle.rdf_model.specs.Terms.{triple_cmp};
 ghost use Rattle.shape_syntax.specs.Subjects.{IsSubject};
 
-use crate::list::cell;
+use crate::list::cell_of;
 use crate::lookup::triples_of;
 use crate::steps::only_triple;
 use crate::subjects::{push_unless_last, subjects};
@@ -43,7 +43,7 @@ fn push_visits(graph: &[Triple], node: &Term, stack: &mut Vec<Visit>) -> Result<
 {
     stack.push(Visit::Leave(node.clone()?))?;
     let own = triples_of(graph, node);
-    match cell(own, node) {
+    match cell_of(own, node) {
         Some((first, rest)) => {
             stack.push(Visit::Enter(first.clone()?))?;
             stack.push(Visit::Enter(rest.clone()?))?;

@@ -73,13 +73,13 @@ fn only_rest<'a>(graph: &'a [Triple], node: &Term) -> Option<&'a Term>
     only_value(graph, node, RDF_REST)
 }
 
-/// The member and the rest of a cell, if the node is one.
-pub(crate) fn cell<'a>(graph: &'a [Triple], node: &Term) -> Option<(&'a Term, &'a Term)>
-    requires { IsAscending triple_cmp graph.now }
-    ensures { MatchOption result ((member : Term) (rest : Term) → IsCell graph.now node.now member rest → ⊥)
-        (λ parts. IsCell graph.now node.now parts.0.now parts.1.now) }
+/// The member and the rest of a cell, if the node is one. To save time the node's triples may be given in place of the
+/// graph.
+pub(crate) fn cell_of<'a>(own: &'a [Triple], node: &Term) -> Option<(&'a Term, &'a Term)>
+    requires { IsAscending triple_cmp own.now }
+    ensures { MatchOption result ((member : Term) (rest : Term) → IsCell own.now node.now member rest → ⊥)
+        (λ parts. IsCell own.now node.now parts.0.now parts.1.now) }
 {
-    let own = triples_of(graph, node);
     match only_first(own, node) {
         Some(member) => match only_rest(own, node) {
             Some(rest) => Some((member, rest)),
@@ -87,6 +87,16 @@ pub(crate) fn cell<'a>(graph: &'a [Triple], node: &Term) -> Option<(&'a Term, &'
         },
         None => None,
     }
+}
+
+/// The member and the rest of a cell, if the node is one.
+pub(crate) fn cell<'a>(graph: &'a [Triple], node: &Term) -> Option<(&'a Term, &'a Term)>
+    requires { IsAscending triple_cmp graph.now }
+    ensures { MatchOption result ((member : Term) (rest : Term) → IsCell graph.now node.now member rest → ⊥)
+        (λ parts. IsCell graph.now node.now parts.0.now parts.1.now) }
+{
+    let own = triples_of(graph, node);
+    cell_of(own, node)
 }
 
 #[tactic(auto, unfolding(shape_model::specs::Vocabulary::rdf, shape_model::specs::Vocabulary::rdf_first))]
@@ -112,11 +122,20 @@ fn is_rdf_nil(term: &Term) -> bool
     is_named(term, RDF_NIL)
 }
 
+// Whether the node has no member and no rest.
+fn has_neither(graph: &[Triple], node: &Term) -> bool
+    requires { IsAscending triple_cmp graph.now }
+    ensures { IsTrue result ↔ (HasNone graph.now node.now rdf_first × HasNone graph.now node.now rdf_rest) }
+{
+    let own = triples_of(graph, node);
+    has_no_first(own, node) && has_no_rest(own, node)
+}
+
 pub(crate) fn is_list_end(graph: &[Triple], node: &Term) -> bool
     requires { IsAscending triple_cmp graph.now }
     ensures { IsTrue result ↔ IsListEnd graph.now node.now }
 {
-    is_rdf_nil(node) && has_no_first(graph, node) && has_no_rest(graph, node)
+    is_rdf_nil(node) && has_neither(graph, node)
 }
 
 /// The members of the list that the node is the head of, or `None` where it is the head of none: at

@@ -19,7 +19,7 @@ fn is_last(nodes: &[Term], node: &Term) -> bool
 }
 
 /// Adds the node, unless it was added last.
-pub(crate) fn push_unless_last(node: &Term, nodes: &mut Sequence<Term>) -> Result<(), AllocError>
+pub fn push_unless_last(node: &Term, nodes: &mut Sequence<Term>) -> Result<(), AllocError>
     ensures { OnOk result ((n : TermData) → Contains nodes.new n ↔ (Contains nodes.old n ⊎ (node.now ≡ n))) }
 {
     if is_last(nodes.as_slice(), node) {

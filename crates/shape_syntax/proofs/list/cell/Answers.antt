@@ -1,18 +1,14 @@
-use Rattle.shape_model.specs.Vocabulary.{rdf_first, rdf_rest}
-use Rattle.shape_syntax.proofs.Own.{own_only}
+use Rattle.rdf_model.specs.declared.term.Term.{Term}
+use Rattle.shape_model.specs.ShapeSyntax.{IsCell}
+use Rattle.shape_syntax.proofs.Own.{own_cell, match_map}
 use Rattle.shape_syntax.proofs.list.cell.Goals as goal
 
-pub returns-in-Some-only_rest : goal.returns-in-Some-only_rest
-returns-in-Some-only_rest c =
-    let same = own_only c.args.graph.now c.triples_of-own.result.now c.args.node.now c.triples_of-own.ensures.members in
-    ((same rdf_first c.in-Some.member.now).0 c.in-Some.ensures, (same rdf_rest c.in-Some-only_rest.rest.now).0 c.in-Some-only_rest.ensures)
-
-pub returns-in-None-only_rest : goal.returns-in-None-only_rest
-returns-in-None-only_rest c =
-    let same = own_only c.args.graph.now c.triples_of-own.result.now c.args.node.now c.triples_of-own.ensures.members in
-    λ member rest h. c.in-None-only_rest.ensures rest ((same rdf_rest rest).1 h.1)
-
-pub returns-in-None : goal.returns-in-None
-returns-in-None c =
-    let same = own_only c.args.graph.now c.triples_of-own.result.now c.args.node.now c.triples_of-own.ensures.members in
-    λ member rest h. c.in-None.ensures member ((same rdf_first member).1 h.0)
+pub returns : goal.returns
+returns c =
+    let s = c.args.graph.now in
+    let own = c.triples_of-own.result.now in
+    let n = c.args.node.now in
+    let same = own_cell s own n c.triples_of-own.ensures.members in
+    match_map c.cell_of.result ((m k : Term) → IsCell own n m k → ⊥) ((m k : Term) → IsCell s n m k → ⊥)
+    (λ parts. IsCell own n parts.0.now parts.1.now) (λ parts. IsCell s n parts.0.now parts.1.now)
+    (λ none m k h. none m k ((same m k).1 h)) (λ parts h. (same parts.0.now parts.1.now).0 h) c.cell_of.ensures

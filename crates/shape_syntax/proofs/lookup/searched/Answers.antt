@@ -6,7 +6,7 @@ use Rattle.rdf_model.specs.declared.triple.Triple.{Triple}
 use Rattle.rdf_model.specs.Terms.{triple_cmp}
 use Rattle.shape_syntax.proofs.Places.{key, place_cmp, place_total, place_agrees, at_place, place_tied}
 use Rattle.shape_syntax.proofs.Ranges.{lt_parts, in_behind, behind_ascending}
-use Rattle.shape_syntax.proofs.lookup.values.Goals as goal
+use Rattle.shape_syntax.proofs.lookup.searched.Goals as goal
 
 pub count_upto_place-requires : goal.count_upto_place-requires
 count_upto_place-requires c = behind_ascending triple_cmp place_cmp place_total place_agrees c.partition_point-first.result c.args.graph.now c.requires
