@@ -83,8 +83,8 @@ fn text_of(alloc: Global, rows: &[ResultRow]) -> Result<String, AllocError> {
     Ok(text)
 }
 
-fn found(alloc: Global, case: &Case<'_>, lists: &[Vec<ResultRow>]) -> Result<String, AllocError>
-    requires { length lists.now ≡ length case.now.values }
+fn found(alloc: Global, case: &Case<'_>, lists: Vec<Vec<ResultRow>>) -> Result<String, AllocError>
+    requires { length lists.items ≡ length case.now.values }
 {
     let rows = property(alloc, case.values(), lists)?;
     text_of(alloc, &rows)
@@ -94,7 +94,7 @@ fn assert_property(rt: &impl Abort, alloc: Global, line: &str) -> Result<(), All
     let case = read_case(rt, alloc, "", line)?;
     let lists = lists_of(alloc, &case, line)?;
     assert_eq!(rt; lists.len(), case.values().len());
-    let found = found(alloc, &case, &lists)?;
+    let found = found(alloc, &case, lists)?;
     assert_same(rt, line, found.trim(), case.wanted().trim());
     Ok(())
 }

@@ -6,12 +6,12 @@ ghost use Rattle.path_eval.specs.Instances.{AreClassWords};
 ghost use Rattle.shape_ast.specs.Readings.{AreBound};
 ghost use Rattle.shape_ast.specs.Standing.{AreBuilt};
 ghost use Rattle.shape_eval.specs.Told.{node_at};
-ghost use Rattle.target_nodes.specs.ShapeTargets.{AreTargets, AtShape};
 ghost use Rattle.parallel_validate.specs.Counting.{StepsOfFirst, StepsOfGraph, StepsOfShape};
 ghost use Rattle.kept_rows.specs.declared.kept_row.KeptRow.{KeptRow as KeptData};
 ghost use Rattle.kept_validation.specs.Keeping.{IsOfPair, KeepsAtNode, KeepsAtNodes, KeepsGraph, KeepsOfFirst, KeepsOfShape};
 
 use kept_rows::{KeptRow, KeptRows};
+use parallel_validate::targets_of;
 use path_eval::ClassWords;
 use rdf_model::{Footprint, Names, Triples};
 use shape_ast::Bound;
@@ -19,7 +19,6 @@ use shape_eval::{Evaluation, Permit, Steps, eval, permit};
 use shape_model::ResultRow;
 use std::alloc::{AllocError, Global};
 use std::sync::ledger::Ledger;
-use target_nodes::targets;
 
 // Results with the pair that gives them.
 fn with_pair(
@@ -80,20 +79,6 @@ fn rows_at<R: Triples, N: Names, L: Ledger>(
         rows.append(&mut more)?;
     }
     Ok(rows)
-}
-
-// The targets of a shape, each once, ascending by number.
-fn targets_of<R: Triples, N: Names>(
-    evaluation: &Evaluation<'_, R, N>,
-    shape: usize,
-) -> Result<Vec<u32>, AllocError>
-    requires { shape < length evaluation.now.shapes }
-    ensures targets { IfOk result (λ found. AtShape evaluation.now.terms evaluation.now.shapes shape (λ s own. AreTargets evaluation.now.terms evaluation.now.ids s own found.items)) }
-    ensures numbers { IfOk result (λ found. All (λ n. n < length evaluation.now.terms) found.items) }
-{
-    evaluation.recall();
-    let (graph, words, bound) = (evaluation.graph(), evaluation.words(), evaluation.bound());
-    targets(evaluation.alloc(), graph, words, bound, shape)
 }
 
 // The number of a shape's node.

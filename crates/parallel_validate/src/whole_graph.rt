@@ -57,8 +57,8 @@ fn rows_at<R: Triples, N: Names, L: Ledger>(
     Ok(rows)
 }
 
-// The targets of a shape, each once, ascending by number.
-fn targets_of<R: Triples, N: Names>(
+/// The targets of a shape (SHACL section 2.1.3), by its place among the compiled shapes: each once, ascending by number.
+pub fn targets_of<R: Triples, N: Names>(
     evaluation: &Evaluation<'_, R, N>,
     shape: usize,
 ) -> Result<Vec<u32>, AllocError>

@@ -7,7 +7,7 @@ use Rattle.rdf_model.specs.declared.look.Look.{Look}
 use Rattle.path_eval.specs.Relations.{FromSome, IsFollowed}
 use Rattle.path_eval.proofs.Growing.{listing_same, adds_then, adds_same}
 
-some_same : {Y : Type 0} → (xs : List ℕ) (R S : ℕ → Y → Type 0) → ((x : ℕ) (y : Y) → R x y ↔ S x y) → (y : Y) → FromSome xs R y ↔ FromSome xs S y
+pub some_same : {Y : Type 0} → (xs : List ℕ) (R S : ℕ → Y → Type 0) → ((x : ℕ) (y : Y) → R x y ↔ S x y) → (y : Y) → FromSome xs R y ↔ FromSome xs S y
 some_same {Y} xs R S e y = (λ h. (h.0, h.1, (e h.0 y).0 h.2), λ h. (h.0, h.1, (e h.0 y).1 h.2))
 
 pub some_either : {Y : Type 0} → (xs : List ℕ) (R S : ℕ → Y → Type 0) → (y : Y) → (FromSome xs R y ⊎ FromSome xs S y) ↔ FromSome xs (λ x y. R x y ⊎ S x y) y

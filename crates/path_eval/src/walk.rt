@@ -65,7 +65,27 @@ pub(crate) fn step<R: Triples>(
     }
 }
 
-/// The ends of any number of walks one after another.
+// The ends of any number of walks one after another, by a walker that is made where there is a start.
+fn repeated_by_walker<R: Triples>(
+    alloc: Global,
+    graph: &R,
+    path: &Path<u32>,
+    reversed: bool,
+    starts: &[u32],
+    footprint: &mut Footprint,
+) -> Result<Vec<u32>, AllocError>
+    ensures followed { IfOk result (λ ends. IsFollowed starts.now (Repeated (Reaches (R.triples graph.now) reversed path.now)) (AtRepeated (Reaches (R.triples graph.now) reversed path.now) (Reads (R.triples graph.now) reversed path.now)) footprint.old footprint.new ends.items) }
+    ensures kept { Keeps footprint.old footprint.new }
+{
+    if starts.is_empty() {
+        return Ok(Vec::new(alloc));
+    }
+    let once = walker_of(alloc, path, reversed)?;
+    let walker = any_number(alloc, once)?;
+    follow(alloc, graph, walker, starts, footprint)
+}
+
+/// The ends of any number of walks one after another. Where no walk leads on from the starts, no walker is made.
 pub(crate) fn repeated<R: Triples>(
     alloc: Global,
     graph: &R,
@@ -77,7 +97,8 @@ pub(crate) fn repeated<R: Triples>(
     ensures followed { IfOk result (λ ends. IsFollowed starts.now (Repeated (Reaches (R.triples graph.now) reversed path.now)) (AtRepeated (Reaches (R.triples graph.now) reversed path.now) (Reads (R.triples graph.now) reversed path.now)) footprint.old footprint.new ends.items) }
     ensures kept { Keeps footprint.old footprint.new }
 {
-    let once = walker_of(alloc, path, reversed)?;
-    let walker = any_number(alloc, once)?;
-    follow(alloc, graph, walker, starts, footprint)
+    let once = step(alloc, graph, path, reversed, starts, footprint)?;
+    let mut ends = repeated_by_walker(alloc, graph, path, reversed, &once, footprint)?;
+    ends.extend_from_slice(starts)?;
+    Ok(sorted_once(ends)?)
 }

@@ -100,7 +100,7 @@ fn rows_at_each<R: Triples, N: Names>(
         let more = rows_at(evaluation, levels, place, *value, footprint)?;
         rows.push(more)?;
     }
-    property(evaluation.alloc(), values, &rows)
+    property(evaluation.alloc(), values, rows)
 }
 
 // The results of the property shapes at the places, at each value node (SHACL section 4.7.2).

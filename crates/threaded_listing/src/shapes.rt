@@ -1,32 +1,16 @@
 //! The results of shapes at their targets.
 ghost use Rattle.std.specs.Prelude.{◌<◌, ◌≤◌, IfOk, OnOk, length};
-ghost use Rattle.std.specs.List.{All};
-ghost use Rattle.target_nodes.specs.ShapeTargets.{AreTargets, AtShape};
 ghost use Rattle.parallel_validate.specs.Counting.{StepsOfFirst, StepsOfShape};
 ghost use Rattle.parallel_validate.specs.Whole.{CollectsOfShape, CollectsResults};
 
 use crate::nodes::rows_at;
+use parallel_validate::targets_of;
 use rdf_model::{Names, Triples};
 use shape_eval::{Evaluation, Steps};
 use shape_model::ResultRow;
 use std::alloc::AllocError;
 use std::sync::ledger::Ledger;
 use std::thread::Threads;
-use target_nodes::targets;
-
-// The targets of a shape, each once, ascending by number.
-fn targets_of<R: Triples, N: Names>(
-    evaluation: &Evaluation<'_, R, N>,
-    shape: usize,
-) -> Result<Vec<u32>, AllocError>
-    requires { shape < length evaluation.now.shapes }
-    ensures targets { IfOk result (λ found. AtShape evaluation.now.terms evaluation.now.shapes shape (λ s own. AreTargets evaluation.now.terms evaluation.now.ids s own found.items)) }
-    ensures numbers { IfOk result (λ found. All (λ n. n < length evaluation.now.terms) found.items) }
-{
-    evaluation.recall();
-    let (graph, words, bound) = (evaluation.graph(), evaluation.words(), evaluation.bound());
-    targets(evaluation.alloc(), graph, words, bound, shape)
-}
 
 // The results of a shape at all its targets.
 fn rows_of_shape<R: Triples + Sync, N: Names + Sync, L: Ledger, T: Threads + Sync>(

@@ -1,21 +1,22 @@
-use Rattle.std.proofs.lemmas.Result.{IfOk-weaker}
+use Rattle.std.proofs.Common.{ℕ, List, subst}
+use Rattle.std.specs.List.{Contains}
+use Rattle.std.specs.Ordering.{nat_cmp}
+use Rattle.collections.specs.Listings.{IsListing}
 use Rattle.path_eval.specs.Relations.{IsFollowed, Repeated}
 use Rattle.path_eval.specs.NumberedWalks.{Reaches}
 use Rattle.path_eval.specs.NumberedLooks.{AtRepeated, Reads}
-use Rattle.path_eval.specs.Walkers.{Goes, Sees, plan_of}
-use Rattle.path_eval.proofs.Follow.{followed_same}
-use Rattle.path_eval.proofs.Made.{made_any_number}
+use Rattle.path_eval.proofs.Repeating.{followed_again}
 use Rattle.path_eval.proofs.walk.repeated.Goals as goal
 
 pub returns-clause-followed : goal.returns-clause-followed
 returns-clause-followed g c =
     let ids = g.R.Triples.triples c.args.graph.now in
-    let xs = c.args.starts.now in
-    let plan = plan_of c.in_ok-walker.walker in
     let R = Reaches ids c.args.reversed c.args.path.now in
     let L = Reads ids c.args.reversed c.args.path.now in
-    let old = c.args.footprint.now in
-    let new = c.follow.new.footprint in
-    let made = made_any_number c.in_ok-once.once c.in_ok-walker.walker (λ ids. Reaches ids c.args.reversed c.args.path.now) (λ ids. Reads ids c.args.reversed c.args.path.now) c.in_ok-once.ensures c.in_ok-walker.ensures in
-    IfOk-weaker c.follow.result (λ ends. IsFollowed xs (Goes ids plan) (Sees ids plan) old new ends.items) (λ ends. IsFollowed xs (Repeated R) (AtRepeated R L) old new ends.items)
-    (λ ends h. followed_same xs (Goes ids plan) (Repeated R) (Sees ids plan) (AtRepeated R L) old new ends.items (made.reaches ids) (made.reads ids) h) c.follow.ensures.followed
+    let mid = c.step.new.footprint in
+    let new = c.repeated_by_walker.new.footprint in
+    let further = c.in_ok-ends.ends.items in
+    let ends = c.in_ok-sorted_once.field-0.items in
+    followed_again R L c.args.starts.now c.args.footprint.now mid new c.in_ok-once.once.items further ends c.in_ok-once.ensures.followed
+    (subst (λ (l : List ℕ). IsFollowed l (Repeated R) (AtRepeated R L) mid new further) c.deref.ensures.value c.in_ok-ends.ensures.followed)
+    (subst (λ (l : List ℕ). IsListing nat_cmp (Contains l) ends) c.in_ok-extend_from_slice.ensures.items c.in_ok-sorted_once.ensures)

@@ -27,7 +27,7 @@ use Rattle.shape_eval.specs.ShapeRows.{FromSome, OwnRow, PropertyAt}
 use Rattle.shape_eval.specs.Told.{AreRight, AsksSome, ConformsAt, WhereRight, answers_of, node_at, node_number}
 use Rattle.shape_eval.specs.ValueNodes.{AtNumbers}
 use Rattle.shape_eval.proofs.Depths.{all_at, nothing_at}
-use Rattle.shape_eval.proofs.Evaluations.{ListedUpTo, answered_all, answered_more, empty_when, entries_have, entries_more, entries_right, entry_right, listed_all, listed_more, places_at, property_at, values_at, bound_at}
+use Rattle.shape_eval.proofs.Evaluations.{answered_all, answered_more, empty_when, entries_have, entries_more, entries_right, entry_right, listed_all, listed_more, places_at, property_at, values_at, bound_at}
 use Rattle.shape_eval.proofs.Looking.{looked_all, looked_more, looked_none, places_all, places_more, places_none}
 use Rattle.shape_eval.proofs.Reading.{all_looks_at, no_looks_at}
 use Rattle.shape_eval.proofs.Lookups.{named_place, of_place}
@@ -147,20 +147,18 @@ rows_at_each-property-requires g t c =
     let many = c.loop-value.invariant.rows.0 in
     let lists = c.loop-value.rows.items in
     let mapped = length-map lists (λ list. list.items) in
-    let same = ap (λ ls. length ls) c.deref.ensures.value in
-    omega (arith, many, mapped, same, c.loop-value-test.false, c.loop-value.auto.value-index-end)
+    omega (arith, many, mapped, c.loop-value-test.false, c.loop-value.auto.value-index-end)
 
 pub rows_at_each-returns-clause-rows : goal.rows_at_each-returns-clause-rows
 rows_at_each-returns-clause-rows g t c =
     let terms = c.args.evaluation.now.terms in
     let ids = c.args.evaluation.now.ids in
     let values = c.args.values.now in
-    let lists : List (List ResultRow) = map (λ list. list.items) c.deref.result.now in
-    let before = subst (λ ls. ListedUpTo terms ids c.args.evaluation.now.shapes c.args.levels c.args.place values c.loop-value.value-index (map (λ list. list.items) ls)) (sym c.deref.ensures.value) c.loop-value.invariant.rows in
+    let lists : List (List ResultRow) = map (λ list. list.items) c.loop-value.rows.items in
     IfOk-weaker c.property.result
     (λ all. (within : List Term) (shape : Term) → Lists (PropertyRow (told_rows within values lists) (with_property shape)) all.items)
     (λ all. CollectsAtEach terms ids c.args.evaluation.now.shapes c.args.levels c.args.place values all.items)
-    (λ all given. listed_all terms ids c.args.evaluation.now.shapes c.args.levels c.args.place values c.loop-value.value-index lists all.items c.loop-value-test.false c.loop-value.auto.value-index-end before (λ within shape. (given within shape).members))
+    (λ all given. listed_all terms ids c.args.evaluation.now.shapes c.args.levels c.args.place values c.loop-value.value-index lists all.items c.loop-value-test.false c.loop-value.auto.value-index-end c.loop-value.invariant.rows (λ within shape. (given within shape).members))
     c.property.ensures
 
 pub rows_at_each-returns-clause-looks : goal.rows_at_each-returns-clause-looks
@@ -169,7 +167,7 @@ rows_at_each-returns-clause-looks g t c =
     let ids = c.args.evaluation.now.ids in
     let looks = looked_all terms ids c.args.evaluation.now.shapes c.args.levels c.args.place c.args.values.now c.loop-value.value-index c.loop-value-test.false c.args.footprint.now c.loop-value.footprint c.loop-value.invariant.looks in
     IfOk-weaker c.property.result
-    (λ all. (within : List Term) (shape : Term) → Lists (PropertyRow (told_rows within c.args.values.now (map (λ list. list.items) c.deref.result.now)) (with_property shape)) all.items)
+    (λ all. (within : List Term) (shape : Term) → Lists (PropertyRow (told_rows within c.args.values.now (map (λ list. list.items) c.loop-value.rows.items)) (with_property shape)) all.items)
     (λ _. AddsAtEach terms ids c.args.evaluation.now.shapes c.args.levels c.args.place c.args.values.now c.args.footprint.now c.loop-value.footprint)
     (λ _ _. looks)
     c.property.ensures
