@@ -177,24 +177,27 @@ fn graphs_by_threads<M: Maker, R: Threads + Sync>(
 /// Validates a data graph by a shapes graph (SHACL section 3.4), both Turtle texts, and writes the report. Blank nodes of
 /// the data belong to session 1 and those of the shapes to session 2, each numbered from 1. The maker builds the patterns,
 /// shape by shape in the order of nodes, up to the first that it refuses. The texts are read beside each other, the
-/// data is indexed beside the shapes, and as many threads as there are processors share out the evaluations among each other.
+/// data is indexed beside the shapes, and as many threads as there are processors share out the evaluations among each other. The
+/// texts are let go once they are read.
 ///
 /// A fault tells its cause: the data is refused first, then the shapes, then a broken rule, then a pattern.
 pub fn validate<M: Maker, R: Threads + Sync>(
     rt: &R,
     alloc: Global,
     maker: &mut M,
-    data_text: &[u8],
-    shapes_text: &[u8],
+    data_text: Vec<u8>,
+    shapes_text: Vec<u8>,
 ) -> Result<Validation, InputFault>
-    requires data { length data_text.now < 2 ^ 31 }
-    requires shapes { length shapes_text.now < 2 ^ 31 }
-    ensures answer { MatchResult result (IsValidation data_text.now shapes_text.now) (IsCause data_text.now shapes_text.now (M.refused maker.old) (M.refused maker.new)) }
+    requires data { length data_text.items < 2 ^ 31 }
+    requires shapes { length shapes_text.items < 2 ^ 31 }
+    ensures answer { MatchResult result (IsValidation data_text.items shapes_text.items) (IsCause data_text.items shapes_text.items (M.refused maker.old) (M.refused maker.new)) }
     ensures refused { IfOk result (λ _. M.refused maker.new ≡ M.refused maker.old) }
-    ensures asked { MatchResult result (λ _. AsksOfText shapes_text.now (M.asked maker.old) (M.asked maker.new))
-        (λ fault. AsksInVain shapes_text.now fault (M.asked maker.old) (M.asked maker.new)) }
+    ensures asked { MatchResult result (λ _. AsksOfText shapes_text.items (M.asked maker.old) (M.asked maker.new))
+        (λ fault. AsksInVain shapes_text.items fault (M.asked maker.old) (M.asked maker.new)) }
 {
-    let readings = readings_by_threads(rt, alloc, data_text, shapes_text);
+    let readings = readings_by_threads(rt, alloc, &data_text, &shapes_text);
+    drop(data_text);
+    drop(shapes_text);
     let (graph, shapes_graph) = match graphs_by_threads(rt, alloc, maker, readings) {
         Ok(both) => both,
         Err(fault) => return Err(fault),

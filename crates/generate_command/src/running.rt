@@ -11,6 +11,7 @@ use outside::{Gate, Maker};
 use session_model::SessionReply;
 use session_threads::{EndedRun, run_new};
 use std::alloc::{AllocError, Global};
+use std::mem;
 use std::sync::Wait;
 use std::thread::Threads;
 use store_model::{BlockMode, Limits};
@@ -55,10 +56,9 @@ pub fn run_load<R: Threads + Wait + Sync, M: Maker, G: Gate>(
     ensures refused { OnlyGrows (M.refused maker.old) (M.refused maker.new) }
 {
     let all = read_sessions(alloc, n, maker)?;
-    let EndedRun {
-        run,
-        triples,
-        log: _,
-    } = run_new(rt, alloc, LIMITS, all.into_vec(), gate)?;
+    let EndedRun { run, core, log: _ } = run_new(rt, alloc, LIMITS, all.into_vec(), gate)?;
+    let triples = core.triples();
+    // The command ends with it: its many terms aren't let go one by one.
+    mem::forget(core);
     load_text(alloc, n, &run.replies, triples)
 }

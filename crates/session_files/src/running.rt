@@ -29,6 +29,7 @@ use session_model::Command;
 use session_player::{HistoryFault, Run, replay_all, text_of};
 use session_threads::{EndedRun, run_all};
 use std::alloc::Global;
+use std::mem;
 use std::sync::Wait;
 use std::thread::Threads;
 use store_model::Limits;
@@ -65,11 +66,9 @@ fn run_sessions<D: Disk + Drop + Send, R: Threads + Wait + Sync, G: Gate>(
 {
     match run_all(rt, alloc, core, log, all.into_vec(), gate) {
         Ok(ended) => {
-            let EndedRun {
-                run,
-                triples: _,
-                log,
-            } = ended;
+            let EndedRun { run, core, log } = ended;
+            // The command ends with it: to let a million terms go one by one takes longer than the rest of the end.
+            mem::forget(core);
             (run_text(alloc, &run), log)
         }
         Err((_, log)) => (Err(RunFault::Memory), log),

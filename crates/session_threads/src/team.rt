@@ -188,8 +188,8 @@ fn play_all<D: Disk + Drop + Send, R: Threads + Wait + Sync, G: Gate>(
 #[derive(Drop)]
 pub struct EndedRun<D: Disk> {
     pub run: Run,
-    /// How many triples the data graph has at the end.
-    pub triples: usize,
+    /// The store's core as the last session left it.
+    pub core: Core,
     /// The store's log, where it has one.
     pub log: Option<Log<D>>,
 }
@@ -245,7 +245,7 @@ pub fn run_all<D: Disk + Drop + Send, R: Threads + Wait + Sync, G: Gate>(
     requires running { core.state.stopped ≡ false }
     requires beside { StandsBeside core log }
     requires few { length files.items ≤ 64 }
-    ensures ends { IfOk result (λ ended. EndsRun D.tells D.bytes D.history D.chosen D.faults files.items core log ended.run.order.items ended.run.replies.items ended.triples ended.log) }
+    ensures ends { IfOk result (λ ended. EndsRun D.tells D.bytes D.history D.chosen D.faults files.items core log ended.run.order.items ended.run.replies.items (length ended.core.state.graph) ended.log) }
     ensures back { IfErr result (λ e. (last : RecordedStore) × LeavesStore D.tells D.bytes D.history D.chosen D.faults core log last e.1) }
 {
     core.recall_consistent();
@@ -263,11 +263,10 @@ pub fn run_all<D: Disk + Drop + Send, R: Threads + Wait + Sync, G: Gate>(
     let mut replies = all;
     replies.reverse();
     let (core, log) = store.close(keeper);
-    let triples = core.triples();
     match core.order() {
         Ok(order) => Ok(EndedRun {
             run: Run { replies, order },
-            triples,
+            core,
             log,
         }),
         Err(error) => Err((error, log)),
@@ -284,7 +283,7 @@ pub fn run_new<R: Threads + Wait + Sync, G: Gate>(
 ) -> Result<EndedRun<MemDisk>, AllocError>
     requires small { limits.terms + 2 < 2 ^ 32 }
     requires few { length files.items ≤ 64 }
-    ensures { IfOk result (λ ended. HasEnd files.items limits empty_store ended.run.order.items None ended.run.replies.items ended.triples) }
+    ensures { IfOk result (λ ended. HasEnd files.items limits empty_store ended.run.order.items None ended.run.replies.items (length ended.core.state.graph)) }
 {
     let core = Core::open(alloc, limits)?;
     match run_all(rt, alloc, core, None::<Log<MemDisk>>, files, gate) {

@@ -108,7 +108,7 @@ fn run_and_replay<R: Threads + Wait + Abort + Sync>(
     }
     let EndedRun {
         run,
-        triples: _,
+        core: _,
         log: _,
     } = run_new(rt, alloc, LIMITS, files, &OpenGate)?;
     let text = text_of(alloc, &run)?;

@@ -519,7 +519,7 @@ fn run_held<R: Threads + Wait + Abort + Sync>(
     let gate = HoldingGate::new(kinds, holds, unready);
     let EndedRun {
         run,
-        triples: _,
+        core: _,
         log: _,
     } = run_new(rt, alloc, LIMITS, files, &gate)?;
     assert!(rt; gate.is_through());

@@ -140,7 +140,7 @@ fn events_are_told_outside_turns(rt: HostRuntime) -> Result<(), Fail> {
     let gate = PairedGate::new(COMMITS);
     let EndedRun {
         run,
-        triples: _,
+        core: _,
         log: _,
     } = run_new(&rt, alloc, LIMITS, files, &gate)?;
     assert!(rt; gate.is_through());

@@ -85,7 +85,7 @@ pub fn validate_files<F: Files, M: Maker, R: Threads + Sync>(
         Ok(both) => both,
         Err(fault) => return Err(fault),
     };
-    match validate(rt, alloc, maker, &data_text, &shapes_text) {
+    match validate(rt, alloc, maker, data_text, shapes_text) {
         Ok(validation) => Ok(validation),
         Err(fault) => Err(text_fault(fault)),
     }

@@ -1,4 +1,4 @@
-use Rattle.std.proofs.Common.{length, ap, arith, string_bytes}
+use Rattle.std.proofs.Common.{◌∙◌, length, ap, arith, string_bytes}
 use Rattle.generate_command.proofs.Sessions.{count_of_run, told}
 use Rattle.generate_command.proofs.running.run_load.Goals as goal
 
@@ -9,5 +9,6 @@ load_text-requires g c =
 
 pub returns-clause-load : goal.returns-clause-load
 returns-clause-load g c =
-    told string_bytes c.load_text.result c.args.n _ _ c.in_ok-all.all _ c.in_ok-run.field-0.run.replies.items _ c.in_ok-run.field-0.triples c.in_ok-all.ensures.four c.in_ok-all.ensures.sessions
-    (rw c.into_vec.ensures at c.in_ok-run.ensures) c.deref.ensures.value c.load_text.ensures
+    let end = rw c.into_vec.ensures at c.in_ok-run.ensures in
+    told string_bytes c.load_text.result c.args.n _ _ c.in_ok-all.all _ c.in_ok-run.field-0.run.replies.items _ c.triples-triples.result c.in_ok-all.ensures.four c.in_ok-all.ensures.sessions
+    (end.0, c.triples-triples.ensures ∙ end.1) c.deref.ensures.value c.load_text.ensures
