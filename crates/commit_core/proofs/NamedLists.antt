@@ -23,7 +23,8 @@ use Rattle.store_model.proofs.Nodes.{ascending-given_with, member-given_with}
 use Rattle.term_dict.specs.Names.{AreNumbersOf, IsNumberOf, with_term, with_terms}
 use Rattle.data_graph.specs.DataGraphs.{NamedGraph}
 use Rattle.commit_core.specs.declared.naming.NamedTerms.{NamedTerms}
-use Rattle.commit_core.specs.Naming.{AreNamedAlike, HasPlaces, IsListNaming, IsMetAt, IsNaming, part_numbers}
+use Rattle.data_graph.specs.Numbering.{HasPlaces}
+use Rattle.commit_core.specs.Naming.{AreNamedAlike, IsListNaming, IsMetAt, IsNaming, part_numbers}
 use Rattle.commit_core.proofs.NamedTerms.{has_name, name_has, names_stay, same_names}
 
 -- one term more

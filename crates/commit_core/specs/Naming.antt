@@ -36,10 +36,6 @@ IsMetAt next place later = ((place < next) × (later ≡ next)) ⊎ ((place ≡ 
 abbrev pub part_numbers : List ℕ → Ids → List ℕ
 part_numbers ns i = get_or ns i.subject 0 ∷ get_or ns i.predicate 0 ∷ get_or ns i.object 0 ∷ []
 
--- a number stands at each of the places
-abbrev pub HasPlaces : List ℕ → Ids → Type 0
-HasPlaces ns i = (i.subject < length ns) × (i.predicate < length ns) × (i.object < length ns)
-
 -- what naming a list gives: the terms of its triples are named, none stands in the way, and these are the numbers of all of them
 pub record IsListNaming (kind : NameKind) (graph : NamedGraph) (given parts : List Term) (n : NamedTerms) (numbers : List ℕ) : Type 0 where
   pub naming : IsNaming kind graph given parts n

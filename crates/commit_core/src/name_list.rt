@@ -6,7 +6,8 @@ ghost use Rattle.store_model.specs.Nodes.{unknown_by};
 ghost use Rattle.store_model.specs.Store.{IsOpened, TakesStep, terms_of};
 ghost use Rattle.triple_index.specs.Changes.{IsNumbered};
 ghost use Rattle.commit_core.specs.Faults.{NamesNone};
-ghost use Rattle.commit_core.specs.Naming.{AreNamedAlike, HasPlaces, IsListNaming, IsMetAt, part_numbers};
+ghost use Rattle.data_graph.specs.Numbering.{HasPlaces};
+ghost use Rattle.commit_core.specs.Naming.{AreNamedAlike, IsListNaming, IsMetAt, part_numbers};
 
 use crate::naming::{NamedTerms, NamingFault, name_terms, unknown_node};
 use crate::store::{Core, slip};
@@ -34,7 +35,7 @@ fn met_with(next: usize, place: u32) -> Option<usize>
     None
 }
 
-// The same of the places of a triple.
+// How many places were met once those of a triple are, after so many; None where one before one of them was not.
 fn met_with_triple(next: usize, ids: &Ids) -> Option<usize>
     ensures { IfSome result (λ later. (s p : ℕ) × IsMetAt next ids.now.subject s × IsMetAt s ids.now.predicate p × IsMetAt p ids.now.object later) }
 {

@@ -20,7 +20,7 @@ use Rattle.triple_index.specs.declared.change.NumberedChange.{NumberedChange}
 use Rattle.triple_index.specs.declared.change.NumberedChange.TheVariants.{Add, Remove}
 use Rattle.data_graph.specs.DataGraphs.{AreNamedChanges}
 use Rattle.data_graph.specs.Nets.{ids_changed}
-use Rattle.data_graph.specs.Numbering.{AreNumbersWhereNamed, HasPlaces, IsNumberWhereNamed, change_by, ids_at}
+use Rattle.data_graph.specs.Numbering.{AreNumbersWhereNamed, HasChangePlaces, IsNumberWhereNamed, change_by, ids_at}
 use Rattle.data_graph.proofs.Selecting.{numbers_named}
 
 zip_push : {A B : Type 0} (R : A → B → Type 0) (xs : List A) (ys : List B) (x : A) (y : B) → AllZip R xs ys → R x y → AllZip R (xs ++ x ∷ []) (ys ++ y ∷ [])
@@ -50,7 +50,7 @@ module _ (names : List Term) where
     place_within : (i : Ids) → IsNumbered ts i → (i.subject < length ns) × (i.predicate < length ns) × (i.object < length ns)
     place_within i h = (within i.subject h.0, within i.predicate h.1, within i.object h.2)
 
-    pub have_places : (cs : List NumberedChange) → AllByRecursion (IsNumberedChange ts) cs → AllByRecursion (HasPlaces ns) cs
+    pub have_places : (cs : List NumberedChange) → AllByRecursion (IsNumberedChange ts) cs → AllByRecursion (HasChangePlaces ns) cs
     have_places [] h = tt
     have_places (Add i ∷ cs) h = (place_within i h.0, have_places cs h.1)
     have_places (Remove i ∷ cs) h = (place_within i h.0, have_places cs h.1)

@@ -12,14 +12,17 @@ use Rattle.triple_index.specs.declared.change.NumberedChange.TheVariants.{Add, R
 abbrev pub IsNumberWhereNamed : List Term → Term → ℕ → Type 0
 IsNumberWhereNamed names t n = Contains names t → IsNumberOf names t n
 
--- the same of each of some terms
+-- each number stands for the term at its place in the other list, where that is named
 abbrev pub AreNumbersWhereNamed : List Term → List Term → List ℕ → Type 0
 AreNumbersWhereNamed names ts ns = AllZip (IsNumberWhereNamed names) ts ns
 
--- a number stands at each of the places
-abbrev pub HasPlaces : List ℕ → NumberedChange → Type 0
-HasPlaces ns (Add i) = (i.subject < length ns) × (i.predicate < length ns) × (i.object < length ns)
-HasPlaces ns (Remove i) = (i.subject < length ns) × (i.predicate < length ns) × (i.object < length ns)
+-- a number stands at each of the places of a triple, and of a change
+abbrev pub HasPlaces : List ℕ → Ids → Type 0
+HasPlaces ns i = (i.subject < length ns) × (i.predicate < length ns) × (i.object < length ns)
+
+abbrev pub HasChangePlaces : List ℕ → NumberedChange → Type 0
+HasChangePlaces ns (Add i) = HasPlaces ns i
+HasChangePlaces ns (Remove i) = HasPlaces ns i
 
 -- the numbers that stand at the places of a triple, and of a change
 abbrev pub ids_at : List ℕ → Ids → Ids

@@ -9,7 +9,7 @@ ghost use Rattle.kept_rows.specs.Laws.{KeepsResults};
 ghost use Rattle.triple_index.specs.Changes.{IsNumberedChange, change_at};
 ghost use Rattle.data_graph.specs.DataGraphs.{AreNamedChanges, KeepsIndex};
 ghost use Rattle.data_graph.specs.Nets.{ids_changed};
-ghost use Rattle.data_graph.specs.Numbering.{AreNumbersWhereNamed, HasPlaces, change_by, ids_at};
+ghost use Rattle.data_graph.specs.Numbering.{AreNumbersWhereNamed, HasChangePlaces, change_by, ids_at};
 
 use crate::at_once::set_after;
 use crate::changed::numbers_of;
@@ -62,7 +62,7 @@ fn numbers_at(numbers: &[u32], places: &Ids) -> Ids
 
 // A change by the numbers at its places.
 fn number_change(numbers: &[u32], change: &NumberedChange) -> NumberedChange
-    requires { HasPlaces numbers.now change.now }
+    requires { HasChangePlaces numbers.now change.now }
     ensures { result ≡ change_by numbers.now change.now }
 {
     match change {
@@ -77,7 +77,7 @@ fn changes_by(
     numbers: &[u32],
     changes: &[NumberedChange],
 ) -> Result<Vec<NumberedChange>, AllocError>
-    requires { AllByRecursion (HasPlaces numbers.now) changes.now }
+    requires { AllByRecursion (HasChangePlaces numbers.now) changes.now }
     ensures { IfOk result (λ numbered. numbered.items ≡ map (change_by numbers.now) changes.now) }
 {
     let mut numbered = Vec::with_capacity(alloc, changes.len())?;

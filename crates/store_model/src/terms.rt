@@ -6,8 +6,8 @@ ghost use Rattle.store_model.specs.Store.{terms_of};
 use rdf_model::{Term, Triple};
 use std::alloc::AllocError;
 
-/// Adds subject, predicate and object of a triple.
-pub fn push_terms(terms: &mut Vec<Term>, triple: &Triple) -> Result<(), AllocError>
+// Adds subject, predicate and object of a triple.
+fn push_terms(terms: &mut Vec<Term>, triple: &Triple) -> Result<(), AllocError>
     ensures { OnOk result (terms.new.items ≡ terms.old.items ++ terms_of triple.now) }
 {
     terms.push(triple.subject.clone()?)?;
@@ -16,7 +16,7 @@ pub fn push_terms(terms: &mut Vec<Term>, triple: &Triple) -> Result<(), AllocErr
     Ok(())
 }
 
-/// Adds those of each triple, in order.
+/// Adds subject, predicate and object of each triple, in order.
 pub fn push_all_terms(terms: &mut Vec<Term>, triples: &[Triple]) -> Result<(), AllocError>
     ensures { OnOk result (terms.new.items ≡ terms.old.items ++ flat_map terms_of triples.now) }
 {

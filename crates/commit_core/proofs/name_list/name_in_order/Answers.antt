@@ -1,6 +1,7 @@
 use Rattle.std.proofs.Common.{◌∙◌, ℕ, List, ap, subst, sym}
 use Rattle.std.specs.List.{AllByRecursion, flat_map}
-use Rattle.commit_core.specs.Naming.{HasPlaces, part_numbers}
+use Rattle.data_graph.specs.Numbering.{HasPlaces}
+use Rattle.commit_core.specs.Naming.{part_numbers}
 use Rattle.commit_core.proofs.NamedLists.{have_places, list_naming}
 use Rattle.commit_core.proofs.name_list.name_in_order.Goals as goal
 
