@@ -15,7 +15,7 @@ use Rattle.shape_ast.specs.declared.target.Target.{Target}
 use Rattle.shape_ast.specs.declared.target.Target.TheVariants.{Node, Class, ImplicitClass, SubjectsOf, ObjectsOf}
 use Rattle.read_plans.specs.ShapeRows.{target_rows}
 use Rattle.shape_ast.specs.Once.{AreDistinct}
-use Rattle.shape_reader.proofs.Distinct.{distinct_mapped}
+use Rattle.shape_ast.proofs.Distinct.{distinct_mapped}
 use Rattle.plan_laws.proofs.PathNumbers.{path_count}
 
 -- a list without one of its items

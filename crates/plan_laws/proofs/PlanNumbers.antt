@@ -33,7 +33,7 @@ use Rattle.shape_ast.proofs.Agreeing.{same_active, same_but_path, with_path}
 use Rattle.shape_ast.specs.Standing.{AreAt, HasMembers, IsAt, IsFor, IsLinked, StandFor, shape_reading}
 use Rattle.shape_ast.specs.Once.{IsOnce}
 use Rattle.shape_properties.proofs.Defined.{shape_same}
-use Rattle.shape_reader.proofs.WellFormed.{one_value}
+use Rattle.shape_rules.proofs.SingleValues.{one_value}
 use Rattle.read_plans.specs.ShapeRows.{constraint_places, constraint_rows, is_count, optional_place, optional_rows, own_rows, qualified_places, referred_places, target_rows, value_way, with_places}
 use Rattle.read_plans.proofs.Lists.{any_from}
 use Rattle.read_plans.proofs.Referred.{IsWithin, count_of, is_counted, named_refers, nodes_at, once_from, once_to}

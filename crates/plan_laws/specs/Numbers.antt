@@ -20,7 +20,7 @@ use Rattle.read_plans.specs.ShapeRows.{plan_rows}
 abbrev pub PathNumber : Type 0
 PathNumber = (reversed : Bool) (p : Path) (q : List Path) → length (path_rows reversed p q) ≡ looks_of p
 
--- The shapes are those of the well-formed graph as `shape_reader::read_shapes` compiles it, each of their parts once.
+-- The shapes are those of the well-formed graph as it is compiled, each of their parts once.
 pub record AreRead (shapes : List (Shape Term)) (s : List Triple) : Type 0 where
   pub well_formed : IsWellFormed s
   pub compiled : AreCompiled shapes s

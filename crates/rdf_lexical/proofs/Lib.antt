@@ -7,6 +7,7 @@ pub mod TagTexts
 pub mod EnclosedSteps
 pub mod EnclosedTexts
 pub mod EnclosedTokens
+mod PlainRuns
 pub mod Unescaping
 pub mod Contents
 pub mod LowerTags

@@ -41,6 +41,11 @@ abbrev pub may_hold : Enclosed → ℕ → Bool
 may_hold Iri c = is_iri_char c
 may_hold (Text quotes) c = is_held quotes c
 
+-- how many of the first characters are ASCII and stand for themselves
+abbrev pub plain_length : Enclosed → List ℕ → ℕ
+plain_length e [] = 0
+plain_length e (c ∷ cs) = if nat_lt c 128 && may_hold e c then suc (plain_length e cs) else 0
+
 -- an escape of so many characters after its backslash: an IRIREF has UCHAR alone, which has more than one, and only for
 -- characters that it may hold
 abbrev pub may_hold_escaped : Enclosed → ℕ → ℕ → Bool

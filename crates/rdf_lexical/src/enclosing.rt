@@ -1,5 +1,5 @@
 //! Tokens that end where what closes them comes.
-ghost use Rattle.std.specs.Prelude.{◌≡◌, ◌<◌, ◌≤◌, ◌^◌, IfOk, length};
+ghost use Rattle.std.specs.Prelude.{◌≡◌, ℕ, ◌+◌, ◌<◌, ◌≤◌, ◌^◌, IfOk, length};
 ghost use Rattle.rdf_lexical.specs.Enclosed as spec;
 ghost use Rattle.rdf_lexical.specs.Enclosed.{IsWithin};
 
@@ -134,6 +134,33 @@ fn next_piece(kind: Enclosed, characters: &CharSlice<'_>) -> Piece
     }
 }
 
+// How many of the first bytes are an ASCII character each that the token may hold.
+fn plain_length(kind: Enclosed, bytes: &[u8]) -> usize
+    ensures { result ≡ spec.plain_length kind bytes.now }
+{
+    let mut count = 0;
+    let mut rest = bytes;
+    while let [byte, after @ ..] = rest {
+        if *byte >= 128 || !kind.may_hold(*byte as char) {
+            return count;
+        }
+        count += 1;
+        rest = after;
+    }
+    count
+}
+
+// How many of the first characters are ASCII and such as the token may hold, and the characters behind them.
+fn split_plain<'a>(kind: Enclosed, characters: &CharSlice<'a>) -> (usize, CharSlice<'a>)
+    ensures rest { (count : ℕ) → spec.opened count (spec.enclosed_length kind 0 characters.now) ≡ spec.opened (count + result.0) (spec.enclosed_length kind 0 result.1) }
+    ensures count { result.0 + length result.1 ≡ length characters.now }
+    ensures size { length characters.now < 2 ^ 63 }
+{
+    let plain = plain_length(kind, characters.as_text().as_bytes());
+    let (_, behind) = characters.split_at_byte(plain, plain);
+    (plain, behind)
+}
+
 /// How many characters the token has after what opens it, with what closes it; or why there is none.
 pub fn enclosed_length(kind: Enclosed, characters: &CharSlice<'_>) -> Result<usize, RefusalKind>
     ensures value { result ≡ spec.enclosed_length kind 0 characters.now }
@@ -143,7 +170,10 @@ pub fn enclosed_length(kind: Enclosed, characters: &CharSlice<'_>) -> Result<usi
     let mut count = 0;
     let mut rest = characters.whole();
     'pieces: loop {
-        // Most pieces are a character that stands for itself, which is no mark and no backslash.
+        // Most pieces are a character that stands for itself, which is no mark and no backslash, and most of those are ASCII.
+        let (plain, behind) = split_plain(kind, &rest);
+        count += plain;
+        rest = behind;
         if let Some((character, after)) = rest.split_first()
             && kind.may_hold(character)
         {
