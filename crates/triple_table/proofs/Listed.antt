@@ -203,3 +203,12 @@ below_as placed us out outs e f a =
 
 pub numbers_as : (placed us : List Placed) (out outs : List Ranked) (numbers : List Ids) → us ≡ placed → outs ≡ out → numbers ≡ map (unranked us) outs → numbers ≡ map (unranked placed) out
 numbers_as placed us out outs numbers e f g = g ∙ (λ k. map (unranked (e k)) (f k))
+
+-- one triple, or none, is a listing of itself
+alone : (ts : List Term) (is : List Ids) → length is < 2 → IsListing triple_cmp (Contains (graph_of ts is)) (graph_of ts is)
+alone ts [] w = record { ascending = tt; members = λ x. (λ c. c, λ c. c) }
+alone ts (i ∷ []) w = record { ascending = (tt, tt); members = λ x. (λ c. c, λ c. c) }
+alone ts (i ∷ j ∷ is) w = absurd (omega arith)
+
+pub one_listed : (ts : List Term) (is js : List Ids) → length is < 2 → js ≡ is → IsListing triple_cmp (Contains (graph_of ts is)) (graph_of ts js)
+one_listed ts is js w e = subst (λ (ks : List Ids). IsListing triple_cmp (Contains (graph_of ts is)) (graph_of ts ks)) (sym e) (alone ts is w)

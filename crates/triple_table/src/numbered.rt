@@ -77,13 +77,6 @@ impl NumberedTerms {
         }
     }
 
-    // The terms by their numbers.
-    pub(crate) fn terms(&self) -> &[Term]
-        ensures { result.now ≡ self.now }
-    {
-        &self.terms
-    }
-
     /// The terms, in the order of their numbers.
     pub fn into_list(self) -> Vec<Term>
         ensures { result.items ≡ self }

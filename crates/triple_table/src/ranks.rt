@@ -148,6 +148,15 @@ fn unranked_of(
     Ok(found)
 }
 
+// The numbers of one triple, or of none, which stand in their order.
+fn numbers_of_one(alloc: Global, triples: &[Ids]) -> Result<Vec<Ids>, AllocError>
+    ensures { IfOk result (λ copy. copy.items ≡ triples.now) }
+{
+    let mut copy = Vec::with_capacity(alloc, triples.len())?;
+    copy.extend_from_slice(triples)?;
+    Ok(copy)
+}
+
 // The numbers of the triples of the numbers of terms, each triple once, in the order of the triples.
 pub(crate) fn sorted_numbers(
     alloc: Global,
@@ -159,6 +168,10 @@ pub(crate) fn sorted_numbers(
     ensures numbered { IfOk result (λ sorted. AreNumbered terms.now sorted.items) }
     ensures sorted { IfOk result (λ sorted. IsListing triple_cmp (Contains (graph_of terms.now triples.now)) (graph_of terms.now sorted.items)) }
 {
+    if triples.len() < 2 {
+        let one = numbers_of_one(alloc, triples)?;
+        return Ok(one);
+    }
     let ranking = ranking_of(alloc, terms, triples)?;
     let ranked = sorted_once(ranked_of(alloc, terms, triples, &ranking.ranks)?)?;
     let numbers = unranked_of(alloc, &ranking.sorted, &ranked)?;

@@ -96,14 +96,16 @@ impl TripleTable {
             triples,
         } = self;
         terms.recall_numbering();
-        let sorted = sorted_numbers(alloc, terms.terms(), &triples)?;
-        triples_of(alloc, terms.terms(), &sorted)
+        let terms = terms.into_list();
+        let sorted = sorted_numbers(alloc, &terms, &triples)?;
+        triples_of(alloc, &terms, &sorted)
     }
 
     /// The triples, each once, in their order, by the places of their terms in a list of terms, each of which stands there once.
     pub fn into_sorted_list(self) -> Result<(Vec<Term>, Vec<Ids>), AllocError>
         ensures numbered { IfOk result (λ list. AreNumbered list.0.items list.1.items) }
         ensures sorted { IfOk result (λ list. IsListing triple_cmp (Contains self) (graph_of list.0.items list.1.items)) }
+        ensures numbering { IfOk result (λ list. IsNumbering list.0.items) }
     {
         let TripleTable {
             alloc,
@@ -111,8 +113,9 @@ impl TripleTable {
             triples,
         } = self;
         terms.recall_numbering();
-        let sorted = sorted_numbers(alloc, terms.terms(), &triples)?;
-        Ok((terms.into_list(), sorted))
+        let terms = terms.into_list();
+        let sorted = sorted_numbers(alloc, &terms, &triples)?;
+        Ok((terms, sorted))
     }
 
     /// The terms, each once, and the triples by the numbers of their terms.
