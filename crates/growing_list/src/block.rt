@@ -8,8 +8,8 @@ use std::alloc::{AllocError, Global};
 use std::marker::Model;
 use std::sync::Arc;
 
-/// The number of items of a block that is full, which has 256 full chunks.
-pub(crate) const FULL_BLOCK: usize = 16_384;
+/// The number of items of a block that is full, which has 128 full chunks.
+pub(crate) const FULL_BLOCK: usize = 8_192;
 
 // Chunks side by side, which lists may share. Contracts see their items in order.
 pub(crate) struct Block<T> {
@@ -59,7 +59,7 @@ fn add_to_chunks<T: ExactClone + Drop>(
 {
     match chunk_with_room(chunks) {
         Some(at) => {
-            chunks[at].push(item)?;
+            chunks[at].push(alloc, item)?;
             return Ok(());
         }
         None => {

@@ -71,13 +71,38 @@ impl<T: Drop> Chunk<T> {
     }
 }
 
+// Clones of items and one item more, in room for a full chunk.
+fn copied_with<T: ExactClone + Drop>(
+    alloc: Global,
+    items: &[T],
+    item: T,
+) -> Result<Vec<T>, AllocError>
+    ensures { IfOk result (λ copy. copy.items ≡ items.now ++ item ∷ []) }
+{
+    let mut copy = Vec::with_capacity(alloc, FULL_CHUNK)?;
+    for kept in items {
+        copy.push(kept.clone()?)?;
+    }
+    copy.push(item)?;
+    Ok(copy)
+}
+
 impl<T: ExactClone + Drop> Chunk<T> {
     // Adds an item at the end. Items that other lists share are cloned first.
-    pub(crate) fn push(&mut self, item: T) -> Result<(), AllocError>
+    pub(crate) fn push(&mut self, alloc: Global, item: T) -> Result<(), AllocError>
         ensures ok { OnOk result (self.new ≡ self.old ++ item ∷ []) }
         ensures err { OnErr result (self.new ≡ self.old) }
     {
-        Arc::make_mut(&mut self.items)?.push(item)?;
-        Ok(())
+        match Arc::get_mut(&mut self.items) {
+            Some(items) => {
+                items.push(item)?;
+                return Ok(());
+            }
+            None => {
+                let items = copied_with(alloc, &self.items, item)?;
+                self.items = Arc::new(alloc, items)?;
+                return Ok(());
+            }
+        }
     }
 }

@@ -1,8 +1,8 @@
 //! A list that only grows.
-ghost use Rattle.std.specs.Prelude.{◌≡◌, ◌+◌, ◌<◌, ◌≤◌, [], ◌∷◌, ◌++◌, length, get_or, slice_get, IfOk, OnErr, OnOk, MatchOption, Some};
-ghost use Rattle.growing_list.specs.Chunks.{AreChunks, AreFull, HasOneMore, full_block};
+ghost use Rattle.std.specs.Prelude.{◌≡◌, ◌≤◌, [], ◌∷◌, ◌++◌, length, slice_get, IfOk, OnErr, OnOk, MatchOption, Some};
+ghost use Rattle.growing_list.specs.Chunks.{items_of};
 
-use crate::block::{Block, FULL_BLOCK};
+use crate::blocks::Blocks;
 use collections::ExactClone;
 use std::alloc::{AllocError, Global};
 use std::marker::Model;
@@ -12,7 +12,7 @@ use std::marker::Model;
 /// Contracts see it as the list of its items.
 pub struct GrowingList<T> {
     alloc: Global,
-    blocks: Vec<Block<T>>,
+    blocks: Option<Blocks<T>>,
     len: usize,
 }
 
@@ -29,45 +29,29 @@ impl<T: Drop> Drop for GrowingList<T> {
 
 impl<T> Model for GrowingList<T> {
     ghost use Rattle.std.specs.Prelude.{◌≡◌, List, length};
-    ghost use Rattle.growing_list.specs.Chunks.{AreChunks, all_items, full_block};
+    ghost use Rattle.growing_list.specs.Chunks.{items_of};
 
     ghost Value = { List T };
 
-    ghost view = { λ l. all_items l.blocks.items };
+    ghost view = { λ l. items_of l.blocks };
 
-    ghost invariant = { λ l. AreChunks full_block l.blocks.items × (l.len ≡ length (all_items l.blocks.items)) };
+    ghost invariant = { λ l. l.len ≡ length (items_of l.blocks) };
 }
 
-// The place of the last block, where that has room for an item.
-fn block_with_room<T>(blocks: &[Block<T>]) -> Option<usize>
-    requires { AreChunks full_block blocks.now }
-    ensures { MatchOption result (AreFull full_block blocks.now) (λ at. (at + 1 ≡ length blocks.now) × (length (get_or blocks.now at []) < full_block)) }
-{
-    let last = blocks.last()?;
-    if last.len() < FULL_BLOCK {
-        return Some(blocks.len() - 1);
-    }
-    None
-}
-
-// Adds an item at the end of the last block, or in a block of its own where that has no room.
-fn add_to_blocks<T: ExactClone + Drop>(
+// Adds an item at the end of the blocks, or makes them of it.
+fn push_into<T: ExactClone + Drop>(
     alloc: Global,
-    blocks: &mut Vec<Block<T>>,
+    blocks: &mut Option<Blocks<T>>,
     item: T,
 ) -> Result<(), AllocError>
-    requires { AreChunks full_block blocks.old.items }
-    ensures ok { OnOk result (HasOneMore full_block item blocks.old.items blocks.new.items) }
-    ensures err { OnErr result (blocks.new.items ≡ blocks.old.items) }
+    ensures ok { OnOk result (items_of blocks.new ≡ items_of blocks.old ++ item ∷ []) }
+    ensures err { OnErr result (items_of blocks.new ≡ items_of blocks.old) }
 {
-    match block_with_room(blocks) {
-        Some(at) => {
-            blocks[at].push(alloc, item)?;
-            return Ok(());
-        }
+    match blocks {
+        Some(blocks) => blocks.push(alloc, item),
         None => {
-            blocks.push(Block::of_one(alloc, item)?)?;
-            return Ok(());
+            *blocks = Some(Blocks::of_one(alloc, item)?);
+            Ok(())
         }
     }
 }
@@ -79,7 +63,7 @@ impl<T> GrowingList<T> {
     {
         GrowingList {
             alloc,
-            blocks: Vec::new(alloc),
+            blocks: None,
             len: 0,
         }
     }
@@ -95,22 +79,26 @@ impl<T> GrowingList<T> {
     pub fn get(&self, at: usize) -> Option<&T>
         ensures { MatchOption result (length self.now ≤ at) (λ item. slice_get self.now at ≡ Some item.now) }
     {
-        match self.blocks.get(at / FULL_BLOCK) {
-            Some(block) => block.get(at % FULL_BLOCK),
+        match &self.blocks {
+            Some(blocks) => blocks.get(at),
             None => None,
         }
     }
 }
 
 impl<T: Drop> GrowingList<T> {
-    /// Another list with the same items. It copies no item, only where each block stands, which is one
-    /// step for each 16,384 items, and neither list sees a later push to the other.
+    /// Another list with the same items. It copies no item, nor where any stands, and neither list sees a later push
+    /// to the other.
     pub fn share(&self) -> Result<GrowingList<T>, AllocError>
         ensures { IfOk result (λ share. share ≡ self.now) }
     {
+        let blocks = match &self.blocks {
+            Some(blocks) => Some(blocks.clone()?),
+            None => None,
+        };
         Ok(GrowingList {
             alloc: self.alloc,
-            blocks: self.blocks.clone()?,
+            blocks,
             len: self.len,
         })
     }
@@ -126,7 +114,7 @@ impl<T: ExactClone + Drop> GrowingList<T> {
         if self.len == usize::MAX {
             return Err(AllocError);
         }
-        add_to_blocks(self.alloc, &mut self.blocks, item)?;
+        push_into(self.alloc, &mut self.blocks, item)?;
         self.len += 1;
         Ok(())
     }

@@ -116,6 +116,20 @@ fn places_before(count: usize, more: usize) -> Result<u32, AllocError>
     }
 }
 
+// Puts the items of one list behind those of another. Where that has none, the list takes its place, and nothing is copied.
+fn put_behind<T: Drop>(items: &mut Vec<T>, more: Vec<T>) -> Result<(), AllocError>
+    ensures ok { OnOk result (items.new.items ≡ items.old.items ++ more.items) }
+    ensures err { OnErr result (items.new.items ≡ items.old.items) }
+{
+    let mut more = more;
+    if items.is_empty() {
+        *items = more;
+        return Ok(());
+    }
+    items.append(&mut more)?;
+    Ok(())
+}
+
 impl Net {
     /// No change. It takes no memory.
     pub fn new(alloc: Global) -> Net
@@ -153,11 +167,11 @@ impl Net {
         ensures ok { OnOk result (self.new ≡ self.old ++ map (changed_as removes) list) }
         ensures err { OnErr result (self.new ≡ self.old) }
     {
-        let (mut terms, triples) = list.into_parts();
+        let (terms, triples) = list.into_parts();
         let count = places_before(self.terms.len(), terms.len())?;
-        let mut more = numbered_behind(alloc, removes, count, &triples)?;
-        self.terms.append(&mut terms)?;
-        self.changes.append(&mut more)?;
+        let more = numbered_behind(alloc, removes, count, &triples)?;
+        put_behind(&mut self.terms, terms)?;
+        put_behind(&mut self.changes, more)?;
         Ok(())
     }
 

@@ -1,9 +1,10 @@
 //! A page of the tree and its entries.
-ghost use Rattle.std.specs.Prelude.{◌≡◌, ◌<◌, ◌≤◌, length, MatchOption};
+ghost use Rattle.std.specs.Prelude.{◌≡◌, ◌<◌, ◌≤◌, length, IfOk, MatchOption};
 ghost use Rattle.page_tree.specs.Blocks.{AreSound, IsRemovable, height_of, inner_image, leaf_image, with_low, most};
 ghost use Rattle.std.specs.Arc.{arc_value};
 ghost use Rattle.collections.specs.Ordered.{IsAscending};
 
+use crate::parts::add_clones;
 use collections::ExactClone;
 use std::alloc::{AllocError, Global};
 use std::marker::Model;
@@ -156,12 +157,21 @@ impl<K: Ord + ExactClone> ExactClone for Entry<K> {
     ghost clone_is_equal = { λ source copy is_copy. is_copy };
 }
 
+// Clones of keys, with room for as many as a leaf may have: a leaf that is shared is cloned so that a key can be put into it.
+fn copied_with_room<K: ExactClone + Drop>(keys: &Vec<K>) -> Result<Vec<K>, AllocError>
+    ensures { IfOk result (λ copy. copy.items ≡ keys.now.items) }
+{
+    let mut copy = Vec::with_capacity(*keys.allocator(), MOST)?;
+    add_clones(&mut copy, keys)?;
+    Ok(copy)
+}
+
 impl<K: Ord + ExactClone + Drop> Clone for Page<K> {
     ghost is_clone = { λ source copy. copy ≡ source };
 
     fn clone(&self) -> Result<Page<K>, AllocError> {
         let node = match &self.node {
-            Node::Leaf(keys) => Node::Leaf(keys.clone()?),
+            Node::Leaf(keys) => Node::Leaf(copied_with_room(keys)?),
             Node::Inner(entries) => Node::Inner(entries.clone()?),
         };
         Ok(Page { node })

@@ -1,4 +1,3 @@
 pub mod Places
 pub mod Growing
 pub mod Distinct
-pub mod Once

@@ -150,16 +150,3 @@ impl<'a> MetTerms<'a> {
         Ok(numbers)
     }
 }
-
-// The terms of a list, and their places.
-pub(crate) fn met_of<'a>(
-    alloc: Global,
-    terms: &'a [Term],
-) -> Result<(MetTerms<'a>, Vec<usize>), AllocError>
-    ensures terms { IfOk result (λ met. met.0 ≡ with_terms [] terms.now) }
-    ensures numbers { IfOk result (λ met. AreNumbersOf met.0 terms.now met.1.items) }
-{
-    let mut met = MetTerms::new(alloc);
-    let places = met.place_all(terms)?;
-    Ok((met, places))
-}

@@ -11,7 +11,7 @@ ghost use Rattle.term_dict.specs.Names.{AreNumbersOf, IsNumberOf, with_term, wit
 ghost use Rattle.term_dict.specs.Tables.{IsNext, IsNoneFrom, NoneHashed};
 
 use crate::entry::{ByHash, NamedTerm};
-use crate::met::{MetTerm, MetTerms, hash_of, met_of};
+use crate::met::{MetTerm, MetTerms, hash_of};
 use growing_list::GrowingList;
 use page_index::Pages;
 use rdf_model::Term;
@@ -232,37 +232,6 @@ fn table_of(alloc: Global, terms: &[MetTerm]) -> Result<TermTable, AllocError>
     })
 }
 
-// The table with each of the terms that were met, and their numbers.
-fn with_met(
-    alloc: Global,
-    table: TermTable,
-    terms: &[MetTerm],
-) -> Result<(TermTable, Vec<usize>), AllocError>
-    ensures table { IfOk result (λ next. next.0 ≡ with_terms table terms.now) }
-    ensures numbers { IfOk result (λ next. AreNumbersOf next.0 terms.now next.1.items) }
-{
-    let mut numbers = Vec::with_capacity(alloc, terms.len())?;
-    let mut table = table;
-    for met in terms {
-        let (next, number) = table.with(met.term)?;
-        table = next;
-        numbers.push(number)?;
-    }
-    Ok((table, numbers))
-}
-
-// The numbers that stand at the places.
-fn numbers_at(alloc: Global, numbers: &[usize], places: &[usize]) -> Result<Vec<usize>, AllocError>
-    requires { AllByRecursion (λ p. p < length numbers.now) places.now }
-    ensures { IfOk result (λ found. found.items ≡ map (λ p. get_or numbers.now p 0) places.now) }
-{
-    let mut found = Vec::with_capacity(alloc, places.len())?;
-    for place in places {
-        found.push(numbers[*place])?;
-    }
-    Ok(found)
-}
-
 // The terms of a table, as they are met in the order of their numbers.
 fn met_again<'a>(alloc: Global, table: &'a TermTable) -> Result<MetTerms<'a>, AllocError>
     ensures { IfOk result (λ met. met ≡ table.now) }
@@ -294,8 +263,7 @@ fn rebuilt_with<'a>(
     Ok((table_of(alloc, met.terms())?, numbers))
 }
 
-// The table with each of the terms, put into it one by one, and their numbers. A term is looked up once, however often it stands
-// in the list.
+// The table with each of the terms, put into it one by one, and their numbers.
 fn extended_with(
     alloc: Global,
     table: TermTable,
@@ -304,10 +272,14 @@ fn extended_with(
     ensures table { IfOk result (λ next. next.0 ≡ with_terms table terms.now) }
     ensures numbers { IfOk result (λ next. AreNumbersOf next.0 terms.now next.1.items) }
 {
-    let (met, places) = met_of(alloc, terms)?;
-    let (next, numbers) = with_met(alloc, table, met.terms())?;
-    let found = numbers_at(alloc, &numbers, &places)?;
-    Ok((next, found))
+    let mut numbers = Vec::with_capacity(alloc, terms.len())?;
+    let mut table = table;
+    for term in terms {
+        let (next, number) = table.with(term)?;
+        table = next;
+        numbers.push(number)?;
+    }
+    Ok((table, numbers))
 }
 
 // The table with each of the terms, and their numbers. Where the table has no more terms than the list, it is built anew at once,

@@ -2,7 +2,7 @@
 ghost use Rattle.std.specs.Prelude.{◌≡◌, IfOk, map};
 ghost use Rattle.std.specs.List.{Contains};
 ghost use Rattle.collections.specs.Listings.{IsListing};
-ghost use Rattle.triple_index.specs.Keys.{ids_cmp, ids_of};
+ghost use Rattle.triple_index.specs.Keys.{ids_cmp, ids_of, key_cmp};
 ghost use Rattle.triple_index.specs.Rotations.{AreKeysIn, by_order};
 ghost use Rattle.triple_index.specs.Sets.{AreOne};
 
@@ -54,6 +54,16 @@ fn keys_of(alloc: Global, order: Order, triples: &[Ids]) -> Result<Vec<Key>, All
     Ok(keys)
 }
 
+// The triples of keys, which may stand in any order and more than once. Their pages are built at once.
+fn order_of(alloc: Global, keys: Vec<Key>) -> Result<OrderedTriples, AllocError>
+    ensures { IfOk result (λ order. IsListing key_cmp (Contains keys.items) order) }
+{
+    let keys = sorted_once(keys)?;
+    Ok(OrderedTriples {
+        keys: Pages::from_sorted(alloc, &keys)?,
+    })
+}
+
 impl OrderedTriples {
     /// The triples of a list, which may stand in any order and more than once, sorted in an order. Their pages are
     /// built at once.
@@ -64,10 +74,20 @@ impl OrderedTriples {
     ) -> Result<OrderedTriples, AllocError>
         ensures { IfOk result (AreKeysIn order triples.now) }
     {
-        let keys = sorted_once(keys_of(alloc, order, triples)?)?;
-        Ok(OrderedTriples {
-            keys: Pages::from_sorted(alloc, &keys)?,
-        })
+        order_of(alloc, keys_of(alloc, order, triples)?)
+    }
+
+    // As `sorted`, of a list that is let go before the pages are built.
+    fn sorted_last(
+        alloc: Global,
+        order: Order,
+        triples: Vec<Ids>,
+    ) -> Result<OrderedTriples, AllocError>
+        ensures { IfOk result (AreKeysIn order triples.items) }
+    {
+        let keys = keys_of(alloc, order, &triples)?;
+        drop(triples);
+        order_of(alloc, keys)
     }
 }
 
@@ -99,6 +119,17 @@ impl Index {
         let subjects = OrderedTriples::sorted(alloc, Order::Subjects, triples)?;
         let predicates = OrderedTriples::sorted(alloc, Order::Predicates, triples)?;
         let objects = OrderedTriples::sorted(alloc, Order::Objects, triples)?;
+        Ok(Index::from_orders(alloc, subjects, predicates, objects))
+    }
+
+    /// The set of the triples of a list, as `from_triples` makes it. The list is let go before the pages of the last order are
+    /// built, so that they don't stand in memory beside it.
+    pub fn from_list(alloc: Global, triples: Vec<Ids>) -> Result<Index, AllocError>
+        ensures { IfOk result (λ index. IsListing ids_cmp (Contains triples.items) index) }
+    {
+        let subjects = OrderedTriples::sorted(alloc, Order::Subjects, &triples)?;
+        let predicates = OrderedTriples::sorted(alloc, Order::Predicates, &triples)?;
+        let objects = OrderedTriples::sorted_last(alloc, Order::Objects, triples)?;
         Ok(Index::from_orders(alloc, subjects, predicates, objects))
     }
 }

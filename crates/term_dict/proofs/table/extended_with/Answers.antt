@@ -1,12 +1,13 @@
-use Rattle.std.proofs.Common.{◌∙◌}
-use Rattle.term_dict.proofs.Once.{named_once, numbers_of_places, places_within}
+use Rattle.std.proofs.Common.{◌≡◌, ◌∙◌, ◌+◌, ◌<◌, length, take, ap, subst}
+use Rattle.rdf_model.specs.declared.term.Term.{Term}
+use Rattle.term_dict.specs.Names.{IsNumberOf, with_term}
+use Rattle.term_dict.proofs.Growing.{numbers_more, rest_more, take_more}
 use Rattle.term_dict.proofs.table.extended_with.Goals as goal
 
-pub numbers_at-requires : goal.numbers_at-requires
-numbers_at-requires c = places_within c.in_ok-next.next c.in_ok-met.met c.terms.result.now c.args.terms.now c.in_ok-next.numbers.items c.in_ok-met.places.items c.deref.result.now c.deref-2.result.now c.terms.ensures.terms c.deref.ensures.value c.deref-2.ensures.value c.in_ok-next.ensures.numbers c.in_ok-met.ensures.numbers
-
-pub returns-clause-table : goal.returns-clause-table
-returns-clause-table c = named_once c.args.table c.terms.result.now c.args.terms.now c.in_ok-next.next (c.terms.ensures.terms ∙ c.in_ok-met.ensures.terms) c.in_ok-next.ensures.table
-
-pub returns-clause-numbers : goal.returns-clause-numbers
-returns-clause-numbers c = numbers_of_places c.in_ok-next.next c.in_ok-met.met c.terms.result.now c.args.terms.now c.in_ok-next.numbers.items c.in_ok-met.places.items c.deref.result.now c.deref-2.result.now c.in_ok-found.found.items c.terms.ensures.terms c.deref.ensures.value c.deref-2.ensures.value c.in_ok-next.ensures.numbers c.in_ok-met.ensures.numbers c.in_ok-found.ensures
+pub loop-term-preserved : goal.loop-term-preserved
+loop-term-preserved c =
+    let lt : c.loop-term.term-index < length c.args.terms.now = c.loop-term-test.true in
+    record {
+      rest = rest_more c.loop-term.table c.in_ok-next.next c.args.terms.now c.loop-term.term-index c.term-item.result lt c.term-item.is c.in_ok-next.ensures.table ∙ c.loop-term.invariant.rest;
+      numbers = numbers_more c.loop-term.table c.in_ok-next.next (take c.loop-term.term-index c.args.terms.now) (take (c.loop-term.term-index + 1) c.args.terms.now) c.loop-term.numbers.items c.push.new.self.items c.term-item.result c.in_ok-next.number c.in_ok-next.ensures.table (take_more c.args.terms.now c.loop-term.term-index c.term-item.result lt c.term-item.is) c.in_ok-push.ensures.items c.loop-term.invariant.numbers c.in_ok-next.ensures.number;
+    }

@@ -2,7 +2,7 @@ use Rattle.std.proofs.Common.{length, ◌-◌, sym, arith}
 use Rattle.std.proofs.lemmas.Option.{slice_get_within}
 use Rattle.growing_list.specs.Chunks.{full_block}
 use Rattle.growing_list.proofs.Filled.{all_full}
-use Rattle.growing_list.proofs.growing.block_with_room.Goals as goal
+use Rattle.growing_list.proofs.blocks.block_with_room.Goals as goal
 
 pub returns : goal.returns
 returns g c =

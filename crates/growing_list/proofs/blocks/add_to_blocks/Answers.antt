@@ -1,7 +1,7 @@
 use Rattle.std.proofs.Common.{◌≡◌, ◌∷◌, ◌++◌, ◌<◌, [], List, length, get_or, sym, subst, ap, ◌∙◌, arith}
 use Rattle.growing_list.specs.Chunks.{AreFull, HasOneMore, full_block}
 use Rattle.growing_list.proofs.Filled.{in_last, in_new}
-use Rattle.growing_list.proofs.growing.add_to_blocks.Goals as goal
+use Rattle.growing_list.proofs.blocks.add_to_blocks.Goals as goal
 
 pub returns-in-Some-clause-ok : goal.returns-in-Some-clause-ok
 returns-in-Some-clause-ok g c =
