@@ -1,5 +1,5 @@
 -- Numbers of nodes, and what is noted of a node.
-use Rattle.std.proofs.Common.{◌≡◌, ◌∙◌, ℕ, zero, suc, ◌+◌, ◌<◌, List, [], ◌∷◌, ◌++◌, length, take, get_or, refl, sym, ap, subst, arith, inl, inr, Bool, true, false, Some, None}
+use Rattle.std.proofs.Common.{◌≡◌, ◌∙◌, ℕ, zero, suc, ◌+◌, ◌<◌, ◌≤◌, List, [], ◌∷◌, ◌++◌, length, take, get_or, refl, sym, ap, subst, arith, inl, inr, Bool, true, false, Some, None}
 use Rattle.std.specs.Prelude.{◌⊎◌, cond, slice_get}
 use Rattle.std.specs.List.{AllZip, Contains}
 use Rattle.std.specs.BTreeMap.{BTreeMap}
@@ -7,7 +7,8 @@ use Rattle.std.specs.Map.{lookup}
 use Rattle.std.specs.Ordering.{is_eq}
 use Rattle.std.specs.declared.cmp.Ordering.{Ordering}
 use Rattle.std.specs.declared.cmp.Ordering.TheVariants.{Less, Equal, Greater}
-use Rattle.std.proofs.lemmas.List.{take_more}
+use Rattle.std.proofs.lemmas.Bool.{cases_eq}
+use Rattle.std.proofs.lemmas.List.{get_or_default, take_more}
 use Rattle.std.proofs.lemmas.List.Elements.{Contains-push_cases}
 use Rattle.collections.proofs.Members.{has_head, has_tail}
 use Rattle.rdf_model.specs.declared.term.Term.{Term}
@@ -17,7 +18,7 @@ use Rattle.std.specs.Cmp.{tied_itself}
 use Rattle.reference_totals.specs.declared.place.WeightedPlace.{WeightedPlace}
 use Rattle.reference_totals.specs.declared.numbers.NumberedPlace.{NumberedPlace}
 use Rattle.reference_totals.specs.Totals.{entry}
-use Rattle.reference_totals.specs.Numbers.{AreIndices, AreNumbered, HaveNumbers, IsNumbered, Notes}
+use Rattle.reference_totals.specs.Numbers.{AreIndices, AreNumbered, IsNumbered, Notes}
 
 -- an item that was read stands in the list
 pub got_in : {X : Type 0} → (xs : List X) (i : ℕ) (x : X) → slice_get xs i ≡ Some x → Contains xs x
@@ -79,11 +80,18 @@ indices_more places numbers new i p got notes before n j e = elim (noted_cases n
   | inr other ↦ before n j (sym other ∙ e)
 ]
 
-pub numbers_more : (places : List WeightedPlace) (numbers new : BTreeMap Term ℕ) (i k : ℕ) (p d : WeightedPlace) → i < length places → p ≡ get_or places i d → Notes numbers p.node k new
-    → HaveNumbers (take i places) numbers → HaveNumbers (take (i + 1) places) new
-numbers_more places numbers new i k p d l e notes before q c = elim (cases_more places i p d l e q c) [
-  | inl old ↦ let h = before q old in noted_keeps numbers new p.node k notes q.node h.0 h.1
-  | inr same ↦ (k, subst (λ (x : WeightedPlace). entry new x.node ≡ Some k) same (noted_itself numbers new p.node k notes))
+-- the nodes of the places from this one on have numbers
+abbrev pub HaveNumbersFrom : ℕ → List WeightedPlace → BTreeMap Term ℕ → Type 0
+HaveNumbersFrom k places numbers = (i : ℕ) (q : WeightedPlace) → k ≤ i → i < length places → q ≡ get_or places i q → (j : ℕ) × (entry numbers q.node ≡ Some j)
+
+pub numbers_before : (places : List WeightedPlace) (numbers new : BTreeMap Term ℕ) (k l j : ℕ) (p : WeightedPlace) → k < length places → l ≤ k + 1 → p ≡ get_or places k p → Notes numbers p.node j new
+    → HaveNumbersFrom l places numbers → HaveNumbersFrom k places new
+numbers_before places numbers new k l j p within next is notes before i q low high here = elim (cases_eq i k) [
+  | inl same ↦
+      let there : get_or places i q ≡ get_or places k p = ap (λ (z : ℕ). get_or places z q) same ∙ get_or_default places k q p within in
+      let p_is_q : p ≡ q = is ∙ sym there ∙ sym here in
+      (j, subst (λ (x : WeightedPlace). entry new x.node ≡ Some j) p_is_q (noted_itself numbers new p.node j notes))
+  | inr other ↦ let h = before i q (omega arith) high here in noted_keeps numbers new p.node j notes q.node h.0 h.1
 ]
 
 -- a place more is numbered

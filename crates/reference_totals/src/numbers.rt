@@ -1,4 +1,4 @@
-// Numbers in place of nodes. The number of a node is the index of its last place.
+// Numbers in place of nodes. The number of a node is the index of its first place.
 ghost use Rattle.std.specs.Prelude.{◌≡◌, ℕ, Some, map, IfOk, OnOk};
 ghost use Rattle.std.specs.List.{AllZip};
 ghost use Rattle.reference_totals.specs.Totals.{entry};
@@ -38,7 +38,8 @@ fn put_number(
     Ok(())
 }
 
-/// The number of each node that has a place.
+/// The number of each node that has a place. The last place is the first to be put in: a map searches the keys of its
+/// blocks from the first on, so that what is put in before all others is put in soonest, and most places ascend.
 pub(crate) fn numbers_of(
     alloc: Global,
     places: &[WeightedPlace],
@@ -47,8 +48,9 @@ pub(crate) fn numbers_of(
     ensures all { IfOk result (λ numbers. HaveNumbers places.now numbers) }
 {
     let mut numbers = BTreeMap::new(alloc);
-    for (index, place) in places.iter().enumerate() {
-        put_number(&mut numbers, &place.node, index)?;
+    for count in 0..places.len() {
+        let index = places.len() - 1 - count;
+        put_number(&mut numbers, &places[index].node, index)?;
     }
     Ok(numbers)
 }

@@ -12,11 +12,12 @@ ghost use Rattle.shape_properties.specs.Params.{OfParam, SaysParam, is_param, pa
 use crate::shapes::shape_nodes;
 use crate::{Role, property_of};
 use rdf_model::{Term, Triple};
+use shape_syntax::IndexedGraph;
 use shape_syntax::lookup::{is_listed, triples_of};
 use std::alloc::{AllocError, Global};
 
 /// Whether the node is a shape (SHACL section 2.1).
-pub fn is_shape(alloc: Global, graph: &[Triple], node: &Term) -> Result<bool, AllocError>
+pub fn is_shape(alloc: Global, graph: &IndexedGraph, node: &Term) -> Result<bool, AllocError>
     requires { IsAscending triple_cmp graph.now }
     ensures { IfOk result (λ shape. IsTrue shape ↔ IsShape graph.now node.now) }
 {
@@ -55,7 +56,11 @@ fn push_param(triple: &Triple, params: &mut Vec<(Term, Term)>) -> Result<(), All
 }
 
 /// The parameters of the node, each with its value (SHACL section 2.1), in the order of the triples that say them.
-pub fn params(alloc: Global, graph: &[Triple], node: &Term) -> Result<Vec<(Term, Term)>, AllocError>
+pub fn params(
+    alloc: Global,
+    graph: &IndexedGraph,
+    node: &Term,
+) -> Result<Vec<(Term, Term)>, AllocError>
     requires { IsAscending triple_cmp graph.now }
     ensures params { IfOk result (λ params. (p v : TermData) → Contains params.items (p, v) ↔ Param graph.now node.now p v) }
     ensures order { IfOk result (λ params. IsAscending triple_cmp (map (param_triple node.now) params.items)) }

@@ -17,6 +17,7 @@ use crate::terms::has_class;
 use crate::{Role, property_of};
 use collections::{Sequence, sorted_once};
 use rdf_model::{Term, Triple};
+use shape_syntax::IndexedGraph;
 use shape_syntax::instance::classes_of;
 use shape_syntax::list::list_members;
 use shape_syntax::lookup::triples_of;
@@ -35,7 +36,7 @@ fn push_each(members: &[Term], nodes: &mut Sequence<Term>) -> Result<(), AllocEr
 
 fn push_members(
     alloc: Global,
-    graph: &[Triple],
+    graph: &IndexedGraph,
     head: &Term,
     nodes: &mut Sequence<Term>,
 ) -> Result<(), AllocError>
@@ -54,7 +55,7 @@ fn push_members(
 // Adds the nodes that a parameter of this role takes as shapes by this value.
 fn push_by_role(
     alloc: Global,
-    graph: &[Triple],
+    graph: &IndexedGraph,
     role: Role,
     value: &Term,
     nodes: &mut Sequence<Term>,
@@ -78,7 +79,7 @@ fn push_by_role(
 /// Adds the nodes that the triple takes as shapes.
 pub fn push_taken(
     alloc: Global,
-    graph: &[Triple],
+    graph: &IndexedGraph,
     triple: &Triple,
     nodes: &mut Sequence<Term>,
 ) -> Result<(), AllocError>
@@ -94,12 +95,12 @@ pub fn push_taken(
     }
 }
 
-fn all_taken(alloc: Global, graph: &[Triple]) -> Result<Sequence<Term>, AllocError>
+fn all_taken(alloc: Global, graph: &IndexedGraph) -> Result<Sequence<Term>, AllocError>
     requires { IsAscending triple_cmp graph.now }
     ensures { IfOk result (λ nodes. (n : TermData) → Contains nodes n ↔ Gives (TakenBy graph.now) graph.now n) }
 {
     let mut nodes = Sequence::new(alloc);
-    for triple in graph {
+    for triple in graph.as_slice() {
         push_taken(alloc, graph, triple, &mut nodes)?;
     }
     Ok(nodes)
@@ -143,7 +144,7 @@ fn is_typed(classes: &[Term]) -> bool
 }
 
 // Whether the node says itself that it is a shape.
-fn says_shape(alloc: Global, graph: &[Triple], node: &Term) -> Result<bool, AllocError>
+fn says_shape(alloc: Global, graph: &IndexedGraph, node: &Term) -> Result<bool, AllocError>
     requires { IsAscending triple_cmp graph.now }
     ensures { IfOk result (λ shape. IsTrue shape ↔ SaysShape graph.now node.now) }
 {
@@ -157,7 +158,7 @@ fn says_shape(alloc: Global, graph: &[Triple], node: &Term) -> Result<bool, Allo
 // Adds the node, if it says that it is a shape.
 fn push_shape(
     alloc: Global,
-    graph: &[Triple],
+    graph: &IndexedGraph,
     node: &Term,
     nodes: &mut Sequence<Term>,
 ) -> Result<(), AllocError>
@@ -175,7 +176,7 @@ fn push_shape(
 // Adds those of the nodes that say that they are shapes.
 fn push_shapes(
     alloc: Global,
-    graph: &[Triple],
+    graph: &IndexedGraph,
     found: &[Term],
     nodes: &mut Sequence<Term>,
 ) -> Result<(), AllocError>
@@ -189,18 +190,18 @@ fn push_shapes(
 }
 
 // The nodes that are shapes, some of them more than once.
-fn all_shapes(alloc: Global, graph: &[Triple]) -> Result<Sequence<Term>, AllocError>
+fn all_shapes(alloc: Global, graph: &IndexedGraph) -> Result<Sequence<Term>, AllocError>
     requires { IsAscending triple_cmp graph.now }
     ensures { IfOk result (λ nodes. (n : TermData) → Contains nodes n ↔ IsShape graph.now n) }
 {
-    let found = subjects(alloc, graph)?;
+    let found = subjects(alloc, graph.as_slice())?;
     let mut nodes = all_taken(alloc, graph)?;
     push_shapes(alloc, graph, found.as_slice(), &mut nodes)?;
     Ok(nodes)
 }
 
 /// The nodes of the graph that are shapes, in order.
-pub fn shape_nodes(alloc: Global, graph: &[Triple]) -> Result<Vec<Term>, AllocError>
+pub fn shape_nodes(alloc: Global, graph: &IndexedGraph) -> Result<Vec<Term>, AllocError>
     requires { IsAscending triple_cmp graph.now }
     ensures { IfOk result (λ nodes. IsListing term_cmp (IsShape graph.now) nodes.items) }
 {

@@ -10,9 +10,10 @@ ghost use Rattle.shape_properties.specs.Syntax.{HasPath, HasProperty};
 
 use crate::ShapeProperty;
 use rdf_model::{Term, Triple};
-use shape_syntax::lookup::values;
+use shape_syntax::IndexedGraph;
+use shape_syntax::lookup::{values, values_of};
 
-/// The triples with a value of the property at the node.
+/// Those of the triples with a value of the property at the node.
 pub fn property_values<'a>(
     graph: &'a [Triple],
     node: &Term,
@@ -26,11 +27,25 @@ pub fn property_values<'a>(
     values(graph, node, property.iri())
 }
 
+/// The triples of the graph with a value of the property at the node.
+pub fn property_values_of<'a>(
+    graph: &IndexedGraph<'a>,
+    node: &Term,
+    property: ShapeProperty,
+) -> &'a [Triple]
+    requires { IsAscending triple_cmp graph.now }
+    ensures each { (t : TripleData) → Contains result.now t → HasProperty graph.now node.now property t.object }
+    ensures all { (v : TermData) → HasProperty graph.now node.now property v
+        → Contains result.now (record { subject = node.now; predicate = property_iri property; object = v }) }
+{
+    values_of(graph, node, property.iri())
+}
+
 /// Whether the node has a sh:path.
-pub fn has_path(graph: &[Triple], node: &Term) -> bool
+pub fn has_path(graph: &IndexedGraph, node: &Term) -> bool
     requires { IsAscending triple_cmp graph.now }
     ensures { IsTrue result ↔ HasPath graph.now node.now }
 {
-    let paths = property_values(graph, node, ShapeProperty::Path);
+    let paths = property_values_of(graph, node, ShapeProperty::Path);
     !paths.is_empty()
 }

@@ -18,7 +18,7 @@ use Rattle.shape_ast.specs.Standing.{StandsIn}
 use Rattle.shape_ast.specs.Once.{constraint_triple}
 use Rattle.shape_reader.specs.Parts.{ArePartsOf, HasPlace, IsCompiled, IsKeptPath, IsOff, IsOptionalPattern, IsShapeOf}
 use Rattle.shape_reader.proofs.Naming.{constraints_named, constraints_same, ignored_named, map_same, optional_same, path_named, pattern_built, pattern_named, pattern_value, place_named, places_named, shape_stands, siblings_named, targets_named, targets_same, value_named, values_named}
-use Rattle.shape_reader.proofs.WellFormed.{one_value}
+use Rattle.shape_rules.proofs.SingleValues.{one_value}
 
 module _ (s : List Triple) (well : IsWellFormed s) (nodes : List Term) (n : Term) (shape : IsShape s n) where
   abbrev made : Option (Path Term) → Option (CompiledPattern Term) → Term → List (Target Term) → List (Constraint Term) → List ℕ → List ℕ → Option Term → Option Term → List Term → List Term → Bool → Option ℕ → Shape Term

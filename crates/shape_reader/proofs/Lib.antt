@@ -10,7 +10,6 @@ pub mod Assembled
 pub mod Collected
 pub mod Gathered
 pub mod Causes
-pub mod Distinct
 pub mod Rising
 pub mod Sayings
 pub mod Requests

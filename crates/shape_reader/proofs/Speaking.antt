@@ -43,7 +43,8 @@ use Rattle.shape_reader.specs.Parts.{ArePlaces, HasOne, HasPlace, IsCompiled, Is
 use Rattle.shape_properties.proofs.Defined.{has_same, rule_property, shape_same, taken_same}
 use Rattle.shape_reader.proofs.Places.{all_places}
 use Rattle.shape_reader.proofs.Told.{Declares, declared, same_parameter, same_property}
-use Rattle.shape_reader.proofs.WellFormed.{list_of, one_value}
+use Rattle.shape_reader.proofs.WellFormed.{list_of}
+use Rattle.shape_rules.proofs.SingleValues.{one_value}
 
 abbrev pub node_of : ReadShape → Term
 node_of c = c.node

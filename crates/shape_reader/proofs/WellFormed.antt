@@ -1,11 +1,10 @@
 -- What a well-formed graph says of a value of a property of a shape.
-use Rattle.std.proofs.Common.{◌≡◌, ℕ, List, Some, None, IsTrue, refl, sym, inl, inr}
+use Rattle.std.proofs.Common.{◌≡◌, ℕ, List, Some, None, IsTrue, refl, inl, inr}
 use Rattle.literal_order.specs.Texts.{string_value}
 use Rattle.rdf_model.specs.declared.term.Term.{Term}
 use Rattle.rdf_model.specs.declared.term.Term.TheVariants.{Blank, Iri, Literal}
 use Rattle.rdf_model.specs.declared.triple.Triple.{Triple}
 use Rattle.shape_model.specs.ShapeSyntax.{ListOf}
-use Rattle.shape_syntax.proofs.Equals.{same_unless}
 use Rattle.shape_syntax.specs.PathDepth.{IsDeep, IsTooDeep}
 use Rattle.shape_syntax.specs.PathNodes.{IsPath}
 use Rattle.shape_syntax.specs.declared.reading.PathFault.{PathFault}
@@ -14,12 +13,11 @@ use Rattle.shape_properties.specs.declared.property.ShapeProperty.{ShapeProperty
 use Rattle.shape_properties.specs.declared.property.ShapeProperty.TheVariants as properties
 use Rattle.shape_properties.specs.declared.table.Test.TheVariants as tests
 use Rattle.shape_rules.specs.Broken.{IsWellFormed, Passes}
-use Rattle.shape_properties.specs.Properties.{property_iri}
 use Rattle.shape_rules.specs.Rows.{row}
 use Rattle.shape_properties.specs.Syntax.{HasProperty, IsShape}
-use Rattle.shape_properties.specs.Table.{of_value, takes_one}
+use Rattle.shape_properties.specs.Table.{of_value}
 use Rattle.shape_properties.specs.Tests.{has_datatype, is_flags, xsd_string}
-use Rattle.shape_reader.specs.Parts.{HasOne, HasTexts}
+use Rattle.shape_reader.specs.Parts.{HasTexts}
 use Rattle.shape_reader.proofs.Deciding.{list_unless}
 
 no_text : (v : Term) → string_value v ≡ None → IsTrue (has_datatype xsd_string v) → ⊥
@@ -39,10 +37,6 @@ module _ (s : List Triple) (well : IsWellFormed s) (n : Term) (shape : IsShape s
   -- it passes the test of its property
   pub passes : (p : ShapeProperty) (v : Term) → HasProperty s n p v → (Passes s (of_value p).test v → ⊥) → ⊥
   passes p v h fails = well (row n (of_value p).rule (Some v)) (inl (inl (inl (shape, inl (p, v, h, inr (inl (fails, refl)))))))
-
-  -- it is the one of its property
-  pub one_value : (p : ShapeProperty) → IsTrue (takes_one p) → HasOne s n p
-  one_value p takes v w h k = same_unless v w (λ apart. well (row n 1 (Some (property_iri p))) (inl (inl (inl (shape, inl (p, v, h, inl (takes, (w, k, λ e. apart (sym e)), refl)))))))
 
   pub pattern_texts : HasTexts s n properties.Pattern
   pattern_texts v h e = passes properties.Pattern v h (no_text v e)

@@ -15,12 +15,13 @@ use collections::Sequence;
 use rdf_model::{Term, Triple};
 use shape_ast::{Constraint, ListComponent, Members, ShapeComponent, ShapesComponent};
 use shape_properties::ShapeProperty;
+use shape_syntax::IndexedGraph;
 use shape_syntax::list::list_members;
 use std::alloc::{AllocError, Global};
 
 fn by_list(
     alloc: Global,
-    graph: &[Triple],
+    graph: &IndexedGraph,
     component: ListComponent,
     value: &Term,
 ) -> Result<Option<Constraint<Term>>, AllocError>
@@ -58,7 +59,7 @@ fn by_shape(
 // The places of the shapes that are members of the list, if all have one.
 fn shapes_of(
     alloc: Global,
-    graph: &[Triple],
+    graph: &IndexedGraph,
     nodes: &[Term],
     head: &Term,
 ) -> Result<Option<Sequence<usize>>, AllocError>
@@ -77,7 +78,7 @@ fn shapes_of(
 
 fn by_shapes(
     alloc: Global,
-    graph: &[Triple],
+    graph: &IndexedGraph,
     nodes: &[Term],
     component: ShapesComponent,
     value: &Term,
@@ -99,7 +100,7 @@ fn by_shapes(
 // The constraint of this kind by the value, if there is one.
 fn read_constraint(
     alloc: Global,
-    graph: &[Triple],
+    graph: &IndexedGraph,
     nodes: &[Term],
     kind: Kind,
     value: &Term,
@@ -136,7 +137,7 @@ impl Part for Constraint<Term> {
 
     fn read(
         alloc: Global,
-        graph: &[Triple],
+        graph: &IndexedGraph,
         nodes: &[Term],
         property: ShapeProperty,
         value: &Term,
@@ -149,7 +150,7 @@ impl Part for Constraint<Term> {
 /// The constraints of the shape at the node, in the order of the triples that say them.
 pub(crate) fn constraints_of(
     alloc: Global,
-    graph: &[Triple],
+    graph: &IndexedGraph,
     nodes: &[Term],
     node: &Term,
 ) -> Result<Sequence<Constraint<Term>>, AllocError>

@@ -13,6 +13,7 @@ ghost use Rattle.shape_properties.specs.Adding.{MayAdd, value_triple};
 use collections::Sequence;
 use rdf_model::{Term, Triple};
 use shape_properties::{ShapeProperty, property_of};
+use shape_syntax::IndexedGraph;
 use shape_syntax::lookup::triples_of;
 use std::alloc::{AllocError, Global};
 
@@ -27,7 +28,7 @@ pub(crate) trait Part {
     /// The part that the value says, if it says one.
     fn read(
         alloc: Global,
-        graph: &[Triple],
+        graph: &IndexedGraph,
         nodes: &[Term],
         property: ShapeProperty,
         value: &Term,
@@ -41,7 +42,7 @@ pub(crate) trait Part {
 // Adds the part that the value says.
 fn push_read<P: Part + Drop>(
     alloc: Global,
-    graph: &[Triple],
+    graph: &IndexedGraph,
     nodes: &[Term],
     property: ShapeProperty,
     value: &Term,
@@ -65,7 +66,7 @@ fn push_read<P: Part + Drop>(
 // Adds the part that the triple says.
 fn push_part<P: Part + Drop>(
     alloc: Global,
-    graph: &[Triple],
+    graph: &IndexedGraph,
     nodes: &[Term],
     triple: &Triple,
     parts: &mut Sequence<P>,
@@ -87,7 +88,7 @@ fn push_part<P: Part + Drop>(
 /// The parts of this sort that the values of the node's properties say, in the order of the triples that say them.
 pub(crate) fn parts_of<P: Part + Drop>(
     alloc: Global,
-    graph: &[Triple],
+    graph: &IndexedGraph,
     nodes: &[Term],
     node: &Term,
 ) -> Result<Sequence<P>, AllocError>

@@ -1,6 +1,8 @@
 //! The path of a shape (SHACL section 2.3.1).
 ghost use Rattle.std.specs.Prelude.{◌≡◌, ◌↔◌, IfOk, IsTrue};
+ghost use Rattle.std.specs.List.{Contains};
 ghost use Rattle.collections.specs.Ordered.{IsAscending};
+ghost use Rattle.rdf_model.specs.declared.triple.Triple.{Triple as TripleData};
 ghost use Rattle.rdf_model.specs.Terms.{triple_cmp};
 ghost use Rattle.shape_syntax.specs.PathNodes.{ArePathNodes};
 ghost use Rattle.shape_syntax.specs.declared.reading.PathFault.TheVariants as path_faults;
@@ -15,7 +17,7 @@ use path_ast::Path;
 use rdf_model::{Term, Triple};
 use shape_properties::ShapeProperty;
 use shape_syntax::terms::is_iri;
-use shape_syntax::{PathFault, read_path};
+use shape_syntax::{IndexedGraph, PathFault, read_path};
 use std::alloc::{AllocError, Global};
 use std::collections::BTreeSet;
 
@@ -35,17 +37,20 @@ fn want_of_memory(fault: PathFault) -> AllocError
 // value of sh:path stands for a path that isn't too deep.
 fn path_of(
     alloc: Global,
-    graph: &[Triple],
+    graph: &IndexedGraph,
+    own: &[Triple],
     paths: &BTreeSet<Term>,
     node: &Term,
 ) -> Result<Option<Path<Term>>, AllocError>
     requires graph { IsAscending triple_cmp graph.now }
+    requires own { IsAscending triple_cmp own.now }
+    requires members { (t : TripleData) → Contains own.now t ↔ (Contains graph.now t × (t.subject ≡ node.now)) }
     requires well_formed { IsWellFormed graph.now }
     requires paths { ArePathNodes graph.now paths.now.keys }
     requires shape { IsShape graph.now node.now }
     ensures { IfOk result (λ found. IsOptionalPath graph.now node.now (read_optional_path (λ t. t) found)) }
 {
-    let Some(value) = value_of(graph, node, ShapeProperty::Path) else {
+    let Some(value) = value_of(graph, own, node, ShapeProperty::Path) else {
         return Ok(None);
     };
     match read_path(alloc, graph, paths, value) {
@@ -55,12 +60,17 @@ fn path_of(
 }
 
 // The path of the shape at the node, if it is a predicate.
-fn predicate_of(graph: &[Triple], node: &Term) -> Result<Option<Path<Term>>, AllocError>
-    requires graph { IsAscending triple_cmp graph.now }
+fn predicate_of(
+    graph: &IndexedGraph,
+    own: &[Triple],
+    node: &Term,
+) -> Result<Option<Path<Term>>, AllocError>
+    requires own { IsAscending triple_cmp own.now }
+    requires members { (t : TripleData) → Contains own.now t ↔ (Contains graph.now t × (t.subject ≡ node.now)) }
     requires one { HasOne graph.now node.now properties.Path }
     ensures { IfOk result (λ found. IsOptionalPredicate graph.now node.now (read_optional_path (λ t. t) found)) }
 {
-    let Some(value) = value_of(graph, node, ShapeProperty::Path) else {
+    let Some(value) = value_of(graph, own, node, ShapeProperty::Path) else {
         return Ok(None);
     };
     if is_iri(value) {
@@ -75,12 +85,15 @@ fn predicate_of(graph: &[Triple], node: &Term) -> Result<Option<Path<Term>>, All
 /// graph share their nodes. The nodes are the graph's `path_nodes`.
 pub(crate) fn kept_path(
     alloc: Global,
-    graph: &[Triple],
+    graph: &IndexedGraph,
+    own: &[Triple],
     paths: &BTreeSet<Term>,
     node: &Term,
     is_deactivated: bool,
 ) -> Result<Option<Path<Term>>, AllocError>
     requires graph { IsAscending triple_cmp graph.now }
+    requires own { IsAscending triple_cmp own.now }
+    requires members { (t : TripleData) → Contains own.now t ↔ (Contains graph.now t × (t.subject ≡ node.now)) }
     requires well_formed { IsWellFormed graph.now }
     requires paths { ArePathNodes graph.now paths.now.keys }
     requires shape { IsShape graph.now node.now }
@@ -88,8 +101,8 @@ pub(crate) fn kept_path(
     ensures { IfOk result (λ found. IsKeptPath graph.now node.now (read_optional_path (λ t. t) found)) }
 {
     if is_deactivated {
-        Ok(predicate_of(graph, node)?)
+        Ok(predicate_of(graph, own, node)?)
     } else {
-        Ok(path_of(alloc, graph, paths, node)?)
+        Ok(path_of(alloc, graph, own, paths, node)?)
     }
 }

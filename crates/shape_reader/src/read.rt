@@ -16,13 +16,14 @@ use rdf_model::Triple;
 use shape_ast::Shapes;
 use shape_rules::least_broken_of;
 use shape_sizes::{Survey, survey_of};
+use shape_syntax::IndexedGraph;
 use std::alloc::Global;
 
 // The shapes, by the graph's survey.
 fn read_of<M: Maker>(
     alloc: Global,
     maker: &mut M,
-    graph: &[Triple],
+    graph: &IndexedGraph,
     survey: &Survey,
 ) -> Result<Shapes, ShapeFault>
     requires ascending { IsAscending triple_cmp graph.now }
@@ -62,7 +63,8 @@ pub fn read_shapes<M: Maker>(
     ensures asked { MatchResult result (λ _. AsksAll graph.now (M.asked maker.old) (M.asked maker.new))
         (λ fault. AsksBeforeFault graph.now fault (M.asked maker.old) (M.asked maker.new)) }
 {
-    let survey = survey_of(alloc, graph)?;
-    let shapes = read_of(alloc, maker, graph, &survey)?;
+    let indexed = IndexedGraph::new(alloc, graph)?;
+    let survey = survey_of(alloc, &indexed)?;
+    let shapes = read_of(alloc, maker, &indexed, &survey)?;
     Ok(shapes)
 }

@@ -4,6 +4,7 @@ ghost use Rattle.std.specs.List.{Contains};
 ghost use Rattle.collections.specs.Listings.{IsListing};
 ghost use Rattle.collections.specs.Ordered.{IsAscending};
 ghost use Rattle.rdf_model.specs.declared.term.Term.{Term as TermData};
+ghost use Rattle.rdf_model.specs.declared.triple.Triple.{Triple as TripleData};
 ghost use Rattle.rdf_model.specs.Terms.{term_cmp, triple_cmp};
 ghost use Rattle.shape_references.specs.Siblings.{IsReversed};
 ghost use Rattle.shape_properties.specs.declared.property.ShapeProperty.TheVariants as properties;
@@ -29,6 +30,8 @@ use path_ast::Path;
 use rdf_model::{Term, Triple};
 use shape_ast::{CompiledPattern, Constraint, Shape, Target};
 use shape_properties::ShapeProperty;
+use shape_syntax::IndexedGraph;
+use shape_syntax::lookup::triples_of;
 use std::alloc::{AllocError, Global};
 use std::collections::BTreeSet;
 
@@ -46,12 +49,15 @@ type Words = (
 
 fn lists_of(
     alloc: Global,
-    graph: &[Triple],
+    graph: &IndexedGraph,
+    own: &[Triple],
     reversed: &[Triple],
     nodes: &[Term],
     node: &Term,
 ) -> Result<Lists, AllocError>
     requires graph { IsAscending triple_cmp graph.now }
+    requires own { IsAscending triple_cmp own.now }
+    requires members { (t : TripleData) → Contains own.now t ↔ (Contains graph.now t × (t.subject ≡ node.now)) }
     requires reversed { IsListing triple_cmp (IsReversed graph.now) reversed.now }
     requires nodes { IsAscending term_cmp nodes.now }
     ensures targets { IfOk result (λ lists. AreTargetsOf graph.now nodes.now node.now lists.0.0) }
@@ -64,14 +70,21 @@ fn lists_of(
         constraints_of(alloc, graph, nodes, node),
     );
     let places = both(
-        properties_of(alloc, graph, nodes, node),
+        properties_of(alloc, graph, own, nodes, node),
         siblings_of(alloc, graph, reversed, nodes, node),
     );
     both(parts, places)
 }
 
-fn words_of(alloc: Global, graph: &[Triple], node: &Term) -> Result<Words, AllocError>
+fn words_of(
+    alloc: Global,
+    graph: &IndexedGraph,
+    own: &[Triple],
+    node: &Term,
+) -> Result<Words, AllocError>
     requires graph { IsAscending triple_cmp graph.now }
+    requires own { IsAscending triple_cmp own.now }
+    requires members { (t : TripleData) → Contains own.now t ↔ (Contains graph.now t × (t.subject ≡ node.now)) }
     requires one { HasOne graph.now node.now properties.IgnoredProperties }
     ensures severity { IfOk result (λ words. IsValue graph.now node.now properties.Severity words.0.0) }
     ensures flags { IfOk result (λ words. IsValue graph.now node.now properties.Flags words.0.1) }
@@ -79,12 +92,12 @@ fn words_of(alloc: Global, graph: &[Triple], node: &Term) -> Result<Words, Alloc
     ensures ignored { IfOk result (λ words. (t : TermData) → Contains words.1.1 t ↔ IsIgnored graph.now node.now t) }
 {
     let singles = both(
-        copied_value(graph, node, ShapeProperty::Severity),
-        copied_value(graph, node, ShapeProperty::Flags),
+        copied_value(graph, own, node, ShapeProperty::Severity),
+        copied_value(graph, own, node, ShapeProperty::Flags),
     );
     let lists = both(
-        messages_of(alloc, graph, node),
-        ignored_of(alloc, graph, node),
+        messages_of(alloc, graph, own, node),
+        ignored_of(alloc, graph, own, node),
     );
     both(singles, lists)
 }
@@ -103,10 +116,12 @@ fn pattern_fault(node: Term, fault: MakeFault) -> CompileFault
 fn pattern_at<M: Maker>(
     alloc: Global,
     maker: &mut M,
-    graph: &[Triple],
+    graph: &IndexedGraph,
+    own: &[Triple],
     node: &Term,
 ) -> Result<Option<CompiledPattern<Term>>, CompileFault>
-    requires graph { IsAscending triple_cmp graph.now }
+    requires own { IsAscending triple_cmp own.now }
+    requires members { (t : TripleData) → Contains own.now t ↔ (Contains graph.now t × (t.subject ≡ node.now)) }
     requires patterns { HasTexts graph.now node.now properties.Pattern }
     requires flags { HasTexts graph.now node.now properties.Flags }
     ensures answer { MatchResult result (λ found. IsOptionalPattern graph.now node.now found × (M.refused maker.new ≡ M.refused maker.old))
@@ -114,10 +129,10 @@ fn pattern_at<M: Maker>(
     ensures asked { MatchResult result (λ _. AsksIfAny graph.now node.now (M.asked maker.old) (M.asked maker.new))
         (λ fault. AsksAt graph.now node.now fault (M.asked maker.old) (M.asked maker.new)) }
 {
-    let own = node.clone()?;
-    match pattern_of(alloc, maker, graph, node) {
+    let copy = node.clone()?;
+    match pattern_of(alloc, maker, graph, own, node) {
         Ok(found) => Ok(found),
-        Err(fault) => Err(pattern_fault(own, fault)),
+        Err(fault) => Err(pattern_fault(copy, fault)),
     }
 }
 
@@ -125,12 +140,15 @@ fn pattern_at<M: Maker>(
 fn made_of<M: Maker>(
     alloc: Global,
     maker: &mut M,
-    graph: &[Triple],
+    graph: &IndexedGraph,
+    own: &[Triple],
     paths: &BTreeSet<Term>,
     node: &Term,
     is_deactivated: bool,
 ) -> Result<(Option<Path<Term>>, Option<CompiledPattern<Term>>), CompileFault>
     requires graph { IsAscending triple_cmp graph.now }
+    requires own { IsAscending triple_cmp own.now }
+    requires members { (t : TripleData) → Contains own.now t ↔ (Contains graph.now t × (t.subject ≡ node.now)) }
     requires well_formed { IsWellFormed graph.now }
     requires paths { ArePathNodes graph.now paths.now.keys }
     requires shape { IsShape graph.now node.now }
@@ -143,8 +161,8 @@ fn made_of<M: Maker>(
     ensures asked { MatchResult result (λ _. AsksIfAny graph.now node.now (M.asked maker.old) (M.asked maker.new))
         (λ fault. AsksAt graph.now node.now fault (M.asked maker.old) (M.asked maker.new)) }
 {
-    let path = kept_path(alloc, graph, paths, node, is_deactivated)?;
-    let pattern = pattern_at(alloc, maker, graph, node)?;
+    let path = kept_path(alloc, graph, own, paths, node, is_deactivated)?;
+    let pattern = pattern_at(alloc, maker, graph, own, node)?;
     Ok((path, pattern))
 }
 
@@ -153,26 +171,29 @@ type Parts = ((Term, Lists), Words);
 
 fn parts_at(
     alloc: Global,
-    graph: &[Triple],
+    graph: &IndexedGraph,
+    own: &[Triple],
     reversed: &[Triple],
     nodes: &[Term],
     node: &Term,
 ) -> Result<Parts, AllocError>
     requires graph { IsAscending triple_cmp graph.now }
+    requires own { IsAscending triple_cmp own.now }
+    requires members { (t : TripleData) → Contains own.now t ↔ (Contains graph.now t × (t.subject ≡ node.now)) }
     requires reversed { IsListing triple_cmp (IsReversed graph.now) reversed.now }
     requires nodes { IsAscending term_cmp nodes.now }
     requires one { HasOne graph.now node.now properties.IgnoredProperties }
     ensures { IfOk result (λ parts. ArePartsOf graph.now nodes.now node.now parts.0.0 parts.0.1.0.0 parts.0.1.0.1
         parts.0.1.1.0 parts.0.1.1.1 parts.1.0.0 parts.1.0.1 parts.1.1.0 parts.1.1.1) }
 {
-    let lists = lists_of(alloc, graph, reversed, nodes, node);
-    let words = words_of(alloc, graph, node);
+    let lists = lists_of(alloc, graph, own, reversed, nodes, node);
+    let words = words_of(alloc, graph, own, node);
     both(both(node.clone(), lists), words)
 }
 
 // The shape of its parts.
 fn assembled(
-    graph: &[Triple],
+    graph: &IndexedGraph,
     nodes: &[Term],
     node: &Term,
     is_deactivated: bool,
@@ -215,7 +236,7 @@ fn assembled(
 pub(crate) fn compile_shape<M: Maker>(
     alloc: Global,
     maker: &mut M,
-    graph: &[Triple],
+    graph: &IndexedGraph,
     paths: &BTreeSet<Term>,
     reversed: &[Triple],
     nodes: &[Term],
@@ -233,8 +254,9 @@ pub(crate) fn compile_shape<M: Maker>(
     ensures asked { MatchResult result (λ _. AsksIfAny graph.now node.now (M.asked maker.old) (M.asked maker.new))
         (λ fault. AsksAt graph.now node.now fault (M.asked maker.old) (M.asked maker.new)) }
 {
-    let off = is_deactivated(graph, node);
-    let (path, pattern) = made_of(alloc, maker, graph, paths, node, off)?;
-    let parts = parts_at(alloc, graph, reversed, nodes, node)?;
+    let own = triples_of(graph, node);
+    let off = is_deactivated(graph, own, node);
+    let (path, pattern) = made_of(alloc, maker, graph, own, paths, node, off)?;
+    let parts = parts_at(alloc, graph, own, reversed, nodes, node)?;
     Ok(assembled(graph, nodes, node, off, path, pattern, parts))
 }

@@ -20,8 +20,8 @@ use collections::Sequence;
 use outside::Maker;
 use rdf_model::{Term, Triple};
 use shape_ast::{Shape, Shapes};
-use shape_references::reversed_properties;
 use shape_sizes::{Survey, survey_of};
+use shape_syntax::IndexedGraph;
 use std::alloc::Global;
 use std::collections::BTreeSet;
 
@@ -29,7 +29,7 @@ use std::collections::BTreeSet;
 fn compile_nodes<M: Maker>(
     alloc: Global,
     maker: &mut M,
-    graph: &[Triple],
+    graph: &IndexedGraph,
     paths: &BTreeSet<Term>,
     reversed: &[Triple],
     nodes: &[Term],
@@ -57,7 +57,7 @@ fn compile_nodes<M: Maker>(
 pub(crate) fn compile_of<M: Maker>(
     alloc: Global,
     maker: &mut M,
-    graph: &[Triple],
+    graph: &IndexedGraph,
     survey: &Survey,
 ) -> Result<Shapes, CompileFault>
     requires ascending { IsAscending triple_cmp graph.now }
@@ -71,13 +71,12 @@ pub(crate) fn compile_of<M: Maker>(
     ensures asked { MatchResult result (λ _. AsksAll graph.now (M.asked maker.old) (M.asked maker.new))
         (λ fault. AsksBefore graph.now fault (M.asked maker.old) (M.asked maker.new)) }
 {
-    let reversed = reversed_properties(alloc, graph)?;
     let shapes = compile_nodes(
         alloc,
         maker,
         graph,
         &survey.paths,
-        reversed.as_slice(),
+        survey.reversed.as_slice(),
         survey.shapes.as_slice(),
     )?;
     Ok(Shapes { shapes })
@@ -102,7 +101,8 @@ pub fn compile<M: Maker>(
     ensures asked { MatchResult result (λ _. AsksAll graph.now (M.asked maker.old) (M.asked maker.new))
         (λ fault. AsksBefore graph.now fault (M.asked maker.old) (M.asked maker.new)) }
 {
-    let survey = survey_of(alloc, graph)?;
-    let shapes = compile_of(alloc, maker, graph, &survey)?;
+    let indexed = IndexedGraph::new(alloc, graph)?;
+    let survey = survey_of(alloc, &indexed)?;
+    let shapes = compile_of(alloc, maker, &indexed, &survey)?;
     Ok(shapes)
 }

@@ -16,6 +16,7 @@ use collections::Sequence;
 use rdf_model::{Term, Triple};
 use shape_ast::Target;
 use shape_properties::ShapeProperty;
+use shape_syntax::IndexedGraph;
 use shape_syntax::instance::classes_of;
 use shape_syntax::terms::is_named;
 use std::alloc::{AllocError, Global};
@@ -41,7 +42,7 @@ impl Part for Target<Term> {
 
     fn read(
         _alloc: Global,
-        _graph: &[Triple],
+        _graph: &IndexedGraph,
         _nodes: &[Term],
         property: ShapeProperty,
         value: &Term,
@@ -70,7 +71,7 @@ fn has_rdfs_class(classes: &[Term]) -> bool
 }
 
 // Whether the node is a class (section 2.1.3.3).
-fn is_class(alloc: Global, graph: &[Triple], node: &Term) -> Result<bool, AllocError>
+fn is_class(alloc: Global, graph: &IndexedGraph, node: &Term) -> Result<bool, AllocError>
     requires { IsAscending triple_cmp graph.now }
     ensures { IfOk result (λ found. IsTrue found ↔ Instance graph.now node.now rdfs_class) }
 {
@@ -80,7 +81,7 @@ fn is_class(alloc: Global, graph: &[Triple], node: &Term) -> Result<bool, AllocE
 
 fn push_implicit(
     alloc: Global,
-    graph: &[Triple],
+    graph: &IndexedGraph,
     node: &Term,
     targets: &mut Sequence<Target<Term>>,
 ) -> Result<(), AllocError>
@@ -99,7 +100,7 @@ fn push_implicit(
 /// The targets of the shape at the node, each once.
 pub(crate) fn targets_of(
     alloc: Global,
-    graph: &[Triple],
+    graph: &IndexedGraph,
     nodes: &[Term],
     node: &Term,
 ) -> Result<Sequence<Target<Term>>, AllocError>

@@ -1,9 +1,10 @@
-//! The values of single properties of a shape.
+//! The values of single properties of a shape. The shape's own triples are mostly given, so that they are looked up once.
 ghost use Rattle.std.specs.Prelude.{◌≡◌, ◌↔◌, ℕ, Some, IsTrue, IfOk, MatchOption};
 ghost use Rattle.std.specs.List.{Contains};
 ghost use Rattle.collections.specs.Listings.{IsListing};
 ghost use Rattle.collections.specs.Ordered.{IsAscending};
 ghost use Rattle.rdf_model.specs.declared.term.Term.{Term as TermData};
+ghost use Rattle.rdf_model.specs.declared.triple.Triple.{Triple as TripleData};
 ghost use Rattle.rdf_model.specs.Terms.{term_cmp, triple_cmp};
 ghost use Rattle.shape_references.specs.Siblings.{IsReversed};
 ghost use Rattle.shape_properties.specs.declared.property.ShapeProperty.TheVariants as properties;
@@ -17,21 +18,24 @@ use rdf_model::{Term, Triple};
 use shape_model::is_true;
 use shape_properties::ShapeProperty;
 use shape_references::push_siblings;
+use shape_syntax::IndexedGraph;
 use shape_syntax::list::list_members;
-use shape_syntax::lookup::values;
+use shape_syntax::lookup::{triples_of, values};
 use std::alloc::{AllocError, Global};
 
 /// A value of the property at the node, if there is one.
 pub(crate) fn value_of<'a>(
-    graph: &'a [Triple],
+    graph: &IndexedGraph,
+    own: &'a [Triple],
     node: &Term,
     property: ShapeProperty,
 ) -> Option<&'a Term>
-    requires { IsAscending triple_cmp graph.now }
+    requires own { IsAscending triple_cmp own.now }
+    requires members { (t : TripleData) → Contains own.now t ↔ (Contains graph.now t × (t.subject ≡ node.now)) }
     ensures { MatchOption result ((v : TermData) → HasProperty graph.now node.now property v → ⊥)
         (λ value. HasProperty graph.now node.now property value.now) }
 {
-    match values(graph, node, property.iri()).first() {
+    match values(own, node, property.iri()).first() {
         Some(triple) => Some(&triple.object),
         None => None,
     }
@@ -39,14 +43,16 @@ pub(crate) fn value_of<'a>(
 
 /// A value of the property at the node, as a term of its own.
 pub(crate) fn copied_value(
-    graph: &[Triple],
+    graph: &IndexedGraph,
+    own: &[Triple],
     node: &Term,
     property: ShapeProperty,
 ) -> Result<Option<Term>, AllocError>
-    requires { IsAscending triple_cmp graph.now }
+    requires own { IsAscending triple_cmp own.now }
+    requires members { (t : TripleData) → Contains own.now t ↔ (Contains graph.now t × (t.subject ≡ node.now)) }
     ensures { IfOk result (λ found. IsValue graph.now node.now property found) }
 {
-    match value_of(graph, node, property) {
+    match value_of(graph, own, node, property) {
         Some(value) => Ok(Some(value.clone()?)),
         None => Ok(None),
     }
@@ -66,28 +72,32 @@ fn objects_of(alloc: Global, triples: &[Triple]) -> Result<Sequence<Term>, Alloc
 // The values of the property at the node.
 fn all_values(
     alloc: Global,
-    graph: &[Triple],
+    graph: &IndexedGraph,
+    own: &[Triple],
     node: &Term,
     property: ShapeProperty,
 ) -> Result<Sequence<Term>, AllocError>
-    requires { IsAscending triple_cmp graph.now }
+    requires own { IsAscending triple_cmp own.now }
+    requires members { (t : TripleData) → Contains own.now t ↔ (Contains graph.now t × (t.subject ≡ node.now)) }
     ensures { IfOk result (λ found. (v : TermData) → Contains found v ↔ HasProperty graph.now node.now property v) }
 {
-    let found = objects_of(alloc, values(graph, node, property.iri()))?;
+    let found = objects_of(alloc, values(own, node, property.iri()))?;
     Ok(found)
 }
 
 // The values of the property at the node, each once and in the order of terms.
 fn values_once(
     alloc: Global,
-    graph: &[Triple],
+    graph: &IndexedGraph,
+    own: &[Triple],
     node: &Term,
     property: ShapeProperty,
 ) -> Result<Sequence<Term>, AllocError>
-    requires { IsAscending triple_cmp graph.now }
+    requires own { IsAscending triple_cmp own.now }
+    requires members { (t : TripleData) → Contains own.now t ↔ (Contains graph.now t × (t.subject ≡ node.now)) }
     ensures { IfOk result (λ found. IsListing term_cmp (HasProperty graph.now node.now property) found) }
 {
-    let found = all_values(alloc, graph, node, property)?;
+    let found = all_values(alloc, graph, own, node, property)?;
     let sorted = sorted_once(found.into_vec())?;
     Ok(Sequence::from_vec(sorted))
 }
@@ -95,28 +105,32 @@ fn values_once(
 /// The messages of the shape at the node, in the order of terms (SHACL section 2.1.5).
 pub(crate) fn messages_of(
     alloc: Global,
-    graph: &[Triple],
+    graph: &IndexedGraph,
+    own: &[Triple],
     node: &Term,
 ) -> Result<Sequence<Term>, AllocError>
-    requires { IsAscending triple_cmp graph.now }
+    requires own { IsAscending triple_cmp own.now }
+    requires members { (t : TripleData) → Contains own.now t ↔ (Contains graph.now t × (t.subject ≡ node.now)) }
     ensures { IfOk result (λ messages. IsListing term_cmp (HasProperty graph.now node.now properties.Message) messages) }
 {
-    let messages = values_once(alloc, graph, node, ShapeProperty::Message)?;
+    let messages = values_once(alloc, graph, own, node, ShapeProperty::Message)?;
     Ok(messages)
 }
 
 /// The places among the nodes of the values of sh:property, in order (SHACL section 4.7.2).
 pub(crate) fn properties_of(
     alloc: Global,
-    graph: &[Triple],
+    graph: &IndexedGraph,
+    own: &[Triple],
     nodes: &[Term],
     node: &Term,
 ) -> Result<Sequence<usize>, AllocError>
-    requires graph { IsAscending triple_cmp graph.now }
+    requires own { IsAscending triple_cmp own.now }
+    requires members { (t : TripleData) → Contains own.now t ↔ (Contains graph.now t × (t.subject ≡ node.now)) }
     requires nodes { IsAscending term_cmp nodes.now }
     ensures { IfOk result (λ places. AreProperties graph.now nodes.now node.now places) }
 {
-    let found = values_once(alloc, graph, node, ShapeProperty::Property)?;
+    let found = values_once(alloc, graph, own, node, ShapeProperty::Property)?;
     let places = places_among(alloc, nodes, found.as_slice())?;
     Ok(places)
 }
@@ -124,7 +138,7 @@ pub(crate) fn properties_of(
 /// The places among the nodes of the shape's siblings (SHACL section 4.7.3).
 pub(crate) fn siblings_of(
     alloc: Global,
-    graph: &[Triple],
+    graph: &IndexedGraph,
     reversed: &[Triple],
     nodes: &[Term],
     node: &Term,
@@ -141,13 +155,14 @@ pub(crate) fn siblings_of(
 }
 
 /// The place among the nodes of the shape's sh:qualifiedValueShape (SHACL section 4.7.3).
-pub(crate) fn qualified_of(graph: &[Triple], nodes: &[Term], node: &Term) -> Option<usize>
+pub(crate) fn qualified_of(graph: &IndexedGraph, nodes: &[Term], node: &Term) -> Option<usize>
     requires graph { IsAscending triple_cmp graph.now }
     requires nodes { IsAscending term_cmp nodes.now }
     requires one { HasOne graph.now node.now properties.QualifiedValueShape }
     ensures { (k : ℕ) → (result ≡ Some k) ↔ HasPlace graph.now nodes.now node.now properties.QualifiedValueShape k }
 {
-    match value_of(graph, node, ShapeProperty::QualifiedValueShape) {
+    let own = triples_of(graph, node);
+    match value_of(graph, own, node, ShapeProperty::QualifiedValueShape) {
         Some(value) => place_of(nodes, value),
         None => None,
     }
@@ -156,14 +171,17 @@ pub(crate) fn qualified_of(graph: &[Triple], nodes: &[Term], node: &Term) -> Opt
 /// The terms that the shape ignores where it is closed (SHACL section 4.8.1).
 pub(crate) fn ignored_of(
     alloc: Global,
-    graph: &[Triple],
+    graph: &IndexedGraph,
+    own: &[Triple],
     node: &Term,
 ) -> Result<Sequence<Term>, AllocError>
     requires graph { IsAscending triple_cmp graph.now }
+    requires own { IsAscending triple_cmp own.now }
+    requires members { (t : TripleData) → Contains own.now t ↔ (Contains graph.now t × (t.subject ≡ node.now)) }
     requires one { HasOne graph.now node.now properties.IgnoredProperties }
     ensures { IfOk result (λ ignored. (t : TermData) → Contains ignored t ↔ IsIgnored graph.now node.now t) }
 {
-    let Some(head) = value_of(graph, node, ShapeProperty::IgnoredProperties) else {
+    let Some(head) = value_of(graph, own, node, ShapeProperty::IgnoredProperties) else {
         return Ok(Sequence::new(alloc));
     };
     match list_members(alloc, graph, head)? {
@@ -173,12 +191,13 @@ pub(crate) fn ignored_of(
 }
 
 /// Whether the sh:deactivated of the shape is true (SHACL section 2.1.6).
-pub(crate) fn is_deactivated(graph: &[Triple], node: &Term) -> bool
-    requires graph { IsAscending triple_cmp graph.now }
+pub(crate) fn is_deactivated(graph: &IndexedGraph, own: &[Triple], node: &Term) -> bool
+    requires own { IsAscending triple_cmp own.now }
+    requires members { (t : TripleData) → Contains own.now t ↔ (Contains graph.now t × (t.subject ≡ node.now)) }
     requires one { HasOne graph.now node.now properties.Deactivated }
     ensures { IsTrue result ↔ IsOff graph.now node.now }
 {
-    match value_of(graph, node, ShapeProperty::Deactivated) {
+    match value_of(graph, own, node, ShapeProperty::Deactivated) {
         Some(value) => is_true(value),
         None => false,
     }

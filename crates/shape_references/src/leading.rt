@@ -10,7 +10,7 @@ ghost use Rattle.shape_references.specs.Asking.{ArePending, Shows, WasAsked, Wer
 use crate::nodes::{is_in, put};
 use collections::Sequence;
 use rdf_model::{Term, Triple};
-use shape_syntax::lookup::triples_of;
+use shape_syntax::lookup::triples_in;
 use shape_syntax::terms::is_same;
 use std::alloc::{AllocError, Global};
 use std::collections::BTreeSet;
@@ -37,7 +37,7 @@ fn is_shown(graph: &[Triple], goal: &Term, known: &BTreeSet<Term>, node: &Term) 
     requires { IsAscending triple_cmp graph.now }
     ensures { IsTrue result ↔ Shows graph.now goal.now known.now.keys node.now }
 {
-    one_leads(triples_of(graph, node), goal, known)
+    one_leads(triples_in(graph, node), goal, known)
 }
 
 // Notes the node where a chain is shown to lead from it to the goal, and else leaves it.

@@ -7,6 +7,7 @@ ghost use Rattle.shape_references.specs.Siblings.{IsParent, IsParentBy};
 use crate::siblings::is_property;
 use collections::Sequence;
 use rdf_model::{Term, Triple};
+use shape_syntax::IndexedGraph;
 use shape_syntax::subjects::push_unless_last;
 use std::alloc::{AllocError, Global};
 
@@ -20,12 +21,12 @@ fn push_parent(triple: &Triple, parents: &mut Sequence<Term>) -> Result<(), Allo
     Ok(())
 }
 
-/// The nodes that have a sh:property, in the order of the graph; each stands once where the graph ascends.
-pub fn parent_nodes(alloc: Global, graph: &[Triple]) -> Result<Sequence<Term>, AllocError>
+/// The nodes that have a sh:property. How often each stands isn't ensured, nor is their order.
+pub fn parent_nodes(alloc: Global, graph: &IndexedGraph) -> Result<Sequence<Term>, AllocError>
     ensures { IfOk result (λ parents. (n : TermData) → Contains parents n ↔ IsParent graph.now n) }
 {
     let mut parents = Sequence::new(alloc);
-    for triple in graph {
+    for triple in graph.as_slice() {
         push_parent(triple, &mut parents)?;
     }
     Ok(parents)

@@ -17,7 +17,8 @@ use crate::Bundle;
 use collections::{Sequence, sorted_once};
 use rdf_model::{Term, Triple};
 use shape_model::is_true;
-use shape_syntax::lookup::values;
+use shape_syntax::IndexedGraph;
+use shape_syntax::lookup::{values, values_of};
 use shape_syntax::terms::{is_named, is_same};
 use std::alloc::{AllocError, Global};
 use vocabulary::{
@@ -25,35 +26,44 @@ use vocabulary::{
 };
 
 #[tactic(auto, unfolding(shape_model::specs::Vocabulary::sh))]
-fn properties<'a>(graph: &'a [Triple], node: &Term) -> &'a [Triple]
+fn properties<'a>(graph: &IndexedGraph<'a>, node: &Term) -> &'a [Triple]
     requires { IsAscending triple_cmp graph.now }
     ensures { AreValues graph.now node.now ShProperty result.now }
 {
-    values(graph, node, SH_PROPERTY)
+    values_of(graph, node, SH_PROPERTY)
+}
+
+// The same of triples that aren't indexed.
+#[tactic(auto, unfolding(shape_model::specs::Vocabulary::sh))]
+fn properties_in<'a>(triples: &'a [Triple], node: &Term) -> &'a [Triple]
+    requires { IsAscending triple_cmp triples.now }
+    ensures { AreValues triples.now node.now ShProperty result.now }
+{
+    values(triples, node, SH_PROPERTY)
 }
 
 #[tactic(auto, unfolding(shape_model::specs::Vocabulary::sh))]
-fn qualified_shapes<'a>(graph: &'a [Triple], node: &Term) -> &'a [Triple]
+fn qualified_shapes<'a>(graph: &IndexedGraph<'a>, node: &Term) -> &'a [Triple]
     requires { IsAscending triple_cmp graph.now }
     ensures { AreValues graph.now node.now ShQualifiedValueShape result.now }
 {
-    values(graph, node, SH_QUALIFIED_VALUE_SHAPE)
+    values_of(graph, node, SH_QUALIFIED_VALUE_SHAPE)
 }
 
 #[tactic(auto, unfolding(shape_model::specs::Vocabulary::sh))]
-fn disjointness<'a>(graph: &'a [Triple], node: &Term) -> &'a [Triple]
+fn disjointness<'a>(graph: &IndexedGraph<'a>, node: &Term) -> &'a [Triple]
     requires { IsAscending triple_cmp graph.now }
     ensures { AreValues graph.now node.now ShQualifiedValueShapesDisjoint result.now }
 {
-    values(graph, node, SH_QUALIFIED_VALUE_SHAPES_DISJOINT)
+    values_of(graph, node, SH_QUALIFIED_VALUE_SHAPES_DISJOINT)
 }
 
 #[tactic(auto, unfolding(shape_model::specs::Vocabulary::sh))]
-fn paths<'a>(graph: &'a [Triple], node: &Term) -> &'a [Triple]
+fn paths<'a>(graph: &IndexedGraph<'a>, node: &Term) -> &'a [Triple]
     requires { IsAscending triple_cmp graph.now }
     ensures { AreValues graph.now node.now ShPath result.now }
 {
-    values(graph, node, SH_PATH)
+    values_of(graph, node, SH_PATH)
 }
 
 // Whether the object of one of the triples is `true`.
@@ -80,7 +90,7 @@ fn has_object(found: &[Triple], value: &Term) -> bool
     false
 }
 
-fn has_path(graph: &[Triple], shape: &Term) -> bool
+fn has_path(graph: &IndexedGraph, shape: &Term) -> bool
     requires { IsAscending triple_cmp graph.now }
     ensures { IsTrue result ↔ ((n : TermData) × HasProperty graph.now shape.now ShPath n) }
 {
@@ -88,21 +98,21 @@ fn has_path(graph: &[Triple], shape: &Term) -> bool
     !found.is_empty()
 }
 
-fn is_disjoint(graph: &[Triple], shape: &Term) -> bool
+fn is_disjoint(graph: &IndexedGraph, shape: &Term) -> bool
     requires { IsAscending triple_cmp graph.now }
     ensures { IsTrue result ↔ HasProperty graph.now shape.now ShQualifiedValueShapesDisjoint true_literal }
 {
     one_is_true(disjointness(graph, shape))
 }
 
-fn may_have_siblings(graph: &[Triple], shape: &Term) -> bool
+fn may_have_siblings(graph: &IndexedGraph, shape: &Term) -> bool
     requires { IsAscending triple_cmp graph.now }
     ensures { IsTrue result ↔ MayHaveSiblings graph.now shape.now }
 {
     has_path(graph, shape) && is_disjoint(graph, shape)
 }
 
-fn is_own(graph: &[Triple], shape: &Term, value: &Term) -> bool
+fn is_own(graph: &IndexedGraph, shape: &Term, value: &Term) -> bool
     requires { IsAscending triple_cmp graph.now }
     ensures { IsTrue result ↔ HasProperty graph.now shape.now ShQualifiedValueShape value.now }
 {
@@ -110,7 +120,7 @@ fn is_own(graph: &[Triple], shape: &Term, value: &Term) -> bool
 }
 
 fn push_foreign(
-    graph: &[Triple],
+    graph: &IndexedGraph,
     shape: &Term,
     value: &Term,
     nodes: &mut Sequence<Term>,
@@ -127,7 +137,7 @@ fn push_foreign(
 
 // Adds the qualified value shapes of the other.
 fn push_of_other(
-    graph: &[Triple],
+    graph: &IndexedGraph,
     shape: &Term,
     other: &Term,
     nodes: &mut Sequence<Term>,
@@ -143,7 +153,7 @@ fn push_of_other(
 
 // Adds those of all the sh:property values of the parent.
 fn push_under(
-    graph: &[Triple],
+    graph: &IndexedGraph,
     shape: &Term,
     parent: &Term,
     nodes: &mut Sequence<Term>,
@@ -159,7 +169,7 @@ fn push_under(
 
 // Adds those under all the shapes that have the shape as a sh:property.
 fn push_beside(
-    graph: &[Triple],
+    graph: &IndexedGraph,
     reversed: &[Triple],
     shape: &Term,
     nodes: &mut Sequence<Term>,
@@ -168,7 +178,7 @@ fn push_beside(
     requires reversed { IsListing triple_cmp (IsReversed graph.now) reversed.now }
     ensures { OnOk result ((t : TermData) → Contains nodes.new t ↔ (Contains nodes.old t ⊎ IsBeside graph.now shape.now t)) }
 {
-    for triple in properties(reversed, shape) {
+    for triple in properties_in(reversed, shape) {
         push_under(graph, shape, &triple.object, nodes)?;
     }
     Ok(())
@@ -176,7 +186,7 @@ fn push_beside(
 
 /// Adds the siblings of the shape. The graph's `reversed_properties` are given.
 pub fn push_siblings(
-    graph: &[Triple],
+    graph: &IndexedGraph,
     reversed: &[Triple],
     shape: &Term,
     nodes: &mut Sequence<Term>,
@@ -194,7 +204,7 @@ pub fn push_siblings(
 
 // Adds the qualified value shapes of the property shape.
 fn push_qualified(
-    graph: &[Triple],
+    graph: &IndexedGraph,
     shape: &Term,
     nodes: &mut Sequence<Term>,
 ) -> Result<(), AllocError>
@@ -209,7 +219,7 @@ fn push_qualified(
 
 // Adds those of all the sh:property values of the parent.
 fn push_all_qualified(
-    graph: &[Triple],
+    graph: &IndexedGraph,
     parent: &Term,
     nodes: &mut Sequence<Term>,
 ) -> Result<(), AllocError>
@@ -224,7 +234,7 @@ fn push_all_qualified(
 
 // Adds the shape, if it may have siblings.
 fn push_if_disjoint(
-    graph: &[Triple],
+    graph: &IndexedGraph,
     shape: &Term,
     nodes: &mut Sequence<Term>,
 ) -> Result<(), AllocError>
@@ -240,7 +250,7 @@ fn push_if_disjoint(
 
 // Adds the sh:property values of the parent that may have siblings.
 fn push_all_disjoint(
-    graph: &[Triple],
+    graph: &IndexedGraph,
     parent: &Term,
     nodes: &mut Sequence<Term>,
 ) -> Result<(), AllocError>
@@ -257,7 +267,7 @@ fn push_all_disjoint(
 /// siblings, and to their own.
 pub fn push_sibling_bundle(
     alloc: Global,
-    graph: &[Triple],
+    graph: &IndexedGraph,
     parent: &Term,
     bundles: &mut Sequence<Bundle>,
 ) -> Result<(), AllocError>
@@ -278,7 +288,7 @@ pub fn push_sibling_bundle(
 /// The qualified value shapes of the sh:property values of the parent, each once and in order.
 pub fn qualified_under(
     alloc: Global,
-    graph: &[Triple],
+    graph: &IndexedGraph,
     parent: &Term,
 ) -> Result<Vec<Term>, AllocError>
     requires { IsAscending triple_cmp graph.now }
@@ -291,7 +301,7 @@ pub fn qualified_under(
 }
 
 /// Whether the parent has a sh:property that may have siblings. That isn't ensured: it saves time and no more.
-pub fn may_share(graph: &[Triple], parent: &Term) -> bool
+pub fn may_share(graph: &IndexedGraph, parent: &Term) -> bool
     requires { IsAscending triple_cmp graph.now }
 {
     for triple in properties(graph, parent) {
@@ -313,19 +323,23 @@ fn only_of(found: &[Triple]) -> Option<&Triple>
 }
 
 // The only shape that has the shape as a sh:property, if there is just one.
-fn parent_of<'a>(graph: &[Triple], reversed: &'a [Triple], shape: &Term) -> Option<&'a Term>
+fn parent_of<'a>(graph: &IndexedGraph, reversed: &'a [Triple], shape: &Term) -> Option<&'a Term>
     requires graph { IsAscending triple_cmp graph.now }
     requires reversed { IsListing triple_cmp (IsReversed graph.now) reversed.now }
     ensures { MatchOption result (Unit {0}) (λ parent. HasOneParent graph.now shape.now parent.now) }
 {
-    match only_of(properties(reversed, shape)) {
+    match only_of(properties_in(reversed, shape)) {
         Some(triple) => Some(&triple.object),
         None => None,
     }
 }
 
 /// The only shape that has the shape as a sh:property, where the shape may have siblings. The graph's `reversed_properties` are given.
-pub fn only_parent<'a>(graph: &[Triple], reversed: &'a [Triple], shape: &Term) -> Option<&'a Term>
+pub fn only_parent<'a>(
+    graph: &IndexedGraph,
+    reversed: &'a [Triple],
+    shape: &Term,
+) -> Option<&'a Term>
     requires graph { IsAscending triple_cmp graph.now }
     requires reversed { IsListing triple_cmp (IsReversed graph.now) reversed.now }
     ensures { MatchOption result (Unit {0}) (λ parent. IsOnlyParent graph.now shape.now parent.now) }
@@ -375,10 +389,10 @@ fn all_reversed(alloc: Global, graph: &[Triple]) -> Result<Sequence<Triple>, All
 }
 
 /// The triples with sh:property, reversed and in order, so that the shapes that have a sh:property are found.
-pub fn reversed_properties(alloc: Global, graph: &[Triple]) -> Result<Vec<Triple>, AllocError>
+pub fn reversed_properties(alloc: Global, graph: &IndexedGraph) -> Result<Vec<Triple>, AllocError>
     ensures { IfOk result (λ reversed. IsListing triple_cmp (IsReversed graph.now) reversed.items) }
 {
-    let unsorted = all_reversed(alloc, graph)?;
+    let unsorted = all_reversed(alloc, graph.as_slice())?;
     let sorted = sorted_once(unsorted.into_vec())?;
     Ok(sorted)
 }

@@ -19,9 +19,10 @@ use crate::rows::push_whole;
 use collections::Sequence;
 use rdf_model::{Term, Triple};
 use shape_properties::ShapeProperty;
-use shape_properties::values::property_values;
+use shape_properties::values::property_values_of;
 use shape_sizes::path_steps::deep_paths;
 use shape_sizes::{Survey, least_with_long_chain};
+use shape_syntax::IndexedGraph;
 use std::alloc::{AllocError, Global};
 use std::collections::BTreeSet;
 
@@ -32,7 +33,7 @@ fn is_in(nodes: &BTreeSet<Term>, node: &Term) -> bool
 }
 
 // Whether the value stands for a path that is nested deeper than 256.
-fn is_deep(graph: &[Triple], deep: &BTreeSet<Term>, node: &Term) -> bool
+fn is_deep(graph: &IndexedGraph, deep: &BTreeSet<Term>, node: &Term) -> bool
     requires deep { AreDeepPaths graph.now 256 deep.now.keys }
     requires node { MayBePath graph.now node.now }
     ensures { IsTrue result ↔ IsDeep graph.now node.now 256 }
@@ -40,12 +41,12 @@ fn is_deep(graph: &[Triple], deep: &BTreeSet<Term>, node: &Term) -> bool
     is_in(deep, node)
 }
 
-fn has_deep_path(graph: &[Triple], deep: &BTreeSet<Term>, node: &Term) -> bool
+fn has_deep_path(graph: &IndexedGraph, deep: &BTreeSet<Term>, node: &Term) -> bool
     requires graph { IsAscending triple_cmp graph.now }
     requires deep { AreDeepPaths graph.now 256 deep.now.keys }
     ensures { IsTrue result ↔ HasDeepPath graph.now node.now }
 {
-    for triple in property_values(graph, node, ShapeProperty::Path) {
+    for triple in property_values_of(graph, node, ShapeProperty::Path) {
         if is_deep(graph, deep, &triple.object) {
             return true;
         }
@@ -55,7 +56,7 @@ fn has_deep_path(graph: &[Triple], deep: &BTreeSet<Term>, node: &Term) -> bool
 
 // Adds a row for each of the nodes, which are shapes, whose path is too deep.
 fn push_deep_paths(
-    graph: &[Triple],
+    graph: &IndexedGraph,
     deep: &BTreeSet<Term>,
     nodes: &[Term],
     rows: &mut Sequence<RuleRow>,
@@ -74,7 +75,7 @@ fn push_deep_paths(
 // The rows of all shapes with a path that is too deep.
 fn rows_of_paths(
     alloc: Global,
-    graph: &[Triple],
+    graph: &IndexedGraph,
     survey: &Survey,
 ) -> Result<Sequence<RuleRow>, AllocError>
     requires graph { IsAscending triple_cmp graph.now }
@@ -90,7 +91,7 @@ fn rows_of_paths(
 // Adds the row of the least shape from which too many references lead in a row.
 fn push_chain_row(
     alloc: Global,
-    graph: &[Triple],
+    graph: &IndexedGraph,
     survey: &Survey,
     rows: &mut Sequence<RuleRow>,
 ) -> Result<(), AllocError>
@@ -98,7 +99,7 @@ fn push_chain_row(
     requires rows { (r : RowData) → Contains rows.now r ↔ DeepPathRow graph.now r.node r }
     ensures { OnOk result (HaveLeast (IsDeepRow graph.now) rows.new) }
 {
-    match least_with_long_chain(alloc, graph, survey.references.as_slice())? {
+    match least_with_long_chain(alloc, graph, survey.references.as_slice(), &survey.named)? {
         Some(node) => {
             rows.push(RuleRow {
                 node,
@@ -114,7 +115,7 @@ fn push_chain_row(
 /// The rows of the shapes that are too deep, of those with too many references the least alone.
 pub(crate) fn deep_rows(
     alloc: Global,
-    graph: &[Triple],
+    graph: &IndexedGraph,
     survey: &Survey,
 ) -> Result<Sequence<RuleRow>, AllocError>
     requires graph { IsAscending triple_cmp graph.now }

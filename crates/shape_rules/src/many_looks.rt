@@ -19,13 +19,14 @@ use collections::Sequence;
 use rdf_model::{Term, Triple};
 use shape_sizes::Survey;
 use shape_sizes::looks::{has_too_many_looks, looks_of_results};
+use shape_syntax::IndexedGraph;
 use std::alloc::{AllocError, Global};
 use std::collections::BTreeMap;
 
 // Adds a row for each of the nodes, which are shapes, that has too many looks.
 fn push_too_many(
     alloc: Global,
-    graph: &[Triple],
+    graph: &IndexedGraph,
     table: &BTreeMap<Term, u64>,
     nodes: &[Term],
     rows: &mut Sequence<RuleRow>,
@@ -45,7 +46,7 @@ fn push_too_many(
 /// Adds the rows of the shapes with too many looks.
 pub(crate) fn push_looks_rows(
     alloc: Global,
-    graph: &[Triple],
+    graph: &IndexedGraph,
     survey: &Survey,
     rows: &mut Sequence<RuleRow>,
 ) -> Result<(), AllocError>

@@ -13,8 +13,9 @@ use rdf_model::{Term, Triple};
 use shape_properties::terms::{
     is_boolean, is_flags, is_integer, is_message, is_node_kind, is_text, is_true_or_false, text_len,
 };
-use shape_properties::values::{has_path, property_values};
+use shape_properties::values::{has_path, property_values_of};
 use shape_properties::{ShapeProperty, Test};
+use shape_syntax::IndexedGraph;
 use shape_syntax::list::list_members;
 use shape_syntax::paths::is_path;
 use shape_syntax::terms::{is_blank, is_iri, is_literal, is_same};
@@ -23,7 +24,7 @@ use std::collections::BTreeSet;
 
 /// Whether the node has a value of the property other than this one.
 pub(crate) fn has_another(
-    graph: &[Triple],
+    graph: &IndexedGraph,
     node: &Term,
     property: ShapeProperty,
     value: &Term,
@@ -31,7 +32,7 @@ pub(crate) fn has_another(
     requires { IsAscending triple_cmp graph.now }
     ensures { IsTrue result ↔ ((w : TermData) × HasProperty graph.now node.now property w × (w ≢ value.now)) }
 {
-    for other in property_values(graph, node, property) {
+    for other in property_values_of(graph, node, property) {
         if !is_same(&other.object, value) {
             return true;
         }
@@ -40,7 +41,7 @@ pub(crate) fn has_another(
 }
 
 /// Whether the pattern and its flags have more than 4,096 bytes together.
-pub(crate) fn is_long(graph: &[Triple], node: &Term, pattern: &Term) -> bool
+pub(crate) fn is_long(graph: &IndexedGraph, node: &Term, pattern: &Term) -> bool
     requires { IsAscending triple_cmp graph.now }
     ensures { IsTrue result ↔ IsLong graph.now node.now pattern.now }
 {
@@ -48,7 +49,7 @@ pub(crate) fn is_long(graph: &[Triple], node: &Term, pattern: &Term) -> bool
     if 4096 < len {
         return true;
     }
-    for flags in property_values(graph, node, ShapeProperty::Flags) {
+    for flags in property_values_of(graph, node, ShapeProperty::Flags) {
         if 4096 - len < text_len(&flags.object) {
             return true;
         }
@@ -56,7 +57,7 @@ pub(crate) fn is_long(graph: &[Triple], node: &Term, pattern: &Term) -> bool
     false
 }
 
-fn is_list(alloc: Global, graph: &[Triple], head: &Term) -> Result<bool, AllocError>
+fn is_list(alloc: Global, graph: &IndexedGraph, head: &Term) -> Result<bool, AllocError>
     requires { IsAscending triple_cmp graph.now }
     ensures { IfOk result (λ found. IsTrue found ↔ ((members : List TermData) × ListOf graph.now head.now members)) }
 {
@@ -77,7 +78,7 @@ fn are_all_iris(terms: &[Term]) -> bool
     true
 }
 
-fn are_iris(alloc: Global, graph: &[Triple], head: &Term) -> Result<bool, AllocError>
+fn are_iris(alloc: Global, graph: &IndexedGraph, head: &Term) -> Result<bool, AllocError>
     requires { IsAscending triple_cmp graph.now }
     ensures { IfOk result (λ found. IsTrue found ↔ AreIris graph.now head.now) }
 {
@@ -87,7 +88,7 @@ fn are_iris(alloc: Global, graph: &[Triple], head: &Term) -> Result<bool, AllocE
     }
 }
 
-fn is_property_shape(graph: &[Triple], node: &Term) -> bool
+fn is_property_shape(graph: &IndexedGraph, node: &Term) -> bool
     requires { IsAscending triple_cmp graph.now }
     ensures { IsTrue result ↔ ((IsLiteral node.now → ⊥) × HasPath graph.now node.now) }
 {
@@ -97,7 +98,7 @@ fn is_property_shape(graph: &[Triple], node: &Term) -> bool
 /// Whether the term passes the test.
 pub(crate) fn passes(
     alloc: Global,
-    graph: &[Triple],
+    graph: &IndexedGraph,
     paths: &BTreeSet<Term>,
     test: Test,
     term: &Term,

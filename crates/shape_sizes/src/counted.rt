@@ -23,6 +23,7 @@ use shape_model::is_true;
 use shape_properties::ShapeProperty;
 use shape_properties::values::property_values;
 use shape_references::{name_in, only_parent, push_siblings};
+use shape_syntax::IndexedGraph;
 use shape_syntax::list::list_members;
 use shape_syntax::lookup::triples_of;
 use std::alloc::{AllocError, Global};
@@ -79,7 +80,7 @@ fn push_values(
 // The members of the list at the head, and none where it is the head of no list.
 pub(crate) fn members_at(
     alloc: Global,
-    graph: &[Triple],
+    graph: &IndexedGraph,
     head: &Term,
 ) -> Result<Sequence<Term>, AllocError>
     requires { IsAscending triple_cmp graph.now }
@@ -94,7 +95,7 @@ pub(crate) fn members_at(
 // Adds the members of the list at the head.
 fn push_members_at(
     alloc: Global,
-    graph: &[Triple],
+    graph: &IndexedGraph,
     head: &Term,
     nodes: &mut Sequence<Term>,
 ) -> Result<(), AllocError>
@@ -109,7 +110,7 @@ fn push_members_at(
 // Adds the members of the lists at all the heads.
 fn push_members_of(
     alloc: Global,
-    graph: &[Triple],
+    graph: &IndexedGraph,
     heads: &[Term],
     nodes: &mut Sequence<Term>,
 ) -> Result<(), AllocError>
@@ -153,7 +154,7 @@ fn has_qualified_count(graph: &[Triple], node: &Term) -> bool
 
 fn siblings_of(
     alloc: Global,
-    graph: &[Triple],
+    graph: &IndexedGraph,
     reversed: &[Triple],
     node: &Term,
 ) -> Result<Vec<Term>, AllocError>
@@ -170,7 +171,7 @@ fn siblings_of(
 // Adds the qualified value shape and the siblings of the node, whose triples are given.
 fn push_qualified(
     alloc: Global,
-    graph: &[Triple],
+    graph: &IndexedGraph,
     reversed: &[Triple],
     own: &[Triple],
     node: &Term,
@@ -207,7 +208,7 @@ fn shapes_at(alloc: Global, graph: &[Triple], node: &Term) -> Result<Sequence<Te
 // The shapes to which the node refers, but for its qualified value shape and its siblings. Its triples are given.
 fn unqualified_shapes(
     alloc: Global,
-    graph: &[Triple],
+    graph: &IndexedGraph,
     own: &[Triple],
     node: &Term,
 ) -> Result<Sequence<Term>, AllocError>
@@ -225,7 +226,7 @@ fn unqualified_shapes(
 // The shapes to which the node refers, whether it is deactivated or not. Its triples are given.
 fn counted_shapes(
     alloc: Global,
-    graph: &[Triple],
+    graph: &IndexedGraph,
     reversed: &[Triple],
     own: &[Triple],
     node: &Term,
@@ -244,7 +245,7 @@ fn counted_shapes(
 // The shapes that count at the node, with the name that stands for the qualified value shape and the siblings.
 fn counted_by(
     alloc: Global,
-    graph: &[Triple],
+    graph: &IndexedGraph,
     own: &[Triple],
     node: &Term,
     name: Term,
@@ -261,7 +262,7 @@ fn counted_by(
 
 // The name of the only parent of the node, where it may have siblings and is one of the parents.
 fn parent_name(
-    graph: &[Triple],
+    graph: &IndexedGraph,
     reversed: &[Triple],
     parents: &[Term],
     node: &Term,
@@ -282,7 +283,7 @@ fn parent_name(
 
 // The name that stands for the qualified value shape and the siblings of the node, whose triples are given.
 fn stand_in_of(
-    graph: &[Triple],
+    graph: &IndexedGraph,
     reversed: &[Triple],
     parents: &[Term],
     own: &[Triple],
@@ -305,7 +306,7 @@ fn stand_in_of(
 // The shapes to which the node refers, or a name that stands for some of them. Its triples are given.
 fn shapes_or_name(
     alloc: Global,
-    graph: &[Triple],
+    graph: &IndexedGraph,
     reversed: &[Triple],
     parents: &[Term],
     own: &[Triple],
@@ -355,7 +356,7 @@ pub(crate) fn is_deactivated(graph: &[Triple], node: &Term) -> bool
 /// is deactivated.
 pub(crate) fn referred_shapes(
     alloc: Global,
-    graph: &[Triple],
+    graph: &IndexedGraph,
     reversed: &[Triple],
     parents: &[Term],
     node: &Term,

@@ -28,7 +28,7 @@ use rdf_model::{Term, Triple};
 use reference_totals::{WeightedPlace, capped_sum, total_of, totals};
 use shape_properties::ShapeProperty;
 use shape_properties::terms::has_class;
-use shape_references::reversed_properties;
+use shape_syntax::IndexedGraph;
 use shape_syntax::instance::classes_of;
 use shape_syntax::lookup::triples_of;
 use std::alloc::{AllocError, Global};
@@ -107,7 +107,7 @@ fn closed_looks(graph: &[Triple], node: &Term) -> u64
 // The looks of the node's path. The node's triples are given.
 fn looks_of_paths(
     alloc: Global,
-    graph: &[Triple],
+    graph: &IndexedGraph,
     paths: &BTreeMap<Term, u64>,
     own: &[Triple],
     node: &Term,
@@ -130,7 +130,7 @@ fn looks_of_paths(
 // The looks of a node that isn't deactivated, without those of the shapes to which it refers. Its triples are given.
 fn own_looks(
     alloc: Global,
-    graph: &[Triple],
+    graph: &IndexedGraph,
     paths: &BTreeMap<Term, u64>,
     own: &[Triple],
     node: &Term,
@@ -149,7 +149,7 @@ fn own_looks(
 
 fn look_weight(
     alloc: Global,
-    graph: &[Triple],
+    graph: &IndexedGraph,
     paths: &BTreeMap<Term, u64>,
     node: &Term,
 ) -> Result<u64, AllocError>
@@ -167,7 +167,7 @@ fn look_weight(
 
 fn look_place(
     alloc: Global,
-    graph: &[Triple],
+    graph: &IndexedGraph,
     reversed: &[Triple],
     parents: &[Term],
     paths: &BTreeMap<Term, u64>,
@@ -192,7 +192,7 @@ fn look_place(
 // The places of the nodes.
 fn look_places(
     alloc: Global,
-    graph: &[Triple],
+    graph: &IndexedGraph,
     reversed: &[Triple],
     parents: &[Term],
     paths: &BTreeMap<Term, u64>,
@@ -215,7 +215,7 @@ fn look_places(
 // The places of the shapes alone.
 fn all_look_places(
     alloc: Global,
-    graph: &[Triple],
+    graph: &IndexedGraph,
     parents: &[Term],
     survey: &Survey,
 ) -> Result<Sequence<WeightedPlace>, AllocError>
@@ -224,12 +224,11 @@ fn all_look_places(
     requires survey { IsSurvey graph.now survey.now }
     ensures { IfOk result (λ places. AreShapePlaces graph.now (IsCappedLook graph.now) parents.now places) }
 {
-    let reversed = reversed_properties(alloc, graph)?;
     let paths = path_looks(alloc, graph, survey.places.as_slice(), most_looks())?;
     let places = look_places(
         alloc,
         graph,
-        reversed.as_slice(),
+        survey.reversed.as_slice(),
         parents,
         &paths,
         survey.shapes.as_slice(),
@@ -240,7 +239,7 @@ fn all_look_places(
 // The places of looks with those that stand in for what is under the parents.
 fn with_stand_ins(
     alloc: Global,
-    graph: &[Triple],
+    graph: &IndexedGraph,
     parents: &[Term],
     survey: &Survey,
 ) -> Result<Sequence<WeightedPlace>, AllocError>
@@ -257,7 +256,7 @@ fn with_stand_ins(
 /// The looks of the shapes without those of their targets, as far as they are counted.
 pub fn looks_of_results(
     alloc: Global,
-    graph: &[Triple],
+    graph: &IndexedGraph,
     survey: &Survey,
 ) -> Result<BTreeMap<Term, u64>, AllocError>
     requires graph { IsAscending triple_cmp graph.now }
@@ -277,7 +276,7 @@ fn is_class(classes: &[Term]) -> bool
     has_class(classes, RDFS_CLASS)
 }
 
-fn implicit_looks(alloc: Global, graph: &[Triple], node: &Term) -> Result<u64, AllocError>
+fn implicit_looks(alloc: Global, graph: &IndexedGraph, node: &Term) -> Result<u64, AllocError>
     requires { IsAscending triple_cmp graph.now }
     ensures { IfOk result (λ looks. CountsIf (Instance graph.now node.now rdfs_class) 2 looks) }
 {
@@ -289,7 +288,12 @@ fn implicit_looks(alloc: Global, graph: &[Triple], node: &Term) -> Result<u64, A
 }
 
 // The sum, and the looks of the node's targets.
-fn with_targets(alloc: Global, graph: &[Triple], node: &Term, sum: u64) -> Result<u64, AllocError>
+fn with_targets(
+    alloc: Global,
+    graph: &IndexedGraph,
+    node: &Term,
+    sum: u64,
+) -> Result<u64, AllocError>
     requires { IsAscending triple_cmp graph.now }
     ensures { IfOk result (λ more. (k : ℕ) × HasTargetLooks graph.now node.now k × (more ≡ capped looks_limit (sum + k))) }
 {
@@ -305,7 +309,7 @@ fn with_targets(alloc: Global, graph: &[Triple], node: &Term, sum: u64) -> Resul
 /// Whether the shape has too many looks, those of its targets included, by the table of its looks.
 pub fn has_too_many_looks(
     alloc: Global,
-    graph: &[Triple],
+    graph: &IndexedGraph,
     table: &BTreeMap<Term, u64>,
     node: &Term,
 ) -> Result<bool, AllocError>

@@ -23,9 +23,9 @@ use reference_totals::{WeightedPlace, total_of, totals};
 use shape_properties::ShapeProperty;
 use shape_syntax::list::list_members;
 use shape_syntax::lookup::triples_of;
-use shape_syntax::modifies_path;
 use shape_syntax::paths::is_path;
 use shape_syntax::terms::{is_iri, is_named};
+use shape_syntax::{IndexedGraph, modifies_path};
 use std::alloc::{AllocError, Global};
 use std::collections::{BTreeMap, BTreeSet};
 use vocabulary::{RDF_FIRST, SH_ALTERNATIVE_PATH};
@@ -65,7 +65,11 @@ fn only(alloc: Global, node: &Term) -> Result<Sequence<Term>, AllocError>
 }
 
 // The nodes of whose paths the triple makes that of its subject.
-fn made_by(alloc: Global, graph: &[Triple], triple: &Triple) -> Result<Sequence<Term>, AllocError>
+fn made_by(
+    alloc: Global,
+    graph: &IndexedGraph,
+    triple: &Triple,
+) -> Result<Sequence<Term>, AllocError>
     requires { IsAscending triple_cmp graph.now }
     ensures { IfOk result (λ nodes. IsMadeBy graph.now triple.now.predicate triple.now.object nodes) }
 {
@@ -79,7 +83,7 @@ fn made_by(alloc: Global, graph: &[Triple], triple: &Triple) -> Result<Sequence<
 
 fn made_of_triple(
     alloc: Global,
-    graph: &[Triple],
+    graph: &IndexedGraph,
     node: &Term,
 ) -> Result<Sequence<Term>, AllocError>
     requires { IsAscending triple_cmp graph.now }
@@ -96,7 +100,7 @@ fn made_of_triple(
 }
 
 // The nodes of whose paths that of the node is made.
-fn made_of(alloc: Global, graph: &[Triple], node: &Term) -> Result<Sequence<Term>, AllocError>
+fn made_of(alloc: Global, graph: &IndexedGraph, node: &Term) -> Result<Sequence<Term>, AllocError>
     requires { IsAscending triple_cmp graph.now }
     ensures { IfOk result (λ nodes. IsMadeOf graph.now node.now nodes) }
 {
@@ -109,7 +113,11 @@ fn made_of(alloc: Global, graph: &[Triple], node: &Term) -> Result<Sequence<Term
     }
 }
 
-fn blank_place(alloc: Global, graph: &[Triple], node: &Term) -> Result<WeightedPlace, AllocError>
+fn blank_place(
+    alloc: Global,
+    graph: &IndexedGraph,
+    node: &Term,
+) -> Result<WeightedPlace, AllocError>
     requires { IsAscending triple_cmp graph.now }
     ensures { IfOk result (λ place. (place.node ≡ node.now) × (place.own ≡ 0) × IsMadeOf graph.now node.now place.to) }
 {
@@ -131,7 +139,7 @@ fn iri_place(alloc: Global, node: &Term) -> Result<WeightedPlace, AllocError>
     })
 }
 
-fn path_place(alloc: Global, graph: &[Triple], node: &Term) -> Result<WeightedPlace, AllocError>
+fn path_place(alloc: Global, graph: &IndexedGraph, node: &Term) -> Result<WeightedPlace, AllocError>
     requires graph { IsAscending triple_cmp graph.now }
     requires path { IsPath graph.now node.now }
     ensures { IfOk result (λ place. IsPathPlace graph.now place × (place.node ≡ node.now)) }
@@ -147,7 +155,7 @@ fn path_place(alloc: Global, graph: &[Triple], node: &Term) -> Result<WeightedPl
 // Adds the place of the node, if it stands for a path.
 fn push_path_place(
     alloc: Global,
-    graph: &[Triple],
+    graph: &IndexedGraph,
     paths: &BTreeSet<Term>,
     node: &Term,
     places: &mut Sequence<WeightedPlace>,
@@ -166,7 +174,7 @@ fn push_path_place(
 
 fn places_of(
     alloc: Global,
-    graph: &[Triple],
+    graph: &IndexedGraph,
     paths: &BTreeSet<Term>,
     nodes: &[Term],
 ) -> Result<Sequence<WeightedPlace>, AllocError>
@@ -194,11 +202,11 @@ fn push_path_value(triple: &Triple, nodes: &mut Sequence<Term>) -> Result<(), Al
 }
 
 // The values that may stand for paths, each once.
-fn path_values(alloc: Global, graph: &[Triple]) -> Result<Vec<Term>, AllocError>
+fn path_values(alloc: Global, graph: &IndexedGraph) -> Result<Vec<Term>, AllocError>
     ensures { IfOk result (λ nodes. (n : TermData) → Contains nodes.items n ↔ MayBePath graph.now n) }
 {
     let mut nodes = Sequence::new(alloc);
-    for triple in graph {
+    for triple in graph.as_slice() {
         push_path_value(triple, &mut nodes)?;
     }
     let sorted = sorted_once(nodes.into_vec())?;
@@ -217,7 +225,7 @@ pub(crate) fn most_looks() -> u64
 /// The places of the values that stand for paths. The graph's `path_nodes` are given.
 pub(crate) fn path_places(
     alloc: Global,
-    graph: &[Triple],
+    graph: &IndexedGraph,
     paths: &BTreeSet<Term>,
 ) -> Result<Sequence<WeightedPlace>, AllocError>
     requires graph { IsAscending triple_cmp graph.now }
@@ -233,7 +241,7 @@ pub(crate) fn path_places(
 /// than `most` stands for all that are over it. The places of these values are given, as a `Survey` has them.
 pub fn path_looks(
     alloc: Global,
-    graph: &[Triple],
+    graph: &IndexedGraph,
     places: &[WeightedPlace],
     most: u64,
 ) -> Result<BTreeMap<Term, u64>, AllocError>
@@ -246,7 +254,7 @@ pub fn path_looks(
 }
 
 /// The looks of the path for which the value stands, as far as they are counted; none where it stands for none.
-pub(crate) fn path_looks_at(graph: &[Triple], table: &BTreeMap<Term, u64>, node: &Term) -> u64
+pub(crate) fn path_looks_at(graph: &IndexedGraph, table: &BTreeMap<Term, u64>, node: &Term) -> u64
     requires table { ArePathLooks graph.now looks_limit table.now }
     requires node { MayBePath graph.now node.now }
     ensures { (k : ℕ) × HasPathLooks graph.now node.now k × (result ≡ capped looks_limit k) }

@@ -8,6 +8,7 @@ use collections::Sequence;
 use rdf_model::{Term, Triple};
 use reference_totals::WeightedPlace;
 use shape_references::nodes_with_chain;
+use shape_syntax::IndexedGraph;
 use std::alloc::{AllocError, Global};
 use std::collections::BTreeSet;
 
@@ -46,7 +47,7 @@ fn path_steps(alloc: Global, places: &[WeightedPlace]) -> Result<Sequence<Triple
 /// them.
 pub fn deep_paths(
     alloc: Global,
-    graph: &[Triple],
+    graph: &IndexedGraph,
     places: &[WeightedPlace],
     levels: usize,
 ) -> Result<BTreeSet<Term>, AllocError>

@@ -4,7 +4,7 @@ ghost use Rattle.std.specs.Prelude.{◌≡◌, ◌⊎◌, ◌↔◌, ◌<◌, �
 ghost use Rattle.collections.specs.Ordered.{IsAscending};
 ghost use Rattle.rdf_model.specs.declared.term.Term.{Term as TermData};
 ghost use Rattle.rdf_model.specs.Terms.{triple_cmp};
-ghost use Rattle.shape_references.specs.Bundles.{HasBound, IsBound};
+ghost use Rattle.shape_references.specs.Bundles.{HasBound, IsBound, IsNamedGraph};
 ghost use Rattle.shape_references.specs.Siblings.{AreUnder};
 ghost use Rattle.shape_model.specs.Limits.{levels_limit};
 ghost use Rattle.shape_sizes.specs.References.{AreReferences, HasLongChain, IsLeastRecursive, IsLeastWithLongChain, IsRecursive};
@@ -14,14 +14,16 @@ use collections::Sequence;
 use rdf_model::{Term, Triple};
 use shape_properties::shapes::push_taken;
 use shape_references::{
-    Bundle, least_bound_on_loop, least_bound_with_chain, parent_nodes, push_sibling_bundle,
+    Bundle, NamedGraph, least_bound_on_loop, least_bound_with_chain, parent_nodes,
+    push_sibling_bundle,
 };
+use shape_syntax::IndexedGraph;
 use std::alloc::{AllocError, Global};
 
 // Adds the references of the triple's subject by it.
 fn push_direct(
     alloc: Global,
-    graph: &[Triple],
+    graph: &IndexedGraph,
     triple: &Triple,
     bundles: &mut Sequence<Bundle>,
 ) -> Result<(), AllocError>
@@ -42,13 +44,13 @@ fn push_direct(
 // Adds the references by the triples.
 fn push_all_direct(
     alloc: Global,
-    graph: &[Triple],
+    graph: &IndexedGraph,
     bundles: &mut Sequence<Bundle>,
 ) -> Result<(), AllocError>
     requires { IsAscending triple_cmp graph.now }
     ensures { OnOk result (HasBound (IsReferredBy graph.now) graph.now bundles.old bundles.new) }
 {
-    for triple in graph {
+    for triple in graph.as_slice() {
         push_direct(alloc, graph, triple, bundles)?;
     }
     Ok(())
@@ -57,7 +59,7 @@ fn push_all_direct(
 // Adds the references to siblings under the parents: one bundle for each, however many there are.
 fn push_all_siblings(
     alloc: Global,
-    graph: &[Triple],
+    graph: &IndexedGraph,
     parents: &[Term],
     bundles: &mut Sequence<Bundle>,
 ) -> Result<(), AllocError>
@@ -71,7 +73,7 @@ fn push_all_siblings(
 }
 
 /// The references between the shapes of the graph, in bundles.
-pub fn references(alloc: Global, graph: &[Triple]) -> Result<Vec<Bundle>, AllocError>
+pub fn references(alloc: Global, graph: &IndexedGraph) -> Result<Vec<Bundle>, AllocError>
     requires { IsAscending triple_cmp graph.now }
     ensures { IfOk result (λ references. AreReferences graph.now references.items) }
 {
@@ -82,16 +84,19 @@ pub fn references(alloc: Global, graph: &[Triple]) -> Result<Vec<Bundle>, AllocE
     Ok(bundles.into_vec())
 }
 
-/// The least shape from which a chain of references leads to itself, if there is one. The graph's `references` are given.
+/// The least shape from which a chain of references leads to itself, if there is one. The graph's `references` are given, and
+/// the `named_graph` of these.
 pub fn least_recursive(
     alloc: Global,
-    graph: &[Triple],
+    graph: &IndexedGraph,
     references: &[Bundle],
+    named: &NamedGraph,
 ) -> Result<Option<Term>, AllocError>
-    requires { AreReferences graph.now references.now }
+    requires references { AreReferences graph.now references.now }
+    requires named { IsNamedGraph references.now named.now }
     ensures { IfOk result (λ found. MatchOption found ((n : TermData) → IsRecursive graph.now n → ⊥) (λ n. IsLeastRecursive graph.now n)) }
 {
-    let found = least_bound_on_loop(alloc, references)?;
+    let found = least_bound_on_loop(alloc, references, named)?;
     Ok(found)
 }
 
@@ -105,15 +110,18 @@ fn too_many() -> usize
     257
 }
 
-/// The least shape from which a chain of more than 256 references leads, if there is one. The graph's `references` are given.
+/// The least shape from which a chain of more than 256 references leads, if there is one. The graph's `references` are given, and
+/// the `named_graph` of these.
 pub fn least_with_long_chain(
     alloc: Global,
-    graph: &[Triple],
+    graph: &IndexedGraph,
     references: &[Bundle],
+    named: &NamedGraph,
 ) -> Result<Option<Term>, AllocError>
-    requires { AreReferences graph.now references.now }
+    requires references { AreReferences graph.now references.now }
+    requires named { IsNamedGraph references.now named.now }
     ensures { IfOk result (λ found. MatchOption found ((n : TermData) → HasLongChain graph.now n → ⊥) (λ n. IsLeastWithLongChain graph.now n)) }
 {
-    let found = least_bound_with_chain(alloc, references, too_many())?;
+    let found = least_bound_with_chain(alloc, references, named, too_many())?;
     Ok(found)
 }

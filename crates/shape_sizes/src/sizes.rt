@@ -6,20 +6,22 @@ ghost use Rattle.rdf_model.specs.Terms.{term_cmp, triple_cmp};
 ghost use Rattle.shape_references.specs.Siblings.{IsReversed};
 ghost use Rattle.shape_sizes.specs.Counted.{ArePlaces, AreShapePlaces, AreWeights, HaveNames, IsPlaceOf};
 ghost use Rattle.shape_sizes.specs.Sizes.{IsTooLarge, size_limit};
+ghost use Rattle.shape_sizes.specs.Surveys.{IsSurvey};
 ghost use Rattle.shape_properties.specs.Syntax.{IsShape};
 
+use crate::Survey;
 use crate::counted::referred_shapes;
 use crate::stand_ins::{named_parents, push_stand_ins};
 use collections::Sequence;
 use rdf_model::{Term, Triple};
 use reference_totals::{WeightedPlace, total_of, totals};
-use shape_references::reversed_properties;
+use shape_syntax::IndexedGraph;
 use std::alloc::{AllocError, Global};
 use std::collections::BTreeMap;
 
 fn place_of(
     alloc: Global,
-    graph: &[Triple],
+    graph: &IndexedGraph,
     reversed: &[Triple],
     parents: &[Term],
     node: &Term,
@@ -41,7 +43,7 @@ fn place_of(
 // The places of the nodes.
 fn places_of(
     alloc: Global,
-    graph: &[Triple],
+    graph: &IndexedGraph,
     reversed: &[Triple],
     parents: &[Term],
     nodes: &[Term],
@@ -59,20 +61,25 @@ fn places_of(
     Ok(places)
 }
 
-// The places of the nodes, with those that stand in for what is under the parents.
+// The places of the shapes, with those that stand in for what is under the parents.
 fn all_places(
     alloc: Global,
-    graph: &[Triple],
+    graph: &IndexedGraph,
     parents: &[Term],
-    nodes: &[Term],
+    survey: &Survey,
 ) -> Result<Sequence<WeightedPlace>, AllocError>
     requires graph { IsAscending triple_cmp graph.now }
     requires parents { HaveNames graph.now parents.now }
-    requires nodes { IsListing term_cmp (IsShape graph.now) nodes.now }
+    requires survey { IsSurvey graph.now survey.now }
     ensures { IfOk result (λ places. ArePlaces graph.now (λ m w. w ≡ 1) parents.now places) }
 {
-    let reversed = reversed_properties(alloc, graph)?;
-    let mut places = places_of(alloc, graph, reversed.as_slice(), parents, nodes)?;
+    let mut places = places_of(
+        alloc,
+        graph,
+        survey.reversed.as_slice(),
+        parents,
+        survey.shapes.as_slice(),
+    )?;
     push_stand_ins(alloc, graph, parents, &mut places)?;
     Ok(places)
 }
@@ -85,24 +92,24 @@ fn most() -> u64
     65_536
 }
 
-/// The sizes of the shapes, which are given, as far as they are counted: one more than the limit stands for all over it.
+/// The sizes of the shapes, as far as they are counted: one more than the limit stands for all over it.
 pub fn sizes_of(
     alloc: Global,
-    graph: &[Triple],
-    nodes: &[Term],
+    graph: &IndexedGraph,
+    survey: &Survey,
 ) -> Result<BTreeMap<Term, u64>, AllocError>
     requires graph { IsAscending triple_cmp graph.now }
-    requires nodes { IsListing term_cmp (IsShape graph.now) nodes.now }
+    requires survey { IsSurvey graph.now survey.now }
     ensures { IfOk result (λ table. AreWeights graph.now (λ m w. w ≡ 1) size_limit table) }
 {
-    let parents = named_parents(alloc, graph, nodes)?;
-    let places = all_places(alloc, graph, parents.as_slice(), nodes)?;
+    let parents = named_parents(alloc, graph, survey.shapes.as_slice())?;
+    let places = all_places(alloc, graph, parents.as_slice(), survey)?;
     let table = totals(alloc, places.as_slice(), most())?;
     Ok(table)
 }
 
 /// Whether the shape is too large, by the table of sizes.
-pub fn is_too_large(graph: &[Triple], table: &BTreeMap<Term, u64>, node: &Term) -> bool
+pub fn is_too_large(graph: &IndexedGraph, table: &BTreeMap<Term, u64>, node: &Term) -> bool
     requires table { AreWeights graph.now (λ m w. w ≡ 1) size_limit table.now }
     requires node { IsShape graph.now node.now }
     ensures { IsTrue result ↔ IsTooLarge graph.now node.now }

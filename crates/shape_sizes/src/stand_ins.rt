@@ -15,6 +15,7 @@ use collections::{Sequence, sorted_once};
 use rdf_model::{Term, Triple};
 use reference_totals::WeightedPlace;
 use shape_references::{may_share, name_at, parent_nodes, qualified_under};
+use shape_syntax::IndexedGraph;
 use std::alloc::{AllocError, Global};
 
 // Whether the node is none of the names, which are blank nodes of session 0.
@@ -41,7 +42,7 @@ fn are_apart(nodes: &[Term]) -> bool
 // Those of the nodes under which property shapes may have siblings.
 fn parents_among(
     alloc: Global,
-    graph: &[Triple],
+    graph: &IndexedGraph,
     nodes: &[Term],
 ) -> Result<Sequence<Term>, AllocError>
     requires { IsAscending triple_cmp graph.now }
@@ -55,7 +56,7 @@ fn parents_among(
     Ok(parents)
 }
 
-fn all_parents(alloc: Global, graph: &[Triple]) -> Result<Vec<Term>, AllocError>
+fn all_parents(alloc: Global, graph: &IndexedGraph) -> Result<Vec<Term>, AllocError>
     requires { IsAscending triple_cmp graph.now }
     ensures { IfOk result (λ parents. IsAscending term_cmp parents.items) }
 {
@@ -69,7 +70,7 @@ fn all_parents(alloc: Global, graph: &[Triple]) -> Result<Vec<Term>, AllocError>
 /// shapes are given.
 pub(crate) fn named_parents(
     alloc: Global,
-    graph: &[Triple],
+    graph: &IndexedGraph,
     shapes: &[Term],
 ) -> Result<Vec<Term>, AllocError>
     requires graph { IsAscending triple_cmp graph.now }
@@ -86,7 +87,7 @@ pub(crate) fn named_parents(
 // The place that stands in for what is under the parent with the number.
 fn stand_in(
     alloc: Global,
-    graph: &[Triple],
+    graph: &IndexedGraph,
     number: usize,
     parent: &Term,
 ) -> Result<WeightedPlace, AllocError>
@@ -104,7 +105,7 @@ fn stand_in(
 /// Adds the places that stand in for what is under the parents.
 pub(crate) fn push_stand_ins(
     alloc: Global,
-    graph: &[Triple],
+    graph: &IndexedGraph,
     parents: &[Term],
     places: &mut Sequence<WeightedPlace>,
 ) -> Result<(), AllocError>

@@ -10,7 +10,8 @@ use collections::Sequence;
 use rdf_model::{Term, Triple};
 use reference_totals::WeightedPlace;
 use shape_properties::shapes::shape_nodes;
-use shape_references::Bundle;
+use shape_references::{Bundle, NamedGraph, named_graph, reversed_properties};
+use shape_syntax::IndexedGraph;
 use shape_syntax::paths::path_nodes;
 use std::alloc::{AllocError, Global};
 use std::collections::BTreeSet;
@@ -26,10 +27,14 @@ pub struct Survey {
     pub shapes: Vec<Term>,
     /// The references between shapes.
     pub references: Vec<Bundle>,
+    /// Their graph, by which chains of them are found.
+    pub named: NamedGraph,
+    /// The triples with sh:property, reversed and in order.
+    pub reversed: Vec<Triple>,
 }
 
 /// The survey of the graph.
-pub fn survey_of(alloc: Global, graph: &[Triple]) -> Result<Survey, AllocError>
+pub fn survey_of(alloc: Global, graph: &IndexedGraph) -> Result<Survey, AllocError>
     requires { IsAscending triple_cmp graph.now }
     ensures { IfOk result (λ survey. IsSurvey graph.now survey) }
 {
@@ -37,10 +42,14 @@ pub fn survey_of(alloc: Global, graph: &[Triple]) -> Result<Survey, AllocError>
     let places = path_places(alloc, graph, &paths)?;
     let shapes = shape_nodes(alloc, graph)?;
     let references = references(alloc, graph)?;
+    let named = named_graph(alloc, references.as_slice())?;
+    let reversed = reversed_properties(alloc, graph)?;
     Ok(Survey {
         paths,
         places,
         shapes,
         references,
+        named,
+        reversed,
     })
 }

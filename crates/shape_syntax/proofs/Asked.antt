@@ -9,10 +9,9 @@ use Rattle.rdf_model.specs.declared.triple.Triple.{Triple}
 use Rattle.shape_syntax.proofs.Scans.{cases_more}
 use Rattle.shape_syntax.specs.declared.claim.Claim.{Claim}
 use Rattle.shape_syntax.specs.declared.claim.Claim.TheVariants as claims
-use Rattle.shape_syntax.specs.Subjects.{IsSubject}
 use Rattle.shape_syntax.specs.PathNodes.{ArePathNodes}
-use Rattle.shape_syntax.specs.PathSteps.{Adds, Stands, Shows, Knows, node_of, AreSound, WasAsked, WereAsked}
-use Rattle.shape_syntax.proofs.PathSteps.{shown_stands, shown_subject, path_nodes}
+use Rattle.shape_syntax.specs.PathSteps.{Adds, MayStand, Stands, Shows, Knows, AreSound, WasAsked, WereAsked}
+use Rattle.shape_syntax.proofs.PathSteps.{shown_stands, shown_may, path_nodes}
 
 -- a node that is put into one of the sets is what is known more
 pub path_noted : (paths lists new : List Term) (n : Term) → Adds paths n new → (c : Claim) → Knows new lists c ↔ (Knows paths lists c ⊎ (claims.Path n ≡ c))
@@ -108,9 +107,9 @@ asked_all s cs i paths lists new_paths new_lists left l m h =
 -- What holds between the rounds: what is known is so, and what may come to be known is known or is still to be asked.
 pub record AreWaiting (s : List Triple) (paths lists : List Term) (waiting : List Claim) : Type 0 where
   pub sound : AreSound s paths lists
-  pub each : (c : Claim) → IsSubject s (node_of c) → Knows paths lists c ⊎ Contains waiting c
+  pub each : (c : Claim) → MayStand s c → Knows paths lists c ⊎ Contains waiting c
 
-pub all_waiting : (s : List Triple) (paths lists : List Term) (waiting : List Claim) → paths ≡ [] → lists ≡ [] → ((c : Claim) → IsSubject s (node_of c) → Contains waiting c) → AreWaiting s paths lists waiting
+pub all_waiting : (s : List Triple) (paths lists : List Term) (waiting : List Claim) → paths ≡ [] → lists ≡ [] → ((c : Claim) → MayStand s c → Contains waiting c) → AreWaiting s paths lists waiting
 all_waiting s paths lists waiting e f all = record {
   sound = λ c. sound c;
   each = λ c i. inr (all c i);
@@ -130,7 +129,7 @@ waiting_next s paths lists new_paths new_lists waiting left before asked = recor
 pub waiting_done : (s : List Triple) (paths lists new_paths new_lists : List Term) (waiting left : List Claim) → AreWaiting s paths lists waiting → WereAsked s (length waiting) waiting paths lists new_paths new_lists left → length left ≡ length waiting → ArePathNodes s new_paths
 waiting_done s paths lists new_paths new_lists waiting left before asked all =
     let same = asked.still all in
-    subst (λ (ps : List Term). ArePathNodes s ps) (sym same.0) (path_nodes s paths lists (λ c h. elim (before.each c (shown_subject s paths lists c h)) [
+    subst (λ (ps : List Term). ArePathNodes s ps) (sym same.0) (path_nodes s paths lists (λ c h. elim (before.each c (shown_may s paths lists c h)) [
       | inl k ↦ k
       | inr w ↦ absurd (same.2 c w h)
     ]) before.sound)

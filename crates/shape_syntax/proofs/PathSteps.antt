@@ -1,5 +1,5 @@
 -- What is shown of a node is so, and where nothing more is shown, all that is so is known.
-use Rattle.std.proofs.Common.{◌≡◌, List, refl, subst, inl, inr, codes}
+use Rattle.std.proofs.Common.{◌≡◌, List, refl, sym, subst, inl, inr, codes}
 use Rattle.std.specs.Prelude.{◌↔◌, ◌⊎◌}
 use Rattle.std.specs.List.{Contains}
 use Rattle.rdf_model.specs.declared.term.Term.{Term}
@@ -13,7 +13,7 @@ use Rattle.shape_syntax.specs.declared.claim.Claim.{Claim}
 use Rattle.shape_syntax.specs.declared.claim.Claim.TheVariants as claims
 use Rattle.shape_syntax.specs.Subjects.{IsSubject}
 use Rattle.shape_syntax.specs.PathNodes.{IsPath, ArePathNodes}
-use Rattle.shape_syntax.specs.PathSteps.{IsKnown, IsSeveral, ShowsList, ModifiesPath, LeadsOn, IsAlone, ShowsPath, Stands, Shows, Knows, node_of, AreSound}
+use Rattle.shape_syntax.specs.PathSteps.{HasCell, HasOneTriple, MayStand, IsKnown, IsSeveral, ShowsList, ModifiesPath, LeadsOn, IsAlone, ShowsPath, Stands, Shows, Knows, node_of, AreSound}
 
 known_path : (s : List Triple) (paths lists : List Term) → AreSound s paths lists → (n : Term) → IsKnown paths n → IsPath s n
 known_path s paths lists sound n h = elim h [
@@ -68,12 +68,25 @@ has_subject : (s : List Triple) (n p v : Term) → Has s n p v → IsSubject s n
 has_subject s n p v h = (record { subject = n; predicate = p; object = v }, h, refl)
 
 -- nothing is shown but of the subject of a triple
-pub shown_subject : (s : List Triple) (paths lists : List Term) (c : Claim) → Shows s paths lists c → IsSubject s (node_of c)
-shown_subject s paths lists (claims.Path n) h = elim h.1 [
-  | inl several ↦ has_subject s n _ _ several.2.0.0
-  | inr leads ↦ has_subject s n _ _ leads.2.0
+pub may_subject : (s : List Triple) (c : Claim) → MayStand s c → IsSubject s (node_of c)
+may_subject s (claims.Path n) h = elim h.1 [
+  | inl cell ↦ has_subject s n _ _ cell.2.0.0
+  | inr alone ↦ has_subject s n _ _ alone.2.0
 ]
-shown_subject s paths lists (claims.List n) h = has_subject s n _ _ h.2.0.0
+may_subject s (claims.List n) h = has_subject s n _ _ h.2.0.0
+
+-- what is shown may be
+pub shown_may : (s : List Triple) (paths lists : List Term) (c : Claim) → Shows s paths lists c → MayStand s c
+shown_may s paths lists (claims.Path n) h = elim h.1 [
+  | inl several ↦ (h.0, inl (several.0, several.1, several.2))
+  | inr leads ↦ (h.0, inr (leads.0, leads.1, leads.2))
+]
+shown_may s paths lists (claims.List n) h = (h.0, h.1, h.2)
+
+-- the claims of a node are among these, if those of a cell and of the subject of one triple are
+pub may_among : (s : List Triple) (n : Term) (xs : List Claim) → (HasCell s n → Contains xs (claims.List n)) → (IsBlank n → HasCell s n ⊎ HasOneTriple s n → Contains xs (claims.Path n)) → (c : Claim) → n ≡ node_of c → MayStand s c → Contains xs c
+may_among s n xs list path (claims.Path m) e h = subst (λ (x : Term). Contains xs (claims.Path x)) e (path (subst (λ (x : Term). IsBlank x) (sym e) h.0) (subst (λ (x : Term). HasCell s x ⊎ HasOneTriple s x) (sym e) h.1))
+may_among s n xs list path (claims.List m) e h = subst (λ (x : Term). Contains xs (claims.List x)) e (list (subst (λ (x : Term). HasCell s x) (sym e) h))
 
 -- A node is one cell at most, and has one triple alone at most.
 same_member : (s : List Triple) (n m k o l : Term) → IsCell s n m k → IsCell s n o l → m ≡ o

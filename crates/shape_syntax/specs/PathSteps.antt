@@ -48,6 +48,18 @@ abbrev pub Shows : List Triple → List Term → List Term → Claim → Type 0
 Shows s paths lists (claims.Path n) = IsBlank n × ShowsPath s paths lists n
 Shows s paths lists (claims.List n) = ShowsList s paths lists n
 
+-- the node is a cell, or the subject of one triple alone
+abbrev pub HasCell : List Triple → Term → Type 0
+HasCell s n = (m : Term) × (k : Term) × IsCell s n m k
+
+abbrev pub HasOneTriple : List Triple → Term → Type 0
+HasOneTriple s n = (p : Term) × (v : Term) × IsAlone s n p v
+
+-- something may show it
+abbrev pub MayStand : List Triple → Claim → Type 0
+MayStand s (claims.Path n) = IsBlank n × (HasCell s n ⊎ HasOneTriple s n)
+MayStand s (claims.List n) = HasCell s n
+
 -- it is known
 abbrev pub Knows : List Term → List Term → Claim → Type 0
 Knows paths lists (claims.Path n) = Contains paths n

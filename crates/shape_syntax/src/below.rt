@@ -7,14 +7,13 @@ ghost use Rattle.rdf_model.specs.declared.term.Term.{Term as TermData};
 ghost use Rattle.rdf_model.specs.Terms.{triple_cmp};
 ghost use Rattle.shape_syntax.specs.Subjects.{IsSubject};
 
+use crate::IndexedGraph;
 use crate::list::cell_of;
 use crate::lookup::triples_of;
-use crate::steps::only_triple;
 use crate::subjects::{push_unless_last, subjects};
 use collections::Sequence;
 use rdf_model::{Term, Triple};
 use std::alloc::{AllocError, Global};
-use std::collections::BTreeSet;
 
 #[derive(Drop)]
 enum Visit {
@@ -25,20 +24,16 @@ enum Visit {
 }
 
 // What the node's one triple leads to is next.
-fn push_value(graph: &[Triple], node: &Term, stack: &mut Vec<Visit>) -> Result<(), AllocError>
-    requires { IsAscending triple_cmp graph.now }
-{
-    match only_triple(graph, node) {
-        Some(triple) => {
-            stack.push(Visit::Enter(triple.object.clone()?))?;
-            Ok(())
-        }
-        None => Ok(()),
+fn push_value(own: &[Triple], stack: &mut Vec<Visit>) -> Result<(), AllocError> {
+    if own.len() == 1 {
+        stack.push(Visit::Enter(own[0].object.clone()?))?;
+        return Ok(());
     }
+    Ok(())
 }
 
 // What it needs to stand for a path or a list of paths is next, and then the node itself. Its triples alone are asked.
-fn push_visits(graph: &[Triple], node: &Term, stack: &mut Vec<Visit>) -> Result<(), AllocError>
+fn push_visits(graph: &IndexedGraph, node: &Term, stack: &mut Vec<Visit>) -> Result<(), AllocError>
     requires { IsAscending triple_cmp graph.now }
 {
     stack.push(Visit::Leave(node.clone()?))?;
@@ -49,28 +44,39 @@ fn push_visits(graph: &[Triple], node: &Term, stack: &mut Vec<Visit>) -> Result<
             stack.push(Visit::Enter(rest.clone()?))?;
             Ok(())
         }
-        None => push_value(own, node, stack),
+        None => push_value(own, stack),
     }
 }
 
+// Marks the place, and says whether it is there and wasn't marked before.
+fn mark(entered: &mut [bool], place: usize) -> bool {
+    let Some(is_entered) = entered.get_mut(place) else {
+        return false;
+    };
+    let is_new = !*is_entered;
+    *is_entered = true;
+    is_new
+}
+
+// A node is marked at the place of its first triple. One that isn't found by the table of subjects isn't entered.
 fn enter(
-    graph: &[Triple],
+    graph: &IndexedGraph,
     node: Term,
-    entered: &mut BTreeSet<Term>,
+    entered: &mut [bool],
     stack: &mut Vec<Visit>,
 ) -> Result<(), AllocError>
     requires { IsAscending triple_cmp graph.now }
 {
-    if entered.insert(node.clone()?)? {
+    if mark(entered, graph.guess(&node)) {
         return push_visits(graph, &node, stack);
     }
     Ok(())
 }
 
 fn perform(
-    graph: &[Triple],
+    graph: &IndexedGraph,
     visit: Visit,
-    entered: &mut BTreeSet<Term>,
+    entered: &mut [bool],
     stack: &mut Vec<Visit>,
     nodes: &mut Sequence<Term>,
 ) -> Result<(), AllocError>
@@ -92,9 +98,9 @@ fn perform(
 // Adds what the node needs, as far as it hasn't been entered, and the node.
 fn descend(
     alloc: Global,
-    graph: &[Triple],
+    graph: &IndexedGraph,
     start: &Term,
-    entered: &mut BTreeSet<Term>,
+    entered: &mut [bool],
     nodes: &mut Sequence<Term>,
 ) -> Result<(), AllocError>
     requires { IsAscending triple_cmp graph.now }
@@ -113,15 +119,15 @@ fn descend(
 }
 
 /// The nodes of the graph, some of them more than once; each subject is among them.
-pub(crate) fn from_below(alloc: Global, graph: &[Triple]) -> Result<Sequence<Term>, AllocError>
+pub(crate) fn from_below(alloc: Global, graph: &IndexedGraph) -> Result<Sequence<Term>, AllocError>
     requires { IsAscending triple_cmp graph.now }
     ensures { IfOk result (λ nodes. (n : TermData) → IsSubject graph.now n → Contains nodes n) }
 {
-    let starts = subjects(alloc, graph)?;
-    let mut entered = BTreeSet::new(alloc);
+    let starts = subjects(alloc, graph.as_slice())?;
+    let mut entered = vec![in alloc; false; graph.len()]?;
     let mut nodes = Sequence::new(alloc);
     for node in starts.as_slice() {
-        descend(alloc, graph, node, &mut entered, &mut nodes)?;
+        descend(alloc, graph, node, entered.as_mut_slice(), &mut nodes)?;
     }
     Ok(nodes)
 }

@@ -9,6 +9,7 @@
 
 mod below;
 mod claim;
+mod graph;
 pub mod instance;
 mod known;
 pub mod list;
@@ -20,5 +21,6 @@ pub mod subjects;
 pub mod terms;
 mod way;
 
+pub use graph::IndexedGraph;
 pub use reading::{PathFault, read_path};
 pub use steps::modifies_path;

@@ -10,6 +10,7 @@ ghost use Rattle.shape_model.specs.Vocabulary.{rdf_first, rdf_nil, rdf_rest};
 ghost use Rattle.shape_model.specs.Triples.{HasNone, HasOnly};
 ghost use Rattle.shape_model.specs.ShapeSyntax.{IsCell, IsListEnd, ListOf};
 
+use crate::IndexedGraph;
 use crate::lookup::{triples_of, values};
 use crate::terms::{is_named, is_same};
 use collections::Sequence;
@@ -90,7 +91,7 @@ pub(crate) fn cell_of<'a>(own: &'a [Triple], node: &Term) -> Option<(&'a Term, &
 }
 
 /// The member and the rest of a cell, if the node is one.
-pub(crate) fn cell<'a>(graph: &'a [Triple], node: &Term) -> Option<(&'a Term, &'a Term)>
+pub(crate) fn cell<'a>(graph: &IndexedGraph<'a>, node: &Term) -> Option<(&'a Term, &'a Term)>
     requires { IsAscending triple_cmp graph.now }
     ensures { MatchOption result ((member : Term) (rest : Term) → IsCell graph.now node.now member rest → ⊥)
         (λ parts. IsCell graph.now node.now parts.0.now parts.1.now) }
@@ -123,7 +124,7 @@ fn is_rdf_nil(term: &Term) -> bool
 }
 
 // Whether the node has no member and no rest.
-fn has_neither(graph: &[Triple], node: &Term) -> bool
+fn has_neither(graph: &IndexedGraph, node: &Term) -> bool
     requires { IsAscending triple_cmp graph.now }
     ensures { IsTrue result ↔ (HasNone graph.now node.now rdf_first × HasNone graph.now node.now rdf_rest) }
 {
@@ -131,7 +132,7 @@ fn has_neither(graph: &[Triple], node: &Term) -> bool
     has_no_first(own, node) && has_no_rest(own, node)
 }
 
-pub(crate) fn is_list_end(graph: &[Triple], node: &Term) -> bool
+pub(crate) fn is_list_end(graph: &IndexedGraph, node: &Term) -> bool
     requires { IsAscending triple_cmp graph.now }
     ensures { IsTrue result ↔ IsListEnd graph.now node.now }
 {
@@ -142,7 +143,7 @@ pub(crate) fn is_list_end(graph: &[Triple], node: &Term) -> bool
 /// a node with several values of rdf:first or of rdf:rest or with one of them alone, or in a circle.
 pub fn list_members(
     alloc: Global,
-    graph: &[Triple],
+    graph: &IndexedGraph,
     head: &Term,
 ) -> Result<Option<Sequence<Term>>, AllocError>
     requires { IsAscending triple_cmp graph.now }

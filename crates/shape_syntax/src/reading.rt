@@ -11,6 +11,7 @@ ghost use Rattle.shape_syntax.specs.PathNodes.{ArePathNodes, IsPath};
 ghost use Rattle.shape_syntax.specs.PathDepth.{IsDeep, IsRead, IsTooDeep};
 ghost use Rattle.shape_syntax.specs.PathWays.{AreDeep, AreRead, AreReadPaths, IsPathList, joined, modified};
 
+use crate::IndexedGraph;
 use crate::list::list_members;
 use crate::paths::is_path;
 use crate::steps::only_triple;
@@ -50,7 +51,7 @@ impl From<AllocError> for PathFault {
 #[cycle(reading)]
 fn read_at(
     alloc: Global,
-    graph: &[Triple],
+    graph: &IndexedGraph,
     node: &Term,
     levels: usize,
 ) -> Result<Option<Path<Term>>, AllocError>
@@ -72,7 +73,7 @@ fn read_at(
 #[cycle(reading)]
 fn read_below(
     alloc: Global,
-    graph: &[Triple],
+    graph: &IndexedGraph,
     node: &Term,
     levels: usize,
 ) -> Result<Option<Path<Term>>, AllocError>
@@ -95,7 +96,7 @@ fn read_below(
 #[cycle(reading)]
 fn read_modified(
     alloc: Global,
-    graph: &[Triple],
+    graph: &IndexedGraph,
     modifier: PathModifier,
     inner: &Term,
     levels: usize,
@@ -115,7 +116,7 @@ fn read_modified(
 #[cycle(reading)]
 fn read_list(
     alloc: Global,
-    graph: &[Triple],
+    graph: &IndexedGraph,
     join: Join,
     head: &Term,
     levels: usize,
@@ -141,7 +142,7 @@ fn read_list(
 #[cycle(reading)]
 fn read_each(
     alloc: Global,
-    graph: &[Triple],
+    graph: &IndexedGraph,
     nodes: &[Term],
     levels: usize,
 ) -> Result<Option<Vec<Path<Term>>>, AllocError>
@@ -166,7 +167,7 @@ fn read_each(
 /// Errors: `NotPath` where the node stands for no path, `TooDeep` where it stands for one that is deeper than 256.
 pub fn read_path(
     alloc: Global,
-    graph: &[Triple],
+    graph: &IndexedGraph,
     nodes: &BTreeSet<Term>,
     node: &Term,
 ) -> Result<Path<Term>, PathFault>

@@ -10,6 +10,7 @@ ghost use Rattle.shape_model.specs.ShapeSyntax.{IsListEnd};
 ghost use Rattle.shape_model.specs.Vocabulary.{sh};
 ghost use Rattle.shape_syntax.specs.PathSteps.{IsAlone, IsKnown, IsSeveral, LeadsOn, Shows, ShowsList, ShowsPath, ModifiesPath};
 
+use crate::IndexedGraph;
 use crate::claim::Claim;
 use crate::known::KnownClaims;
 use crate::list::{cell, is_list_end};
@@ -41,7 +42,7 @@ fn is_more_said(found: &[Triple], first: &Triple) -> bool
 }
 
 /// The triple of which the node is the subject, if there is one alone.
-pub(crate) fn only_triple<'a>(graph: &'a [Triple], node: &Term) -> Option<&'a Triple>
+pub(crate) fn only_triple<'a>(graph: &IndexedGraph<'a>, node: &Term) -> Option<&'a Triple>
     requires { IsAscending triple_cmp graph.now }
     ensures { MatchOption result ((p v : TermData) → IsAlone graph.now node.now p v → ⊥)
         (λ t. IsAlone graph.now node.now t.now.predicate t.now.object) }
@@ -77,7 +78,7 @@ fn is_alternative(predicate: &Term) -> bool
     is_named(predicate, SH_ALTERNATIVE_PATH)
 }
 
-fn shows_several(graph: &[Triple], known: &KnownClaims, node: &Term) -> bool
+fn shows_several(graph: &IndexedGraph, known: &KnownClaims, node: &Term) -> bool
     requires { IsAscending triple_cmp graph.now }
     ensures { IsTrue result ↔ IsSeveral graph.now known.now.paths.keys known.now.lists.keys node.now }
 {
@@ -87,21 +88,21 @@ fn shows_several(graph: &[Triple], known: &KnownClaims, node: &Term) -> bool
     }
 }
 
-fn ends_or_goes_on(graph: &[Triple], known: &KnownClaims, rest: &Term) -> bool
+fn ends_or_goes_on(graph: &IndexedGraph, known: &KnownClaims, rest: &Term) -> bool
     requires { IsAscending triple_cmp graph.now }
     ensures { IsTrue result ↔ (IsListEnd graph.now rest.now ⊎ Contains known.now.lists.keys rest.now) }
 {
     is_list_end(graph, rest) || known.has_list(rest)
 }
 
-fn is_path_list(graph: &[Triple], known: &KnownClaims, first: &Term, rest: &Term) -> bool
+fn is_path_list(graph: &IndexedGraph, known: &KnownClaims, first: &Term, rest: &Term) -> bool
     requires { IsAscending triple_cmp graph.now }
     ensures { IsTrue result ↔ (IsKnown known.now.paths.keys first.now × (IsListEnd graph.now rest.now ⊎ Contains known.now.lists.keys rest.now)) }
 {
     known.has_path(first) && ends_or_goes_on(graph, known, rest)
 }
 
-fn shows_list(graph: &[Triple], known: &KnownClaims, node: &Term) -> bool
+fn shows_list(graph: &IndexedGraph, known: &KnownClaims, node: &Term) -> bool
     requires { IsAscending triple_cmp graph.now }
     ensures { IsTrue result ↔ ShowsList graph.now known.now.paths.keys known.now.lists.keys node.now }
 {
@@ -117,7 +118,7 @@ fn modifies_known(known: &KnownClaims, triple: &Triple) -> bool
     modifies_path(&triple.predicate) && known.has_path(&triple.object)
 }
 
-fn offers_several(graph: &[Triple], known: &KnownClaims, triple: &Triple) -> bool
+fn offers_several(graph: &IndexedGraph, known: &KnownClaims, triple: &Triple) -> bool
     requires { IsAscending triple_cmp graph.now }
     ensures { IsTrue result ↔ ((triple.now.predicate ≡ sh (codes "alternativePath"))
         × IsSeveral graph.now known.now.paths.keys known.now.lists.keys triple.now.object) }
@@ -125,14 +126,14 @@ fn offers_several(graph: &[Triple], known: &KnownClaims, triple: &Triple) -> boo
     is_alternative(&triple.predicate) && shows_several(graph, known, &triple.object)
 }
 
-fn leads_on(graph: &[Triple], known: &KnownClaims, triple: &Triple) -> bool
+fn leads_on(graph: &IndexedGraph, known: &KnownClaims, triple: &Triple) -> bool
     requires { IsAscending triple_cmp graph.now }
     ensures { IsTrue result ↔ LeadsOn graph.now known.now.paths.keys known.now.lists.keys triple.now.predicate triple.now.object }
 {
     modifies_known(known, triple) || offers_several(graph, known, triple)
 }
 
-fn alone_leads_on(graph: &[Triple], known: &KnownClaims, node: &Term) -> bool
+fn alone_leads_on(graph: &IndexedGraph, known: &KnownClaims, node: &Term) -> bool
     requires { IsAscending triple_cmp graph.now }
     ensures { IsTrue result ↔ ((p : TermData) × (m : TermData) × IsAlone graph.now node.now p m
         × LeadsOn graph.now known.now.paths.keys known.now.lists.keys p m) }
@@ -143,14 +144,14 @@ fn alone_leads_on(graph: &[Triple], known: &KnownClaims, node: &Term) -> bool
     }
 }
 
-fn shows_path(graph: &[Triple], known: &KnownClaims, node: &Term) -> bool
+fn shows_path(graph: &IndexedGraph, known: &KnownClaims, node: &Term) -> bool
     requires { IsAscending triple_cmp graph.now }
     ensures { IsTrue result ↔ ShowsPath graph.now known.now.paths.keys known.now.lists.keys node.now }
 {
     shows_several(graph, known, node) || alone_leads_on(graph, known, node)
 }
 
-fn shows_blank_path(graph: &[Triple], known: &KnownClaims, node: &Term) -> bool
+fn shows_blank_path(graph: &IndexedGraph, known: &KnownClaims, node: &Term) -> bool
     requires { IsAscending triple_cmp graph.now }
     ensures { IsTrue result ↔ (IsBlank node.now × ShowsPath graph.now known.now.paths.keys known.now.lists.keys node.now) }
 {
@@ -158,7 +159,7 @@ fn shows_blank_path(graph: &[Triple], known: &KnownClaims, node: &Term) -> bool
 }
 
 /// Whether what is known shows what is asked of the node.
-pub(crate) fn is_shown(graph: &[Triple], known: &KnownClaims, claim: &Claim) -> bool
+pub(crate) fn is_shown(graph: &IndexedGraph, known: &KnownClaims, claim: &Claim) -> bool
     requires { IsAscending triple_cmp graph.now }
     ensures { IsTrue result ↔ Shows graph.now known.now.paths.keys known.now.lists.keys claim.now }
 {

@@ -18,7 +18,7 @@ fn is_last(nodes: &[Term], node: &Term) -> bool
     }
 }
 
-/// Adds the node, unless it was added last.
+/// Adds the node. It isn't added again where it was added last: that isn't ensured, as it saves time and no more.
 pub fn push_unless_last(node: &Term, nodes: &mut Sequence<Term>) -> Result<(), AllocError>
     ensures { OnOk result ((n : TermData) → Contains nodes.new n ↔ (Contains nodes.old n ⊎ (node.now ≡ n))) }
 {
@@ -29,7 +29,7 @@ pub fn push_unless_last(node: &Term, nodes: &mut Sequence<Term>) -> Result<(), A
     Ok(())
 }
 
-/// The subjects of the graph, in its order; each stands once where the graph ascends.
+/// The subjects of the graph. How often each stands isn't ensured, nor is their order.
 pub fn subjects(alloc: Global, graph: &[Triple]) -> Result<Sequence<Term>, AllocError>
     ensures { IfOk result (λ nodes. (n : TermData) → Contains nodes n ↔ IsSubject graph.now n) }
 {

@@ -3,7 +3,7 @@ use crate::short_forms::term;
 use collections::sorted_once;
 use rdf_model::{Term, Triple};
 use shape_syntax::paths::path_nodes;
-use shape_syntax::{PathFault, read_path};
+use shape_syntax::{IndexedGraph, PathFault, read_path};
 use std::alloc::{AllocError, Global};
 use std::process::Abort;
 use std::test::Fail;
@@ -32,13 +32,13 @@ fn chain(alloc: Global, length: u32, end: &str) -> Result<Vec<Triple>, AllocErro
 // What is read at the first node of a graph.
 fn outcome(alloc: Global, graph: Vec<Triple>) -> Result<&'static str, AllocError> {
     let sorted = sorted_once(graph)?;
-    let triples = sorted.as_slice();
-    let nodes = path_nodes(alloc, triples)?;
+    let indexed = IndexedGraph::new(alloc, sorted.as_slice())?;
+    let nodes = path_nodes(alloc, &indexed)?;
     let first = Term::Blank {
         session: 1,
         number: 1,
     };
-    match read_path(alloc, triples, &nodes, &first) {
+    match read_path(alloc, &indexed, &nodes, &first) {
         Ok(_) => Ok("read"),
         Err(PathFault::NotPath) => Ok("no path"),
         Err(PathFault::TooDeep) => Ok("too deep"),

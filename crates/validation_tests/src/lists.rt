@@ -6,6 +6,7 @@ use crate::short_forms::{graph_of_line, term};
 use collections::sorted_once;
 use rdf_model::Triple;
 use shape_model::count_of;
+use shape_syntax::IndexedGraph;
 use shape_syntax::instance::classes_of;
 use shape_syntax::list::list_members;
 use std::alloc::{AllocError, Global};
@@ -53,7 +54,8 @@ fn length_at(alloc: Global, triples: &[Triple], short: &str) -> Result<Option<us
     requires { IsAscending triple_cmp triples.now }
 {
     let head = term(alloc, short)?;
-    match list_members(alloc, triples, &head)? {
+    let graph = IndexedGraph::new(alloc, triples)?;
+    match list_members(alloc, &graph, &head)? {
         Some(members) => Ok(Some(members.len())),
         None => Ok(None),
     }
@@ -62,7 +64,8 @@ fn length_at(alloc: Global, triples: &[Triple], short: &str) -> Result<Option<us
 fn is_of_class(alloc: Global, triples: &[Triple], short: &str) -> Result<bool, AllocError>
     requires { IsAscending triple_cmp triples.now }
 {
-    let classes = classes_of(alloc, triples, &term(alloc, "e:x")?)?;
+    let graph = IndexedGraph::new(alloc, triples)?;
+    let classes = classes_of(alloc, &graph, &term(alloc, "e:x")?)?;
     let class = term(alloc, short)?;
     Ok(classes.as_slice().iter().any(|found| *found == class))
 }

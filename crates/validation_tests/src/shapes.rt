@@ -6,6 +6,7 @@ use crate::short_forms::{graph_of_line, term};
 use collections::sorted_once;
 use rdf_model::{Term, Triple};
 use shape_properties::{is_shape, params};
+use shape_syntax::IndexedGraph;
 use std::alloc::{AllocError, Global};
 use std::test::Fail;
 
@@ -31,13 +32,14 @@ _1 => none";
 fn told(alloc: Global, triples: &[Triple], node: &Term) -> Result<String, AllocError>
     requires { IsAscending triple_cmp triples.now }
 {
-    let kind = if is_shape(alloc, triples, node)? {
+    let graph = IndexedGraph::new(alloc, triples)?;
+    let kind = if is_shape(alloc, &graph, node)? {
         "shape"
     } else {
         "none"
     };
     let mut text = String::from_str(alloc, kind)?;
-    let found = params(alloc, triples, node)?;
+    let found = params(alloc, &graph, node)?;
     for param in &found {
         write!(text, " {} {}", param.0, param.1)?;
     }

@@ -1,6 +1,7 @@
-use Rattle.std.proofs.Common.{take}
-use Rattle.reference_totals.specs.Numbers.{AreIndices, HaveNumbers}
+use Rattle.std.proofs.Common.{◌-◌, length}
+use Rattle.reference_totals.specs.Numbers.{AreIndices}
+use Rattle.reference_totals.proofs.Numbered.{HaveNumbersFrom}
 use Rattle.reference_totals.proofs.numbers.numbers_of.Given as goal
 
-abbrev pub invariant-loop-index : goal.invariant-loop-index
-invariant-loop-index l = AreIndices l.places l.numbers × HaveNumbers (take l.index l.places) l.numbers
+abbrev pub invariant-loop-count : goal.invariant-loop-count
+invariant-loop-count l = AreIndices l.places l.numbers × HaveNumbersFrom (length l.places - l.count) l.places l.numbers

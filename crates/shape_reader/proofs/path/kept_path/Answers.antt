@@ -1,6 +1,6 @@
 use Rattle.std.proofs.Common.{refl}
 use Rattle.shape_properties.specs.declared.property.ShapeProperty.TheVariants as vocabulary
-use Rattle.shape_reader.proofs.WellFormed.{one_value}
+use Rattle.shape_rules.proofs.SingleValues.{one_value}
 use Rattle.shape_reader.proofs.path.kept_path.Goals as goal
 
 pub predicate_of-requires-clause-one : goal.predicate_of-requires-clause-one

@@ -1,7 +1,7 @@
 use Rattle.std.proofs.Common.{refl}
 use Rattle.shape_properties.specs.declared.property.ShapeProperty.TheVariants as vocabulary
 use Rattle.shape_reader.proofs.Assembled.{assembles}
-use Rattle.shape_reader.proofs.WellFormed.{one_value}
+use Rattle.shape_rules.proofs.SingleValues.{one_value}
 use Rattle.shape_reader.proofs.shape.assembled.Goals as goal
 
 pub qualified_of-requires-clause-one : goal.qualified_of-requires-clause-one

@@ -2,7 +2,8 @@ use Rattle.std.proofs.Common.{refl}
 use Rattle.std.proofs.lemmas.Result.{err_from_is_err_and}
 use Rattle.shape_properties.specs.declared.property.ShapeProperty.TheVariants as vocabulary
 use Rattle.shape_reader.proofs.Requests.{any_maybe}
-use Rattle.shape_reader.proofs.WellFormed.{flags_texts, one_value, pattern_texts}
+use Rattle.shape_reader.proofs.WellFormed.{flags_texts, pattern_texts}
+use Rattle.shape_rules.proofs.SingleValues.{one_value}
 use Rattle.shape_reader.proofs.shape.compile_shape.Goals as goal
 
 pub is_deactivated-off-requires-clause-one : goal.is_deactivated-off-requires-clause-one

@@ -1,5 +1,4 @@
 use Rattle.std.proofs.Common.{List, subst, sym}
-use Rattle.std.proofs.lemmas.Result.{err_from_is_err_and}
 use Rattle.collections.specs.Listings.{IsListing}
 use Rattle.rdf_model.specs.declared.term.Term.{Term}
 use Rattle.rdf_model.specs.Terms.{term_cmp}
@@ -8,7 +7,6 @@ use Rattle.shape_model.specs.ShapeSyntax.{IsShape}
 use Rattle.shape_properties.specs.Syntax.{IsShape as IsRuleShape}
 use Rattle.shape_reader.proofs.Collected.{as_many, stand_for}
 use Rattle.shape_properties.proofs.Defined.{shape_same}
-use Rattle.shape_reader.proofs.Requests.{asks_nothing}
 use Rattle.shape_reader.proofs.shapes.compile_of.Goals as goal
 
 pub compile_nodes-requires-clause-nodes : goal.compile_nodes-requires-clause-nodes
@@ -16,6 +14,9 @@ compile_nodes-requires-clause-nodes g c =
     let s = c.args.graph.now in
     subst (λ (ns : List Term). IsListing term_cmp (IsShape s) ns) (sym c.as_slice-2.ensures.value)
     (listing_same term_cmp (IsRuleShape s) (IsShape s) (shape_same s) c.args.survey.now.shapes.items c.requires.survey.shapes)
+
+pub compile_nodes-requires-clause-reversed : goal.compile_nodes-requires-clause-reversed
+compile_nodes-requires-clause-reversed g c = rw c.as_slice.ensures.value c.requires.survey.reversed
 
 pub returns-clause-answer : goal.returns-clause-answer
 returns-clause-answer g c =
@@ -28,7 +29,3 @@ returns-clause-answer g c =
 
 pub returns-clause-once : goal.returns-clause-once
 returns-clause-once g c = c.in_ok-shapes.ensures.answer.0.once
-
-pub returns-in_err-reversed-clause-asked : goal.returns-in_err-reversed-clause-asked
-returns-in_err-reversed-clause-asked g c =
-    let p = err_from_is_err_and c.from_residual.result c.from_residual.ensures.1 in rw (p.1, p.2) (asks_nothing c.args.graph.now (g.M.Maker.asked c.args.maker.now))

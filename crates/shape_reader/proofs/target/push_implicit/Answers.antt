@@ -1,5 +1,5 @@
 use Rattle.shape_ast.specs.declared.target.Target.TheVariants.{ImplicitClass}
-use Rattle.shape_reader.proofs.Distinct.{distinct_push}
+use Rattle.shape_ast.proofs.Distinct.{distinct_push}
 use Rattle.shape_reader.proofs.target.push_implicit.Goals as goal
 
 pub returns-then-class-clause-once : goal.returns-then-class-clause-once

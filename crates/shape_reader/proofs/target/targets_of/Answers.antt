@@ -3,7 +3,7 @@ use Rattle.rdf_model.specs.Terms.{triple_cmp}
 use Rattle.rdf_model.specs.Orders.{triple_total}
 use Rattle.shape_ast.specs.declared.target.Target.TheVariants.{ImplicitClass}
 use Rattle.shape_ast.specs.Once.{target_triple}
-use Rattle.shape_reader.proofs.Distinct.{distinct_mapped}
+use Rattle.shape_ast.proofs.Distinct.{distinct_mapped}
 use Rattle.shape_reader.proofs.Told.{declared}
 use Rattle.shape_reader.proofs.target.targets_of.Goals as goal
 

@@ -1,5 +1,6 @@
 use Rattle.std.proofs.Common.{◌∙◌, refl, sym, subst}
 use Rattle.rdf_model.specs.declared.term.Term.{Term}
+use Rattle.shape_syntax.proofs.Own.{own_has}
 use Rattle.shape_syntax.proofs.Values.{value_of}
 use Rattle.shape_properties.specs.Properties.{property_iri}
 use Rattle.shape_properties.specs.Syntax.{HasProperty}
@@ -8,11 +9,15 @@ use Rattle.shape_reader.proofs.values.all_values.Goals as goal
 pub returns : goal.returns
 returns c = λ v.
     let s = c.args.graph.now in
+    let own = c.args.own.now in
     let n = c.args.node.now in
     let p = property_iri c.args.property in (
       λ h.
           let g = (c.in_ok-found.ensures v).0 h in
           let t = (c.values.ensures g.0).0 g.1 in
-          subst (λ (u : Term). HasProperty s n c.args.property u) g.2 (value_of s n p g.0 (t.0, t.1.0, t.1.1 ∙ c.iri.ensures)),
-      λ h. (c.in_ok-found.ensures v).1 (record { subject = n; predicate = p; object = v }, (c.values.ensures (record { subject = n; predicate = p; object = v })).1 (h, (refl, sym c.iri.ensures)), refl),
+          let there = (own_has s own n c.requires.members p g.0.object).0 (value_of own n p g.0 (t.0, t.1.0, t.1.1 ∙ c.iri.ensures)) in
+          subst (λ (u : Term). HasProperty s n c.args.property u) g.2 there,
+      λ h.
+          let there = (own_has s own n c.requires.members p v).1 h in
+          (c.in_ok-found.ensures v).1 (record { subject = n; predicate = p; object = v }, (c.values.ensures (record { subject = n; predicate = p; object = v })).1 (there, (refl, sym c.iri.ensures)), refl),
     )

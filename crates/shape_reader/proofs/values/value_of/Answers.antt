@@ -1,5 +1,6 @@
 use Rattle.std.proofs.Common.{◌∙◌, refl, sym}
 use Rattle.shape_syntax.proofs.Items.{get_in}
+use Rattle.shape_syntax.proofs.Own.{own_has}
 use Rattle.shape_syntax.proofs.Values.{value_of}
 use Rattle.shape_properties.specs.Properties.{property_iri}
 use Rattle.shape_syntax.proofs.Loops.{none_first}
@@ -7,8 +8,16 @@ use Rattle.shape_reader.proofs.values.value_of.Goals as goal
 
 pub returns-in-Some : goal.returns-in-Some
 returns-in-Some c =
-    let first = (c.values.ensures c.in-Some.triple.now).0 (get_in c.values.result.now 0 c.in-Some.triple.now (sym c.in-Some.ensures.value)) in
-    value_of c.args.graph.now c.args.node.now (property_iri c.args.property) c.in-Some.triple.now (first.0, first.1.0, first.1.1 ∙ c.iri.ensures)
+    let own = c.args.own.now in
+    let n = c.args.node.now in
+    let p = property_iri c.args.property in
+    let t = c.in-Some.triple.now in
+    let first = (c.values.ensures t).0 (get_in c.values.result.now 0 t (sym c.in-Some.ensures.value)) in
+    (own_has c.args.graph.now own n c.requires.members p t.object).0 (value_of own n p t (first.0, first.1.0, first.1.1 ∙ c.iri.ensures))
 
 pub returns-in-None : goal.returns-in-None
-returns-in-None c = λ v h. none_first c.values.result.now (sym c.in-None.ensures.value) (record { subject = c.args.node.now; predicate = property_iri c.args.property; object = v }) ((c.values.ensures _).1 (h, (refl, sym c.iri.ensures)))
+returns-in-None c = λ v h.
+    let n = c.args.node.now in
+    let p = property_iri c.args.property in
+    let there = (own_has c.args.graph.now c.args.own.now n c.requires.members p v).1 h in
+    none_first c.values.result.now (sym c.in-None.ensures.value) (record { subject = n; predicate = p; object = v }) ((c.values.ensures _).1 (there, (refl, sym c.iri.ensures)))

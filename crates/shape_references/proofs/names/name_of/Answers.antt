@@ -1,4 +1,3 @@
-use Rattle.std.proofs.Common.{◌∙◌, refl}
 use Rattle.shape_references.proofs.BoundNames.{absent, present}
 use Rattle.shape_references.proofs.names.name_of.Goals as goal
 

@@ -1,11 +1,7 @@
-use Rattle.std.proofs.Common.{List, inl, inr, sym, subst}
+use Rattle.std.proofs.Common.{inl, inr}
 use Rattle.std.specs.Prelude.{◌⊎◌, ◌↔◌}
 use Rattle.shape_rules.specs.declared.rule_row.RuleRow.{RuleRow}
 use Rattle.shape_rules.specs.Broken.{LooksRow, SizeRow}
-use Rattle.collections.specs.Listings.{IsListing}
-use Rattle.rdf_model.specs.declared.term.Term.{Term}
-use Rattle.rdf_model.specs.Terms.{term_cmp}
-use Rattle.shape_properties.specs.Syntax.{IsShape}
 use Rattle.shape_rules.specs.Steps.{IsDeepRow, IsLimitRow}
 use Rattle.shape_rules.proofs.LeastRows.{have_as, have_more}
 use Rattle.shape_rules.proofs.least.limit_rows.Goals as goal
@@ -15,9 +11,6 @@ three A B C = (
   λ h. elim h [ inl k ↦ elim k [ inl a ↦ inl a | inr b ↦ inr (inl b) ] | inr c ↦ inr (inr c) ],
   λ h. elim h [ inl a ↦ inl (inl a) | inr k ↦ elim k [ inl b ↦ inl (inr b) | inr c ↦ inr c ] ],
 )
-
-pub push_size_rows-requires-clause-shapes : goal.push_size_rows-requires-clause-shapes
-push_size_rows-requires-clause-shapes c = subst (λ (ns : List Term). IsListing term_cmp (IsShape c.args.graph.now) ns) (sym c.as_slice.ensures.value) c.requires.survey.shapes
 
 pub returns : goal.returns
 returns c =

@@ -4,4 +4,4 @@ use Rattle.shape_sizes.proofs.PathPlaces.{IsPathValueOf}
 use Rattle.shape_sizes.proofs.path_looks.path_values.Given as goal
 
 abbrev pub invariant-loop-triple : goal.invariant-loop-triple
-invariant-loop-triple l = HasGathered IsPathValueOf (take l.triple-index l.graph) [] l.nodes
+invariant-loop-triple l = HasGathered IsPathValueOf (take l.triple-index l.triple-items) [] l.nodes

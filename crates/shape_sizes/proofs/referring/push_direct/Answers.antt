@@ -1,4 +1,4 @@
-use Rattle.std.proofs.Common.{◌≡◌, List, [], ◌∷◌, sym, subst, arith, refl, inl, inr}
+use Rattle.std.proofs.Common.{List, subst, arith}
 use Rattle.std.specs.List.{Contains}
 use Rattle.rdf_model.specs.declared.term.Term.{Term}
 use Rattle.shape_references.proofs.BoundSteps.{bound_as, bound_none, bound_push, in_new}

@@ -1,15 +1,13 @@
-use Rattle.std.proofs.Common.{◌≡◌, [], refl, arith}
-use Rattle.rdf_model.specs.declared.term.Term.{Term}
-use Rattle.shape_syntax.specs.declared.claim.Claim.{Claim}
+use Rattle.std.proofs.Common.{arith, inl, inr}
 use Rattle.shape_syntax.specs.PathSteps.{node_of}
-use Rattle.shape_syntax.proofs.Loops.{gathered_none, gathered_next, gathered_all, from_none}
+use Rattle.shape_syntax.proofs.Scans.{cases_more, in_all}
 use Rattle.shape_syntax.proofs.paths.claims_of.Goals as goal
 
-pub loop-node-init : goal.loop-node-init
-loop-node-init c = rw c.new-claims.ensures (gathered_none (λ (n : Term) (d : Claim). n ≡ node_of d) c.args.nodes.now [])
-
 pub loop-node-preserved : goal.loop-node-preserved
-loop-node-preserved c = gathered_next (λ (n : Term) (d : Claim). n ≡ node_of d) c.args.nodes.now c.loop-node.node-index c.node-item.result [] c.loop-node.claims c.push_claims.new.claims (omega arith) c.node-item.is c.loop-node.invariant c.in_ok-push_claims.ensures
+loop-node-preserved c = λ d there may. elim (cases_more c.args.nodes.now c.loop-node.node-index c.node-item.result (omega arith) c.node-item.is (node_of d) there) [
+  | inl old ↦ c.in_ok-push_claims.ensures.kept d (c.loop-node.invariant d old may)
+  | inr e ↦ c.in_ok-push_claims.ensures.new d e may
+]
 
 pub returns : goal.returns
-returns c = λ d there. (from_none (λ (n : Term) (e : Claim). n ≡ node_of e) c.args.nodes.now c.loop-node.claims (gathered_all (λ (n : Term) (e : Claim). n ≡ node_of e) c.args.nodes.now c.loop-node.node-index [] c.loop-node.claims (omega arith) c.loop-node.invariant) d).1 (node_of d, there, refl)
+returns c = λ d there may. c.loop-node.invariant d (in_all c.args.nodes.now c.loop-node.node-index (omega arith) (node_of d) there) may
