@@ -93,7 +93,8 @@ impl<'a> Case<'a> {
     }
 
     pub(crate) fn parameter(&self) -> u32
-        ensures { result ≡ self.now.parameter }
+        ensures value { result ≡ self.now.parameter }
+        ensures named { result < length self.now.names }
     {
         self.parameter
     }

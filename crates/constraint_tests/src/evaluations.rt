@@ -15,7 +15,7 @@ use collections::Sequence;
 use path_eval::ClassWords;
 use rdf_model::{Footprint, ListGraph, ListNames, Names, Term};
 use shape_ast::{Bound, Constraint, Shape, Shapes, TermComponent, bind};
-use shape_eval::{Evaluation, Steps, eval, permit};
+use shape_eval::{Evaluation, Matchers, Steps, eval, permit};
 use shape_model::ResultRow;
 use std::alloc::{AllocError, Global};
 use std::marker::Brand;
@@ -179,7 +179,15 @@ fn results<L: Ledger>(
     let mut footprint = Footprint::new(alloc);
     let allowed = permit(&mut steps);
     let evaluation = Evaluation::new(alloc, graph, names, words, bound);
-    eval(&evaluation, 0, focus, &mut footprint, allowed)
+    let mut matchers = Matchers::new(alloc);
+    eval(
+        &evaluation,
+        0,
+        focus,
+        &mut footprint,
+        &mut matchers,
+        allowed,
+    )
 }
 
 // The parameters of the results as they stand, with blanks between them.

@@ -1,17 +1,20 @@
 //! Components of strings: lengths, languages and patterns.
-ghost use Rattle.std.specs.Prelude.{◌<◌, length};
+ghost use Rattle.std.specs.Prelude.{◌≡◌, ◌<◌, length, option_map};
 ghost use Rattle.std.specs.List.{Contains};
+ghost use Rattle.literal_order.specs.Texts.{string_value};
+ghost use Rattle.rdf_model.specs.Numbers.{term_at};
+ghost use Rattle.shape_model.specs.Patterns.{IsPatternOf};
 
 use crate::case::{Case, site_of};
 use crate::tables::{Calls, assert_table};
-use component_rows::Site;
+use component_rows::{Site, named};
 use outside::{MakeFault, Maker, RegexMaker};
-use rdf_model::{ListNames, Names};
+use rdf_model::ListNames;
 use regex::Regex;
 use shape_model::ResultRow;
 use std::alloc::{AllocError, Global};
 use std::process::Abort;
-use string_constraints::{language_in, max_length, min_length, pattern, unique_lang};
+use string_constraints::{Matchers, language_in, max_length, min_length, pattern, unique_lang};
 
 // Lengths equal to the bound, of characters of more bytes than one, of IRIs and of ill-typed literals; bounds of
 // other types, which forbid no length.
@@ -94,20 +97,23 @@ fn lengths_and_languages(rt: HostRuntime) -> Result<(), AllocError> {
     Ok(())
 }
 
-// The text of the parameter.
-fn pattern_of<'a>(case: &'a Case<'_>) -> &'a str {
-    match case.names().term(case.parameter()) {
-        Some(term) => literal_order::str(term).unwrap_or(""),
-        None => "",
-    }
+// The text of the parameter, if it has one.
+fn pattern_of<'a>(case: &'a Case<'_>) -> Option<&'a str>
+    ensures { option_map (λ text. text.now) result ≡ string_value (term_at case.now.names case.now.parameter) }
+{
+    literal_order::str(named(case.names(), case.parameter()))
 }
 
 fn rows_of_regex(
     alloc: Global,
     case: &Case<'_>,
     regex: &Regex,
-) -> Result<Vec<ResultRow>, AllocError> {
-    pattern(&site_of(alloc, case), regex)
+    flags: &str,
+) -> Result<Vec<ResultRow>, AllocError>
+    requires { IsPatternOf (term_at case.now.names case.now.parameter) flags.now regex.now }
+{
+    let mut matchers = Matchers::new(alloc);
+    pattern(&site_of(alloc, case), regex, flags, &mut matchers)
 }
 
 // The flags are what a row has for other terms.
@@ -118,8 +124,11 @@ pub(crate) fn pattern_rows(
     line: &str,
 ) -> Result<Vec<ResultRow>, AllocError> {
     let flags = line.split(';').nth(3).unwrap_or("").trim();
-    match RegexMaker::new(alloc).build(alloc, pattern_of(case), flags) {
-        Ok(regex) => rows_of_regex(alloc, case, &regex),
+    let Some(text) = pattern_of(case) else {
+        panic!(rt; "{line}")
+    };
+    match RegexMaker::new(alloc).build(alloc, text, flags) {
+        Ok(regex) => rows_of_regex(alloc, case, &regex, flags),
         Err(MakeFault::Refused) => panic!(rt; "{line}"),
         Err(MakeFault::Memory) => Err(AllocError),
     }

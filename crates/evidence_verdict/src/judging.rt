@@ -20,7 +20,7 @@ use crate::lookup::place_of;
 use evidence_blocks::Block;
 use rdf_model::{Footprint, Names, Triples};
 use result_evidence::listed_looks;
-use shape_eval::{Evaluation, Steps, eval, permit};
+use shape_eval::{Evaluation, Matchers, Steps, eval, permit};
 use shape_model::ResultRow;
 use std::alloc::AllocError;
 use std::sync::ledger::Ledger;
@@ -53,7 +53,8 @@ fn gives<R: Triples, N: Names, L: Ledger>(
     let (graph, words, bound) = (evaluation.graph(), evaluation.words(), evaluation.bound());
     let is_target = is_target(evaluation.alloc(), graph, words, bound, place, focus, looks)?;
     let allowed = permit(steps);
-    let rows = eval(evaluation, place, focus, looks, allowed)?;
+    let mut matchers = Matchers::new(evaluation.alloc());
+    let rows = eval(evaluation, place, focus, looks, &mut matchers, allowed)?;
     let is_row = has_row(rows.as_slice(), row);
     Ok(is_target && is_row)
 }

@@ -15,7 +15,7 @@ use parallel_validate::targets_of;
 use path_eval::ClassWords;
 use rdf_model::{Footprint, Names, Triples};
 use shape_ast::Bound;
-use shape_eval::{Evaluation, Permit, Steps, eval, permit};
+use shape_eval::{Evaluation, Matchers, Permit, Steps, eval, permit};
 use shape_model::ResultRow;
 use std::alloc::{AllocError, Global};
 use std::sync::ledger::Ledger;
@@ -38,11 +38,12 @@ fn with_pair(
 }
 
 // The results of a shape at a focus node. How they were found is not kept.
-fn rows_at_node<R: Triples, N: Names>(
-    evaluation: &Evaluation<'_, R, N>,
+fn rows_at_node<'a, R: Triples, N: Names>(
+    evaluation: &Evaluation<'a, R, N>,
     shape: usize,
     node: u32,
     focus: u32,
+    matchers: &mut Matchers<'a>,
     allowed: Permit,
 ) -> Result<Vec<KeptRow>, AllocError>
     requires shape { shape < length evaluation.now.shapes }
@@ -53,7 +54,7 @@ fn rows_at_node<R: Triples, N: Names>(
     evaluation.recall();
     let alloc = evaluation.alloc();
     let mut looks = Footprint::new(alloc);
-    let rows = eval(evaluation, shape, focus, &mut looks, allowed)?;
+    let rows = eval(evaluation, shape, focus, &mut looks, matchers, allowed)?;
     Ok(with_pair(alloc, node, focus, rows)?)
 }
 
@@ -73,9 +74,10 @@ fn rows_at<R: Triples, N: Names, L: Ledger>(
     ensures counted { steps.old ≤ steps.new }
 {
     let mut rows = Vec::new(evaluation.alloc());
+    let mut matchers = Matchers::new(evaluation.alloc());
     for focus in nodes {
         let allowed = permit(steps);
-        let mut more = rows_at_node(evaluation, shape, node, *focus, allowed)?;
+        let mut more = rows_at_node(evaluation, shape, node, *focus, &mut matchers, allowed)?;
         rows.append(&mut more)?;
     }
     Ok(rows)

@@ -14,17 +14,18 @@ use collections::sorted_once;
 use path_eval::ClassWords;
 use rdf_model::{Footprint, Names, Triples};
 use shape_ast::Bound;
-use shape_eval::{Evaluation, Permit, Steps, eval, permit};
+use shape_eval::{Evaluation, Matchers, Permit, Steps, eval, permit};
 use shape_model::ResultRow;
 use std::alloc::{AllocError, Global};
 use std::sync::ledger::Ledger;
 use target_nodes::targets;
 
 // The results of a shape at a focus node. How they were found is not kept.
-fn rows_at_node<R: Triples, N: Names>(
-    evaluation: &Evaluation<'_, R, N>,
+fn rows_at_node<'a, R: Triples, N: Names>(
+    evaluation: &Evaluation<'a, R, N>,
     shape: usize,
     focus: u32,
+    matchers: &mut Matchers<'a>,
     allowed: Permit,
 ) -> Result<Vec<ResultRow>, AllocError>
     requires shape { shape < length evaluation.now.shapes }
@@ -32,7 +33,7 @@ fn rows_at_node<R: Triples, N: Names>(
     ensures { IfOk result (λ rows. ListsResults evaluation.now.terms evaluation.now.ids evaluation.now.shapes shape focus rows.items) }
 {
     let mut looks = Footprint::new(evaluation.alloc());
-    Ok(eval(evaluation, shape, focus, &mut looks, allowed)?)
+    Ok(eval(evaluation, shape, focus, &mut looks, matchers, allowed)?)
 }
 
 // The results of a shape at some focus nodes.
@@ -49,9 +50,10 @@ fn rows_at<R: Triples, N: Names, L: Ledger>(
     ensures counted { steps.old ≤ steps.new }
 {
     let mut rows = Vec::new(evaluation.alloc());
+    let mut matchers = Matchers::new(evaluation.alloc());
     for node in nodes {
         let allowed = permit(steps);
-        let mut more = rows_at_node(evaluation, shape, *node, allowed)?;
+        let mut more = rows_at_node(evaluation, shape, *node, &mut matchers, allowed)?;
         rows.append(&mut more)?;
     }
     Ok(rows)

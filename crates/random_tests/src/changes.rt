@@ -18,7 +18,7 @@ use parallel_validate::{CheckedRows, check, listing_over, number_triple, whole};
 use path_eval::ClassWords;
 use plain_validation::{RowsFault, class_words, names_of, shapes_of, triples_of};
 use rdf_model::{Footprint, Ids, ListGraph, ListNames, Triple};
-use shape_eval::{Evaluation, Steps, eval, permit};
+use shape_eval::{Evaluation, Matchers, Steps, eval, permit};
 use shape_model::ResultRow;
 use shape_plans::PlannedShapes;
 use shapes_graph::ShapesGraph;
@@ -87,10 +87,18 @@ fn rows_at<L: Ledger>(
 {
     let alloc = evaluation.alloc();
     let mut kept = Vec::new(alloc);
+    let mut matchers = Matchers::new(alloc);
     for node in nodes {
         let mut looks = Footprint::new(alloc);
         let allowed = permit(steps);
-        let rows = eval(evaluation, place as usize, *node, &mut looks, allowed)?;
+        let rows = eval(
+            evaluation,
+            place as usize,
+            *node,
+            &mut looks,
+            &mut matchers,
+            allowed,
+        )?;
         kept.push(CheckedRows {
             shape: place,
             focus: *node,

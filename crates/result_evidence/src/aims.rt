@@ -14,7 +14,7 @@ ghost use Rattle.result_evidence.specs.Aims.{IsAnyAim, IsLeastTarget};
 
 use component_rows::named;
 use rdf_model::{Footprint, Names, Triples};
-use shape_eval::{Evaluation, Steps, eval, permit};
+use shape_eval::{Evaluation, Matchers, Steps, eval, permit};
 use shape_model::ResultRow;
 use std::alloc::AllocError;
 use std::cmp::Ordering;
@@ -50,7 +50,8 @@ fn gives_row<R: Triples, N: Names, L: Ledger>(
 {
     let mut looks = Footprint::new(evaluation.alloc());
     let allowed = permit(steps);
-    let rows = eval(evaluation, place, focus, &mut looks, allowed)?;
+    let mut matchers = Matchers::new(evaluation.alloc());
+    let rows = eval(evaluation, place, focus, &mut looks, &mut matchers, allowed)?;
     Ok(has_row(rows.as_slice(), row))
 }
 

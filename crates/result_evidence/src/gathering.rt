@@ -15,7 +15,7 @@ use component_rows::named;
 use path_eval::ClassWords;
 use rdf_model::{Footprint, Names, Term, Triples};
 use shape_ast::Bound;
-use shape_eval::{Evaluation, Steps, eval, permit};
+use shape_eval::{Evaluation, Matchers, Steps, eval, permit};
 use shape_model::ResultRow;
 use std::alloc::{AllocError, Global};
 use std::sync::ledger::Ledger;
@@ -56,11 +56,12 @@ fn aimed_each(
 }
 
 // The results of the shape at the place at a focus node, aimed so.
-fn aimed_at_node<R: Triples, N: Names, L: Ledger>(
-    evaluation: &Evaluation<'_, R, N>,
+fn aimed_at_node<'a, R: Triples, N: Names, L: Ledger>(
+    evaluation: &Evaluation<'a, R, N>,
     names: &N,
     place: usize,
     node: u32,
+    matchers: &mut Matchers<'a>,
     steps: &mut Steps<L>,
 ) -> Result<Vec<AimedRow>, AllocError>
     requires names { N.terms names.now ≡ evaluation.now.terms }
@@ -71,7 +72,7 @@ fn aimed_at_node<R: Triples, N: Names, L: Ledger>(
 {
     let mut looks = Footprint::new(evaluation.alloc());
     let allowed = permit(steps);
-    let rows = eval(evaluation, place, node, &mut looks, allowed)?;
+    let rows = eval(evaluation, place, node, &mut looks, matchers, allowed)?;
     aimed_each(
         evaluation.alloc(),
         rows.as_slice(),
@@ -96,8 +97,9 @@ fn aimed_at_nodes<R: Triples, N: Names, L: Ledger>(
         (λ s shape. FindsAtSome evaluation.now.terms evaluation.now.ids s shape place nodes.now found.items)) }
 {
     let mut found = Vec::new(evaluation.alloc());
+    let mut matchers = Matchers::new(evaluation.alloc());
     for node in nodes {
-        let mut more = aimed_at_node(evaluation, names, place, *node, steps)?;
+        let mut more = aimed_at_node(evaluation, names, place, *node, &mut matchers, steps)?;
         found.append(&mut more)?;
     }
     Ok(found)

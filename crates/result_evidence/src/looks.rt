@@ -15,7 +15,7 @@ use collections::{both, sorted_once};
 use component_rows::named;
 use evidence_blocks::ListedLook;
 use rdf_model::{Footprint, Look, Names, Triples};
-use shape_eval::{Evaluation, Steps, eval, permit};
+use shape_eval::{Evaluation, Matchers, Steps, eval, permit};
 use std::alloc::{AllocError, Global};
 use std::sync::ledger::Ledger;
 use target_nodes::is_target;
@@ -53,7 +53,8 @@ fn looks_at<R: Triples, N: Names, L: Ledger>(
     let mut looks = Footprint::new(evaluation.alloc());
     target_looks(evaluation, place, focus, &mut looks)?;
     let allowed = permit(steps);
-    eval(evaluation, place, focus, &mut looks, allowed)?;
+    let mut matchers = Matchers::new(evaluation.alloc());
+    eval(evaluation, place, focus, &mut looks, &mut matchers, allowed)?;
     Ok(looks)
 }
 

@@ -12,7 +12,7 @@ ghost use Rattle.shape_eval.specs.Settings.{IsSetting, setting};
 
 use component_rows::{Site, named};
 use path_eval::{ClassWords, is_instance};
-use rdf_model::{Footprint, Names, Triples};
+use rdf_model::{Footprint, Names, Term, Triples};
 use shape_ast::{Bound, Shape};
 use std::alloc::{AllocError, Global};
 use std::marker::Model;
@@ -141,6 +141,14 @@ impl<'a, R: Triples, N: Names> Evaluation<'a, R, N> {
         ensures kept { Keeps footprint.old footprint.new }
     {
         is_instance(self.alloc, self.graph, self.words, node, class, footprint)
+    }
+
+    // The term that has the number.
+    pub(crate) fn named(&self, number: u32) -> &'a Term
+        requires { number < length self.now.terms }
+        ensures { result.now ≡ term_at self.now.terms number }
+    {
+        named(self.names, number)
     }
 
     // Where a component of the shape that is a node is asked.

@@ -26,15 +26,17 @@ use logic_constraints::property;
 use rdf_model::{Footprint, Names, Triples};
 use shape_model::ResultRow;
 use std::alloc::AllocError;
+use string_constraints::Matchers;
 
 // Whether each value node conforms to the shape at the place, through chains of fewer references than the levels.
 #[cycle(evaluation)]
-fn answers_at<R: Triples, N: Names>(
-    evaluation: &Evaluation<'_, R, N>,
+fn answers_at<'a, R: Triples, N: Names>(
+    evaluation: &Evaluation<'a, R, N>,
     levels: usize,
     place: usize,
     values: &[u32],
     footprint: &mut Footprint,
+    matchers: &mut Matchers<'a>,
 ) -> Result<Vec<bool>, AllocError>
     requires place { place < length evaluation.now.shapes }
     requires nodes { AreNodes evaluation.now.terms values.now }
@@ -46,7 +48,7 @@ fn answers_at<R: Triples, N: Names>(
 {
     let mut answers = Vec::with_capacity(evaluation.alloc(), values.len())?;
     for value in values {
-        let rows = rows_at(evaluation, levels, place, *value, footprint)?;
+        let rows = rows_at(evaluation, levels, place, *value, footprint, matchers)?;
         answers.push(rows.is_empty())?;
     }
     Ok(answers)
@@ -54,12 +56,13 @@ fn answers_at<R: Triples, N: Names>(
 
 // Of each of the shapes at the places, whether each value node conforms to it.
 #[cycle(evaluation)]
-fn told_of_each<R: Triples, N: Names>(
-    evaluation: &Evaluation<'_, R, N>,
+fn told_of_each<'a, R: Triples, N: Names>(
+    evaluation: &Evaluation<'a, R, N>,
     levels: usize,
     places: &[usize],
     values: &[u32],
     footprint: &mut Footprint,
+    matchers: &mut Matchers<'a>,
 ) -> Result<Vec<Told>, AllocError>
     requires places { All (λ n. n < length evaluation.now.shapes) places.now }
     requires nodes { AreNodes evaluation.now.terms values.now }
@@ -71,7 +74,7 @@ fn told_of_each<R: Triples, N: Names>(
 {
     let mut told = Vec::with_capacity(evaluation.alloc(), places.len())?;
     for place in places {
-        let answers = answers_at(evaluation, levels, *place, values, footprint)?;
+        let answers = answers_at(evaluation, levels, *place, values, footprint, matchers)?;
         told.push(Told {
             node: evaluation.shape(*place).node,
             answers: Sequence::from_vec(answers),
@@ -82,12 +85,13 @@ fn told_of_each<R: Triples, N: Names>(
 
 // The results of the shape at the place at each value node.
 #[cycle(evaluation)]
-fn rows_at_each<R: Triples, N: Names>(
-    evaluation: &Evaluation<'_, R, N>,
+fn rows_at_each<'a, R: Triples, N: Names>(
+    evaluation: &Evaluation<'a, R, N>,
     levels: usize,
     place: usize,
     values: &[u32],
     footprint: &mut Footprint,
+    matchers: &mut Matchers<'a>,
 ) -> Result<Vec<ResultRow>, AllocError>
     requires place { place < length evaluation.now.shapes }
     requires nodes { AreNodes evaluation.now.terms values.now }
@@ -97,7 +101,7 @@ fn rows_at_each<R: Triples, N: Names>(
 {
     let mut rows = Vec::with_capacity(evaluation.alloc(), values.len())?;
     for value in values {
-        let more = rows_at(evaluation, levels, place, *value, footprint)?;
+        let more = rows_at(evaluation, levels, place, *value, footprint, matchers)?;
         rows.push(more)?;
     }
     property(evaluation.alloc(), values, rows)
@@ -105,12 +109,13 @@ fn rows_at_each<R: Triples, N: Names>(
 
 // The results of the property shapes at the places, at each value node (SHACL section 4.7.2).
 #[cycle(evaluation)]
-fn property_rows<R: Triples, N: Names>(
-    evaluation: &Evaluation<'_, R, N>,
+fn property_rows<'a, R: Triples, N: Names>(
+    evaluation: &Evaluation<'a, R, N>,
     levels: usize,
     places: &[usize],
     values: &[u32],
     footprint: &mut Footprint,
+    matchers: &mut Matchers<'a>,
 ) -> Result<Vec<ResultRow>, AllocError>
     requires places { All (λ n. n < length evaluation.now.shapes) places.now }
     requires nodes { AreNodes evaluation.now.terms values.now }
@@ -121,7 +126,7 @@ fn property_rows<R: Triples, N: Names>(
 {
     let mut rows = Vec::new(evaluation.alloc());
     for place in places {
-        let mut more = rows_at_each(evaluation, levels, *place, values, footprint)?;
+        let mut more = rows_at_each(evaluation, levels, *place, values, footprint, matchers)?;
         rows.append(&mut more)?;
     }
     Ok(rows)
@@ -129,12 +134,13 @@ fn property_rows<R: Triples, N: Names>(
 
 // The results of the shape at the place, through chains of fewer references than the levels.
 #[cycle(evaluation)]
-fn rows_at<R: Triples, N: Names>(
-    evaluation: &Evaluation<'_, R, N>,
+fn rows_at<'a, R: Triples, N: Names>(
+    evaluation: &Evaluation<'a, R, N>,
     levels: usize,
     place: usize,
     focus: u32,
     footprint: &mut Footprint,
+    matchers: &mut Matchers<'a>,
 ) -> Result<Vec<ResultRow>, AllocError>
     requires place { place < length evaluation.now.shapes }
     requires focus { focus < length evaluation.now.terms }
@@ -152,10 +158,12 @@ fn rows_at<R: Triples, N: Names>(
     let graph = evaluation.graph();
     let values = value_nodes(alloc, graph, &shape.path, focus, footprint)?;
     let asked = asked_places(alloc, shape, shape.constraints.as_slice())?;
-    let told = told_of_each(evaluation, below, &asked, &values, footprint)?;
-    let mut rows = own_rows(evaluation, shape, &told, focus, &values, footprint)?;
+    let told = told_of_each(evaluation, below, &asked, &values, footprint, matchers)?;
+    let mut rows = own_rows(
+        evaluation, shape, &told, focus, &values, footprint, matchers,
+    )?;
     let properties = shape.properties.as_slice();
-    let mut more = property_rows(evaluation, below, properties, &values, footprint)?;
+    let mut more = property_rows(evaluation, below, properties, &values, footprint, matchers)?;
     rows.append(&mut more)?;
     Ok(rows)
 }
@@ -171,12 +179,14 @@ fn most_levels() -> usize
 /// The results of a shape, by its place among the compiled shapes, at a focus node (SHACL section 3.4): each once, in the
 /// order of results. They are those of each shapes graph that the shapes stand for, where no shape refers to itself and
 /// no chain of references is longer than 256. The footprint takes exactly the looks of the shape at the focus node, without
-/// those of its targets, likewise; it keeps what it had, also where memory runs out. The permit is used up.
-pub fn eval<R: Triples, N: Names>(
-    evaluation: &Evaluation<'_, R, N>,
+/// those of its targets, likewise; it keeps what it had, also where memory runs out. Which patterns the matchers searched for
+/// before makes no difference. The permit is used up.
+pub fn eval<'a, R: Triples, N: Names>(
+    evaluation: &Evaluation<'a, R, N>,
     shape: usize,
     focus: u32,
     footprint: &mut Footprint,
+    matchers: &mut Matchers<'a>,
     allowed: Permit,
 ) -> Result<Vec<ResultRow>, AllocError>
     requires shape { shape < length evaluation.now.shapes }
@@ -186,6 +196,6 @@ pub fn eval<R: Triples, N: Names>(
     ensures kept { Keeps footprint.old footprint.new }
 {
     allowed.spend();
-    let rows = rows_at(evaluation, most_levels(), shape, focus, footprint)?;
+    let rows = rows_at(evaluation, most_levels(), shape, focus, footprint, matchers)?;
     sorted_once(rows)
 }

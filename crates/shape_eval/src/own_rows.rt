@@ -17,13 +17,14 @@ use crate::by_list::list_rows;
 use crate::by_shape::{shape_rows, shapes_rows};
 use crate::by_term::term_rows;
 use crate::context::Evaluation;
+use crate::flags::flags_text;
 use crate::looks::component_looks;
 use crate::told::Told;
 use rdf_model::{Footprint, Names, Triples};
 use shape_ast::{Constraint, Shape};
 use shape_model::ResultRow;
 use std::alloc::AllocError;
-use string_constraints::pattern;
+use string_constraints::{Matchers, pattern};
 
 // The value of the constraint's parameter.
 fn parameter_of(constraint: &Constraint<u32>) -> u32
@@ -121,11 +122,12 @@ fn constraints_rows<R: Triples, N: Names>(
 }
 
 // The results of the shape's pattern (SHACL section 4.4.3), if it has one.
-fn pattern_rows<R: Triples, N: Names>(
-    evaluation: &Evaluation<'_, R, N>,
-    shape: &Shape<u32>,
+fn pattern_rows<'a, R: Triples, N: Names>(
+    evaluation: &Evaluation<'a, R, N>,
+    shape: &'a Shape<u32>,
     focus: u32,
     values: &[u32],
+    matchers: &mut Matchers<'a>,
 ) -> Result<Vec<ResultRow>, AllocError>
     requires shape { HoldsOfShape (λ n. n < length evaluation.now.terms) (length evaluation.now.shapes) shape.now }
     requires built { IsBuilt (term_at evaluation.now.terms) shape.now }
@@ -137,20 +139,22 @@ fn pattern_rows<R: Triples, N: Names>(
     match &shape.pattern {
         None => Ok(Vec::new(evaluation.alloc())),
         Some(built) => {
+            let flags = flags_text(evaluation, shape);
             let site = evaluation.site(shape.node, built.parameter, focus, values);
-            pattern(&site, &built.regex)
+            pattern(&site, &built.regex, flags, matchers)
         }
     }
 }
 
 /// The results of the constraints of the shape and of its pattern at a focus node with these value nodes.
-pub(crate) fn own_rows<R: Triples, N: Names>(
-    evaluation: &Evaluation<'_, R, N>,
-    shape: &Shape<u32>,
+pub(crate) fn own_rows<'a, R: Triples, N: Names>(
+    evaluation: &Evaluation<'a, R, N>,
+    shape: &'a Shape<u32>,
     told: &[Told],
     focus: u32,
     values: &[u32],
     footprint: &mut Footprint,
+    matchers: &mut Matchers<'a>,
 ) -> Result<Vec<ResultRow>, AllocError>
     requires shape { HoldsOfShape (λ n. n < length evaluation.now.terms) (length evaluation.now.shapes) shape.now }
     requires built { IsBuilt (term_at evaluation.now.terms) shape.now }
@@ -175,7 +179,7 @@ pub(crate) fn own_rows<R: Triples, N: Names>(
         values,
         footprint,
     )?;
-    let mut more = pattern_rows(evaluation, shape, focus, values)?;
+    let mut more = pattern_rows(evaluation, shape, focus, values, matchers)?;
     rows.append(&mut more)?;
     Ok(rows)
 }

@@ -9,10 +9,12 @@
 
 mod language;
 mod length;
+mod matchers;
 mod matching;
 mod shared_tag;
 
 pub use language::language_in;
 pub use length::{max_length, min_length};
+pub use matchers::Matchers;
 pub use matching::pattern;
 pub use shared_tag::unique_lang;

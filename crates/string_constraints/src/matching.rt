@@ -2,13 +2,14 @@
 ghost use Rattle.std.specs.Prelude.{◌≡◌, ◌↔◌, IfOk, IsTrue, is_some, length};
 ghost use Rattle.rdf_model.specs.Numbers.{term_at};
 ghost use Rattle.regex.specs.Patterns.{SameCaptures, find_str};
-ghost use Rattle.regex.specs.Strings.{matcher_pattern, regex_pattern};
+ghost use Rattle.regex.specs.Strings.{matcher_pattern};
 ghost use Rattle.shape_model.specs.declared.component.Component.TheVariants as components;
 ghost use Rattle.shape_model.specs.Patterns.{IsPatternOf};
 ghost use Rattle.component_rows.specs.Answers.{AreAnswersTo};
 ghost use Rattle.component_rows.specs.Sites.{ListsAt, at_values};
 ghost use Rattle.string_constraints.specs.Matches.{IsFoundIn, with_flags};
 
+use crate::matchers::Matchers;
 use component_rows::{Site, refused};
 use rdf_model::{Names, Term};
 use regex::{Matcher, Regex};
@@ -34,27 +35,36 @@ fn is_found_in(matcher: &mut Matcher<'_>, value: &Term) -> bool
     }
 }
 
-// Whether the pattern matches the text of each value node.
-fn are_found<N: Names>(site: &Site<'_, N>, regex: &Regex) -> Result<Vec<bool>, AllocError>
+/// Whether the pattern matches the text of each value node; so does each that captures the same.
+pub(crate) fn are_found<N: Names>(
+    site: &Site<'_, N>,
+    matcher: &mut Matcher<'_>,
+) -> Result<Vec<bool>, AllocError>
     ensures as_many { IfOk result (λ answers. length answers.items ≡ length site.now.values) }
-    ensures told { IfOk result (λ answers. (re : _) → SameCaptures (regex_pattern regex.now) re → AreAnswersTo (IsFoundIn re) site.now.terms site.now.values answers.items) }
+    ensures told { IfOk result (λ answers. (re : _) → SameCaptures (matcher_pattern matcher.old) re → AreAnswersTo (IsFoundIn re) site.now.terms site.now.values answers.items) }
+    ensures same { matcher_pattern matcher.new ≡ matcher_pattern matcher.old }
 {
     site.recall();
-    let (alloc, values) = (site.alloc(), site.values());
-    let mut matcher = regex.matcher(alloc)?;
-    let mut answers = Vec::with_capacity(alloc, values.len())?;
+    let values = site.values();
+    let mut answers = Vec::with_capacity(site.alloc(), values.len())?;
     for value in values {
-        answers.push(is_found_in(&mut matcher, site.named(*value)))?;
+        answers.push(is_found_in(matcher, site.named(*value)))?;
     }
     Ok(answers)
 }
 
 /// The results of sh:pattern (SHACL section 4.4.3): one about each value node that is blank, or whose text the
-/// pattern doesn't match. The regex is what was built of the parameter's text under the shape's flags.
-pub fn pattern<N: Names>(site: &Site<'_, N>, regex: &Regex) -> Result<Vec<ResultRow>, AllocError>
-    ensures { (flags : _) → IsPatternOf (term_at site.now.terms site.now.parameter) flags regex.now
-        → IfOk result (λ rows. ListsAt components.Pattern (at_values site.now) (with_flags flags) site.now rows.items) }
+/// pattern doesn't match. The regex is what was built of the parameter's text under the shape's flags. Whether one of the
+/// matchers searched for it before makes no difference.
+pub fn pattern<'r, N: Names>(
+    site: &Site<'_, N>,
+    regex: &'r Regex,
+    flags: &'r str,
+    matchers: &mut Matchers<'r>,
+) -> Result<Vec<ResultRow>, AllocError>
+    requires { IsPatternOf (term_at site.now.terms site.now.parameter) flags.now regex.now }
+    ensures { IfOk result (λ rows. ListsAt components.Pattern (at_values site.now) (with_flags flags.entry.now) site.now rows.items) }
 {
-    let answers = are_found(site, regex)?;
+    let answers = matchers.answers(site, regex, flags)?;
     refused(site, Component::Pattern, &answers)
 }

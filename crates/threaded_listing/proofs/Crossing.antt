@@ -14,12 +14,13 @@ use mathlib.Core.List.{[], ◌∷◌}
 use Rattle.std.specs.contracts.alloc.Global as heap
 use Rattle.std.specs.contracts.impls.GlobalAllocator.TheImpl as heap_allocates
 use Rattle.rayon.proofs.iter.min_len.MinLen.TheSendSync as least_sent
-use Rattle.rayon.proofs.vec.IntoIter.TheSendSync as visits_sent
+use Rattle.rayon.proofs.vec.IntoIter.TheSendSync as shares_sent
 use Rattle.rayon.specs.contracts.iter.map.Map as mapped
 use Rattle.rayon.specs.contracts.iter.min_len.MinLen as least
-use Rattle.rayon.specs.contracts.vec.IntoIter as visits
+use Rattle.rayon.specs.contracts.vec.IntoIter as shares
 use Rattle.threaded_listing.proofs.visit.PermittedVisit.TheSendSync as visit_sent
-use Rattle.threaded_listing.specs.contracts.visit.PermittedVisit as visit
+use Rattle.threaded_listing.proofs.visit.Share.TheSendSync as share_sent
+use Rattle.threaded_listing.specs.contracts.visit.Share as share
 use Rattle.std.specs.Borrow.{u32 as word}
 use Rattle.std.specs.contracts.prelude.U32Ord.TheImpl as word_order
 use Rattle.std.specs.contracts.prelude.U32PartialEq.TheImpl as word_equality
@@ -127,22 +128,22 @@ pub closure_sync : (σ : Ty) (ν : Sym) (α β γ : NamedLft) (R N : RattleType)
     → IsSync (copied 3 (arg σ no (TupleAt ν (ShrRef α.mir α.lft (evaluation.the_row β R N r n) ∷ ShrRef γ.mir γ.lft (u64-field).row ∷ []))))
 closure_sync σ ν α β γ R N r n graph terms = record { shared = (held_sync ν α β γ R N r n graph terms).shared }
 
-visits_send : IsSend (visits.the_row visit.the_row heap.the_row heap_allocates.ghosts)
-visits_send = search (visits_sent.the_send, visit_sent.the_send, crosses, sendable) depth 60 fits 20000
+shares_send : IsSend (shares.the_row share.the_row heap.the_row heap_allocates.ghosts)
+shares_send = search (shares_sent.the_send, share_sent.the_send, visit_sent.the_send, crosses, sendable) depth 60 fits 20000
 
-least_send : IsSend (least.the_row (visits.the_row visit.the_row heap.the_row heap_allocates.ghosts))
-least_send = search (least_sent.the_send, visits_send, crosses, sendable) depth 60 fits 20000
+least_send : IsSend (least.the_row (shares.the_row share.the_row heap.the_row heap_allocates.ghosts))
+least_send = search (least_sent.the_send, shares_send, crosses, sendable) depth 60 fits 20000
 
-mapped_send : (F : RattleType) → IsSend F → IsSend (mapped.the_row (least.the_row (visits.the_row visit.the_row heap.the_row heap_allocates.ghosts)) F)
-mapped_send F sent = declared_send (mapped.the_type (least.the_row (visits.the_row visit.the_row heap.the_row heap_allocates.ghosts)) F) (
-  as_row_send (row_field (least.the_row (visits.the_row visit.the_row heap.the_row heap_allocates.ghosts))) least_send,
+mapped_send : (F : RattleType) → IsSend F → IsSend (mapped.the_row (least.the_row (shares.the_row share.the_row heap.the_row heap_allocates.ghosts)) F)
+mapped_send F sent = declared_send (mapped.the_type (least.the_row (shares.the_row share.the_row heap.the_row heap_allocates.ghosts)) F) (
+  as_row_send (row_field (least.the_row (shares.the_row share.the_row heap.the_row heap_allocates.ghosts))) least_send,
   (as_row_send (row_field F) sent, tt),
 )
 
--- the visits, for each of which a thread calls the closure
+-- the shares, for each of which a thread calls the closure
 pub chain_send : (σ : Ty) (ν : Sym) (α β γ : NamedLft) (R N : RattleType) (r : triples.Ghosts R.Denot) (n : names.Ghosts N.Denot) → IsSync R → IsSync N
-    → IsSend (param 0 (arg σ no (mapped.the_row (least.the_row (visits.the_row visit.the_row heap.the_row heap_allocates.ghosts)) (TupleAt ν (ShrRef α.mir α.lft (evaluation.the_row β R N r n) ∷ ShrRef γ.mir γ.lft (u64-field).row ∷ [])))))
+    → IsSend (param 0 (arg σ no (mapped.the_row (least.the_row (shares.the_row share.the_row heap.the_row heap_allocates.ghosts)) (TupleAt ν (ShrRef α.mir α.lft (evaluation.the_row β R N r n) ∷ ShrRef γ.mir γ.lft (u64-field).row ∷ [])))))
 chain_send σ ν α β γ R N r n graph terms =
     let seen = TupleAt ν (ShrRef α.mir α.lft (evaluation.the_row β R N r n) ∷ ShrRef γ.mir γ.lft (u64-field).row ∷ []) in
-    let chain = mapped.the_row (least.the_row (visits.the_row visit.the_row heap.the_row heap_allocates.ghosts)) seen in
+    let chain = mapped.the_row (least.the_row (shares.the_row share.the_row heap.the_row heap_allocates.ghosts)) seen in
     param_send 0 (arg σ no chain) (arg_send σ no chain (mapped_send seen (held_send ν α β γ R N r n graph terms)))

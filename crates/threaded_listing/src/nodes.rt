@@ -1,20 +1,21 @@
 //! The results of a shape at some focus nodes, which threads share out among each other.
-ghost use Rattle.std.specs.Prelude.{◌≡◌, ◌+◌, ◌<◌, ◌≤◌, IfOk, OnOk, length, map};
+ghost use Rattle.std.specs.Prelude.{◌≡◌, ◌+◌, ◌<◌, ◌≤◌, IfOk, OnOk, length};
 ghost use Rattle.std.specs.List.{All, AllZip, flat_map};
 ghost use Rattle.shape_eval.specs.Results.{ListsResults};
 ghost use Rattle.parallel_validate.specs.Whole.{CollectsAtNodes};
+ghost use Rattle.threaded_listing.specs.Shares.{nodes_of, nodes_of_shares};
 
-use crate::visit::PermittedVisit;
+use crate::visit::{PermittedVisit, Share};
 use rayon::prelude::*;
 use rdf_model::{Footprint, Names, Triples};
-use shape_eval::{Evaluation, Steps, eval, permit};
+use shape_eval::{Evaluation, Matchers, Steps, eval, permit};
 use shape_model::ResultRow;
 use std::alloc::{AllocError, Global};
 use std::sync::ledger::Ledger;
 use std::thread::Threads;
 
-// How many nodes a thread takes at least: fewer are not worth a thread of their own.
-const LEAST_SHARE: usize = 32;
+// How many nodes a share has at most. One thread evaluates it, by matchers of its own.
+const SHARE: usize = 64;
 
 // A visit of each node, each of which is counted.
 fn visits_of<L: Ledger>(
@@ -22,7 +23,7 @@ fn visits_of<L: Ledger>(
     nodes: &[u32],
     steps: &mut Steps<L>,
 ) -> Result<Vec<PermittedVisit>, AllocError>
-    ensures nodes { IfOk result (λ visits. map (λ v. v.node) visits.items ≡ nodes.now) }
+    ensures nodes { IfOk result (λ visits. nodes_of visits.items ≡ nodes.now) }
     ensures steps { OnOk result (steps.new ≡ steps.old + length nodes.now) }
     ensures counted { steps.old ≤ steps.new }
 {
@@ -36,39 +37,96 @@ fn visits_of<L: Ledger>(
     Ok(visits)
 }
 
+// How many of some nodes the next share has.
+fn share_len(count: usize) -> usize
+    requires { 0 < count }
+    ensures some { 0 < result }
+    ensures within { result ≤ count }
+{
+    if count < SHARE { count } else { SHARE }
+}
+
+// The visits of the nodes in their order, in shares, each of which is counted.
+fn shares_of<L: Ledger>(
+    alloc: Global,
+    nodes: &[u32],
+    steps: &mut Steps<L>,
+) -> Result<Vec<Share>, AllocError>
+    ensures nodes { IfOk result (λ shares. nodes_of_shares shares.items ≡ nodes.now) }
+    ensures steps { OnOk result (steps.new ≡ steps.old + length nodes.now) }
+    ensures counted { steps.old ≤ steps.new }
+{
+    let mut shares = Vec::new(alloc);
+    let mut rest = nodes;
+    while !rest.is_empty() {
+        let (front, back) = rest.split_at(share_len(rest.len()));
+        let visits = visits_of(alloc, front, steps)?;
+        shares.push(Share { visits })?;
+        rest = back;
+    }
+    Ok(shares)
+}
+
 // The results of the shape at the node of a visit. How they were found is not kept.
-fn rows_at_visit<R: Triples, N: Names>(
-    evaluation: &Evaluation<'_, R, N>,
+fn rows_at_visit<'a, R: Triples, N: Names>(
+    evaluation: &Evaluation<'a, R, N>,
     shape: usize,
     visit: PermittedVisit,
+    matchers: &mut Matchers<'a>,
 ) -> Result<Vec<ResultRow>, AllocError>
     requires shape { shape < length evaluation.now.shapes }
     requires node { visit.node < length evaluation.now.terms }
     ensures { IfOk result (λ rows. ListsResults evaluation.now.terms evaluation.now.ids evaluation.now.shapes shape visit.node rows.items) }
 {
     let mut looks = Footprint::new(evaluation.alloc());
-    Ok(eval(evaluation, shape, visit.node, &mut looks, visit.allowed)?)
+    Ok(eval(
+        evaluation,
+        shape,
+        visit.node,
+        &mut looks,
+        matchers,
+        visit.allowed,
+    )?)
 }
 
-// The results of the shape at the node of each visit, in their order, whichever thread found them.
-fn rows_at_visits<R: Triples + Sync, N: Names + Sync, T: Threads + Sync>(
+// The results of the shape at the nodes of a share, one node after another.
+fn rows_at_share<R: Triples, N: Names>(
+    evaluation: &Evaluation<'_, R, N>,
+    shape: usize,
+    share: Share,
+) -> Result<Vec<ResultRow>, AllocError>
+    requires shape { shape < length evaluation.now.shapes }
+    requires nodes { All (λ v. v.node < length evaluation.now.terms) share.visits.items }
+    ensures { IfOk result (λ rows. CollectsAtNodes evaluation.now.terms evaluation.now.ids evaluation.now.shapes shape (nodes_of share.visits.items) rows.items) }
+{
+    let mut matchers = Matchers::new(evaluation.alloc());
+    let mut rows = Vec::new(evaluation.alloc());
+    for visit in share.visits {
+        let mut more = rows_at_visit(evaluation, shape, visit, &mut matchers)?;
+        rows.append(&mut more)?;
+    }
+    Ok(rows)
+}
+
+// The results of the shape at the nodes of each share, in their order, whichever thread found them.
+fn rows_at_shares<R: Triples + Sync, N: Names + Sync, T: Threads + Sync>(
     rt: &T,
     evaluation: &Evaluation<'_, R, N>,
     shape: usize,
-    visits: Vec<PermittedVisit>,
+    shares: Vec<Share>,
 ) -> Result<Vec<Vec<ResultRow>>, AllocError>
     requires shape { shape < length evaluation.now.shapes }
-    requires nodes { All (λ v. v.node < length evaluation.now.terms) visits.items }
-    ensures { IfOk result (λ found. AllZip (λ v rows. ListsResults evaluation.now.terms evaluation.now.ids evaluation.now.shapes shape v.node rows.items) visits.items found.items) }
+    requires nodes { All (λ share. All (λ v. v.node < length evaluation.now.terms) share.visits.items) shares.items }
+    ensures { IfOk result (λ found. AllZip (λ share rows. CollectsAtNodes evaluation.now.terms evaluation.now.ids evaluation.now.shapes shape (nodes_of share.visits.items) rows.items) shares.items found.items) }
 {
-    let found: Result<Vec<Vec<ResultRow>>, AllocError> = visits
+    let found: Result<Vec<Vec<ResultRow>>, AllocError> = shares
         .into_par_iter()
-        .with_min_len(LEAST_SHARE)
+        .with_min_len(1)
         .map(
-            |visit: PermittedVisit| -> Result<Vec<ResultRow>, AllocError>
-                requires { (shape < length evaluation.now.shapes) × (visit.node < length evaluation.now.terms) }
-                ensures { IfOk result (λ rows. ListsResults evaluation.entry.now.terms evaluation.entry.now.ids evaluation.entry.now.shapes shape visit.node rows.items) }
-            { rows_at_visit(evaluation, shape, visit) },
+            |share: Share| -> Result<Vec<ResultRow>, AllocError>
+                requires { (shape < length evaluation.now.shapes) × All (λ v. v.node < length evaluation.now.terms) share.visits.items }
+                ensures { IfOk result (λ rows. CollectsAtNodes evaluation.entry.now.terms evaluation.entry.now.ids evaluation.entry.now.shapes shape (nodes_of share.visits.items) rows.items) }
+            { rows_at_share(evaluation, shape, share) },
         )
         .collect::<Result<Vec<Vec<ResultRow>>, AllocError>>(rt, evaluation.alloc())?;
     found
@@ -101,7 +159,7 @@ pub(crate) fn rows_at<R: Triples + Sync, N: Names + Sync, L: Ledger, T: Threads 
     ensures steps { OnOk result (steps.new ≡ steps.old + length nodes.now) }
     ensures counted { steps.old ≤ steps.new }
 {
-    let visits = visits_of(evaluation.alloc(), nodes, steps)?;
-    let found = rows_at_visits(rt, evaluation, shape, visits)?;
+    let shares = shares_of(evaluation.alloc(), nodes, steps)?;
+    let found = rows_at_shares(rt, evaluation, shape, shares)?;
     joined(evaluation.alloc(), found)
 }

@@ -1,4 +1,4 @@
-//! A focus node that a shape is evaluated at.
+//! The focus nodes that a shape is evaluated at.
 use shape_eval::Permit;
 
 /// A focus node with the permit for one evaluation there.
@@ -6,4 +6,10 @@ use shape_eval::Permit;
 pub struct PermittedVisit {
     pub node: u32,
     pub allowed: Permit,
+}
+
+/// Visits that one thread makes, one after another.
+#[derive(Drop)]
+pub struct Share {
+    pub visits: Vec<PermittedVisit>,
 }

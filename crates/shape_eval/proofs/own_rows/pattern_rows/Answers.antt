@@ -30,6 +30,14 @@ returns-in-None g c = λ ids s n shapes.
     rw c.new.ensures.items (collects_none (PatternRow (around terms ids s n c.args.values.now c.args.focus) shapes (read_shape (term_at terms) c.args.shape.now) (term_at terms c.args.focus))
     (λ r h. let is = h.1 in cc (none, is)))
 
+pub pattern-requires : goal.pattern-requires
+pattern-requires g c =
+    let terms = c.args.evaluation.now.terms in
+    let q = term_at terms c.in-Some.built.parameter in
+    let b = subst (λ (o : Option (CompiledPattern ℕ)). MatchOption o (Unit {0}) (λ p. (text : List ℕ) × HasFlagsText (read_optional (term_at terms) c.args.shape.now.flags) text × IsPatternOf (term_at terms p.parameter) text (arc_value p.regex))) c.in-Some.is c.requires.built in
+    subst (λ (x : Spot). IsPatternOf (term_at x.terms x.parameter) c.flags_text-flags.result.now c.deref.result.now) (sym c.site-site.ensures)
+    (subst (λ x. IsPatternOf q c.flags_text-flags.result.now x) (sym c.deref.ensures) (subst (λ (text : List ℕ). IsPatternOf q text (arc_value c.in-Some.built.regex)) (sym (c.flags_text-flags.ensures b.0 b.1)) b.2))
+
 pub returns-in-Some : goal.returns-in-Some
 returns-in-Some g c =
     let terms = c.args.evaluation.now.terms in
@@ -51,4 +59,4 @@ returns-in-Some g c =
       (λ k. same.1 (subst (λ (x : Term). RowsOf components.Pattern around_it (shape_reading shapes read) x (row_of components.Pattern read.node f x) r) (only_some read.pattern k.0 q k.1 is) k.2)),
     )) h.members)
     (subst (λ (x : Spot). IfOk c.pattern.result (λ rows. ListsAt components.Pattern (at_values x) (with_flags b.0) x rows.items)) c.site-site.ensures
-    (c.pattern.ensures b.0 (subst (λ (x : Spot). IsPatternOf (term_at x.terms x.parameter) b.0 c.deref.result.now) (sym c.site-site.ensures) (subst (λ x. IsPatternOf q b.0 x) (sym c.deref.ensures) b.2))))
+    (subst (λ (text : List ℕ). IfOk c.pattern.result (λ rows. ListsAt components.Pattern (at_values c.site-site.result) (with_flags text) c.site-site.result rows.items)) (c.flags_text-flags.ensures b.0 b.1) c.pattern.ensures))

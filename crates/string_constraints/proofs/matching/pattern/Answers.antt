@@ -9,28 +9,28 @@ use Rattle.component_rows.specs.Nodes.{IsAnswered}
 use Rattle.component_rows.specs.Sites.{at_values, site_row}
 use Rattle.component_rows.proofs.Collecting.{lists_same}
 use Rattle.component_rows.proofs.Told.{refused_where}
-use Rattle.string_constraints.specs.Matches.{IsFoundIn, with_flags}
-use Rattle.string_constraints.proofs.Patterns.{as_read, matched}
+use Rattle.shape_model.specs.TermTests.{IsMatched}
+use Rattle.string_constraints.specs.Matches.{with_flags}
+use Rattle.string_constraints.proofs.Patterns.{with_flags_alone}
 use Rattle.string_constraints.proofs.matching.pattern.Goals as goal
 
 pub refused-requires : goal.refused-requires
 refused-requires g c = ap (λ (answers : List Bool). length answers) c.deref.ensures.value ∙ c.in_ok-answers.ensures.as_many
 
 pub returns : goal.returns
-returns g c = λ flags is.
+returns g c =
     let s = c.args.site.now in
     let q = term_at s.terms s.parameter in
+    let flags = c.args.flags.now in
     let nodes = at_values s in
     let row = site_row components.Pattern s in
-    let read = as_read q flags c.args.regex.now is in
-    let found = IsFoundIn read.0.0.value in
-    let are : AreAnswersTo found s.terms s.values c.deref.result.now =
-    subst (λ (answers : List Bool). AreAnswersTo found s.terms s.values answers) (sym c.deref.ensures.value) (c.in_ok-answers.ensures.told read.0.0.value read.2) in
+    let are : AreAnswersTo (IsMatched q flags) s.terms s.values c.deref.result.now =
+    subst (λ (answers : List Bool). AreAnswersTo (IsMatched q flags) s.terms s.values answers) (sym c.deref.ensures.value) c.in_ok-answers.ensures.told in
     IfOk-weaker c.refused.result
     (λ rows. Lists (ForEach nodes row (λ v. IsAnswered s.terms s.values c.deref.result.now v → ⊥)) rows.items)
     (λ rows. Lists (RowsOf components.Pattern nodes (with_flags flags) q row) rows.items)
-    (λ rows h. lists_same (ForEach nodes row (λ v. found v → ⊥)) (RowsOf components.Pattern nodes (with_flags flags) q row) rows.items (λ r. (
-      λ p. (p.0, p.1, (λ m. p.2 ((matched q flags c.args.regex.now is p.0).1 m)), p.3),
-      λ p. (p.0, p.1, (λ m. p.2 ((matched q flags c.args.regex.now is p.0).0 m)), p.3),
-    )) (refused_where found s.terms s.values c.deref.result.now are row rows.items h))
+    (λ rows h. lists_same (ForEach nodes row (λ v. IsMatched q flags v → ⊥)) (RowsOf components.Pattern nodes (with_flags flags) q row) rows.items (λ r. (
+      λ p. (p.0, p.1, (λ m. p.2 ((with_flags_alone q flags p.0).1 m)), p.3),
+      λ p. (p.0, p.1, (λ m. p.2 ((with_flags_alone q flags p.0).0 m)), p.3),
+    )) (refused_where (IsMatched q flags) s.terms s.values c.deref.result.now are row rows.items h))
     c.refused.ensures
