@@ -1,5 +1,6 @@
 pub mod Asks
 pub mod Checks
+pub mod Cursor
 pub mod Items
 pub mod Languages
 pub mod Lengths

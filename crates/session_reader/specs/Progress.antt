@@ -5,6 +5,7 @@ use Rattle.bgp_query.specs.declared.pattern.JoinPattern.{JoinPattern}
 use Rattle.session_reader.specs.declared.find_line.LinePlace.TheVariants.{Outside}
 use Rattle.session_reader.specs.declared.read_command.ReadCommand.{ReadCommand}
 use Rattle.session_reader.specs.FindLine.{pieces}
+use Rattle.session_reader.specs.SessionFile.{file_lines}
 
 -- the commands so far, before those of the rest
 abbrev pub with_commands : List ReadCommand → Result (List ReadCommand) ℕ → Result (List ReadCommand) ℕ
@@ -15,6 +16,11 @@ with_commands cs (Err n) = Err n
 abbrev pub pieces_behind : Option (List ℕ) → List (List ℕ)
 pieces_behind None = []
 pieces_behind (Some rest) = pieces Outside rest
+
+-- the lines of what is left of a file: none behind its last
+abbrev pub lines_left : Option (List ℕ) → List (List ℕ)
+lines_left None = []
+lines_left (Some rest) = file_lines rest
 
 -- the patterns so far, before those of the rest
 abbrev pub with_patterns : List (JoinPattern Term) → Result (List (JoinPattern Term)) ℕ → Result (List (JoinPattern Term)) ℕ

@@ -14,6 +14,7 @@ mod checking;
 mod find_line;
 pub mod laws;
 mod line;
+mod line_cursor;
 mod prepare_fault;
 mod read_command;
 mod select_block;

@@ -1,20 +1,20 @@
 //! The commands of a session file's bytes.
-ghost use Rattle.std.specs.Prelude.{◌≡◌, ℕ, ◌+◌, ◌<◌, ◌≤◌, ◌^◌, [], List, Result, Ok, drop, slice_index_or, IfOk, IfSome, MatchResult, OnErr, map, length, ◌==◌};
-ghost use Rattle.std.specs.List.{slice_split};
+ghost use Rattle.std.specs.Prelude.{◌≡◌, ℕ, ◌+◌, ◌<◌, ◌≤◌, ◌^◌, [], List, Result, Ok, drop, IfOk, MatchResult, OnErr, length};
 ghost use Rattle.rdf_lexical.specs.Refusals.{Refuses};
 ghost use Rattle.rdf_model.specs.Graphs.{with_each};
 ghost use Rattle.record_text.specs.Records.{IsReadableGraph};
 ghost use Rattle.session_reader.specs.declared.line.LineKind.TheVariants as kinds;
 ghost use Rattle.session_reader.specs.declared.read_command.ReadCommand.{ReadCommand as CommandData};
 ghost use Rattle.session_reader.specs.SessionFile;
-ghost use Rattle.session_reader.specs.SessionFile.{IsSession, session_of, block_command, block_reading, new_reading, block_text, next_after, block_after, header_lines, item_at, lines_of_block, with_command, with_item, commands_of, items_of};
+ghost use Rattle.session_reader.specs.SessionFile.{IsSession, session_of, block_command, block_reading, new_reading, block_text, next_after, block_after, header_lines, lines_of_block, with_command, with_item};
 ghost use Rattle.session_reader.specs.Progress.{with_commands};
 ghost use Rattle.session_reader.specs.Asked.{AsksInVain, AsksOfSession};
 ghost use Rattle.session_reader.specs.Checking.{OnlyGrows};
 ghost use Rattle.session_reader.specs.Faults.{Fails, MakesNone};
 
 use crate::checking::check_commands;
-use crate::line::{BlockKind, Language, LineKind, Syntax, is_block_end, kind_of, trimmed};
+use crate::line::{BlockKind, Language, LineKind, Syntax, kind_of, trimmed};
+use crate::line_cursor::LineCursor;
 use crate::prepare_fault::PrepareFault;
 use crate::read_command::{ReadCommand, ShapesTriples};
 use crate::select_block::read_select;
@@ -23,25 +23,6 @@ use ntriples_text::{ReadFault, RefusalKind, TripleTable};
 use outside::Maker;
 use session_model::{Block, Command};
 use std::alloc::{AllocError, Global};
-
-// The parts between the bytes `at`.
-fn parts<'a>(alloc: Global, bytes: &'a [u8], at: u8) -> Result<Vec<&'a [u8]>, AllocError>
-    ensures { IfOk result (λ v. map (λ p. p.now) v.items ≡ slice_split (λ c. c == at) bytes.entry.now) }
-{
-    bytes.split(|byte| *byte == at).collect(alloc)
-}
-
-// The text of a block: its lines, each with its LF.
-fn text_of_block(alloc: Global, lines: &[&[u8]]) -> Result<Vec<u8>, AllocError>
-    ensures { IfOk result (λ text. text.items ≡ block_text (map (λ l. l.now) lines.now)) }
-{
-    let mut text = Vec::new(alloc);
-    for line in lines {
-        text.extend_from_slice(line)?;
-        text.push(b'\n')?;
-    }
-    Ok(text)
-}
 
 // The command of a block of this kind with the triples of a table.
 fn accepted_block(
@@ -120,23 +101,22 @@ fn read_kind(
     }
 }
 
-// The command of a block of this kind.
+// The command of a block of this kind with this text.
 fn read_block(
     alloc: Global,
     session: u32,
     next: &mut u32,
     kind: BlockKind,
-    lines: &[&[u8]],
+    text: &[u8],
 ) -> Result<ReadCommand, AllocError>
     requires session { (1 ≤ session) × (session ≤ 64) }
     requires next { 1 ≤ next.old }
-    requires room { next.old + length (block_text (map (λ l. l.now) lines.now)) < 2 ^ 32 }
-    ensures command { let reading = block_reading kind (block_text (map (λ l. l.now) lines.now)) session next.old in
+    requires room { next.old + length text.now < 2 ^ 32 }
+    ensures command { let reading = block_reading kind text.now session next.old in
         IfOk result (λ command. (command ≡ block_command kind reading) × (next.new ≡ next_after next.old reading)) }
-    ensures within { (next.old ≤ next.new) × (next.new ≤ next.old + length (block_text (map (λ l. l.now) lines.now))) }
+    ensures within { (next.old ≤ next.new) × (next.new ≤ next.old + length text.now) }
 {
-    let text = text_of_block(alloc, lines)?;
-    match read_kind(alloc, session, next, kind, &text) {
+    match read_kind(alloc, session, next, kind, text) {
         Ok(table) => accepted_block(alloc, kind, table),
         Err(
             ReadFault::Refusal {
@@ -149,41 +129,31 @@ fn read_block(
 }
 
 // A line between commands without its end, which it has where lines follow.
-fn command_text<'a>(line: &'a [u8], after: &[&[u8]]) -> &'a [u8]
-    ensures { result.now ≡ SessionFile.command_text line.now (map (λ l. l.now) after.now) }
+fn command_text<'a>(line: &'a [u8], after: &LineCursor<'_>) -> &'a [u8]
+    ensures { result.now ≡ SessionFile.command_text line.now after.now }
 {
-    match after {
-        [] => line,
-        [_, ..] => trimmed(line),
+    if after.is_empty() {
+        line
+    } else {
+        trimmed(line)
     }
 }
 
-// The language of a file with these lines.
-fn language_of(lines: &[&[u8]]) -> Language
-    ensures language { result ≡ SessionFile.language_of (map (λ l. l.now) lines.now) }
-    ensures header { header_lines result ≤ length lines.now }
+// The language of a file with these lines, of which its header is then behind the cursor.
+fn take_header(lines: &mut LineCursor<'_>) -> Language
+    ensures language { result ≡ SessionFile.language_of lines.old }
+    ensures lines { lines.new ≡ drop (header_lines result) lines.old }
 {
-    match lines {
-        [] => Language::One,
-        [first, after @ ..] => Language::of_first_line(command_text(first, after)),
+    let mut after = lines.whole();
+    let Some(first) = after.take_line() else {
+        return Language::One;
+    };
+    let language = Language::of_first_line(command_text(first, &after));
+    match language {
+        Language::One => {}
+        Language::Two => *lines = after,
     }
-}
-
-// How many lines stand before the first that ends a block, if one does.
-fn block_length(lines: &[&[u8]]) -> Option<usize>
-    ensures length { result ≡ SessionFile.block_length (map (λ l. l.now) lines.now) }
-    ensures within { IfSome result (λ n. n < length lines.now) }
-{
-    let mut count = 0;
-    let mut rest = lines;
-    while let [line, after @ ..] = rest {
-        if is_block_end(line) {
-            return Some(count);
-        }
-        count += 1;
-        rest = after;
-    }
-    None
+    language
 }
 
 // Reads the block of the command in line `number`, and gives how many lines it has with the one that ends it.
@@ -193,22 +163,22 @@ fn read_block_item(
     next: &mut u32,
     number: u64,
     block: BlockKind,
-    after: &[&[u8]],
+    after: &mut LineCursor<'_>,
     commands: &mut Sequence<ReadCommand>,
 ) -> Result<usize, PrepareFault>
     requires session { (1 ≤ session) × (session ≤ 64) }
     requires next { 1 ≤ next.old }
-    requires room { next.old + length (block_text (map (λ l. l.now) after.now)) < 2 ^ 32 }
-    ensures item { (more : ℕ → Result (List CommandData) ℕ) → let lines = block_after (kinds.Block block) (map (λ l. l.now) after.now) in
+    requires room { next.old + length (block_text after.old) < 2 ^ 32 }
+    ensures item { (more : ℕ → Result (List CommandData) ℕ) → let lines = block_after (kinds.Block block) after.old in
         let before = with_commands commands.old (with_item session next.old number (kinds.Block block) lines more) in
         MatchResult result (λ taken. (taken ≡ lines_of_block lines) × (before ≡ with_commands commands.new (more next.new))) (λ fault. Fails fault before) }
-    ensures next { IfOk result (λ taken. (next.old ≤ next.new) × (taken ≤ length after.now) × (next.new + length (block_text (drop taken (map (λ l. l.now) after.now))) ≤ next.old + length (block_text (map (λ l. l.now) after.now)))) }
+    ensures next { IfOk result (λ taken. (next.old ≤ next.new) × (next.new + length (block_text after.new) ≤ next.old + length (block_text after.old))) }
+    ensures rest { IfOk result (λ taken. (after.new ≡ drop taken after.old) × (taken ≤ length after.old)) }
 {
-    let Some(count) = block_length(after) else {
+    let Some((text, count)) = after.take_block() else {
         return Err(PrepareFault::Line(number));
     };
-    let (lines, _) = after.split_at(count);
-    let command = read_block(alloc, session, next, block, lines)?;
+    let command = read_block(alloc, session, next, block, text)?;
     commands.push(command)?;
     Ok(count + 1)
 }
@@ -217,22 +187,21 @@ fn read_block_item(
 fn read_select_item(
     alloc: Global,
     number: u64,
-    after: &[&[u8]],
+    after: &mut LineCursor<'_>,
     commands: &mut Sequence<ReadCommand>,
 ) -> Result<usize, PrepareFault>
-    requires room { length (block_text (map (λ l. l.now) after.now)) < 2 ^ 32 }
-    ensures item { (session next : ℕ) (more : ℕ → Result (List CommandData) ℕ) → let lines = block_after kinds.SelectBlock (map (λ l. l.now) after.now) in
+    requires room { length (block_text after.old) < 2 ^ 32 }
+    ensures item { (session next : ℕ) (more : ℕ → Result (List CommandData) ℕ) → let lines = block_after kinds.SelectBlock after.old in
         let before = with_commands commands.old (with_item session next number kinds.SelectBlock lines more) in
         MatchResult result (λ taken. (taken ≡ lines_of_block lines) × (before ≡ with_commands commands.new (more next))) (λ fault. Fails fault before) }
-    ensures rest { IfOk result (λ taken. (taken ≤ length after.now) × (length (block_text (drop taken (map (λ l. l.now) after.now))) ≤ length (block_text (map (λ l. l.now) after.now)))) }
+    ensures rest { IfOk result (λ taken. (after.new ≡ drop taken after.old) × (taken ≤ length after.old)) }
 {
-    let Some(count) = block_length(after) else {
+    let Some(lines) = after.take_block_lines(alloc)? else {
         return Err(PrepareFault::Line(number));
     };
-    let (lines, _) = after.split_at(count);
-    let command = read_select(alloc, lines)?;
+    let command = read_select(alloc, &lines)?;
     commands.push(command)?;
-    Ok(count + 1)
+    Ok(lines.len() + 1)
 }
 
 // Adds the command of a line that no block follows.
@@ -240,30 +209,32 @@ fn push_command(
     commands: &mut Sequence<ReadCommand>,
     command: ReadCommand,
 ) -> Result<usize, PrepareFault>
-    ensures { (more : Result (List CommandData) ℕ) → let before = with_commands commands.old (with_command command more) in
+    ensures item { (more : Result (List CommandData) ℕ) → let before = with_commands commands.old (with_command command more) in
         MatchResult result (λ taken. (taken ≡ 0) × (before ≡ with_commands commands.new more)) (λ fault. Fails fault before) }
+    ensures none { IfOk result (λ taken. taken ≡ 0) }
 {
     commands.push(command)?;
     Ok(0)
 }
 
 // Reads the item whose first line, `number`, is of this kind, and gives how many of the lines after it belong to it.
-fn read_item_of(
+fn read_item(
     alloc: Global,
     session: u32,
     next: &mut u32,
     number: u64,
     kind: LineKind,
-    after: &[&[u8]],
+    after: &mut LineCursor<'_>,
     commands: &mut Sequence<ReadCommand>,
 ) -> Result<usize, PrepareFault>
     requires session { (1 ≤ session) × (session ≤ 64) }
     requires next { 1 ≤ next.old }
-    requires room { next.old + length (block_text (map (λ l. l.now) after.now)) < 2 ^ 32 }
-    ensures item { (more : ℕ → Result (List CommandData) ℕ) → let lines = block_after kind (map (λ l. l.now) after.now) in
+    requires room { next.old + length (block_text after.old) < 2 ^ 32 }
+    ensures item { (more : ℕ → Result (List CommandData) ℕ) → let lines = block_after kind after.old in
         let before = with_commands commands.old (with_item session next.old number kind lines more) in
         MatchResult result (λ taken. (taken ≡ lines_of_block lines) × (before ≡ with_commands commands.new (more next.new))) (λ fault. Fails fault before) }
-    ensures next { IfOk result (λ taken. (next.old ≤ next.new) × (taken ≤ length after.now) × (next.new + length (block_text (drop taken (map (λ l. l.now) after.now))) ≤ next.old + length (block_text (map (λ l. l.now) after.now)))) }
+    ensures next { IfOk result (λ taken. (next.old ≤ next.new) × (next.new + length (block_text after.new) ≤ next.old + length (block_text after.old))) }
+    ensures rest { IfOk result (λ taken. (after.new ≡ drop taken after.old) × (taken ≤ length after.old)) }
 {
     match kind {
         LineKind::Skipped => Ok(0),
@@ -280,63 +251,7 @@ fn read_item_of(
     }
 }
 
-// The line at an index.
-fn line_at<'a>(lines: &[&'a [u8]], i: usize) -> &'a [u8]
-    requires { i < length lines.now }
-    ensures { result.now ≡ slice_index_or (map (λ l. l.now) lines.now) i [] }
-{
-    lines[i]
-}
-
-// Reads the item that begins with the line at an index, and gives how many of the lines after it belong to it.
-fn read_item(
-    alloc: Global,
-    session: u32,
-    next: &mut u32,
-    language: Language,
-    lines: &[&[u8]],
-    i: usize,
-    commands: &mut Sequence<ReadCommand>,
-) -> Result<usize, PrepareFault>
-    requires session { (1 ≤ session) × (session ≤ 64) }
-    requires next { 1 ≤ next.old }
-    requires within { i < length lines.now }
-    requires room { next.old + length (block_text (drop (i + 1) (map (λ l. l.now) lines.now))) < 2 ^ 32 }
-    ensures item { (more : ℕ → Result (List CommandData) ℕ) → let texts = map (λ l. l.now) lines.now in let item = item_at language (i + 1) (slice_index_or texts i []) (drop (i + 1) texts) in
-        let before = with_commands commands.old (with_item session next.old (i + 1) item.kind item.block more) in
-        MatchResult result (λ taken. (taken ≡ lines_of_block item.block) × (before ≡ with_commands commands.new (more next.new))) (λ fault. Fails fault before) }
-    ensures next { IfOk result (λ taken. (next.old ≤ next.new) × (i + 1 + taken ≤ length lines.now) × (next.new + length (block_text (drop (i + 1 + taken) (map (λ l. l.now) lines.now))) ≤ next.old + length (block_text (drop (i + 1) (map (λ l. l.now) lines.now))))) }
-{
-    let (_, after) = lines.split_at(i + 1);
-    let kind = kind_of(alloc, language, command_text(line_at(lines, i), after))?;
-    read_item_of(alloc, session, next, i as u64 + 1, kind, after, commands)
-}
-
-// The commands of the items of a file with these lines, in their order. The session's first blank node has this number.
-fn read_items(
-    alloc: Global,
-    session: u32,
-    first: u32,
-    lines: &[&[u8]],
-) -> Result<Sequence<ReadCommand>, PrepareFault>
-    requires session { (1 ≤ session) × (session ≤ 64) }
-    requires first { 1 ≤ first }
-    requires room { first + length (block_text (map (λ l. l.now) lines.now)) ≤ 2 ^ 32 }
-    ensures { let reading = commands_of session first (items_of (map (λ l. l.now) lines.now)) in
-        MatchResult result (λ commands. reading ≡ Ok commands) (λ fault. Fails fault reading) }
-{
-    let language = language_of(lines);
-    let mut commands = Sequence::new(alloc);
-    let mut next = first;
-    let mut i = language.header_lines();
-    while i < lines.len() {
-        let taken = read_item(alloc, session, &mut next, language, lines, i, &mut commands)?;
-        i += 1 + taken;
-    }
-    Ok(commands)
-}
-
-// The commands of the file of a session as its lines are read.
+// The commands of the file of a session as its lines are read. The session's first blank node has this number.
 fn read_session(
     alloc: Global,
     session: u32,
@@ -348,8 +263,25 @@ fn read_session(
     requires room { first + length bytes.now < 2 ^ 32 }
     ensures { MatchResult result (λ commands. session_of session first bytes.now ≡ Ok commands) (λ fault. Fails fault (session_of session first bytes.now)) }
 {
-    let lines = parts(alloc, bytes, b'\n')?;
-    read_items(alloc, session, first, &lines)
+    let mut lines = LineCursor::of_file(bytes);
+    let language = take_header(&mut lines);
+    let mut commands = Sequence::new(alloc);
+    let mut next = first;
+    let mut number = language.header_lines() as u64 + 1;
+    while let Some(line) = lines.take_line() {
+        let kind = kind_of(alloc, language, command_text(line, &lines))?;
+        let taken = read_item(
+            alloc,
+            session,
+            &mut next,
+            number,
+            kind,
+            &mut lines,
+            &mut commands,
+        )?;
+        number += 1 + taken as u64;
+    }
+    Ok(commands)
 }
 
 /// The commands of the file of a session, 1 to 64. A file whose first line is `%session 2` is of language 2, which has

@@ -1,19 +1,38 @@
-use Rattle.std.proofs.Common.{◌∙◌, ◌+◌, sym, ap, map, length, drop, arith}
-use Rattle.std.proofs.lemmas.List.{drop-map, length-drop}
-use Rattle.session_reader.specs.SessionFile as file
-use Rattle.session_reader.proofs.Items.{item_of_kind, block_next}
+use Rattle.session_reader.proofs.Items.{rest_left, single_rest}
 use Rattle.session_reader.proofs.session_file.read_item.Goals as goal
 
-pub returns-clause-item : goal.returns-clause-item
-returns-clause-item c =
-    let texts = map (λ l. l.now) c.args.lines.now in
-    let back = ap (map (λ l. l.now)) c.split_at.ensures.back ∙ sym (drop-map (λ l. l.now) (c.args.i + 1) c.args.lines.now) in
-    λ more. item_of_kind c.read_item_of.result c.args.language c.args.session c.args.next.now (c.args.i + 1) _ c.in_ok-kind.kind _ _ _ (drop (c.args.i + 1) texts) c.args.commands.now _ more
-    (c.in_ok-kind.ensures ∙ ap (file.kind_of c.args.language) c.command_text.ensures) c.line_at.ensures back (c.read_item_of.ensures.item more)
+pub returns-in-BeginCommand-clause-item : goal.returns-in-BeginCommand-clause-item
+returns-in-BeginCommand-clause-item c = λ more. rw c.in-BeginCommand.is (c.push_command.ensures.item (more c.args.next.now))
 
-pub returns-clause-next : goal.returns-clause-next
-returns-clause-next c =
-    let texts = map (λ l. l.now) c.args.lines.now in
-    let back = ap (map (λ l. l.now)) c.split_at.ensures.back ∙ sym (drop-map (λ l. l.now) (c.args.i + 1) c.args.lines.now) in
-    let size = ap length c.split_at.ensures.back ∙ length-drop (c.args.i + 1) c.args.lines.now in
-    block_next c.read_item_of.result c.args.next.now _ c.args.i _ texts _ _ back (omega (arith, size, c.requires.within)) c.read_item_of.ensures.next
+pub returns-in-BeginCommand-clause-rest : goal.returns-in-BeginCommand-clause-rest
+returns-in-BeginCommand-clause-rest c = single_rest c.push_command.result c.args.after.now c.push_command.ensures.none
+
+pub returns-in-CommitCommand-clause-item : goal.returns-in-CommitCommand-clause-item
+returns-in-CommitCommand-clause-item c = λ more. rw c.in-CommitCommand.is (c.push_command-in-CommitCommand.ensures.item (more c.args.next.now))
+
+pub returns-in-CommitCommand-clause-rest : goal.returns-in-CommitCommand-clause-rest
+returns-in-CommitCommand-clause-rest c = single_rest c.push_command-in-CommitCommand.result c.args.after.now c.push_command-in-CommitCommand.ensures.none
+
+pub returns-in-ReportCommand-clause-item : goal.returns-in-ReportCommand-clause-item
+returns-in-ReportCommand-clause-item c = λ more. rw c.in-ReportCommand.is (c.push_command-in-ReportCommand.ensures.item (more c.args.next.now))
+
+pub returns-in-ReportCommand-clause-rest : goal.returns-in-ReportCommand-clause-rest
+returns-in-ReportCommand-clause-rest c = single_rest c.push_command-in-ReportCommand.result c.args.after.now c.push_command-in-ReportCommand.ensures.none
+
+pub returns-in-AbortCommand-clause-item : goal.returns-in-AbortCommand-clause-item
+returns-in-AbortCommand-clause-item c = λ more. rw c.in-AbortCommand.is (c.push_command-in-AbortCommand.ensures.item (more c.args.next.now))
+
+pub returns-in-AbortCommand-clause-rest : goal.returns-in-AbortCommand-clause-rest
+returns-in-AbortCommand-clause-rest c = single_rest c.push_command-in-AbortCommand.result c.args.after.now c.push_command-in-AbortCommand.ensures.none
+
+pub returns-in-FindCommand-clause-item : goal.returns-in-FindCommand-clause-item
+returns-in-FindCommand-clause-item c = λ more. rw c.in-FindCommand.is (c.push_command-in-FindCommand.ensures.item (more c.args.next.now))
+
+pub returns-in-FindCommand-clause-rest : goal.returns-in-FindCommand-clause-rest
+returns-in-FindCommand-clause-rest c = single_rest c.push_command-in-FindCommand.result c.args.after.now c.push_command-in-FindCommand.ensures.none
+
+pub returns-in-SelectBlock-clause-item : goal.returns-in-SelectBlock-clause-item
+returns-in-SelectBlock-clause-item c = λ more. rw c.in-SelectBlock.is (c.read_select_item.ensures.item c.args.session c.args.next.now more)
+
+pub returns-in-SelectBlock-clause-next : goal.returns-in-SelectBlock-clause-next
+returns-in-SelectBlock-clause-next c = rest_left c.read_select_item.result c.args.next.now c.args.after.now c.read_select_item.new.after c.read_select_item.ensures.rest
