@@ -44,7 +44,7 @@ pub(crate) fn set_after(
         return set_after_each(index, changes);
     }
     match all_added(alloc, changes)? {
-        Some(added) => Ok(Index::from_triples(alloc, &added)?),
+        Some(added) => Ok(Index::from_list(alloc, added)?),
         None => set_after_each(index, changes),
     }
 }

@@ -49,7 +49,7 @@ fn changed_in(
 ) -> Result<Vec<Ids>, AllocError>
     ensures { IfOk result (λ ids. ids.items ≡ in_one_set set.now other.now changes.now) }
 {
-    let mut found = Vec::new(alloc);
+    let mut found = Vec::with_capacity(alloc, changes.len())?;
     for change in changes {
         let triple = numbers_of(change);
         if is_in_one_of(set, other, triple) {

@@ -6,4 +6,4 @@ use Rattle.event_history.specs.declared.row.Link.TheVariants.{End, After}
 
 abbrev pub kept_events : Link → List KeptEvent
 kept_events End = []
-kept_events (After newest older) = older.value ++ newest ∷ []
+kept_events (After row) = row.value.older ++ row.value.event ∷ []

@@ -83,7 +83,7 @@ impl History {
     {
         match &self.kept.newest {
             Link::End => false,
-            Link::After(event, _) => event.has_reply(reply),
+            Link::After(row) => row.event.has_reply(reply),
         }
     }
 

@@ -4,13 +4,13 @@ ghost use Rattle.std.specs.List.{AllByRecursion};
 ghost use Rattle.std.specs.Vec.{vec_capacity};
 ghost use Rattle.event_history.specs.Kept.{HasTerms, events_with, meaning, session_of};
 
-use crate::kept::{KeptEvent, Meaning};
-use collections::let_go;
+use crate::kept::{KeptEvent, Meaning, NamedBlock};
+use collections::{Sequence, let_go};
 use std::alloc::{AllocError, Global};
 use std::boxed::Box;
 use std::marker::Model;
 use std::mem;
-use store_model::Event;
+use store_model::{Event, NameKind};
 use term_dict::Dict;
 
 /// Kept events. They take one more without memory, once there is room for it.
@@ -22,7 +22,44 @@ pub struct KeptEvents {
 #[cycle(kept)]
 pub(crate) enum Link {
     End,
-    After(KeptEvent, Box<KeptEvents>),
+    After(Box<Row>),
+}
+
+/// An event, and those before it.
+#[cycle(kept)]
+pub(crate) struct Row {
+    pub(crate) event: KeptEvent,
+    pub(crate) older: KeptEvents,
+}
+
+// Written by hand, so that what owns one calls it in place of having it written out.
+impl Drop for Row {
+    fn drop(self) {
+        let Row { event: _, older: _ } = self;
+    }
+}
+
+impl Row {
+    // Room for an event: one that counts for nothing.
+    pub(crate) fn room(alloc: Global) -> Row {
+        let block = NamedBlock {
+            session: 0,
+            kind: NameKind::Fresh,
+            numbers: Sequence::new(alloc),
+        };
+        Row {
+            event: KeptEvent::Block(block),
+            older: KeptEvents::new(),
+        }
+    }
+
+    // The event, and those before it.
+    fn into_parts(self) -> (KeptEvent, KeptEvents)
+        ensures { result ≡ (self.event, self.older) }
+    {
+        let Row { event, older } = self;
+        (event, older)
+    }
 }
 
 impl Model for KeptEvents {
@@ -50,13 +87,14 @@ impl KeptEvents {
     }
 
     // Adds an event in the room that was made for it.
-    pub(crate) fn push(&mut self, room: Box<KeptEvents>, event: KeptEvent)
+    pub(crate) fn push(&mut self, room: Box<Row>, event: KeptEvent)
         ensures { self.new ≡ self.old ++ event ∷ [] }
     {
         let mut room = room;
-        *room = mem::replace(self, KeptEvents { newest: Link::End });
+        let older = mem::replace(self, KeptEvents { newest: Link::End });
+        *room = Row { event, older };
         *self = KeptEvents {
-            newest: Link::After(event, room),
+            newest: Link::After(room),
         };
     }
 
@@ -67,7 +105,7 @@ impl KeptEvents {
         let KeptEvents { newest } = self;
         match newest {
             Link::End => None,
-            Link::After(event, older) => Some((event, Box::into_inner(older))),
+            Link::After(row) => Some(Box::into_inner(row).into_parts()),
         }
     }
 
@@ -78,9 +116,10 @@ impl KeptEvents {
         let KeptEvents { newest } = self;
         match newest {
             Link::End => None,
-            Link::After(event, older) => {
+            Link::After(row) => {
+                let (event, older) = Box::into_inner(row).into_parts();
                 let_go(event);
-                Some(Box::into_inner(older))
+                Some(older)
             }
         }
     }
@@ -102,9 +141,9 @@ pub(crate) fn sessions_back(alloc: Global, kept: &KeptEvents) -> Result<Vec<u32>
 {
     let mut sessions = Vec::new(alloc);
     let mut at = kept;
-    while let Link::After(event, older) = &at.newest {
-        sessions.push(event.session())?;
-        at = older;
+    while let Link::After(row) = &at.newest {
+        sessions.push(row.event.session())?;
+        at = &row.older;
     }
     Ok(sessions)
 }
@@ -120,9 +159,9 @@ pub(crate) fn meanings_back(
 {
     let mut read = Vec::new(alloc);
     let mut at = kept;
-    while let Link::After(event, older) = &at.newest {
-        read.push(event.meaning(alloc, names)?)?;
-        at = older;
+    while let Link::After(row) = &at.newest {
+        read.push(row.event.meaning(alloc, names)?)?;
+        at = &row.older;
     }
     Ok(read)
 }

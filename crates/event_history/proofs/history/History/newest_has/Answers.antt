@@ -10,6 +10,8 @@ use Rattle.event_history.proofs.history.History.newest_has.Goals as goal
 pub returns-in-After : goal.returns-in-After
 returns-in-After c =
     let names = c.self.inside.names.terms in
-    c.has_reply.ensures ∙ sym (newest_told names c.in-After.field-1.value c.in-After.event c.args.reply.now)
+    let row = c.in-After.row.value in
+    let replied = rw c.deref.ensures at c.has_reply.ensures in
+    replied ∙ sym (newest_told names row.older row.event c.args.reply.now)
     ∙ ap (λ (ks : List KeptEvent). newest_replied (map (told names) ks) c.args.reply.now) (sym (ap kept_events c.in-After.is) ∙ ap (λ i. i.kept) c.self-inside.view_is)
     ∙ ap (λ (h : NamedHistory). newest_replied h.events c.args.reply.now) c.self.view_is
