@@ -21,8 +21,8 @@ run_over core names = record { limits = core.limits; history = None; files = nam
 pub record PrintsRun {D : Type 0} (tells : Type 0) (bytes : D → List ℕ) (history : D → History) (chosen : D → Option (List ℕ)) (faults : D → ℕ) (files : List (List Command)) (core : RecordedStore) (log : Option (LogState D)) (text : List ℕ) (later : Option (LogState D)) : Type 0 where
   pub order : List ℕ
   pub replies : List (List SessionReply)
-  pub triples : ℕ
-  pub ends : EndsRun tells bytes history chosen faults files core log order replies triples later
+  pub last : RecordedStore
+  pub ends : EndsRun tells bytes history chosen faults files core log order replies last later
   pub printed : IsRunText replies order text
 
 -- so it is of at most 64 session files, and all files were loaded; the numbers of the first blank nodes of their sessions are

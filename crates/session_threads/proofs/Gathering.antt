@@ -29,7 +29,7 @@ use Rattle.guard_store.proofs.Turning.{fresh, front_is}
 use Rattle.guard_store.proofs.Opening.{open_event, next_number}
 use Rattle.guard_store.proofs.Telling.{openings_add_one}
 use Rattle.session_threads.specs.Playing.{HasPlayed, PlaysAll}
-use Rattle.session_threads.specs.Ends.{EndsRun, HasEnd, LeavesStore}
+use Rattle.session_threads.specs.Ends.{EndsNewRun, EndsRun, HasEnd, LeavesStore}
 use Rattle.session_threads.specs.Team.{HasAll, HasEnded, HasLock, HasPlayedFile, IsHere, IsSound, IsStarting, Stands, IsOver, EndsWith, Met, TeamPlayer, files_of}
 use Rattle.session_threads.proofs.Keeping.{follows_append, follows_others, follows_opening}
 use Rattle.session_threads.proofs.Closing.{still_has, now_has, closes}
@@ -109,18 +109,18 @@ met_next store files k c after s all replies m is this that o =
       each = met_each store files k c after s all replies m is this that o;
     }
 
--- all were met, and the store was closed, with so many triples
-runs : (store : SharedStore) (files : List (List Command)) (k : StoreKeeper) (core : RecordedStore) (all : List (List SessionReply)) (triples : ℕ) → IsSound store k → k.opened ≡ length files → Met files store 0 k.pass all → core.history ≡ k.pass.known.front → core.limits ≡ store.limits → core.start ≡ store.start
-    → Replays core.limits core.start core.history core.state → triples ≡ length core.state.graph
-    → Follow files store.limits store.start core.history all × HasEnd files store.limits store.start (map (λ e. e.session) core.history) (fault_place core.history) all triples
-runs store files k core all triples sound n m is limits begins replays size =
+-- all were met, and the store was closed
+runs : (store : SharedStore) (files : List (List Command)) (k : StoreKeeper) (core : RecordedStore) (all : List (List SessionReply)) → IsSound store k → k.opened ≡ length files → Met files store 0 k.pass all → core.history ≡ k.pass.known.front → core.limits ≡ store.limits → core.start ≡ store.start
+    → Replays core.limits core.start core.history core.state
+    → Follow files store.limits store.start core.history all × HasEnd files store.limits store.start (map (λ e. e.session) core.history) (fault_place core.history) all (length core.state.graph)
+runs store files k core all sound n m is limits begins replays =
     let count : length m.over ≡ length files = omega (arith, m.count) in
     let follow = closes store files k core m.over sound n is limits begins replays count (λ i lt. m.each i i (omega arith) (omega (arith, lt, count))) m.left in
     let replies : List (List SessionReply) = map (λ s. s.replies) m.over in
     let run = following_runs files store.limits store.start core.history replies follow.0 in
     let ends : run.0.last.state ≡ core.state = run.1 ∙ follow.1 in
-    subst (λ (rs : List (List SessionReply)). Follow files store.limits store.start core.history rs × HasEnd files store.limits store.start (map (λ e. e.session) core.history) (fault_place core.history) rs triples) (sym m.replies)
-    (follow.0, (run.0, size ∙ ap (λ (s : State). length s.graph) (sym ends)))
+    subst (λ (rs : List (List SessionReply)). Follow files store.limits store.start core.history rs × HasEnd files store.limits store.start (map (λ e. e.session) core.history) (fault_place core.history) rs (length core.state.graph)) (sym m.replies)
+    (follow.0, (run.0, ap (λ (s : State). length s.graph) (sym ends)))
 
 module _ {D : Type 0} (tells : Type 0) (bytes : D → List ℕ) (history : D → History) (chosen : D → Option (List ℕ)) (faults : D → ℕ) (first : RecordedStore) (log : Option (LogState D)) (store : SharedStore) (limits_are : store.limits ≡ first.limits) (start_is : store.start ≡ first.start) (log_is : store.log ≡ log_origin bytes history chosen faults log) where
   -- the store was closed
@@ -133,19 +133,18 @@ module _ {D : Type 0} (tells : Type 0) (bytes : D → List ℕ) (history : D →
     its = subst (λ (o : Option LogOrigin). HasItsLog tells bytes history chosen faults o core later) log_is its;
   }
 
-  pub run_ends : (files : List (List Command)) (k : StoreKeeper) (core : RecordedStore) (later : Option (LogState D)) (order : List ℕ) (all : List (List SessionReply)) (triples : ℕ) → IsSound store k → k.opened ≡ length files → Met files store 0 k.pass all → core.history ≡ k.pass.known.front
-      → core.limits ≡ store.limits → core.start ≡ store.start → Replays core.limits core.start core.history core.state → HasItsLog tells bytes history chosen faults store.log core later → order ≡ map (λ e. e.session) core.history → triples ≡ length core.state.graph
-      → EndsRun tells bytes history chosen faults files first log order all triples later
-  run_ends files k core later order all triples sound n m is limits begins replays its order_is size =
-      let r = runs store files k core all triples sound n m is limits begins replays size in
-      let at : Follow files first.limits first.start core.history all × HasEnd files first.limits first.start (map (λ e. e.session) core.history) (fault_place core.history) all triples =
-      subst (λ (s : State). Follow files first.limits s core.history all × HasEnd files first.limits s (map (λ e. e.session) core.history) (fault_place core.history) all triples) start_is
-      (subst (λ (l : Limits). Follow files l store.start core.history all × HasEnd files l store.start (map (λ e. e.session) core.history) (fault_place core.history) all triples) limits_are r) in record {
-        last = core;
+  pub run_ends : (files : List (List Command)) (k : StoreKeeper) (core : RecordedStore) (later : Option (LogState D)) (order : List ℕ) (all : List (List SessionReply)) → IsSound store k → k.opened ≡ length files → Met files store 0 k.pass all → core.history ≡ k.pass.known.front
+      → core.limits ≡ store.limits → core.start ≡ store.start → Replays core.limits core.start core.history core.state → HasItsLog tells bytes history chosen faults store.log core later → order ≡ map (λ e. e.session) core.history
+      → EndsRun tells bytes history chosen faults files first log order all core later
+  run_ends files k core later order all sound n m is limits begins replays its order_is =
+      let r = runs store files k core all sound n m is limits begins replays in
+      let at : Follow files first.limits first.start core.history all × HasEnd files first.limits first.start (map (λ e. e.session) core.history) (fault_place core.history) all (length core.state.graph) =
+      subst (λ (s : State). Follow files first.limits s core.history all × HasEnd files first.limits s (map (λ e. e.session) core.history) (fault_place core.history) all (length core.state.graph)) start_is
+      (subst (λ (l : Limits). Follow files l store.start core.history all × HasEnd files l store.start (map (λ e. e.session) core.history) (fault_place core.history) all (length core.state.graph)) limits_are r) in record {
         leaves = leaves core later limits begins replays its;
         follow = at.0;
         order_is = order_is;
-        ends = subst (λ (o : List ℕ). HasEnd files first.limits first.start o (fault_place core.history) all triples) (sym order_is) at.1;
+        ends = subst (λ (o : List ℕ). HasEnd files first.limits first.start o (fault_place core.history) all (length core.state.graph)) (sym order_is) at.1;
       }
 
 -- without a log none fails
@@ -153,12 +152,22 @@ unlogged : {D : Type 0} (tells : Type 0) (bytes : D → List ℕ) (history : D �
 unlogged tells bytes history chosen faults core None h = h
 unlogged tells bytes history chosen faults core (Some log) h = absurd h
 
-pub unlogged_end : {D : Type 0} (tells : Type 0) (bytes : D → List ℕ) (history : D → History) (chosen : D → Option (List ℕ)) (faults : D → ℕ) (files : List (List Command)) (core : RecordedStore) (order : List ℕ) (all : List (List SessionReply)) (triples : ℕ) (later : Option (LogState D))
-    → EndsRun tells bytes history chosen faults files core None order all triples later → HasEnd files core.limits core.start order None all triples
-unlogged_end tells bytes history chosen faults files core order all triples later e =
-    let last = e.last in
+pub unlogged_end : {D : Type 0} (tells : Type 0) (bytes : D → List ℕ) (history : D → History) (chosen : D → Option (List ℕ)) (faults : D → ℕ) (files : List (List Command)) (core : RecordedStore) (order : List ℕ) (all : List (List SessionReply)) (last : RecordedStore) (later : Option (LogState D))
+    → EndsRun tells bytes history chosen faults files core None order all last later → HasEnd files core.limits core.start order None all (length last.state.graph)
+unlogged_end tells bytes history chosen faults files core order all last later e =
     let on : last.state.stopped ≡ false = unlogged tells bytes history chosen faults last later e.leaves.its in
-    subst (λ (o : Option ℕ). HasEnd files core.limits core.start order o all triples) (never_failed last.limits last.start last.state last.history on e.leaves.replays) e.ends
+    subst (λ (o : Option ℕ). HasEnd files core.limits core.start order o all (length last.state.graph)) (never_failed last.limits last.start last.state last.history on e.leaves.replays) e.ends
+
+pub new_run_ends : {D : Type 0} (tells : Type 0) (bytes : D → List ℕ) (history : D → History) (chosen : D → Option (List ℕ)) (faults : D → ℕ) (files : List (List Command)) (core : RecordedStore) (order : List ℕ) (all : List (List SessionReply)) (last : RecordedStore) (later : Option (LogState D))
+    → EndsRun tells bytes history chosen faults files core None order all last later → EndsNewRun files core.limits core.start order all last
+new_run_ends tells bytes history chosen faults files core order all last later e = record {
+  limits = e.leaves.limits;
+  start = e.leaves.start;
+  replays = e.leaves.replays;
+  follow = e.follow;
+  order_is = e.order_is;
+  ends = unlogged_end tells bytes history chosen faults files core order all last later e;
+}
 
 -- of a list that lost its last item, or got one
 get_or_left : {A : Type 0} (xs ys : List A) (k : ℕ) (d : A) → k < length xs → get_or (xs ++ ys) k d ≡ get_or xs k d

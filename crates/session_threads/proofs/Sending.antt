@@ -233,7 +233,7 @@ join_send : IsSend (join_pattern.the_row term.the_row)
 join_send = search (part_send, crosses, sendable) depth 60 fits 20000
 
 command_send : IsSend command.the_row
-command_send = search (join_send, list_sent.the_send, shapes_send, term_sent.the_send, sequence_sent.the_send, crosses, sendable) depth 60 fits 20000
+command_send = search (join_send, text_sent.the_send, list_sent.the_send, shapes_send, term_sent.the_send, sequence_sent.the_send, crosses, sendable) depth 60 fits 20000
 
 player_inside_send : (D : RattleType) (d : disks.Ghosts D.Denot) → IsSend D → IsSend (player_inside.the_row D d)
 player_inside_send D d sent = declared_send (player_inside.the_type D d) (

@@ -1,5 +1,5 @@
 -- What a run of session files ends with.
-use Rattle.std.specs.Prelude.{◌≡◌, ℕ, List, map, Option, length}
+use Rattle.std.specs.Prelude.{◌≡◌, ℕ, List, map, Option, None, length}
 use Rattle.disk.specs.Crashes.{History}
 use Rattle.commit_log.specs.Log.{LogState}
 use Rattle.store_model.specs.declared.event.Limits.{Limits}
@@ -22,10 +22,20 @@ pub record LeavesStore {D : Type 0} (tells : Type 0) (bytes : D → List ℕ) (h
   pub replays : Replays last.limits last.start last.history last.state
   pub its : HasItsLog tells bytes history chosen faults (log_origin bytes history chosen faults log) last later
 
--- A run ended: its history is one of these files, and the order is that of its events. The log has what the history asks.
-pub record EndsRun {D : Type 0} (tells : Type 0) (bytes : D → List ℕ) (history : D → History) (chosen : D → Option (List ℕ)) (faults : D → ℕ) (files : List (List Command)) (core : RecordedStore) (log : Option (LogState D)) (order : List ℕ) (all : List (List SessionReply)) (triples : ℕ) (later : Option (LogState D)) : Type 0 where
-  pub last : RecordedStore
+-- A run ended, with the store as it is last: its history is one of these files, and the order is that of its events. The log has what
+-- the history asks.
+pub record EndsRun {D : Type 0} (tells : Type 0) (bytes : D → List ℕ) (history : D → History) (chosen : D → Option (List ℕ)) (faults : D → ℕ) (files : List (List Command)) (core : RecordedStore) (log : Option (LogState D)) (order : List ℕ) (all : List (List SessionReply)) (last : RecordedStore) (later : Option (LogState D)) : Type 0 where
   pub leaves : LeavesStore tells bytes history chosen faults core log last later
   pub follow : Follow files core.limits core.start last.history all
   pub order_is : order ≡ map (λ e. e.session) last.history
-  pub ends : HasEnd files core.limits core.start order (fault_place last.history) all triples
+  pub ends : HasEnd files core.limits core.start order (fault_place last.history) all (length last.state.graph)
+
+-- A run over a new store without a log ended, with the store as it is last: it has these limits and began in state s, its history is
+-- one of these files, and the order is that of its events.
+pub record EndsNewRun (files : List (List Command)) (l : Limits) (s : State) (order : List ℕ) (all : List (List SessionReply)) (last : RecordedStore) : Type 0 where
+  pub limits : last.limits ≡ l
+  pub start : last.start ≡ s
+  pub replays : Replays last.limits last.start last.history last.state
+  pub follow : Follow files l s last.history all
+  pub order_is : order ≡ map (λ e. e.session) last.history
+  pub ends : HasEnd files l s order None all (length last.state.graph)

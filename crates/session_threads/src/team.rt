@@ -4,7 +4,7 @@ ghost use Rattle.std.specs.Vec.{vec_capacity};
 ghost use Rattle.session_transaction.specs.Logging.{StandsBeside};
 ghost use Rattle.store_model.specs.Store.{RecordedStore, empty_store};
 ghost use Rattle.guard_store.specs.Callers.{IsKeeper};
-ghost use Rattle.session_threads.specs.Ends.{EndsRun, HasEnd, LeavesStore};
+ghost use Rattle.session_threads.specs.Ends.{EndsNewRun, EndsRun, LeavesStore};
 ghost use Rattle.session_threads.specs.Team.{AreNumbered, HasEnded, HasLock, HasPlayedFile, IsSound, IsStarting, Met, files_of};
 
 use crate::play::play_file;
@@ -245,7 +245,7 @@ pub fn run_all<D: Disk + Drop + Send, R: Threads + Wait + Sync, G: Gate>(
     requires running { core.state.stopped ≡ false }
     requires beside { StandsBeside core log }
     requires few { length files.items ≤ 64 }
-    ensures ends { IfOk result (λ ended. EndsRun D.tells D.bytes D.history D.chosen D.faults files.items core log ended.run.order.items ended.run.replies.items (length ended.core.state.graph) ended.log) }
+    ensures ends { IfOk result (λ ended. EndsRun D.tells D.bytes D.history D.chosen D.faults files.items core log ended.run.order.items ended.run.replies.items ended.core ended.log) }
     ensures back { IfErr result (λ e. (last : RecordedStore) × LeavesStore D.tells D.bytes D.history D.chosen D.faults core log last e.1) }
 {
     core.recall_consistent();
@@ -283,7 +283,7 @@ pub fn run_new<R: Threads + Wait + Sync, G: Gate>(
 ) -> Result<EndedRun<MemDisk>, AllocError>
     requires small { limits.terms + 2 < 2 ^ 32 }
     requires few { length files.items ≤ 64 }
-    ensures { IfOk result (λ ended. HasEnd files.items limits empty_store ended.run.order.items None ended.run.replies.items (length ended.core.state.graph)) }
+    ensures { IfOk result (λ ended. EndsNewRun files.items limits empty_store ended.run.order.items ended.run.replies.items ended.core) }
 {
     let core = Core::open(alloc, limits)?;
     match run_all(rt, alloc, core, None::<Log<MemDisk>>, files, gate) {

@@ -65,7 +65,7 @@ logged_run tells bytes history chosen faults held q disk core log later firsts s
     let records = stored.records in
     let k = stored.are_restored.store in
     let ends = a.prints.ends in
-    let last = ends.last in
+    let last = a.prints.last in
     let its = ends.leaves.its in
     let begin : last.start ≡ restored records = ends.leaves.start ∙ ap (λ (c : RecordedStore). c.start) k.store in
     let step = its.step records (had tells bytes history q.run.limits records core log (chosen log.disk) (faults log.disk) k stored.step) in

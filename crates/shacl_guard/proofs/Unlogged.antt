@@ -23,7 +23,7 @@ are_run : {D : Type 0} (tells : Type 0) (bytes : D → List ℕ) (history : D �
     → AreLogged tells bytes history chosen faults held [] core None r.files before after text later → AreRun held empty_start r None before after text
 are_run tells bytes history chosen faults held core r before after text later new none a =
     let p = a.prints in
-    let run = (unlogged_end tells bytes history chosen faults a.all core p.order p.replies p.triples later p.ends).0 in
+    let run = (unlogged_end tells bytes history chosen faults a.all core p.order p.replies p.last later p.ends).0 in
     let begin = subst (λ (c : RecordedStore). HasReplies a.all c.limits c.start p.order None p.replies) new run in (
       a.few,
       (a.all, p.order, a.sessions, subst (λ (h : Option (List ℕ)). IsOrderOf held h p.order) (sym none) tt, (p.replies, begin, p.printed)),

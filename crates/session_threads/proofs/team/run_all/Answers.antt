@@ -1,4 +1,4 @@
-use Rattle.std.proofs.Common.{List, length, refl, reverse, subst, sym}
+use Rattle.std.proofs.Common.{List, reverse, subst, sym}
 use Rattle.session_model.specs.declared.reply.SessionReply.{SessionReply}
 use Rattle.session_threads.specs.Ends.{EndsRun}
 use Rattle.session_threads.proofs.Gathering.{leaves, never_began, run_ends, sound_new}
@@ -25,6 +25,6 @@ returns-in-Ok-order-clause-ends g c =
     let done = c.close-core.ensures in
     let played = c.in-Ok-play_files.ensures in
     let files = c.args.files.items in
-    let ends = run_ends g.D.Disk.tells g.D.Disk.bytes g.D.Disk.history g.D.Disk.chosen g.D.Disk.faults c.args.core c.args.log c.in-Ok.made.0 c.in-Ok.ensures.limits c.in-Ok.ensures.start c.in-Ok.ensures.log files c.in-Ok-play_files.played.0 c.close-core.result.0 c.close-core.result.1 c.in-Ok-order.order.items (reverse c.in-Ok-play_files.played.1.items) (length c.close-core.result.0.state.graph)
-    played.keeper played.opened played.met done.history done.limits done.start done.replays done.log c.in-Ok-order.ensures refl in
-    subst (λ (rs : List (List SessionReply)). EndsRun g.D.Disk.tells g.D.Disk.bytes g.D.Disk.history g.D.Disk.chosen g.D.Disk.faults files c.args.core c.args.log c.in-Ok-order.order.items rs (length c.close-core.result.0.state.graph) c.close-core.result.1) (sym c.reverse.ensures.items) ends
+    let ends = run_ends g.D.Disk.tells g.D.Disk.bytes g.D.Disk.history g.D.Disk.chosen g.D.Disk.faults c.args.core c.args.log c.in-Ok.made.0 c.in-Ok.ensures.limits c.in-Ok.ensures.start c.in-Ok.ensures.log files c.in-Ok-play_files.played.0 c.close-core.result.0 c.close-core.result.1 c.in-Ok-order.order.items (reverse c.in-Ok-play_files.played.1.items)
+    played.keeper played.opened played.met done.history done.limits done.start done.replays done.log c.in-Ok-order.ensures in
+    subst (λ (rs : List (List SessionReply)). EndsRun g.D.Disk.tells g.D.Disk.bytes g.D.Disk.history g.D.Disk.chosen g.D.Disk.faults files c.args.core c.args.log c.in-Ok-order.order.items rs c.close-core.result.0 c.close-core.result.1) (sym c.reverse.ensures.items) ends
