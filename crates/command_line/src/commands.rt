@@ -15,7 +15,7 @@ fn option<'a>(alloc: Global, id: &'a str) -> Arg<'a>
     Arg::new(alloc, id).long(id).action(ArgAction::Set)
 }
 
-fn name<'a>(alloc: Global, id: &'a str) -> Arg<'a>
+fn one_name<'a>(alloc: Global, id: &'a str) -> Arg<'a>
     ensures { IsArgument (CommandLine.name_rule id.entry.now) result }
 {
     Arg::new(alloc, id).required(true).action(ArgAction::Set)
@@ -37,40 +37,15 @@ fn named<'a>(alloc: Global, name: &'a str) -> Result<Command<'a>, AllocError>
     Ok(Command::new(alloc, name))
 }
 
-// The command with an option more.
-fn with_option<'a>(
+// The command with an argument more.
+fn with_argument<'a>(
     command: Result<Command<'a>, AllocError>,
-    alloc: Global,
-    id: &'a str,
+    argument: Arg<'a>,
 ) -> Result<Command<'a>, AllocError>
-    ensures { (app : _) → IfOk command.entry (IsCommand app)
-        → IfOk result (IsCommand (with_rule app (CommandLine.option_rule id.entry.now))) }
+    ensures { (app : _) → (rule : _) → IfOk command.entry (IsCommand app) → IsArgument rule argument.entry
+        → IfOk result (IsCommand (with_rule app rule)) }
 {
-    command?.arg(option(alloc, id))
-}
-
-// The command with a name more.
-fn with_name<'a>(
-    command: Result<Command<'a>, AllocError>,
-    alloc: Global,
-    id: &'a str,
-) -> Result<Command<'a>, AllocError>
-    ensures { (app : _) → IfOk command.entry (IsCommand app)
-        → IfOk result (IsCommand (with_rule app (CommandLine.name_rule id.entry.now))) }
-{
-    command?.arg(name(alloc, id))
-}
-
-// The command with names more, one at least.
-fn with_names<'a>(
-    command: Result<Command<'a>, AllocError>,
-    alloc: Global,
-    id: &'a str,
-) -> Result<Command<'a>, AllocError>
-    ensures { (app : _) → IfOk command.entry (IsCommand app)
-        → IfOk result (IsCommand (with_rule app (CommandLine.names_rule id.entry.now))) }
-{
-    command?.arg(names(alloc, id))
+    command?.arg(argument)
 }
 
 // The command with a subcommand more.
@@ -89,45 +64,45 @@ fn with_command<'a>(
 fn with_limits<'a>(alloc: Global, name: &'a str) -> Result<Command<'a>, AllocError>
     ensures { IfOk result (IsCommand (CommandLine.with_limits (new_app name.entry.now))) }
 {
-    let command = with_option(named(alloc, name), alloc, "max-terms");
-    let command = with_option(command, alloc, "max-triples");
-    with_option(command, alloc, "block")
+    let command = with_argument(named(alloc, name), option(alloc, "max-terms"));
+    let command = with_argument(command, option(alloc, "max-triples"));
+    with_argument(command, option(alloc, "block"))
 }
 
 fn run<'a>(alloc: Global) -> Result<Command<'a>, AllocError>
     ensures { IfOk result (IsCommand CommandLine.run) }
 {
-    let command = with_option(with_limits(alloc, "run"), alloc, "log");
-    with_names(command, alloc, "files")
+    let command = with_argument(with_limits(alloc, "run"), option(alloc, "log"));
+    with_argument(command, names(alloc, "files"))
 }
 
 fn replay<'a>(alloc: Global) -> Result<Command<'a>, AllocError>
     ensures { IfOk result (IsCommand CommandLine.replay) }
 {
-    let command = with_name(with_limits(alloc, "replay"), alloc, "history");
-    with_names(command, alloc, "files")
+    let command = with_argument(with_limits(alloc, "replay"), one_name(alloc, "history"));
+    with_argument(command, names(alloc, "files"))
 }
 
 fn create_log<'a>(alloc: Global) -> Result<Command<'a>, AllocError>
     ensures { IfOk result (IsCommand CommandLine.create_log) }
 {
-    with_name(named(alloc, "create-log"), alloc, "name")
+    with_argument(named(alloc, "create-log"), one_name(alloc, "name"))
 }
 
 fn follow<'a>(alloc: Global) -> Result<Command<'a>, AllocError>
     ensures { IfOk result (IsCommand CommandLine.follow) }
 {
-    let command = with_name(named(alloc, "follow"), alloc, "log");
-    let command = with_name(command, alloc, "order");
-    with_name(command, alloc, "number")
+    let command = with_argument(named(alloc, "follow"), one_name(alloc, "log"));
+    let command = with_argument(command, one_name(alloc, "order"));
+    with_argument(command, one_name(alloc, "number"))
 }
 
 // A command with the names of a data graph and a shapes graph.
 fn with_graphs<'a>(alloc: Global, name: &'a str) -> Result<Command<'a>, AllocError>
     ensures { IfOk result (IsCommand (Building.with_graphs (new_app name.entry.now))) }
 {
-    let command = with_name(named(alloc, name), alloc, "data");
-    with_name(command, alloc, "shapes")
+    let command = with_argument(named(alloc, name), one_name(alloc, "data"));
+    with_argument(command, one_name(alloc, "shapes"))
 }
 
 fn validate<'a>(alloc: Global) -> Result<Command<'a>, AllocError>
@@ -145,13 +120,13 @@ fn explain<'a>(alloc: Global) -> Result<Command<'a>, AllocError>
 fn verify<'a>(alloc: Global) -> Result<Command<'a>, AllocError>
     ensures { IfOk result (IsCommand CommandLine.verify) }
 {
-    with_name(with_graphs(alloc, "verify"), alloc, "evidence")
+    with_argument(with_graphs(alloc, "verify"), one_name(alloc, "evidence"))
 }
 
 fn generate<'a>(alloc: Global) -> Result<Command<'a>, AllocError>
     ensures { IfOk result (IsCommand CommandLine.generate) }
 {
-    with_name(named(alloc, "generate"), alloc, "numbers")
+    with_argument(named(alloc, "generate"), one_name(alloc, "numbers"))
 }
 
 // The program's command, which takes one of others.

@@ -1,4 +1,4 @@
 use Rattle.command_line.proofs.commands.follow.Goals as goal
 
 pub returns : goal.returns
-returns c = c.with_name.ensures _ (c.with_name-command-2.ensures _ (c.with_name-command.ensures _ c.named.ensures))
+returns c = c.with_argument.ensures _ _ (c.with_argument-command-2.ensures _ _ (c.with_argument-command.ensures _ _ c.named.ensures c.one_name.ensures) c.one_name-2.ensures) c.one_name-3.ensures

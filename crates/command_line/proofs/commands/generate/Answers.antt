@@ -1,4 +1,4 @@
 use Rattle.command_line.proofs.commands.generate.Goals as goal
 
 pub returns : goal.returns
-returns c = c.with_name.ensures _ c.named.ensures
+returns c = c.with_argument.ensures _ _ c.named.ensures c.one_name.ensures

@@ -1,4 +1,4 @@
 use Rattle.command_line.proofs.commands.replay.Goals as goal
 
 pub returns : goal.returns
-returns c = c.with_names.ensures _ (c.with_name-command.ensures _ c.with_limits.ensures)
+returns c = c.with_argument.ensures _ _ (c.with_argument-command.ensures _ _ c.with_limits.ensures c.one_name.ensures) c.names.ensures
