@@ -33,7 +33,7 @@ fn properties<'a>(graph: &IndexedGraph<'a>, node: &Term) -> &'a [Triple]
     values_of(graph, node, SH_PROPERTY)
 }
 
-// The same of triples that aren't indexed.
+// The triples with the node's property shapes, by binary search.
 #[tactic(auto, unfolding(shape_model::specs::Vocabulary::sh))]
 fn properties_in<'a>(triples: &'a [Triple], node: &Term) -> &'a [Triple]
     requires { IsAscending triple_cmp triples.now }

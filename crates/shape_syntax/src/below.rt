@@ -9,7 +9,7 @@ ghost use Rattle.shape_syntax.specs.Subjects.{IsSubject};
 
 use crate::IndexedGraph;
 use crate::list::cell_of;
-use crate::lookup::triples_of;
+use crate::lookup::{first_place, triples_of};
 use crate::subjects::{push_unless_last, subjects};
 use collections::Sequence;
 use rdf_model::{Term, Triple};
@@ -58,7 +58,7 @@ fn mark(entered: &mut [bool], place: usize) -> bool {
     is_new
 }
 
-// A node is marked at the place of its first triple. One that isn't found by the table of subjects isn't entered.
+// A node is marked at the place of its first triple. One without triples needs nothing.
 fn enter(
     graph: &IndexedGraph,
     node: Term,
@@ -67,7 +67,10 @@ fn enter(
 ) -> Result<(), AllocError>
     requires { IsAscending triple_cmp graph.now }
 {
-    if mark(entered, graph.guess(&node)) {
+    let Some(place) = first_place(graph, &node) else {
+        return Ok(());
+    };
+    if mark(entered, place) {
         return push_visits(graph, &node, stack);
     }
     Ok(())

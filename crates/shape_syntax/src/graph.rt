@@ -76,11 +76,12 @@ fn slot_at(hash: usize, attempt: usize, count: usize) -> usize {
 fn put_place(places: &mut [usize], hash: usize, place: usize) {
     for attempt in 0..TRIES {
         let slot = slot_at(hash, attempt, places.len());
-        if let Some(held) = places.get_mut(slot) {
-            if *held == NO_PLACE {
-                *held = place;
-                return;
-            }
+        let Some(held) = places.get_mut(slot) else {
+            return;
+        };
+        if *held == NO_PLACE {
+            *held = place;
+            return;
         }
     }
 }
