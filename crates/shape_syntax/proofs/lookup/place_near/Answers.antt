@@ -1,4 +1,4 @@
-use Rattle.std.proofs.Common.{◌-◌, ℕ, drop, length, subst, sym, take}
+use Rattle.std.proofs.Common.{◌-◌, ◌<◌, ℕ, arith, drop, length, subst, sym, take}
 use Rattle.std.specs.List.{Contains}
 use Rattle.rdf_model.specs.Terms.{triple_cmp}
 use Rattle.shape_syntax.proofs.Places.{key, subject_cmp, subject_total, subject_agrees, term_tied}
@@ -17,4 +17,4 @@ returns-then-count_upto_subject-eq0-clause-none c = λ _ t d s.
     let h = in_behind triple_cmp subject_cmp subject_total subject_agrees k xs i c.count_upto_subject.result c.count_before_subject-first.ensures.bound c.count_upto_subject.ensures.bound
     c.count_before_subject-first.ensures.point
     c.count_upto_subject.ensures.point t in
-    subst (λ (n : ℕ). Contains (take n ys) t → ⊥) (sym c.if-count_upto_subject-eq0.true) (λ z. z) (h.1 (d, term_tied t.subject c.args.node.now s))
+    subst (λ (n : ℕ). Contains (take n ys) t → ⊥) (sym c.if-count_upto_subject-eq0.true) (λ z. let below : z.0 < 0 = z.1 in absurd (omega arith)) (h.1 (d, term_tied t.subject c.args.node.now s))
