@@ -8,7 +8,6 @@ use Rattle.rdf_model.specs.declared.triple.Triple.{Triple}
 use Rattle.rdf_model.specs.Terms.{term_cmp, triple_cmp}
 use Rattle.collections.specs.Listings.{IsListing}
 use Rattle.shape_syntax.specs.Gathering.{Gives}
-use Rattle.shape_references.specs.declared.bound.NamedGraph.{NamedGraph}
 use Rattle.shape_references.specs.declared.bundle.Bundle.{Bundle}
 
 -- by one of the bundles a refers to b
@@ -52,10 +51,10 @@ IsEdgeOf nodes i w t = Gives (IsInto nodes i) w.from t ⊎ Gives (IsOutOf nodes 
 abbrev pub IsEdge : List Term → List Bundle → ℕ → Triple → Type 0
 IsEdge nodes bundles end t = (i : ℕ) × (i < end) × ((w : Bundle) × (slice_get bundles i ≡ Some w) × IsEdgeOf nodes i w t)
 
--- the graph has the nodes of the bundles and their triples, in order
-pub record IsNamedGraph (bundles : List Bundle) (graph : NamedGraph) : Type 0 where
-  pub nodes : IsListing term_cmp (Gives IsNodeOf bundles) graph.nodes.items
-  pub edges : IsListing triple_cmp (IsEdge graph.nodes.items bundles (length bundles)) graph.edges.items
+-- these are the nodes of the bundles and their triples, in order
+pub record IsNamedGraph (bundles : List Bundle) (ns : List Term) (ts : List Triple) : Type 0 where
+  pub nodes : IsListing term_cmp (Gives IsNodeOf bundles) ns
+  pub edges : IsListing triple_cmp (IsEdge ns bundles (length bundles)) ts
 
 -- the references that stood in bundles, and what some item of the list gives
 abbrev pub HasBound : {X : Type 0} → (X → Term → Term → Type 0) → List X → List Bundle → List Bundle → Type 0

@@ -7,7 +7,7 @@
 //! leads, and `least_with_chain` the least of them. `push_siblings` ensures exactly a shape's siblings.
 //!
 //! References may stand in bundles, so that those of many siblings to each other aren't listed pair by pair:
-//! `least_bound_on_loop` and `least_bound_with_chain` ensure the same of those, by the bundles' `named_graph`. `push_sibling_bundle` gives the references of
+//! `ReferenceGraph::least_on_loop` and `least_with_chain` ensure the same of those. `push_sibling_bundle` gives the references of
 //! all that may have siblings under a parent.
 //!
 //! Storey: shapes.
@@ -29,7 +29,7 @@ mod ranks;
 mod siblings;
 mod steps;
 
-pub use bound::{NamedGraph, least_bound_on_loop, least_bound_with_chain, named_graph};
+pub use bound::ReferenceGraph;
 pub use bundle::Bundle;
 pub use chains::{least_with_chain, nodes_with_chain};
 pub use loops::least_on_loop;

@@ -99,7 +99,7 @@ fn push_chain_row(
     requires rows { (r : RowData) → Contains rows.now r ↔ DeepPathRow graph.now r.node r }
     ensures { OnOk result (HaveLeast (IsDeepRow graph.now) rows.new) }
 {
-    match least_with_long_chain(alloc, graph, survey.references.as_slice(), &survey.named)? {
+    match least_with_long_chain(alloc, graph, &survey.references)? {
         Some(node) => {
             rows.push(RuleRow {
                 node,

@@ -4,7 +4,7 @@ ghost use Rattle.std.specs.Prelude.{◌≡◌, ◌⊎◌, ◌↔◌, ◌<◌, �
 ghost use Rattle.collections.specs.Ordered.{IsAscending};
 ghost use Rattle.rdf_model.specs.declared.term.Term.{Term as TermData};
 ghost use Rattle.rdf_model.specs.Terms.{triple_cmp};
-ghost use Rattle.shape_references.specs.Bundles.{HasBound, IsBound, IsNamedGraph};
+ghost use Rattle.shape_references.specs.Bundles.{HasBound, IsBound};
 ghost use Rattle.shape_references.specs.Siblings.{AreUnder};
 ghost use Rattle.shape_model.specs.Limits.{levels_limit};
 ghost use Rattle.shape_sizes.specs.References.{AreReferences, HasLongChain, IsLeastRecursive, IsLeastWithLongChain, IsRecursive};
@@ -13,10 +13,7 @@ ghost use Rattle.shape_sizes.specs.Referring.{IsReferredBy};
 use collections::Sequence;
 use rdf_model::{Term, Triple};
 use shape_properties::shapes::push_taken;
-use shape_references::{
-    Bundle, NamedGraph, least_bound_on_loop, least_bound_with_chain, parent_nodes,
-    push_sibling_bundle,
-};
+use shape_references::{Bundle, ReferenceGraph, parent_nodes, push_sibling_bundle};
 use shape_syntax::IndexedGraph;
 use std::alloc::{AllocError, Global};
 
@@ -84,19 +81,16 @@ pub fn references(alloc: Global, graph: &IndexedGraph) -> Result<Vec<Bundle>, Al
     Ok(bundles.into_vec())
 }
 
-/// The least shape from which a chain of references leads to itself, if there is one. The graph's `references` are given, and
-/// the `named_graph` of these.
+/// The least shape from which a chain of references leads to itself, if there is one. The graph's `references` are given.
 pub fn least_recursive(
     alloc: Global,
     graph: &IndexedGraph,
-    references: &[Bundle],
-    named: &NamedGraph,
+    references: &ReferenceGraph,
 ) -> Result<Option<Term>, AllocError>
-    requires references { AreReferences graph.now references.now }
-    requires named { IsNamedGraph references.now named.now }
+    requires { AreReferences graph.now references.now }
     ensures { IfOk result (λ found. MatchOption found ((n : TermData) → IsRecursive graph.now n → ⊥) (λ n. IsLeastRecursive graph.now n)) }
 {
-    let found = least_bound_on_loop(alloc, references, named)?;
+    let found = references.least_on_loop(alloc)?;
     Ok(found)
 }
 
@@ -110,18 +104,15 @@ fn too_many() -> usize
     257
 }
 
-/// The least shape from which a chain of more than 256 references leads, if there is one. The graph's `references` are given, and
-/// the `named_graph` of these.
+/// The least shape from which a chain of more than 256 references leads, if there is one. The graph's `references` are given.
 pub fn least_with_long_chain(
     alloc: Global,
     graph: &IndexedGraph,
-    references: &[Bundle],
-    named: &NamedGraph,
+    references: &ReferenceGraph,
 ) -> Result<Option<Term>, AllocError>
-    requires references { AreReferences graph.now references.now }
-    requires named { IsNamedGraph references.now named.now }
+    requires { AreReferences graph.now references.now }
     ensures { IfOk result (λ found. MatchOption found ((n : TermData) → HasLongChain graph.now n → ⊥) (λ n. IsLeastWithLongChain graph.now n)) }
 {
-    let found = least_bound_with_chain(alloc, references, named, too_many())?;
+    let found = references.least_with_chain(alloc, too_many())?;
     Ok(found)
 }

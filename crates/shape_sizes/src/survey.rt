@@ -10,7 +10,7 @@ use collections::Sequence;
 use rdf_model::{Term, Triple};
 use reference_totals::WeightedPlace;
 use shape_properties::shapes::shape_nodes;
-use shape_references::{Bundle, NamedGraph, named_graph, reversed_properties};
+use shape_references::{ReferenceGraph, reversed_properties};
 use shape_syntax::IndexedGraph;
 use shape_syntax::paths::path_nodes;
 use std::alloc::{AllocError, Global};
@@ -26,9 +26,7 @@ pub struct Survey {
     /// The nodes that are shapes, in order.
     pub shapes: Vec<Term>,
     /// The references between shapes.
-    pub references: Vec<Bundle>,
-    /// Their graph, by which chains of them are found.
-    pub named: NamedGraph,
+    pub references: ReferenceGraph,
     /// The triples with sh:property, reversed and in order.
     pub reversed: Vec<Triple>,
 }
@@ -41,15 +39,13 @@ pub fn survey_of(alloc: Global, graph: &IndexedGraph) -> Result<Survey, AllocErr
     let paths = path_nodes(alloc, graph)?;
     let places = path_places(alloc, graph, &paths)?;
     let shapes = shape_nodes(alloc, graph)?;
-    let references = references(alloc, graph)?;
-    let named = named_graph(alloc, references.as_slice())?;
+    let references = ReferenceGraph::new(alloc, references(alloc, graph)?)?;
     let reversed = reversed_properties(alloc, graph)?;
     Ok(Survey {
         paths,
         places,
         shapes,
         references,
-        named,
         reversed,
     })
 }

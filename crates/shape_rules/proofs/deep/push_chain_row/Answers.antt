@@ -21,8 +21,5 @@ returns-in-None c =
     have_as (λ (r : RuleRow). DeepPathRow s r.node r ⊎ (HasLongChain s r.node × (r ≡ row r.node 41 None))) (IsDeepRow s) c.args.rows.now (deep_rows s)
     (without_whole (λ (r : RuleRow). DeepPathRow s r.node r) (HasLongChain s) 41 c.args.rows.now c.requires.rows (rw c.in-None.is at c.in_ok-node.ensures))
 
-pub least_with_long_chain-requires-clause-references : goal.least_with_long_chain-requires-clause-references
-least_with_long_chain-requires-clause-references c = rw c.as_slice.ensures.value c.requires.survey.references
-
-pub least_with_long_chain-requires-clause-named : goal.least_with_long_chain-requires-clause-named
-least_with_long_chain-requires-clause-named c = rw c.as_slice.ensures.value c.requires.survey.named
+pub least_with_long_chain-requires : goal.least_with_long_chain-requires
+least_with_long_chain-requires c = c.requires.survey.references

@@ -12,8 +12,5 @@ returns-in_ok-push-in-Some c =
 pub returns-in-None : goal.returns-in-None
 returns-in-None c = without_whole (λ (r : RuleRow). BreaksAt c.args.graph.now r.node r) (IsRecursive c.args.graph.now) 38 c.args.rows.now c.requires.rows (rw c.in-None.is at c.in_ok-node.ensures)
 
-pub least_recursive-requires-clause-references : goal.least_recursive-requires-clause-references
-least_recursive-requires-clause-references c = rw c.as_slice.ensures.value c.requires.survey.references
-
-pub least_recursive-requires-clause-named : goal.least_recursive-requires-clause-named
-least_recursive-requires-clause-named c = rw c.as_slice.ensures.value c.requires.survey.named
+pub least_recursive-requires : goal.least_recursive-requires
+least_recursive-requires c = c.requires.survey.references
