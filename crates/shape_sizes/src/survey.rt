@@ -39,7 +39,8 @@ pub fn survey_of(alloc: Global, graph: &IndexedGraph) -> Result<Survey, AllocErr
     let paths = path_nodes(alloc, graph)?;
     let places = path_places(alloc, graph, &paths)?;
     let shapes = shape_nodes(alloc, graph)?;
-    let references = ReferenceGraph::new(alloc, references(alloc, graph)?)?;
+    let bundles = references(alloc, graph)?;
+    let references = ReferenceGraph::new(alloc, bundles)?;
     let reversed = reversed_properties(alloc, graph)?;
     Ok(Survey {
         paths,
