@@ -113,7 +113,8 @@ fn rows_of_regex(
     requires { IsPatternOf (term_at case.now.names case.now.parameter) flags.now regex.now }
 {
     let mut matchers = Matchers::new(alloc);
-    pattern(&site_of(alloc, case), regex, flags, &mut matchers)
+    let matcher = matchers.matcher_of(alloc, regex, flags)?;
+    pattern(&site_of(alloc, case), matcher)
 }
 
 // The flags are what a row has for other terms.

@@ -140,8 +140,9 @@ fn pattern_rows<'a, R: Triples, N: Names>(
         None => Ok(Vec::new(evaluation.alloc())),
         Some(built) => {
             let flags = flags_text(evaluation, shape);
+            let matcher = matchers.matcher_of(evaluation.alloc(), &built.regex, flags)?;
             let site = evaluation.site(shape.node, built.parameter, focus, values);
-            pattern(&site, &built.regex, flags, matchers)
+            pattern(&site, matcher)
         }
     }
 }

@@ -1,5 +1,6 @@
 -- Texts that a pattern matches (SHACL 4.4.3).
-use Rattle.std.specs.Prelude.{◌≡◌, ℕ, true, List, Some, is_some}
+use Rattle.std.specs.Prelude.{◌≡◌, ◌⊎◌, ◌++◌, ◌∷◌, ℕ, true, List, [], Some, is_some, take}
+use Rattle.std.specs.List.{Contains}
 use Rattle.rdf_model.specs.declared.term.Term.{Term}
 use Rattle.literal_order.specs.Texts.{string_value}
 use Rattle.regex.specs.Patterns.{Re, find_str}
@@ -31,3 +32,11 @@ pub record IsKept (regex : Regex) (flags : List ℕ) (matcher : Matcher) : Type 
   pub same : matcher_pattern matcher ≡ regex_pattern regex
   pub config : regex_config regex ≡ config_of flags
   pub read : IsReadFromSource regex
+
+-- The matchers that are kept, and one more in the last place. There are 64 at most: the first 63 stay.
+abbrev pub with_matcher : List Searched → Searched → List Searched
+with_matcher kept one = take 63 kept ++ one ∷ []
+
+-- a matcher that was kept before, or one more where there was none
+abbrev pub Provides : Searched → List Searched → List Searched → Type 0
+Provides one before after = (Contains before one × (after ≡ before)) ⊎ ((Contains before one → ⊥) × (after ≡ with_matcher before one))

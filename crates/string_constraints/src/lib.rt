@@ -15,6 +15,6 @@ mod shared_tag;
 
 pub use language::language_in;
 pub use length::{max_length, min_length};
-pub use matchers::Matchers;
+pub use matchers::{Matchers, PatternMatcher};
 pub use matching::pattern;
 pub use shared_tag::unique_lang;

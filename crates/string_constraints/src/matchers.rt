@@ -1,8 +1,7 @@
 //! Matchers that are kept for later searches.
-ghost use Rattle.std.specs.Prelude.{◌≡◌, ◌↔◌, [], IfOk, IsTrue, Some, length, slice_get};
-ghost use Rattle.regex.specs.Strings.{IsReadFromSource, regex_config, regex_source};
-ghost use Rattle.rdf_model.specs.Numbers.{term_at};
-ghost use Rattle.shape_model.specs.Patterns.{IsPatternOf, config_of};
+ghost use Rattle.std.specs.Prelude.{◌≡◌, ◌↔◌, [], IfOk, IsTrue, OnErr, OnOk, Some, length, slice_get};
+ghost use Rattle.regex.specs.Strings.{IsReadFromSource, regex_config};
+ghost use Rattle.shape_model.specs.Patterns.{config_of};
 ghost use Rattle.shape_model.specs.TermTests.{IsMatched};
 ghost use Rattle.literal_order.specs.Texts.{string_value};
 ghost use Rattle.component_rows.specs.Answers.{AreAnswersTo};
@@ -17,16 +16,16 @@ use std::marker::Model;
 // How many matchers are kept at most: each takes memory of its own, and is looked for among all.
 const MOST_KEPT: usize = 64;
 
-// A matcher, with the regex that it searches for and the flags under which that was built. Contracts see the text of the
-// pattern and the flags.
+/// A matcher of a pattern, with the regex that it searches for and the flags under which that was built. Contracts see the text
+/// of the pattern and the flags.
 #[derive(Drop)]
-struct KeptMatcher<'r> {
+pub struct PatternMatcher<'r> {
     regex: &'r Regex,
     flags: &'r str,
     matcher: Matcher<'r>,
 }
 
-impl<'r> Model for KeptMatcher<'r> {
+impl<'r> Model for PatternMatcher<'r> {
     ghost use Rattle.string_constraints.specs.Matches.{IsKept, Searched, searched};
 
     ghost Value = { Searched };
@@ -36,17 +35,17 @@ impl<'r> Model for KeptMatcher<'r> {
     ghost invariant = { λ k. IsKept k.regex.now k.flags.now k.matcher };
 }
 
-impl<'r> KeptMatcher<'r> {
+impl<'r> PatternMatcher<'r> {
     ghost use Rattle.string_constraints.specs.Matches.{searched};
 
     // A matcher of the regex, which was built under the flags.
-    fn new(alloc: Global, regex: &'r Regex, flags: &'r str) -> Result<KeptMatcher<'r>, AllocError>
+    fn new(alloc: Global, regex: &'r Regex, flags: &'r str) -> Result<PatternMatcher<'r>, AllocError>
         requires config { regex_config regex.now ≡ config_of flags.now }
         requires read { IsReadFromSource regex.now }
         ensures { IfOk result (λ kept. kept ≡ searched regex.entry.now flags.entry.now) }
     {
         let matcher = regex.matcher(alloc)?;
-        Ok(KeptMatcher {
+        Ok(PatternMatcher {
             regex,
             flags,
             matcher,
@@ -60,10 +59,14 @@ impl<'r> KeptMatcher<'r> {
         self.regex.as_str() == source && self.flags == flags
     }
 
-    // Whether the pattern matches the text of each value node.
-    fn answers<N: Names>(&mut self, site: &Site<'_, N>) -> Result<Vec<bool>, AllocError>
+    /// Whether the pattern matches the text of each value node.
+    pub(crate) fn answers<N: Names>(
+        &mut self,
+        site: &Site<'_, N>,
+    ) -> Result<Vec<bool>, AllocError>
         ensures as_many { IfOk result (λ answers. length answers.items ≡ length site.now.values) }
         ensures told { IfOk result (λ answers. (q : _) → string_value q ≡ Some self.old.source → AreAnswersTo (IsMatched q self.old.flags) site.now.terms site.now.values answers.items) }
+        ensures same { self.new ≡ self.old }
     {
         are_found(site, &mut self.matcher)
     }
@@ -72,11 +75,11 @@ impl<'r> KeptMatcher<'r> {
 /// Matchers of patterns, each kept for later searches for the same pattern under the same flags.
 #[derive(Drop)]
 pub struct Matchers<'r> {
-    kept: Vec<KeptMatcher<'r>>,
+    kept: Vec<PatternMatcher<'r>>,
 }
 
 impl<'r> Matchers<'r> {
-    ghost use Rattle.string_constraints.specs.Matches.{searched};
+    ghost use Rattle.string_constraints.specs.Matches.{Provides, searched, with_matcher};
 
     /// No matchers so far. It takes no memory.
     pub fn new(alloc: Global) -> Matchers<'r>
@@ -88,12 +91,12 @@ impl<'r> Matchers<'r> {
     }
 
     // Keeps one matcher more, in the place of the last one where there are the most.
-    fn keep(&mut self, matcher: KeptMatcher<'r>) -> Result<usize, AllocError>
-        ensures { IfOk result (λ place. slice_get self.new.kept.items place ≡ Some matcher.entry) }
+    fn keep(&mut self, matcher: PatternMatcher<'r>) -> Result<usize, AllocError>
+        ensures place { IfOk result (λ place. slice_get self.new.kept.items place ≡ Some matcher.entry) }
+        ensures kept { OnOk result (self.new.kept.items ≡ with_matcher self.old.kept.items matcher.entry) }
+        ensures same { OnErr result (self.new.kept.items ≡ self.old.kept.items) }
     {
-        if self.kept.len() >= MOST_KEPT {
-            self.kept.pop();
-        }
+        self.kept.truncate(MOST_KEPT - 1);
         let place = self.kept.len();
         self.kept.push(matcher)?;
         Ok(place)
@@ -108,30 +111,31 @@ impl<'r> Matchers<'r> {
     ) -> Result<usize, AllocError>
         requires config { regex_config regex.now ≡ config_of flags.now }
         requires read { IsReadFromSource regex.now }
-        ensures { IfOk result (λ place. slice_get self.new.kept.items place ≡ Some (searched regex.entry.now flags.entry.now)) }
+        ensures place { IfOk result (λ place. slice_get self.new.kept.items place ≡ Some (searched regex.entry.now flags.entry.now)) }
+        ensures kept { OnOk result (Provides (searched regex.entry.now flags.entry.now) self.old.kept.items self.new.kept.items) }
+        ensures same { OnErr result (self.new.kept.items ≡ self.old.kept.items) }
     {
         for place in 0..self.kept.len() {
             if self.kept[place].is_for(regex.as_str(), flags) {
                 return Ok(place);
             }
         }
-        let matcher = KeptMatcher::new(alloc, regex, flags)?;
+        let matcher = PatternMatcher::new(alloc, regex, flags)?;
         self.keep(matcher)
     }
 
-    /// Whether the pattern of the term matches the text of each value node under the flags. The regex was built of the
-    /// term's text under them.
-    pub(crate) fn answers<N: Names>(
+    /// The matcher of the regex, which was built under the flags. It is made where none is kept.
+    pub fn matcher_of(
         &mut self,
-        site: &Site<'_, N>,
+        alloc: Global,
         regex: &'r Regex,
         flags: &'r str,
-    ) -> Result<Vec<bool>, AllocError>
-        requires { IsPatternOf (term_at site.now.terms site.now.parameter) flags.now regex.now }
-        ensures as_many { IfOk result (λ answers. length answers.items ≡ length site.now.values) }
-        ensures told { IfOk result (λ answers. AreAnswersTo (IsMatched (term_at site.now.terms site.now.parameter) flags.entry.now) site.now.terms site.now.values answers.items) }
+    ) -> Result<&mut PatternMatcher<'r>, AllocError>
+        requires config { regex_config regex.now ≡ config_of flags.now }
+        requires read { IsReadFromSource regex.now }
+        ensures { IfOk result (λ matcher. matcher.now ≡ searched regex.entry.now flags.entry.now) }
     {
-        let place = self.place_of(site.alloc(), regex, flags)?;
-        self.kept[place].answers(site)
+        let place = self.place_of(alloc, regex, flags)?;
+        Ok(&mut self.kept[place])
     }
 }

@@ -1,18 +1,18 @@
 //! The component pattern (SHACL section 4.4.3).
-ghost use Rattle.std.specs.Prelude.{◌≡◌, ◌↔◌, IfOk, IsTrue, is_some, length};
+ghost use Rattle.std.specs.Prelude.{◌≡◌, ◌↔◌, IfOk, IsTrue, Some, is_some, length};
+ghost use Rattle.literal_order.specs.Texts.{string_value};
 ghost use Rattle.rdf_model.specs.Numbers.{term_at};
 ghost use Rattle.regex.specs.Patterns.{SameCaptures, find_str};
 ghost use Rattle.regex.specs.Strings.{matcher_pattern};
 ghost use Rattle.shape_model.specs.declared.component.Component.TheVariants as components;
-ghost use Rattle.shape_model.specs.Patterns.{IsPatternOf};
 ghost use Rattle.component_rows.specs.Answers.{AreAnswersTo};
 ghost use Rattle.component_rows.specs.Sites.{ListsAt, at_values};
 ghost use Rattle.string_constraints.specs.Matches.{IsFoundIn, with_flags};
 
-use crate::matchers::Matchers;
+use crate::matchers::PatternMatcher;
 use component_rows::{Site, refused};
 use rdf_model::{Names, Term};
-use regex::{Matcher, Regex};
+use regex::Matcher;
 use shape_model::{Component, ResultRow};
 use std::alloc::AllocError;
 
@@ -54,17 +54,15 @@ pub(crate) fn are_found<N: Names>(
 }
 
 /// The results of sh:pattern (SHACL section 4.4.3): one about each value node that is blank, or whose text the
-/// pattern doesn't match. The regex is what was built of the parameter's text under the shape's flags. Whether one of the
-/// matchers searched for it before makes no difference.
-pub fn pattern<'r, N: Names>(
+/// pattern doesn't match. The matcher searches for the parameter's text under the shape's flags.
+pub fn pattern<N: Names>(
     site: &Site<'_, N>,
-    regex: &'r Regex,
-    flags: &'r str,
-    matchers: &mut Matchers<'r>,
+    matcher: &mut PatternMatcher<'_>,
 ) -> Result<Vec<ResultRow>, AllocError>
-    requires { IsPatternOf (term_at site.now.terms site.now.parameter) flags.now regex.now }
-    ensures { IfOk result (λ rows. ListsAt components.Pattern (at_values site.now) (with_flags flags.entry.now) site.now rows.items) }
+    ensures rows { string_value (term_at site.now.terms site.now.parameter) ≡ Some matcher.old.source
+        → IfOk result (λ rows. ListsAt components.Pattern (at_values site.now) (with_flags matcher.old.flags) site.now rows.items) }
+    ensures same { matcher.new ≡ matcher.old }
 {
-    let answers = matchers.answers(site, regex, flags)?;
+    let answers = matcher.answers(site)?;
     refused(site, Component::Pattern, &answers)
 }

@@ -17,15 +17,15 @@ use Rattle.string_constraints.proofs.matching.pattern.Goals as goal
 pub refused-requires : goal.refused-requires
 refused-requires g c = ap (λ (answers : List Bool). length answers) c.deref.ensures.value ∙ c.in_ok-answers.ensures.as_many
 
-pub returns : goal.returns
-returns g c =
+pub returns-clause-rows : goal.returns-clause-rows
+returns-clause-rows g c = λ source.
     let s = c.args.site.now in
     let q = term_at s.terms s.parameter in
-    let flags = c.args.flags.now in
+    let flags = c.args.matcher.now.flags in
     let nodes = at_values s in
     let row = site_row components.Pattern s in
     let are : AreAnswersTo (IsMatched q flags) s.terms s.values c.deref.result.now =
-    subst (λ (answers : List Bool). AreAnswersTo (IsMatched q flags) s.terms s.values answers) (sym c.deref.ensures.value) c.in_ok-answers.ensures.told in
+    subst (λ (answers : List Bool). AreAnswersTo (IsMatched q flags) s.terms s.values answers) (sym c.deref.ensures.value) (c.in_ok-answers.ensures.told q source) in
     IfOk-weaker c.refused.result
     (λ rows. Lists (ForEach nodes row (λ v. IsAnswered s.terms s.values c.deref.result.now v → ⊥)) rows.items)
     (λ rows. Lists (RowsOf components.Pattern nodes (with_flags flags) q row) rows.items)

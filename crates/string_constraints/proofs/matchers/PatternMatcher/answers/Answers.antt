@@ -8,7 +8,7 @@ use Rattle.shape_model.specs.TermTests.{IsMatched}
 use Rattle.component_rows.specs.Answers.{AreAnswersTo}
 use Rattle.string_constraints.specs.Matches.{IsFoundIn, Searched}
 use Rattle.string_constraints.proofs.Patterns.{kept_answers}
-use Rattle.string_constraints.proofs.matchers.KeptMatcher.answers.Goals as goal
+use Rattle.string_constraints.proofs.matchers.PatternMatcher.answers.Goals as goal
 
 pub returns-clause-told : goal.returns-clause-told
 returns-clause-told g c =
