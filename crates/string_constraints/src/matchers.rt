@@ -39,7 +39,11 @@ impl<'r> PatternMatcher<'r> {
     ghost use Rattle.string_constraints.specs.Matches.{searched};
 
     // A matcher of the regex, which was built under the flags.
-    fn new(alloc: Global, regex: &'r Regex, flags: &'r str) -> Result<PatternMatcher<'r>, AllocError>
+    fn new(
+        alloc: Global,
+        regex: &'r Regex,
+        flags: &'r str,
+    ) -> Result<PatternMatcher<'r>, AllocError>
         requires config { regex_config regex.now ≡ config_of flags.now }
         requires read { IsReadFromSource regex.now }
         ensures { IfOk result (λ kept. kept ≡ searched regex.entry.now flags.entry.now) }
@@ -60,10 +64,7 @@ impl<'r> PatternMatcher<'r> {
     }
 
     /// Whether the pattern matches the text of each value node.
-    pub(crate) fn answers<N: Names>(
-        &mut self,
-        site: &Site<'_, N>,
-    ) -> Result<Vec<bool>, AllocError>
+    pub(crate) fn answers<N: Names>(&mut self, site: &Site<'_, N>) -> Result<Vec<bool>, AllocError>
         ensures as_many { IfOk result (λ answers. length answers.items ≡ length site.now.values) }
         ensures told { IfOk result (λ answers. (q : _) → string_value q ≡ Some self.old.source → AreAnswersTo (IsMatched q self.old.flags) site.now.terms site.now.values answers.items) }
         ensures same { self.new ≡ self.old }
