@@ -98,6 +98,3 @@ module _ (p : Pattern) where
         λ c. let h = (l.members t).0 c in keeps (λ t. matches p t) g t ((x.members t).0 h.0) h.1,
         λ c. let h = kept_of (λ t. matches p t) g t c in (l.members t).1 ((x.members t).1 h.0, h.1),
       ))
-
-pub found_ascends : (g : List Triple) (p : Pattern) → IsAscending triple_cmp g → IsAscending triple_cmp (found g p)
-found_ascends g p a = ascending-filter triple_total (λ t. matches p t) g a

@@ -15,3 +15,4 @@ mod Moved
 mod NoChecks
 mod ByPlaces
 mod Selecting
+mod Laid

@@ -1,8 +1,9 @@
 //! The triples that a pattern asks for, by the numbers of their terms.
-ghost use Rattle.std.specs.Prelude.{◌≡◌, ◌↔◌, IfOk, MatchOption};
+ghost use Rattle.std.specs.Prelude.{◌≡◌, ◌↔◌, [], IfOk, MatchOption};
 ghost use Rattle.std.specs.List.{All, Contains};
 ghost use Rattle.collections.specs.Ordered.{has_item};
 ghost use Rattle.rdf_model.specs.declared.ids.Ids.{Ids as IdsData};
+ghost use Rattle.rdf_model.specs.Graphs.{with_each};
 ghost use Rattle.rdf_model.specs.Numbers.{AreNumbered, graph_of, triple_at};
 ghost use Rattle.rdf_model.specs.Terms.{triple_cmp};
 ghost use Rattle.store_model.specs.Finds.{found};
@@ -85,17 +86,16 @@ pub(crate) fn has_triple(names: &Dict, index: &Index, triple: &Triple) -> bool
     }
 }
 
-/// The triples that the pattern asks for of those that an index stands for, in their order.
-pub(crate) fn found_by_number(
+/// The triples that the pattern asks for of those that an index stands for, in any order.
+pub(crate) fn triples_asked(
     alloc: Global,
     names: &Dict,
     index: &Index,
     pattern: &Pattern,
 ) -> Result<Vec<Triple>, AllocError>
     requires { AreNumbered names.now.terms index.now }
-    ensures { IfOk result (λ v. v.items ≡ found (triples_at names.now.terms index.now) pattern.now) }
+    ensures { IfOk result (λ v. with_each [] v.items ≡ found (triples_at names.now.terms index.now) pattern.now) }
 {
     let ids = ids_asked(alloc, names, index, pattern)?;
-    let triples = read_triples(alloc, names, &ids)?;
-    Ok(sorted_once(triples)?)
+    Ok(read_triples(alloc, names, &ids)?)
 }

@@ -19,9 +19,9 @@ ghost use Rattle.kept_rows.specs.Laws.{ChecksPairs, KeepsResults};
 ghost use Rattle.data_graph.specs.Changes.{IsCheckByNumber};
 ghost use Rattle.data_graph.specs.DataGraphs.{AreNamedChanges, IsIndexOf, names_of, triples_at, with_changes, with_names, with_shapes};
 
-use crate::asked::list_after_asked;
+use crate::asked::sorted_after_asked;
 use crate::at_once::set_after;
-use crate::by_number::{found_by_number, has_triple, sorted_triples};
+use crate::by_number::{has_triple, sorted_triples, triples_asked};
 use crate::changed::ids_differing;
 use crate::changes::{NumberedCheck, PairedChanges, check_by_number, paired_changes};
 use crate::hints::NumberHints;
@@ -227,8 +227,8 @@ impl DataGraph {
     ) -> Result<Vec<Triple>, AllocError>
         ensures { IfOk result (λ v. v.items ≡ found (after self.now.triples net.now) pattern.now) }
     {
-        let matching = found_by_number(alloc, &self.names, &self.numbers, pattern)?;
-        list_after_asked(alloc, matching, net, pattern)
+        let triples = triples_asked(alloc, &self.names, &self.numbers, pattern)?;
+        sorted_after_asked(alloc, triples, net, pattern)
     }
 
     /// The bindings of the patterns in the graph with these changes: the terms of the variables, from the first on, under which

@@ -18,6 +18,7 @@ mod changed;
 mod changes;
 mod graph;
 mod hints;
+mod last_changes;
 mod looks;
 mod numbering;
 mod pairs;

@@ -1,7 +1,0 @@
-use Rattle.std.proofs.Common.{◌≡◌, map, take}
-use Rattle.triple_index.specs.Changes.{change_at}
-use Rattle.data_graph.specs.Finding.{changes_asked}
-use Rattle.data_graph.proofs.asked.asked_of.Given as goal
-
-abbrev pub invariant-loop-change : goal.invariant-loop-change
-invariant-loop-change l = l.asked.items ≡ changes_asked l.pattern (map (change_at l.terms) (take l.change-index l.changes))
