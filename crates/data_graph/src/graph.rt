@@ -1,7 +1,7 @@
 //! A data graph with its shapes graph and numbers for the terms of both.
 ghost use Rattle.std.specs.Prelude.{◌≡◌, ◌+◌, ◌<◌, ◌≤◌, ◌^◌, [], IfErr, IfOk, OnErr, OnOk, length, map};
 ghost use Rattle.rdf_model.specs.Graphs.{after, differing, with_each};
-ghost use Rattle.rdf_model.specs.Numbers.{AreNumbered, graph_of};
+ghost use Rattle.rdf_model.specs.Numbers.{AreNumbered, graph_of, triple_at};
 ghost use Rattle.rdf_model.specs.Terms.{triple_cmp};
 ghost use Rattle.collections.specs.Ordered.{IsAscending, has_item};
 ghost use Rattle.std.specs.List.{AllByRecursion};
@@ -11,7 +11,7 @@ ghost use Rattle.store_model.specs.Store.{AreNamed, looked_at};
 ghost use Rattle.parallel_validate.specs.Verdicts.{IsEvaluated};
 ghost use Rattle.term_dict.specs.Faults.{IsCause};
 ghost use Rattle.term_dict.specs.Names.{AreNumbersOf, first_terms, with_terms};
-ghost use Rattle.triple_index.specs.Changes.{IsNumberedChange, change_at};
+ghost use Rattle.triple_index.specs.Changes.{IsNumbered, IsNumberedChange, change_at};
 ghost use Rattle.parallel_validate.specs.Counting.{GrowsByCount, IsTargetPair};
 ghost use Rattle.parallel_validate.specs.Named.{AreNamedTriples};
 ghost use Rattle.change_laws.specs.Pairs.{IsCheckFootprint};
@@ -33,7 +33,7 @@ use collections::{Sequence, both};
 use kept_rows::{KeptRows, PairRows};
 use numbered_lists::Net;
 use parallel_validate::is_without_shapes;
-use rdf_model::{Ids, Pattern, Term, Triple};
+use rdf_model::{Ids, Pattern, Term, Triple, Triples};
 use shape_eval::Steps;
 use shapes_graph::ShapesGraph;
 use std::alloc::{AllocError, Global};
@@ -194,6 +194,26 @@ impl DataGraph {
         let changed = ids_differing(self.alloc, &self.names, &self.numbers, &numbers, &changes)?;
         let next = self.with_numbers(numbers)?;
         Ok((next, changed, changes))
+    }
+
+    /// Whether the triple of these numbers is in the graph. It takes no memory, and looks at no term.
+    pub fn contains_numbers(&self, ids: Ids) -> bool
+        requires { IsNumbered self.now.terms ids }
+        ensures { result ≡ has_item triple_cmp (triple_at self.now.terms ids) self.now.triples }
+    {
+        self.names.recall_numbering();
+        self.numbers.contains(ids)
+    }
+
+    /// The graph after changes by the numbers of their terms, as `after` makes it. It looks at no term.
+    pub fn after_numbers(&self, changes: &[NumberedChange]) -> Result<DataGraph, AllocError>
+        requires { AllByRecursion (IsNumberedChange self.now.terms) changes.now }
+        ensures { IfOk result (λ next. next ≡ with_changes self.now (map (change_at self.now.terms) changes.now)) }
+    {
+        self.names.recall_numbering();
+        self.numbers.recall_ascending();
+        let numbers = set_after(self.alloc, &self.numbers, changes)?;
+        self.with_numbers(numbers)
     }
 
     /// The triples of these numbers, ascending, each once.
