@@ -1,7 +1,9 @@
-use Rattle.std.proofs.Common.{◌≡◌, ℕ, IfOk, List, sym, ap, subst}
+use Rattle.std.proofs.Common.{◌≡◌, ◌∙◌, ℕ, IfOk, List, sym, ap, subst}
 use Rattle.std.specs.Prelude.{MatchOption, Option, Some}
 use Rattle.std.specs.Arc.{arc_value}
 use Rattle.std.proofs.lemmas.Result.{IfOk-weaker}
+use Rattle.literal_order.specs.Texts.{string_value}
+use Rattle.regex.specs.declared.string.regex.Regex.{Regex}
 use Rattle.rdf_model.specs.declared.term.Term.{Term}
 use Rattle.rdf_model.specs.declared.triple.Triple.{Triple}
 use Rattle.rdf_model.specs.declared.ids.Ids.{Ids}
@@ -15,7 +17,7 @@ use Rattle.component_rows.proofs.Collecting.{collects_none, collects_same}
 use Rattle.shape_ast.specs.Readings.{ReadShape, read_optional, read_pattern, read_shape}
 use Rattle.shape_ast.specs.declared.pattern.CompiledPattern.{CompiledPattern}
 use Rattle.shape_model.specs.Patterns.{IsPatternOf}
-use Rattle.string_constraints.specs.Matches.{with_flags}
+use Rattle.string_constraints.specs.Matches.{Searched, searched, with_flags}
 use Rattle.shape_ast.specs.Standing.{HasFlagsText, shape_reading}
 use Rattle.shape_eval.specs.Around.{around}
 use Rattle.shape_eval.specs.ShapeRows.{PatternRow}
@@ -30,16 +32,18 @@ returns-in-None g c = λ ids s n shapes.
     rw c.new.ensures.items (collects_none (PatternRow (around terms ids s n c.args.values.now c.args.focus) shapes (read_shape (term_at terms) c.args.shape.now) (term_at terms c.args.focus))
     (λ r h. let is = h.1 in cc (none, is)))
 
-pub pattern-requires : goal.pattern-requires
-pattern-requires g c =
+pub matcher_of-requires : goal.matcher_of-requires
+matcher_of-requires g c =
     let terms = c.args.evaluation.now.terms in
     let q = term_at terms c.in-Some.built.parameter in
     let b = subst (λ (o : Option (CompiledPattern ℕ)). MatchOption o (Unit {0}) (λ p. (text : List ℕ) × HasFlagsText (read_optional (term_at terms) c.args.shape.now.flags) text × IsPatternOf (term_at terms p.parameter) text (arc_value p.regex))) c.in-Some.is c.requires.built in
-    subst (λ (x : Spot). IsPatternOf (term_at x.terms x.parameter) c.flags_text-flags.result.now c.deref.result.now) (sym c.site-site.ensures)
-    (subst (λ x. IsPatternOf q c.flags_text-flags.result.now x) (sym c.deref.ensures) (subst (λ (text : List ℕ). IsPatternOf q text (arc_value c.in-Some.built.regex)) (sym (c.flags_text-flags.ensures b.0 b.1)) b.2))
+    let is : IsPatternOf q c.flags_text-flags.result.now c.deref.result.now =
+    subst (λ (regex : Regex). IsPatternOf q c.flags_text-flags.result.now regex) (sym c.deref.ensures)
+    (subst (λ (text : List ℕ). IsPatternOf q text (arc_value c.in-Some.built.regex)) (sym (c.flags_text-flags.ensures b.0 b.1)) b.2) in
+    record { config = is.config; read = is.read }
 
-pub returns-in-Some : goal.returns-in-Some
-returns-in-Some g c =
+pub returns-in_ok-matcher-in-Some : goal.returns-in_ok-matcher-in-Some
+returns-in_ok-matcher-in-Some g c =
     let terms = c.args.evaluation.now.terms in
     let shape = c.args.shape.now in
     let values = c.args.values.now in
@@ -48,6 +52,11 @@ returns-in-Some g c =
     let q = term_at terms c.in-Some.built.parameter in
     let is : read.pattern ≡ Some q = ap (read_pattern (term_at terms)) c.in-Some.is in
     let b = subst (λ (o : Option (CompiledPattern ℕ)). MatchOption o (Unit {0}) (λ p. (text : List ℕ) × HasFlagsText (read_optional (term_at terms) shape.flags) text × IsPatternOf (term_at terms p.parameter) text (arc_value p.regex))) c.in-Some.is c.requires.built in
+    let kept : c.in_ok-matcher-in-Some.matcher.now ≡ searched (arc_value c.in-Some.built.regex) b.0 =
+    c.in_ok-matcher-in-Some.ensures ∙ ap (λ (regex : Regex). searched regex c.flags_text-flags.result.now) c.deref.ensures ∙ ap (searched (arc_value c.in-Some.built.regex)) (c.flags_text-flags.ensures b.0 b.1) in
+    let Listed : Searched → Spot → Type 0 = λ m x. string_value (term_at x.terms x.parameter) ≡ Some m.source → IfOk c.pattern.result (λ rows. ListsAt components.Pattern (at_values x) (with_flags m.flags) x rows.items) in
+    let listed = subst (λ (x : Spot). Listed (searched (arc_value c.in-Some.built.regex) b.0) x) c.site-site.ensures
+    (subst (λ (m : Searched). Listed m c.site-site.result) kept c.pattern.ensures.rows) in
     IfOk-weaker c.pattern.result
     (λ rows. ListsRows components.Pattern (at_nodes (HasNode terms values)) (with_flags b.0) read.node f q rows.items)
     (λ rows. (ids : List Ids) (s : List Triple) (n : ℕ) (shapes : List ReadShape) → Collects (PatternRow (around terms ids s n values c.args.focus) shapes read f) rows.items)
@@ -58,5 +67,4 @@ returns-in-Some g c =
       (λ a. (q, is, same.0 a)),
       (λ k. same.1 (subst (λ (x : Term). RowsOf components.Pattern around_it (shape_reading shapes read) x (row_of components.Pattern read.node f x) r) (only_some read.pattern k.0 q k.1 is) k.2)),
     )) h.members)
-    (subst (λ (x : Spot). IfOk c.pattern.result (λ rows. ListsAt components.Pattern (at_values x) (with_flags b.0) x rows.items)) c.site-site.ensures
-    (subst (λ (text : List ℕ). IfOk c.pattern.result (λ rows. ListsAt components.Pattern (at_values c.site-site.result) (with_flags text) c.site-site.result rows.items)) (c.flags_text-flags.ensures b.0 b.1) c.pattern.ensures))
+    (listed b.2.source)
