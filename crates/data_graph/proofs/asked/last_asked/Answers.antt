@@ -1,4 +1,4 @@
-use Rattle.std.proofs.Common.{◌≡◌, ◌∙◌, ◌<◌, ◌≤◌, List, length, map, take, ap, arith, subst, sym, take_all}
+use Rattle.std.proofs.Common.{◌≡◌, ◌∙◌, List, map, take, ap, arith, subst, sym, take_all}
 use Rattle.rdf_model.specs.declared.change.Change.{Change}
 use Rattle.triple_index.specs.declared.change.NumberedChange.{NumberedChange}
 use Rattle.triple_index.specs.Changes.{change_at}

@@ -1,7 +1,7 @@
-use Rattle.std.proofs.Common.{◌∙◌, List, ◌++◌, [], ◌∷◌, ap, append-nil, subst, sym}
+use Rattle.std.proofs.Common.{◌∙◌, List, ◌++◌, ap, append-nil, subst, sym}
 use Rattle.rdf_model.specs.declared.change.Change.{Change}
 use Rattle.triple_index.specs.Changes.{change_at}
-use Rattle.data_graph.specs.Finding.{AreLast, changes_asked}
+use Rattle.data_graph.specs.Finding.{AreLast}
 use Rattle.data_graph.proofs.Laid.{asked_none, asked_one}
 use Rattle.data_graph.proofs.asked.push_asked.Goals as goal
 

@@ -1,4 +1,4 @@
-use Rattle.std.proofs.Common.{List, ◌++◌, [], ◌∷◌, subst, sym}
+use Rattle.std.proofs.Common.{◌++◌, [], ◌∷◌, subst, sym}
 use Rattle.rdf_model.specs.declared.change.Change.{Change}
 use Rattle.data_graph.specs.Finding.{AreLast}
 use Rattle.data_graph.proofs.Laid.{last_added, last_removed, less, more}
