@@ -1,5 +1,6 @@
 pub mod NamedTerms
 mod NamedLists
+mod Faults
 pub mod Running
 pub mod Consistency
 pub mod Outcomes
@@ -9,5 +10,6 @@ pub mod Planning
 pub mod Conditions
 pub mod Replaying
 pub mod RestoredParts
+mod RecordedTriples
 pub mod LoggedCommits
 pub mod Accepting

@@ -20,7 +20,10 @@ use Rattle.store_model.specs.declared.event.NameKind.TheVariants.{Fresh, Known, 
 use Rattle.store_model.specs.Nodes.{given_by, given_with, is_blank, unknown_by}
 use Rattle.store_model.specs.Store.{named_with, terms_of}
 use Rattle.store_model.proofs.Nodes.{ascending-given_with, member-given_with}
-use Rattle.term_dict.specs.Names.{AreNumbersOf, IsNumberOf, with_term, with_terms}
+use Rattle.term_dict.specs.Faults.{IsCause}
+use Rattle.term_dict.specs.Names.{AreNumbersOf, IsNumberOf, Named, with_term, with_terms}
+use Rattle.term_dict.specs.declared.fault.NameFault.{NameFault}
+use Rattle.term_dict.specs.declared.fault.NameFault.TheVariants.{Full, Memory}
 use Rattle.data_graph.specs.DataGraphs.{NamedGraph}
 use Rattle.commit_core.specs.declared.naming.NamedTerms.{NamedTerms}
 use Rattle.data_graph.specs.Numbering.{HasPlaces}
@@ -193,6 +196,11 @@ module _ (ts ps : List Term) (alike : AreNamedAlike ts ps) (given : List Term) (
         given_is = is.given_is ∙ same_given kind;
         names_are = is.names_are;
       }
+
+-- why naming the terms fails is why naming the parts does
+pub same_cause : (ts ps : List Term) → AreNamedAlike ts ps → (d : Named) (fault : NameFault) → IsCause fault d ts → IsCause fault d ps
+same_cause ts ps alike d (Full count) h = (h.0, h.1 ∙ ap length (sym (alike.names d.terms)))
+same_cause ts ps alike d Memory h = tt
 
 -- what naming terms each once gives a list
 pub list_naming : (kind : NameKind) (graph : NamedGraph) (given ts : List Term) (is : List Ids) (n : NamedTerms) (ns parts : List ℕ) → AreNumbered ts is → AreNamedAlike ts (parts_at ts is) → IsAscending term_cmp given → unknown_by kind given ts ≡ [] → IsNaming kind graph given ts n → AreNumbersOf n.graph.terms ts ns → parts ≡ flat_map (part_numbers ns) is → IsListNaming kind graph given (parts_at ts is) n parts

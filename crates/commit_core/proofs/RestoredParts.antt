@@ -2,16 +2,15 @@
 use Rattle.std.proofs.Common.{◌≡◌, ◌∙◌, ℕ, zero, suc, ◌+◌, ◌^◌, ◌<◌, ◌≤◌, true, false, cond, List, [], ◌∷◌, ◌++◌, length, get_or, take, drop, map, Option, Some, None, refl, sym, ap, subst, arith, inl, inr, append-nil, append_assoc, length-append}
 use Rattle.std.specs.Prelude.{◌⊎◌, MatchOption}
 use Rattle.std.specs.Borrow.{Bor}
-use Rattle.std.specs.List.{All, Contains, flat_map}
-use Rattle.std.proofs.lemmas.List.{map-append, take_all, take_more}
+use Rattle.std.specs.List.{Contains, flat_map}
+use Rattle.std.proofs.lemmas.Grind.{flat_map-append}
+use Rattle.std.proofs.lemmas.List.{take_all, take_more}
 use Rattle.std.proofs.lemmas.List.Elements.{All-contains, Contains-append_left, Contains-append_right}
 use Rattle.rdf_model.specs.declared.term.Term.{Term}
 use Rattle.rdf_model.specs.declared.triple.Triple.{Triple}
-use Rattle.rdf_model.specs.declared.change.Change.{Change}
-use Rattle.rdf_model.specs.declared.change.Change.TheVariants.{Add}
-use Rattle.rdf_model.specs.Graphs.{after, with_each}
+use Rattle.rdf_model.specs.Graphs.{with_each}
 use Rattle.rdf_model.specs.declared.ids.Ids.{Ids}
-use Rattle.rdf_model.specs.Numbers.{AreNumbered, IsNumbering, graph_of, triple_at}
+use Rattle.rdf_model.specs.Numbers.{IsNumbering, graph_of}
 use Rattle.rdf_model.specs.Orders.{triple_total}
 use Rattle.rdf_model.specs.Terms.{term_cmp, triple_cmp}
 use Rattle.collections.specs.Ordered.{IsAscending, has_item, with_item, without_item}
@@ -22,28 +21,24 @@ use Rattle.commit_log.specs.Format.{AreRecordsFrom}
 use Rattle.store_model.specs.declared.commit.Accepted.{Accepted}
 use Rattle.store_model.specs.declared.event.Limits.{Limits}
 use Rattle.store_model.specs.Blocking.{NoBlocking}
-use Rattle.store_model.specs.Store.{RecordedStore, State, changed_triple, empty_store, named_with, shapes_under, terms_of}
+use Rattle.store_model.specs.Nodes.{given_with, is_blank}
+use Rattle.store_model.specs.Store.{RecordedStore, State, empty_store, named_with, shapes_under, terms_of}
 use Rattle.store_model.proofs.Nodes.{ascending-given_with}
 use Rattle.term_dict.specs.Names.{first_terms, with_terms}
 use Rattle.parallel_validate.specs.Named.{AreNamedTriples, IsNamedTriple}
-use Rattle.data_graph.specs.DataGraphs.{AreNamedChanges, NamedGraph, with_changes, with_shapes}
-use Rattle.data_graph.proofs.Listed.{after_added, one_listing}
+use Rattle.data_graph.specs.DataGraphs.{NamedGraph}
+use Rattle.data_graph.proofs.Listed.{one_listing}
 use Rattle.commit_core.specs.Consistent.{IsConsistent, IsSoundState}
 use Rattle.commit_core.specs.Outcomes.{HasBlocking}
 use Rattle.commit_core.specs.Restored.{FitInTurn, IsFirstMisfit, IsRestoreFault, IsRestored, accepted_by, fits_record, graph_after, record_terms, restored, restored_from, shapes_terms, with_record, without_each}
-use Rattle.commit_core.specs.declared.restoring.RestoreFault.{RestoreFault}
-use Rattle.commit_core.specs.declared.restoring.RestoreFault.TheVariants.{Misfit, TooLarge, Blocked, Memory}
-use Rattle.commit_core.specs.RestoredParts.{IsLastGraph, IsNamedRecord, IsNamedStart, IsNamingFault, givens, graphs, names, shapes_after, staged_in, with_names_of}
+use Rattle.commit_core.specs.declared.restoring.RestoreFault.TheVariants.{Blocked}
+use Rattle.commit_core.specs.RestoredParts.{IsGraphWithin, all_triples, graphs, record_triples, shapes_after, staged_in, staged_triples}
 use Rattle.commit_core.proofs.NamedTerms.{all_of, first_names, first_numbering, has_name, names_stay, numbered_with, same_names, triple_stays, triples_stay}
 
 -- its parts
 pub graph_part : (s : State) (rs : List Record) → (restored_from s rs).graph ≡ graphs s.graph rs
 graph_part s [] = refl
 graph_part s (r ∷ rs) = graph_part (with_record s r) rs
-
-pub given_part : (s : State) (rs : List Record) → (restored_from s rs).given ≡ givens s.given rs
-given_part s [] = refl
-given_part s (r ∷ rs) = given_part (with_record s r) rs
 
 shapes_part : (s : State) (rs : List Record) → (restored_from s rs).shapes ≡ shapes_after s.shapes rs
 shapes_part s [] = refl
@@ -54,12 +49,37 @@ pub last_is_staged : (rs : List Record) (last : Option (Bor Record)) → staged_
 last_is_staged rs None e = shapes_part empty_store rs ∙ sym e
 last_is_staged rs (Some entry) e = shapes_part empty_store rs ∙ sym e
 
-names_part : (s : State) (rs : List Record) → (restored_from s rs).named ≡ names s.named rs
-names_part s [] = refl
-names_part s (r ∷ rs) = names_part (with_record s r) rs ∙ ap (λ (ns : List Term). names ns rs) (sym (same_names s.named (record_terms r)))
+-- the terms that are named, and the blank nodes, from the triples of all records at once
+staged_terms : (o : Option (List Triple)) → flat_map terms_of (staged_triples o) ≡ shapes_terms o
+staged_terms None = refl
+staged_terms (Some ts) = refl
 
-pub first_named : (rs : List Record) → names first_terms rs ≡ (restored rs).named
-first_named rs = ap (λ (ns : List Term). names ns rs) first_names ∙ sym (names_part empty_store rs)
+record_terms_are : (r : Record) → flat_map terms_of (record_triples r) ≡ record_terms r
+record_terms_are r =
+    flat_map-append terms_of r.removed (r.added ++ staged_triples r.shapes)
+    ∙ ap (λ (us : List Term). flat_map terms_of r.removed ++ us) (flat_map-append terms_of r.added (staged_triples r.shapes) ∙ ap (λ (us : List Term). flat_map terms_of r.added ++ us) (staged_terms r.shapes))
+
+terms_push : (r : Record) (rs : List Record) → flat_map terms_of (all_triples (r ∷ rs)) ≡ record_terms r ++ flat_map terms_of (all_triples rs)
+terms_push r rs = flat_map-append terms_of (record_triples r) (all_triples rs) ∙ ap (λ (us : List Term). us ++ flat_map terms_of (all_triples rs)) (record_terms_are r)
+
+names_append : (named ts us : List Term) → named_with named (ts ++ us) ≡ named_with (named_with named ts) us
+names_append named [] us = refl
+names_append named (t ∷ ts) us = names_append (cond (has_item term_cmp t named) named (named ++ t ∷ [])) ts us
+
+given_append : (given ts us : List Term) → given_with given (ts ++ us) ≡ given_with (given_with given ts) us
+given_append given [] us = refl
+given_append given (t ∷ ts) us = given_append (cond (is_blank t) (with_item term_cmp t given) given) ts us
+
+names_at_once : (s : State) (rs : List Record) → named_with s.named (flat_map terms_of (all_triples rs)) ≡ (restored_from s rs).named
+names_at_once s [] = refl
+names_at_once s (r ∷ rs) = ap (named_with s.named) (terms_push r rs) ∙ names_append s.named (record_terms r) (flat_map terms_of (all_triples rs)) ∙ names_at_once (with_record s r) rs
+
+pub given_at_once : (s : State) (rs : List Record) → given_with s.given (flat_map terms_of (all_triples rs)) ≡ (restored_from s rs).given
+given_at_once s [] = refl
+given_at_once s (r ∷ rs) = ap (given_with s.given) (terms_push r rs) ∙ given_append s.given (record_terms r) (flat_map terms_of (all_triples rs)) ∙ given_at_once (with_record s r) rs
+
+pub first_named : (rs : List Record) → with_terms first_terms (flat_map terms_of (all_triples rs)) ≡ (restored rs).named
+first_named rs = same_names first_terms (flat_map terms_of (all_triples rs)) ∙ ap (λ (ns : List Term). named_with ns (flat_map terms_of (all_triples rs))) first_names ∙ names_at_once empty_store rs
 
 commits_part : (s : State) (rs : List Record) → (restored_from s rs).commits ≡ s.commits ++ map accepted_by rs
 commits_part s [] = sym (append-nil s.commits)
@@ -136,10 +156,6 @@ longer_with named (t ∷ ts) = elim (has_item term_cmp t named) as (λ b. length
   | true ↦ longer_with named ts
   | false ↦ let h = longer_with (named ++ t ∷ []) ts in let e : length (named ++ t ∷ []) ≡ length named + 1 = simp length-append in omega (arith, h, e)
 ]
-
-pub longer_names : (named : List Term) (rs : List Record) → length named ≤ length (names named rs)
-longer_names named [] = omega arith
-longer_names named (r ∷ rs) = let h = longer_names (with_terms named (record_terms r)) rs in let k = longer_with named (record_terms r) in omega (arith, h, k)
 
 -- the terms of a list are named
 new_name : (named : List Term) (u t : Term) → u ≡ t → Contains (cond (has_item term_cmp u named) named (named ++ u ∷ [])) t
@@ -253,10 +269,7 @@ keeps rs = keeps_from empty_store rs (record {
   stopped = refl;
 })
 
--- the terms of the last graph and of the shapes graph are named
-pub named_graph : (rs : List Record) → AreNamedTriples (restored rs).named (restored rs).graph
-named_graph rs = (keeps rs).graph_has
-
+-- the terms of the shapes graph are named
 pub named_shapes : (rs : List Record) → AreNamedTriples (restored rs).named (restored rs).shapes
 named_shapes rs = (keeps rs).shapes_has
 
@@ -306,33 +319,6 @@ state_is rs g shapes cs ns gs eg es ec en ev =
     let off = sym k.stopped in
     λ i. record { graph = eg i; shapes = es i; commits = ec i; named = en i; given = ev i; opened = eo i; stopped = off i }
 
--- the terms of what each record changed are named
-removed_named : (named : List Term) (r : Record) → AreNamedTriples (named_with named (record_terms r)) r.removed
-removed_named named r = triples_named named (record_terms r) r.removed (λ u c. Contains-append_left (flat_map terms_of r.removed) (flat_map terms_of r.added ++ shapes_terms r.shapes) u c)
-
-records_stay : (s : State) (rs : List Record) (ts : List Triple) → AreNamedTriples s.named ts → AreNamedTriples (restored_from s rs).named ts
-records_stay s [] ts a = a
-records_stay s (r ∷ rs) ts a = records_stay (with_record s r) rs ts (triples_stay s.named (record_terms r) ts a)
-
-each_record : (s : State) (rs : List Record) (i : ℕ) (d : Record) → i < length rs → IsNamedRecord (restored_from s rs).named (get_or rs i d)
-each_record s [] i d lt = absurd (omega arith)
-each_record s (r ∷ rs) zero d lt = (records_stay (with_record s r) rs r.removed (removed_named s.named r), records_stay (with_record s r) rs r.added (added_named s.named r))
-each_record s (r ∷ rs) (suc i) d lt = each_record (with_record s r) rs i d (omega (arith, lt))
-
-pub records_named : (named : List Term) (rs : List Record) → named ≡ (restored rs).named → All (IsNamedRecord named) rs
-records_named named rs e i d lt = subst (λ (ns : List Term). IsNamedRecord ns (get_or rs i d)) (sym e) (each_record empty_store rs i d lt)
-
--- the changed triples of a record, by number
-numbered_both : (named : List Term) (xs ys : List Ids) → AreNumbered named xs → AreNumbered named ys → AreNumbered named (xs ++ ys)
-numbered_both named [] ys a b = b
-numbered_both named (x ∷ xs) ys a b = (a.0, numbered_both named xs ys a.1 b)
-
-pub both_numbered : (named : List Term) (xs ys zs : List Ids) (ts us : List Triple) → zs ≡ xs ++ ys → AreNumbered named xs × (graph_of named xs ≡ ts) → AreNumbered named ys × (graph_of named ys ≡ us) → AreNumbered named zs × (graph_of named zs ≡ ts ++ us)
-both_numbered named xs ys zs ts us e a b = (
-  subst (λ (is : List Ids). AreNumbered named is) (sym e) (numbered_both named xs ys a.0 b.0),
-  ap (graph_of named) e ∙ map-append (triple_at named) xs ys ∙ (λ i. a.1 i ++ b.1 i),
-)
-
 each_append : (g ts us : List Triple) → with_each g (ts ++ us) ≡ with_each (with_each g ts) us
 each_append g [] us = refl
 each_append g (t ∷ ts) us = each_append (with_item triple_cmp t g) ts us
@@ -342,112 +328,32 @@ recorded named ids r a e =
     ap (with_each []) e ∙ each_append [] r.removed r.added
     ∙ ap (λ (ts : List Triple). with_each ts r.added) (sym (one_listing r.removed r.removed (record { ascending = a; members = λ t. (λ c. c, λ c. c) })))
 
--- too many names, at one of the records
-left_of : (rs : List Record) (i : ℕ) (d : Record) → i < length rs → drop i rs ≡ get_or rs i d ∷ drop (suc i) rs
-left_of [] i d lt = absurd (omega arith)
-left_of (r ∷ rs) zero d lt = refl
-left_of (r ∷ rs) (suc i) d lt = left_of rs i d (omega (arith, lt))
+-- what a restored store is made of
+module _ (l : Limits) (rs : List Record) (graph : NamedGraph) (within : IsGraphWithin l rs graph) where
+  pub blocks : HasBlocking l.mode graph.triples graph.shapes → IsRestoreFault l rs Blocked
+  blocks h = (within.fit, record { terms = within.terms; triples = within.triples }, subst (λ (x : NamedGraph). HasBlocking l.mode x.triples x.shapes) within.graph_is h)
 
-pub too_many : (named first : List Term) (rs : List Record) (i : ℕ) (r : Record) (most : ℕ) → i < length rs → r ≡ get_or rs i r → most < length (with_terms named (record_terms r)) → names named (drop i rs) ≡ names first rs → most < length (names first rs)
-too_many named first rs i r most lt is more e =
-    let left : drop i rs ≡ r ∷ drop (suc i) rs = left_of rs i r lt ∙ ap (λ (q : Record). q ∷ drop (suc i) rs) (sym is) in
-    let all : names (with_terms named (record_terms r)) (drop (suc i) rs) ≡ names first rs = sym (ap (names named) left) ∙ e in
-    let longer = longer_names (with_terms named (record_terms r)) (drop (suc i) rs) in
-    let size = ap length all in
-    omega (arith, more, longer, size)
+  module _ (later : NamedGraph) (cs : List Accepted) (given : List Term) (same : later ≡ graph) (commits : cs ≡ (restored rs).commits) (gave : given ≡ (restored rs).given) (none : NoBlocking l.mode graph.triples graph.shapes) where
+    no_blocking : NoBlocking l.mode (restored rs).graph (restored rs).shapes
+    no_blocking = subst (λ (x : NamedGraph). NoBlocking l.mode x.triples x.shapes) within.graph_is none
 
--- the graph where the terms of the records are named
-abbrev first_graph : Limits → NamedGraph
-first_graph l = record { triples = []; shapes = []; terms = first_terms; limit = l.terms }
-
-pub named_start : (l : Limits) (rs : List Record) (g h : NamedGraph) (v w : List Term) → g ≡ first_graph l → v ≡ [] → (h ≡ with_names_of g rs) × (length h.terms ≤ g.limit + 2) → w ≡ givens v rs → IsNamedStart l rs h w
-named_start l rs g h v w eg ev eh ew =
-    let terms = first_named rs in
-    let own : h ≡ with_names_of (first_graph l) rs = eh.0 ∙ ap (λ (x : NamedGraph). with_names_of x rs) eg in
-    let is : h ≡ record { triples = []; shapes = []; terms = (restored rs).named; limit = l.terms } = own ∙ (λ i. record { triples = []; shapes = []; terms = terms i; limit = l.terms }) in
-    let size = ap (λ (x : NamedGraph). length x.terms) is in
-    let limit = ap (λ (x : NamedGraph). x.limit) eg in
-    record {
-      graph_is = is;
-      given_is = ew ∙ ap (λ (x : List Term). givens x rs) ev ∙ sym (given_part empty_store rs);
-      within = omega (arith, eh.1, size, limit);
+    abbrev core : RecordedStore
+    core = record {
+      limits = record { terms = later.limit; triples = l.triples; mode = l.mode };
+      start = restored rs;
+      state = record { graph = later.triples; shapes = later.shapes; commits = cs; named = later.terms; given = given; opened = 0; stopped = false };
+      history = [];
     }
 
-pub naming_fault : (l : Limits) (rs : List Record) (g : NamedGraph) (fault : RestoreFault) → g ≡ first_graph l → FitInTurn [] rs → IsNamingFault g rs fault → IsRestoreFault l rs fault
-naming_fault l rs g (Misfit number) e fit h = absurd h
-naming_fault l rs g TooLarge e fit h =
-    let limit = ap (λ (x : NamedGraph). x.limit) e in
-    let size = ap length (ap (λ (x : NamedGraph). names x.terms rs) e ∙ first_named rs) in
-    (fit, inl (omega (arith, h, limit, size)))
-naming_fault l rs g Blocked e fit h = absurd h
-naming_fault l rs g Memory e fit h = tt
+    core_is : core ≡ begun l (restored rs)
+    core_is =
+        let whole = same ∙ within.graph_is in
+        let limit : later.limit ≡ l.terms = ap (λ (x : NamedGraph). x.limit) whole in
+        let state = state_is rs later.triples later.shapes cs later.terms given (ap (λ (x : NamedGraph). x.triples) whole) (ap (λ (x : NamedGraph). x.shapes) whole) commits (ap (λ (x : NamedGraph). x.terms) whole) gave in
+        λ i. record { limits = record { terms = limit i; triples = l.triples; mode = l.mode }; start = restored rs; state = state i; history = [] }
 
--- the graph with its triples
-addition : (terms : List Term) (ts : List Triple) (c : Change) → ((t : Triple) → Contains ts t → IsNamedTriple terms t) → Contains (map Add ts) c → IsNamedTriple terms (changed_triple c)
-addition terms [] c named k = absurd (omega arith)
-addition terms (t ∷ ts) c named k = elim (has_cases (Add t) (map Add ts) c k) [
-  | inl e ↦ subst (λ (d : Change). IsNamedTriple terms (changed_triple d)) e (named t (has_head t ts))
-  | inr d ↦ addition terms ts c (λ u j. named u (has_tail t ts u j)) d
-]
+    pub core_consistent : l.terms + 2 < 2 ^ 32 → IsConsistent core
+    core_consistent small = subst (λ (x : RecordedStore). IsConsistent x) (sym core_is) (consistent_restored l rs small within.terms no_blocking)
 
-pub additions_named : (terms : List Term) (ts : List Triple) (net : List Change) → net ≡ map Add ts → AreNamedTriples terms ts → AreNamedChanges terms net
-additions_named terms ts net e a =
-    subst (λ (cs : List Change). AreNamedChanges terms cs) (sym e)
-    (all_of (λ c. IsNamedTriple terms (changed_triple c)) (map Add ts) (λ c k. addition terms ts c (λ t d. All-contains (IsNamedTriple terms) ts t a d) k))
-
-pub filled_is : (g f n : NamedGraph) (net : List Change) (ts shapes : List Triple) → IsAscending triple_cmp ts → g.triples ≡ [] → net ≡ map Add ts → f ≡ with_changes g net → n ≡ with_shapes f shapes
-    → n ≡ record { triples = ts; shapes = shapes; terms = g.terms; limit = g.limit }
-filled_is g f n net ts shapes a none e ef en =
-    let all : after g.triples net ≡ ts = (λ i. after (none i) (e i)) ∙ after_added ts a in
-    en ∙ (ap (λ (x : NamedGraph). with_shapes x shapes) ef ∙ (λ i. record { triples = all i; shapes = shapes; terms = g.terms; limit = g.limit }))
-
--- what a restored store is made of
-module _ (l : Limits) (rs : List Record) (triples shapes : List Triple) (named : NamedGraph) (given : List Term) (last : IsLastGraph l rs triples) (start : IsNamedStart l rs named given) (staged : shapes ≡ (restored rs).shapes) where
-  terms_are : named.terms ≡ (restored rs).named
-  terms_are = ap (λ (x : NamedGraph). x.terms) start.graph_is
-
-  pub triples_ready : AreNamedTriples named.terms triples
-  triples_ready = subst (λ (ns : List Term). AreNamedTriples ns triples) (sym terms_are) (subst (λ (ts : List Triple). AreNamedTriples (restored rs).named ts) (sym last.1) (named_graph rs))
-
-  pub shapes_ready : AreNamedTriples named.terms shapes
-  shapes_ready = subst (λ (ns : List Term). AreNamedTriples ns shapes) (sym terms_are) (subst (λ (ts : List Triple). AreNamedTriples (restored rs).named ts) (sym staged) (named_shapes rs))
-
-  module _ (graph : NamedGraph) (filled : graph ≡ record { triples = triples; shapes = shapes; terms = named.terms; limit = named.limit }) where
-    last_is : graph ≡ record { triples = (restored rs).graph; shapes = (restored rs).shapes; terms = (restored rs).named; limit = l.terms }
-    last_is =
-        let limit = ap (λ (x : NamedGraph). x.limit) start.graph_is in
-        let all = last.1 in
-        let names = terms_are in
-        filled ∙ (λ i. record { triples = all i; shapes = staged i; terms = names i; limit = limit i })
-
-    pub blocks : HasBlocking l.mode graph.triples graph.shapes → IsRestoreFault l rs Blocked
-    blocks h =
-        let size = ap length last.1 in
-        (last.0, record { terms = start.within; triples = omega (arith, last.2, size) }, subst (λ (x : NamedGraph). HasBlocking l.mode x.triples x.shapes) last_is h)
-
-    module _ (later : NamedGraph) (cs : List Accepted) (same : later ≡ graph) (commits : cs ≡ (restored rs).commits) (none : NoBlocking l.mode graph.triples graph.shapes) where
-      no_blocking : NoBlocking l.mode (restored rs).graph (restored rs).shapes
-      no_blocking = subst (λ (x : NamedGraph). NoBlocking l.mode x.triples x.shapes) last_is none
-
-      abbrev core : RecordedStore
-      core = record {
-        limits = record { terms = later.limit; triples = l.triples; mode = l.mode };
-        start = restored rs;
-        state = record { graph = later.triples; shapes = later.shapes; commits = cs; named = later.terms; given = given; opened = 0; stopped = false };
-        history = [];
-      }
-
-      core_is : core ≡ begun l (restored rs)
-      core_is =
-          let whole = same ∙ last_is in
-          let limit : later.limit ≡ l.terms = ap (λ (x : NamedGraph). x.limit) whole in
-          let state = state_is rs later.triples later.shapes cs later.terms given (ap (λ (x : NamedGraph). x.triples) whole) (ap (λ (x : NamedGraph). x.shapes) whole) commits (ap (λ (x : NamedGraph). x.terms) whole) start.given_is in
-          λ i. record { limits = record { terms = limit i; triples = l.triples; mode = l.mode }; start = restored rs; state = state i; history = [] }
-
-      pub core_consistent : l.terms + 2 < 2 ^ 32 → IsConsistent core
-      core_consistent small = subst (λ (x : RecordedStore). IsConsistent x) (sym core_is) (consistent_restored l rs small start.within no_blocking)
-
-      pub core_restored : IsRestored l rs core
-      core_restored =
-          let size = ap length last.1 in
-          record { store = core_is; fit = last.0; within = record { terms = start.within; triples = omega (arith, last.2, size) }; none = no_blocking }
+    pub core_restored : IsRestored l rs core
+    core_restored = record { store = core_is; fit = within.fit; within = record { terms = within.terms; triples = within.triples }; none = no_blocking }

@@ -19,6 +19,7 @@ mod name_list;
 mod naming;
 mod outcome;
 mod reasons;
+mod recorded;
 mod replay;
 mod restoring;
 mod snapshot;

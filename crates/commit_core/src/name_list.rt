@@ -1,10 +1,12 @@
 //! Naming the terms of a list of triples, each of which is told once.
-ghost use Rattle.std.specs.Prelude.{ℕ, ◌≡◌, ◌++◌, [], IfOk, IfSome, MatchBool, MatchResult, OnOk};
+ghost use Rattle.std.specs.Prelude.{ℕ, ◌≡◌, ◌++◌, [], IfErr, IfOk, IfSome, MatchBool, MatchResult, OnOk};
 ghost use Rattle.std.specs.List.{AllByRecursion, flat_map};
 ghost use Rattle.rdf_model.specs.Numbers.{AreNumbered, graph_of, triple_at};
 ghost use Rattle.store_model.specs.Nodes.{unknown_by};
 ghost use Rattle.store_model.specs.Store.{IsOpened, TakesStep, terms_of};
+ghost use Rattle.term_dict.specs.Faults.{IsCause};
 ghost use Rattle.triple_index.specs.Changes.{IsNumbered};
+ghost use Rattle.data_graph.specs.DataGraphs.{names_of};
 ghost use Rattle.commit_core.specs.Faults.{NamesNone};
 ghost use Rattle.data_graph.specs.Numbering.{HasPlaces};
 ghost use Rattle.commit_core.specs.Naming.{AreNamedAlike, IsListNaming, IsMetAt, part_numbers};
@@ -143,7 +145,7 @@ impl NamedList {
 }
 
 // Names terms in another graph, which stand in the order in which the triples have them, and of which no blank node stands in the
-// way. None where they are too many.
+// way.
 fn name_in_order(
     alloc: Global,
     graph: &ValidatedGraph,
@@ -151,25 +153,21 @@ fn name_in_order(
     given: &Pages<Term>,
     terms: &[Term],
     triples: &[Ids],
-) -> Result<Option<NamedList>, AllocError>
+) -> Result<NamedList, NameFault>
     requires numbered { AreNumbered terms.now triples.now }
     requires alike { AreNamedAlike terms.now (flat_map terms_of (graph_of terms.now triples.now)) }
     requires known { unknown_by kind given.now terms.now ≡ [] }
-    ensures { IfOk result (λ list. IfSome list (λ n. IsListNaming kind graph.now given.now (flat_map terms_of (graph_of terms.now triples.now)) n.named n.parts)) }
+    ensures named { IfOk result (λ n. IsListNaming kind graph.now given.now (flat_map terms_of (graph_of terms.now triples.now)) n.named n.parts) }
+    ensures cause { IfErr result (λ fault. IsCause fault (names_of graph.now) (flat_map terms_of (graph_of terms.now triples.now))) }
 {
     given.recall_ascending();
-    match name_terms(graph, kind, given, terms) {
-        Ok((named, numbers)) => {
-            let parts = numbers_of_parts(alloc, &numbers, triples)?;
-            Ok(Some(NamedList {
-                named,
-                numbers,
-                parts,
-            }))
-        }
-        Err(NameFault::Full { count: _ }) => Ok(None),
-        Err(NameFault::Memory) => Err(AllocError),
-    }
+    let (named, numbers) = name_terms(graph, kind, given, terms)?;
+    let parts = numbers_of_parts(alloc, &numbers, triples)?;
+    Ok(NamedList {
+        named,
+        numbers,
+        parts,
+    })
 }
 
 // Names the terms of the list in another graph, each once. None where they stand in another order than that of naming, where a
@@ -190,7 +188,33 @@ fn name_once(
     let None = unknown_node(alloc, kind, given, terms)? else {
         return Ok(None);
     };
-    name_in_order(alloc, graph, kind, given, terms, triples)
+    match name_in_order(alloc, graph, kind, given, terms, triples) {
+        Ok(named) => Ok(Some(named)),
+        Err(NameFault::Full { count: _ }) => Ok(None),
+        Err(NameFault::Memory) => Err(AllocError),
+    }
+}
+
+/// Names the terms of a list of triples in another graph, where no blank node was given yet, and gives the numbers of the terms of
+/// its triples, in order. A term of the list is looked up once, however many triples have it.
+pub(crate) fn name_fresh(
+    alloc: Global,
+    graph: &ValidatedGraph,
+    list: &TripleList,
+) -> Result<(NamedTerms, Sequence<u32>), NameFault>
+    ensures named { IfOk result (λ named. IsListNaming NameKind.Fresh graph.now [] (flat_map terms_of list.now) named.0 named.1) }
+    ensures cause { IfErr result (λ fault. IsCause fault (names_of graph.now) (flat_map terms_of list.now)) }
+{
+    let given = Pages::new(alloc);
+    let (terms, triples) = list.parts();
+    if are_met_in_order(terms, triples) {
+        let named = name_in_order(alloc, graph, NameKind::Fresh, &given, terms, triples)?;
+        let (named, _, parts) = named.into_parts();
+        return Ok((named, parts));
+    }
+    let parts = parts_of(alloc, list)?;
+    let (named, numbers) = name_terms(graph, NameKind::Fresh, &given, &parts)?;
+    Ok((named, Sequence::from_vec(numbers)))
 }
 
 impl Core {

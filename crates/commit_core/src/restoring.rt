@@ -1,39 +1,33 @@
 //! A store restored from the records of a log.
-ghost use Rattle.std.specs.Prelude.{◌≡◌, ◌≤◌, ◌<◌, ◌+◌, ◌^◌, ◌∷◌, ◌++◌, [], IfErr, IfOk, MatchOption, MatchResult, OnOk, length, map, not};
-ghost use Rattle.std.specs.List.{All, list_all};
-ghost use Rattle.rdf_model.specs.declared.change.Change.TheVariants as changes;
-ghost use Rattle.rdf_model.specs.Graphs.{with_each};
+ghost use Rattle.std.specs.Prelude.{◌≡◌, ◌≤◌, ◌<◌, ◌+◌, ◌^◌, ◌∷◌, ◌++◌, [], IfOk, MatchOption, MatchResult, OnOk, length, map, not};
+ghost use Rattle.std.specs.List.{list_all};
 ghost use Rattle.rdf_model.specs.Numbers.{AreNumbered, graph_of};
 ghost use Rattle.rdf_model.specs.Terms.{triple_cmp};
+ghost use Rattle.record_text.specs.declared.record.Record.{Record as RecordData};
 ghost use Rattle.collections.specs.Ordered.{IsAscending, has_item};
 ghost use Rattle.parallel_validate.specs.Counting.{GrowsByCount, IsTargetPair};
 ghost use Rattle.commit_log.specs.Format.{AreRecordsFrom};
-ghost use Rattle.store_model.specs.Nodes.{given_with};
+ghost use Rattle.store_model.specs.declared.event.Limits.{Limits as LimitsData};
 ghost use Rattle.store_model.specs.Store.{shapes_under};
-ghost use Rattle.term_dict.specs.Faults.{IsCause};
-ghost use Rattle.parallel_validate.specs.Named.{AreNamedTriples};
-ghost use Rattle.data_graph.specs.DataGraphs.{names_of, with_names};
-ghost use Rattle.commit_core.specs.Restored.{FitInTurn, IsRestoreFault, IsRestored, accepted_by, fits_record, graph_after, record_terms, restored, shapes_terms, without_each};
-ghost use Rattle.commit_core.specs.RestoredParts.{IsLastGraph, IsNamedRecord, IsNamedStart, IsNamingFault, givens, with_names_of};
+ghost use Rattle.triple_index.specs.declared.change.NumberedChange.TheVariants.{Add, Remove};
+ghost use Rattle.commit_core.specs.Restored.{IsRestoreFault, IsRestored, accepted_by, fits_record, restored};
+ghost use Rattle.commit_core.specs.RestoredParts.{AreNamedRecords, IsAfterRecord, IsGraphWithin, IsLastGraph, IsMisfit, IsRecordOf, StandFor, all_triples};
 
 use crate::bounds::Bounds;
-use crate::naming::give_all;
 use crate::outcome::Outcome;
+use crate::recorded::{NamedRecords, name_records, split_record};
 use crate::store::{Core, new_history};
-use collections::Sequence;
-use data_graph::{DataGraph, NumberHints};
-use numbered_lists::{Net, TripleList};
-use page_index::Pages;
-use parallel_validate::number_triple;
-use rdf_model::{Ids, Term, Triple};
+use data_graph::DataGraph;
+use rdf_model::Ids;
 use record_text::Record;
 use shape_eval::Steps;
 use shapes_graph::ShapesGraph;
 use snapshot_store::Commits;
 use std::alloc::{AllocError, Global};
 use std::sync::ledger::Ledger;
-use store_model::{Limits, push_all_terms};
+use store_model::Limits;
 use term_dict::{Dict, NameFault};
+use triple_index::NumberedChange;
 
 /// Why no store was restored.
 #[derive(Clone, Copy, Debug, PartialEq, Eq)]
@@ -75,238 +69,203 @@ pub fn last_staged(records: &[Record]) -> Option<&Record>
 }
 
 // Whether the graph has each of the triples.
-fn has_each(graph: &Pages<Triple>, triples: &[Triple]) -> bool
-    ensures { result ≡ list_all (λ t. has_item triple_cmp t graph.now) triples.now }
+fn has_each(graph: &DataGraph, triples: &[Ids]) -> bool
+    requires { AreNumbered graph.now.terms triples.now }
+    ensures { result ≡ list_all (λ t. has_item triple_cmp t graph.now.triples) (graph_of graph.now.terms triples.now) }
 {
-    triples.iter().all(|triple| graph.contains(triple))
+    for ids in triples {
+        if !graph.contains_numbers(*ids) {
+            return false;
+        }
+    }
+    true
 }
 
 // Whether the graph has none of the triples.
-fn has_none(graph: &Pages<Triple>, triples: &[Triple]) -> bool
-    ensures { result ≡ list_all (λ t. not (has_item triple_cmp t graph.now)) triples.now }
+fn has_none(graph: &DataGraph, triples: &[Ids]) -> bool
+    requires { AreNumbered graph.now.terms triples.now }
+    ensures { result ≡ list_all (λ t. not (has_item triple_cmp t graph.now.triples)) (graph_of graph.now.terms triples.now) }
 {
-    triples.iter().all(|triple| !graph.contains(triple))
-}
-
-// Whether the record removes only what is in the graph, and adds nothing that is.
-fn does_fit(graph: &Pages<Triple>, entry: &Record) -> bool
-    ensures { result ≡ fits_record graph.now entry.now }
-{
-    has_each(graph, entry.removed.as_slice()) && has_none(graph, entry.added.as_slice())
-}
-
-fn take_out(graph: &mut Pages<Triple>, triples: &[Triple]) -> Result<(), AllocError>
-    ensures { OnOk result (graph.new ≡ without_each graph.old triples.now) }
-{
-    for triple in triples {
-        graph.remove(triple)?;
+    for ids in triples {
+        if graph.contains_numbers(*ids) {
+            return false;
+        }
     }
-    Ok(())
+    true
 }
 
-fn put_in(graph: &mut Pages<Triple>, triples: &[Triple]) -> Result<(), AllocError>
-    ensures { OnOk result (graph.new ≡ with_each graph.old triples.now) }
+// The removals of some triples, then the additions of others.
+fn changes_of(
+    alloc: Global,
+    removed: &[Ids],
+    added: &[Ids],
+) -> Result<Vec<NumberedChange>, AllocError>
+    ensures { IfOk result (λ changes. changes.items ≡ map Remove removed.now ++ map Add added.now) }
 {
-    for triple in triples {
-        graph.insert(triple.clone()?)?;
+    let mut changes = Vec::new(alloc);
+    for ids in removed {
+        changes.push(NumberedChange::Remove(*ids))?;
     }
-    Ok(())
+    for ids in added {
+        changes.push(NumberedChange::Add(*ids))?;
+    }
+    Ok(changes)
 }
 
-fn apply_record(graph: &mut Pages<Triple>, entry: &Record) -> Result<(), AllocError>
-    ensures { OnOk result (graph.new ≡ graph_after graph.old entry.now) }
+// Whether a record fits that removed and added the triples of these numbers.
+fn does_fit(graph: &DataGraph, removed: &[Ids], added: &[Ids]) -> bool
+    requires removed { AreNumbered graph.now.terms removed.now }
+    requires added { AreNumbered graph.now.terms added.now }
+    ensures { (entry : RecordData) → IsRecordOf graph.now.terms removed.now added.now entry → result ≡ fits_record graph.now.triples entry }
 {
-    take_out(graph, entry.removed.as_slice())?;
-    put_in(graph, entry.added.as_slice())
+    has_each(graph, removed) && has_none(graph, added)
 }
 
-// The graph that the records lead to, where each fits and the limit allows it.
+// The graph after a record that removed and added the triples of these numbers.
+fn after_record(
+    alloc: Global,
+    graph: &DataGraph,
+    removed: &[Ids],
+    added: &[Ids],
+) -> Result<DataGraph, AllocError>
+    requires removed { AreNumbered graph.now.terms removed.now }
+    requires added { AreNumbered graph.now.terms added.now }
+    ensures { IfOk result (λ next. (entry : RecordData) → IsRecordOf graph.now.terms removed.now added.now entry → IsAfterRecord graph.now entry next) }
+{
+    let changes = changes_of(alloc, removed, added)?;
+    graph.after_numbers(&changes)
+}
+
+// The graph that the records lead to, where each fits. The numbers are those of their triples.
 fn last_graph(
     alloc: Global,
-    limits: Limits,
+    named: &DataGraph,
+    numbers: &[Ids],
     records: &[Record],
-) -> Result<Pages<Triple>, RestoreFault>
-    requires { AreRecordsFrom 1 records.now }
-    ensures { MatchResult result (IsLastGraph limits records.now) (IsRestoreFault limits records.now) }
+) -> Result<DataGraph, RestoreFault>
+    requires numbered { AreRecordsFrom 1 records.now }
+    requires empty { named.now.triples ≡ [] }
+    requires numbers { StandFor named.now.terms numbers.now (all_triples records.now) }
+    ensures { MatchResult result (IsLastGraph named.now records.now) (IsMisfit records.now) }
 {
-    let mut graph = Pages::new(alloc);
+    let mut graph = named.share()?;
+    let mut rest = numbers;
     for entry in records {
-        if !does_fit(&graph, entry) {
+        let ids = split_record(entry, rest);
+        if !does_fit(&graph, ids.removed, ids.added) {
             return Err(RestoreFault::Misfit {
                 record: entry.number,
             });
         }
-        apply_record(&mut graph, entry)?;
-    }
-    if graph.len() > limits.triples {
-        return Err(RestoreFault::TooLarge);
+        graph = after_record(alloc, &graph, ids.removed, ids.added)?;
+        rest = ids.rest;
     }
     Ok(graph)
 }
 
-fn add_shapes_terms(
-    terms: &mut Vec<Term>,
-    shapes: &Option<Sequence<Triple>>,
-) -> Result<(), AllocError>
-    ensures { OnOk result (terms.new.items ≡ terms.old.items ++ shapes_terms shapes.now) }
+// How many terms may be named beside the first two, at most.
+const MOST_TERMS: usize = 4294967293;
+
+// The first record that doesn't fit, where the terms of the records are more than the limit; or else that they are.
+fn fault_of_many(alloc: Global, records: &[Record]) -> RestoreFault
+    requires { AreRecordsFrom 1 records.now }
+    ensures { (limits : LimitsData) → limits.terms + 2 < length (restored records.now).named → IsRestoreFault limits records.now result }
 {
-    match shapes {
-        Some(triples) => push_all_terms(terms, triples.as_slice()),
-        None => Ok(()),
+    let Ok(named) = name_records(alloc, MOST_TERMS, records) else {
+        return RestoreFault::Memory;
+    };
+    match last_graph(alloc, named.graph.graph(), named.ids.as_slice(), records) {
+        Ok(_) => RestoreFault::TooLarge,
+        Err(fault) => fault,
     }
 }
 
-// The terms of a record, in order.
-fn terms_of_record(alloc: Global, entry: &Record) -> Result<Vec<Term>, AllocError>
-    ensures { IfOk result (λ terms. terms.items ≡ record_terms entry.now) }
-{
-    let mut terms = Vec::new(alloc);
-    push_all_terms(&mut terms, entry.removed.as_slice())?;
-    push_all_terms(&mut terms, entry.added.as_slice())?;
-    add_shapes_terms(&mut terms, &entry.shapes)?;
-    Ok(terms)
-}
-
-// Names the terms of a record, and gives out its blank nodes.
-fn name_record(
-    alloc: Global,
-    graph: &mut DataGraph,
-    given: &mut Pages<Term>,
-    entry: &Record,
-) -> Result<(), NameFault>
-    ensures named { OnOk result (graph.new ≡ with_names graph.old (record_terms entry.now)) }
-    ensures given { OnOk result (given.new ≡ given_with given.old (record_terms entry.now)) }
-    ensures fits { OnOk result (length graph.new.terms ≤ graph.old.limit + 2) }
-    ensures cause { IfErr result (λ fault. IsCause fault (names_of graph.old) (record_terms entry.now)) }
-{
-    let terms = terms_of_record(alloc, entry)?;
-    graph.name_all(&terms)?;
-    give_all(given, &terms)?;
-    Ok(())
-}
-
-// Names the terms of the records, and gives out their blank nodes.
-fn name_records(
-    alloc: Global,
-    graph: &mut DataGraph,
-    given: &mut Pages<Term>,
-    records: &[Record],
-) -> Result<(), RestoreFault>
-    requires { length graph.old.terms ≤ graph.old.limit + 2 }
-    ensures named { OnOk result ((graph.new ≡ with_names_of graph.old records.now) × (length graph.new.terms ≤ graph.old.limit + 2)) }
-    ensures given { OnOk result (given.new ≡ givens given.old records.now) }
-    ensures cause { IfErr result (IsNamingFault graph.old records.now) }
-{
-    for entry in records {
-        match name_record(alloc, graph, given, entry) {
-            Ok(()) => {}
-            Err(NameFault::Full { count: _ }) => return Err(RestoreFault::TooLarge),
-            Err(NameFault::Memory) => return Err(RestoreFault::Memory),
-        }
-    }
-    Ok(())
-}
-
-// The graph with no triple where the terms of the records are named, and their blank nodes.
-fn named_graph(
+// The terms of the records, named within the limit; else why there is no store.
+fn named_within(
     alloc: Global,
     limits: Limits,
     records: &[Record],
-) -> Result<(DataGraph, Pages<Term>), RestoreFault>
+) -> Result<NamedRecords, RestoreFault>
     requires small { limits.terms + 2 < 2 ^ 32 }
-    requires fit { FitInTurn [] records.now }
-    ensures { MatchResult result (λ named. IsNamedStart limits records.now named.0 named.1) (IsRestoreFault limits records.now) }
+    requires numbered { AreRecordsFrom 1 records.now }
+    ensures { MatchResult result (AreNamedRecords limits.terms records.now) (IsRestoreFault limits records.now) }
 {
-    let mut graph = DataGraph::new(alloc, limits.terms)?;
-    let mut given = Pages::new(alloc);
-    match name_records(alloc, &mut graph, &mut given, records) {
-        Ok(()) => Ok((graph, given)),
-        Err(fault) => Err(fault),
+    match name_records(alloc, limits.terms, records) {
+        Ok(named) => Ok(named),
+        Err(NameFault::Full { count: _ }) => Err(fault_of_many(alloc, records)),
+        Err(NameFault::Memory) => Err(RestoreFault::Memory),
     }
 }
 
-// The triples by the numbers of their terms.
-fn numbers_of(alloc: Global, names: &Dict, triples: &[Triple]) -> Result<Vec<Ids>, AllocError>
-    requires { AreNamedTriples names.now.terms triples.now }
-    ensures { IfOk result (λ ids. AreNumbered names.now.terms ids.items × (graph_of names.now.terms ids.items ≡ triples.now)) }
+// The graph that the records lead to, with the shapes graph that they lead to; else why there is no store.
+fn graph_within(
+    alloc: Global,
+    limits: Limits,
+    named: &NamedRecords,
+    records: &[Record],
+    shapes: ShapesGraph,
+) -> Result<DataGraph, RestoreFault>
+    requires numbered { AreRecordsFrom 1 records.now }
+    requires named { AreNamedRecords limits.terms records.now named.now }
+    requires shapes { shapes ≡ (restored records.now).shapes }
+    ensures { MatchResult result (IsGraphWithin limits records.now) (IsRestoreFault limits records.now) }
 {
-    let mut ids = Vec::with_capacity(alloc, triples.len())?;
-    for triple in triples {
-        ids.push(number_triple(names, triple))?;
+    let mut graph = last_graph(alloc, named.graph.graph(), named.ids.as_slice(), records)?;
+    if graph.len() > limits.triples {
+        return Err(RestoreFault::TooLarge);
     }
-    Ok(ids)
+    graph.replace_shapes(shapes)?;
+    Ok(graph)
 }
 
 // The numbers of the triples that a record changed.
-fn changed_by(alloc: Global, names: &Dict, entry: &Record) -> Result<Vec<Ids>, AllocError>
-    requires { IsNamedRecord names.now.terms entry.now }
-    ensures { IfOk result (λ changed. AreNumbered names.now.terms changed.items × (graph_of names.now.terms changed.items ≡ entry.now.removed ++ entry.now.added)) }
+fn changed_by(alloc: Global, removed: &[Ids], added: &[Ids]) -> Result<Vec<Ids>, AllocError>
+    ensures { IfOk result (λ changed. changed.items ≡ removed.now ++ added.now) }
 {
-    let mut changed = numbers_of(alloc, names, entry.removed.as_slice())?;
-    let mut added = numbers_of(alloc, names, entry.added.as_slice())?;
-    changed.append(&mut added)?;
+    let mut changed = Vec::new(alloc);
+    changed.extend_from_slice(removed)?;
+    changed.extend_from_slice(added)?;
     Ok(changed)
 }
 
-// Adds the commit of a record, as a store keeps it.
+// Adds the commit of a record, which changed the triples of these numbers, as a store keeps it.
 fn add_commit(
-    alloc: Global,
     names: &Dict,
     commits: &mut Commits,
     entry: &Record,
+    changed: Vec<Ids>,
 ) -> Result<(), AllocError>
     requires removed { IsAscending triple_cmp entry.now.removed }
-    requires named { IsNamedRecord names.now.terms entry.now }
+    requires changed { StandFor names.now.terms changed.items (entry.now.removed ++ entry.now.added) }
     requires names { commits.old.names ≡ names.now.terms }
     ensures { OnOk result ((commits.new.commits ≡ commits.old.commits ++ accepted_by entry.now ∷ []) × (commits.new.names ≡ names.now.terms)) }
 {
-    let changed = changed_by(alloc, names, entry)?;
     let share = names.share()?;
     commits.make_room()?;
     commits.push_reserved(share, changed, entry.shapes.is_some());
     Ok(())
 }
 
-// The commits of the records, by the numbers of their terms.
-fn commits_of(alloc: Global, names: &Dict, records: &[Record]) -> Result<Commits, AllocError>
+// The commits of the records. The numbers are those of their triples.
+fn commits_of(
+    alloc: Global,
+    names: &Dict,
+    numbers: &[Ids],
+    records: &[Record],
+) -> Result<Commits, AllocError>
     requires numbered { AreRecordsFrom 1 records.now }
-    requires named { All (IsNamedRecord names.now.terms) records.now }
+    requires numbers { StandFor names.now.terms numbers.now (all_triples records.now) }
     ensures { IfOk result (λ commits. (commits.commits ≡ (restored records.now).commits) × (commits.names ≡ names.now.terms)) }
 {
     let mut commits = Commits::new(alloc, names.share()?);
+    let mut rest = numbers;
     for entry in records {
-        add_commit(alloc, names, &mut commits, entry)?;
+        let ids = split_record(entry, rest);
+        let changed = changed_by(alloc, ids.removed, ids.added)?;
+        add_commit(names, &mut commits, entry, changed)?;
+        rest = ids.rest;
     }
     Ok(commits)
-}
-
-// The changes that add these triples.
-fn additions(alloc: Global, triples: &Pages<Triple>) -> Result<Net, AllocError>
-    ensures { IfOk result (λ net. net ≡ map changes.Add triples.now) }
-{
-    let keys = triples.keys()?;
-    let mut net = Net::new(alloc);
-    net.add_all(alloc, TripleList::copied_from(alloc, &keys)?)?;
-    Ok(net)
-}
-
-// The graph with these triples and these shapes, where it has none.
-fn filled(
-    alloc: Global,
-    graph: &DataGraph,
-    triples: &Pages<Triple>,
-    shapes: ShapesGraph,
-) -> Result<DataGraph, AllocError>
-    requires empty { graph.now.triples ≡ [] }
-    requires triples { AreNamedTriples graph.now.terms triples.now }
-    requires shapes { AreNamedTriples graph.now.terms shapes }
-    ensures { IfOk result (λ filled. filled ≡ record { triples = triples.now; shapes = shapes; terms = graph.now.terms; limit = graph.now.limit }) }
-{
-    triples.recall_ascending();
-    let net = additions(alloc, triples)?;
-    let mut filled = graph.after(&net, &NumberHints::new(alloc))?;
-    filled.replace_shapes(shapes)?;
-    Ok(filled)
 }
 
 impl Core {
@@ -330,16 +289,15 @@ impl Core {
         ensures steps { OnOk result (GrowsByCount (IsTargetPair (restored records.items).graph (restored records.items).shapes) steps.old steps.new) }
         ensures counted { steps.old ≤ steps.new }
     {
-        let triples = last_graph(alloc, limits, &records)?;
-        let (named, given) = named_graph(alloc, limits, &records)?;
-        let filled = filled(alloc, &named, &triples, shapes)?;
-        let outcome = Outcome::whole(limits.mode, filled, steps)?;
+        let named = named_within(alloc, limits, &records)?;
+        let graph = graph_within(alloc, limits, &named, &records, shapes)?;
+        let outcome = Outcome::whole(limits.mode, graph, steps)?;
         let blocks = outcome.blocks;
         if blocks {
             return Err(RestoreFault::Blocked);
         }
-        let commits = commits_of(alloc, named.names(), &records)?;
         let graph = outcome.into_graph();
+        let commits = commits_of(alloc, graph.names(), named.ids.as_slice(), &records)?;
         let history = new_history(&graph)?;
         Ok(Core {
             alloc,
@@ -350,7 +308,7 @@ impl Core {
             records,
             graph,
             commits,
-            given,
+            given: named.into_given(),
             opened: 0,
             stopped: false,
             history,

@@ -15,16 +15,16 @@ pub push_reserved-requires-clause-more : goal.push_reserved-requires-clause-more
 push_reserved-requires-clause-more c = begins_same c.make_room.new.self.names c.in_ok-share.share.terms (ap (λ (d : Named). d.terms) c.in_ok-share.ensures ∙ sym (c.make_room.ensures.same.1 ∙ c.requires.names))
 
 pub push_reserved-requires-clause-numbered : goal.push_reserved-requires-clause-numbered
-push_reserved-requires-clause-numbered c = subst (λ (ts : List Term). AreNumbered ts c.in_ok-changed.changed.items) (sym (ap (λ (d : Named). d.terms) c.in_ok-share.ensures)) c.in_ok-changed.ensures.0
+push_reserved-requires-clause-numbered c = subst (λ (ts : List Term). AreNumbered ts c.args.changed.items) (sym (ap (λ (d : Named). d.terms) c.in_ok-share.ensures)) c.requires.changed.0
 
 pub returns : goal.returns
 returns c =
     let names = ap (λ (d : Named). d.terms) c.in_ok-share.ensures in
-    let ids = c.in_ok-changed.changed.items in
+    let ids = c.args.changed.items in
     let entry = c.args.entry.now in
     let staged : c.is_some.result ≡ is_staged entry.shapes = search rules in
     let changed : with_each [] (graph_of c.in_ok-share.share.terms ids) ≡ with_each entry.removed entry.added =
-    ap (λ (ts : List Term). with_each [] (graph_of ts ids)) names ∙ recorded c.args.names.now.terms ids entry c.requires.removed c.in_ok-changed.ensures.1 in
+    ap (λ (ts : List Term). with_each [] (graph_of ts ids)) names ∙ recorded c.args.names.now.terms ids entry c.requires.removed c.requires.changed.1 in
     let commit : commit_of c.in_ok-share.share.terms ids c.is_some.result ≡ accepted_by entry = λ i. record { changed = changed i; staged = staged i } in (
       ap (λ (k : NamedCommits). k.commits) c.push_reserved.ensures ∙ ap (λ (as' : List Accepted). as' ++ commit_of c.in_ok-share.share.terms ids c.is_some.result ∷ []) c.make_room.ensures.same.0
           ∙ ap (λ (a : Accepted). c.args.commits.now.commits ++ a ∷ []) commit,

@@ -1,5 +1,5 @@
-use Rattle.commit_core.proofs.RestoredParts.{LeadTo}
+use Rattle.commit_core.proofs.RecordedTriples.{HasCome}
 use Rattle.commit_core.proofs.restoring.last_graph.Given as goal
 
 abbrev pub invariant-loop-entry : goal.invariant-loop-entry
-invariant-loop-entry l = LeadTo l.records l.entry-index l.graph
+invariant-loop-entry l = HasCome l.named l.records l.entry-index l.graph l.rest

@@ -1,0 +1,10 @@
+use Rattle.std.proofs.Common.{◌≡◌, drop}
+use Rattle.std.specs.List.{list_all}
+use Rattle.collections.specs.Ordered.{has_item}
+use Rattle.rdf_model.specs.Numbers.{graph_of}
+use Rattle.rdf_model.specs.Terms.{triple_cmp}
+use Rattle.commit_core.proofs.restoring.has_each.Given as goal
+
+abbrev pub invariant-loop-ids : goal.invariant-loop-ids
+invariant-loop-ids l =
+    list_all (λ t. has_item triple_cmp t l.graph.triples) (graph_of l.graph.terms (drop l.ids-index l.triples)) ≡ list_all (λ t. has_item triple_cmp t l.graph.triples) (graph_of l.graph.terms l.triples)
