@@ -82,7 +82,7 @@ fn numbers_of_parts(
     requires { AllByRecursion (HasPlaces numbers.now) triples.now }
     ensures { IfOk result (λ parts. parts ≡ flat_map (part_numbers numbers.now) triples.now) }
 {
-    let mut parts = Vec::new(alloc);
+    let mut parts = Vec::with_capacity(alloc, triples.len().saturating_mul(3))?;
     for ids in triples {
         push_numbers(&mut parts, numbers, ids)?;
     }
