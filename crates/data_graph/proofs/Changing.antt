@@ -1,6 +1,6 @@
 -- Changes by number make of the numbers of a graph those of the graph after the changes.
 use Rattle.std.proofs.Common.{◌≡◌, ◌∙◌, List, [], ◌∷◌, sym, ap, subst, inl, inr}
-use Rattle.std.specs.Prelude.{map}
+use Rattle.std.specs.Prelude.{◌↔◌, map}
 use Rattle.std.specs.List.{AllByRecursion, Contains}
 use Rattle.collections.specs.Ordered.{IsAscending, with_item, without_item}
 use Rattle.collections.proofs.Ascending.{IsAscending-with_item, IsAscending-without_item}
@@ -92,3 +92,12 @@ pub index_after : (terms : List Term) (cs : List NumberedChange) (net : List Cha
 index_after terms cs net ids later g k n e l a b x =
     subst (λ (is : List Ids). IsIndexOf terms is (after g net)) (sym l) (subst (λ (cs' : List Change). IsIndexOf terms (after_ids ids cs) (after g cs')) e
     (closed terms (after_ids ids cs) (after g (map (change_at terms) cs)) (all terms k cs ids g n a b (opened terms ids g x))))
+
+-- numbers of just the same triples are the index of the same graph
+pub same_index : (terms : List Term) (ids laid : List Ids) (g : List Triple) → ((i : Ids) → Contains ids i ↔ Contains laid i) → IsIndexOf terms ids g → IsIndexOf terms laid g
+same_index terms ids laid g same x =
+    let f = opened terms ids g x in closed terms laid g (record {
+      numbered = λ i c. f.numbered i ((same i).1 c);
+      stands = λ i c. f.stands i ((same i).1 c);
+      has = λ t c. let r = f.has t c in (r.0, (same r.0).0 r.1, r.2);
+    })

@@ -13,6 +13,7 @@ mod Existing
 mod Keeping
 mod Moved
 mod NoChecks
+mod Overlaid
 mod ByPlaces
 mod Selecting
 mod Laid

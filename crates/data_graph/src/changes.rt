@@ -13,7 +13,7 @@ use bound_shapes::BoundShapes;
 use collections::Sequence;
 use kept_rows::PairRows;
 use parallel_validate::{Checked, check};
-use rdf_model::{Footprint, Ids, Look, Term};
+use rdf_model::{Footprint, Ids, Look, Term, Triples};
 use shape_eval::Steps;
 use std::alloc::{AllocError, Global};
 use std::sync::ledger::Ledger;
@@ -63,21 +63,21 @@ impl PairedChanges {
 }
 
 /// What checking the changes finds, by number: by the triples that they add or remove, and those before and after them.
-pub(crate) fn check_by_number<L: Ledger>(
+pub(crate) fn check_by_number<S: Triples, L: Ledger>(
     alloc: Global,
     names: &Dict,
     before: &Index,
-    later: &Index,
+    later: &S,
     shapes: &BoundShapes,
     changed: &[Ids],
     steps: &mut Steps<L>,
 ) -> Result<NumberedCheck, AllocError>
     requires before { AreNumbered names.now.terms before.now }
-    requires later { AreNumbered names.now.terms later.now }
+    requires later { AreNumbered names.now.terms (S.triples later.now) }
     requires shapes { IsBoundTo names.now.terms shapes.now }
     requires changed { AreNumbered names.now.terms changed.now }
-    ensures checked { IfOk result (λ checked. WhereChanged names.now.terms changed.now before.now later.now (λ net g. IsCheckByNumber names.now.terms g shapes.now.graph net checked.pairs checked.looks)) }
-    ensures steps { OnOk result (WhereChanged names.now.terms changed.now before.now later.now (λ net g. GrowsByCount (IsEvaluated g shapes.now.graph net) steps.old steps.new)) }
+    ensures checked { IfOk result (λ checked. WhereChanged names.now.terms changed.now before.now (S.triples later.now) (λ net g. IsCheckByNumber names.now.terms g shapes.now.graph net checked.pairs checked.looks)) }
+    ensures steps { OnOk result (WhereChanged names.now.terms changed.now before.now (S.triples later.now) (λ net g. GrowsByCount (IsEvaluated g shapes.now.graph net) steps.old steps.new)) }
     ensures counted { steps.old ≤ steps.new }
 {
     names.recall_numbering();

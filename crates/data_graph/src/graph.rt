@@ -25,13 +25,14 @@ use crate::by_number::{has_triple, sorted_triples, triples_asked};
 use crate::changed::ids_differing;
 use crate::changes::{NumberedCheck, PairedChanges, check_by_number, paired_changes};
 use crate::hints::NumberHints;
-use crate::numbering::{CLASS_WORDS, index_after, kept_by, number_changed, number_changes};
+use crate::numbering::{CLASS_WORDS, index_after, kept_by, number_changes, triples_changed};
 use crate::select::select_after;
 use bgp_query::{JoinFault, JoinPattern};
 use bound_shapes::BoundShapes;
 use collections::{Sequence, both};
 use kept_rows::{KeptRows, PairRows};
 use numbered_lists::Net;
+use overlay_view::Overlay;
 use parallel_validate::is_without_shapes;
 use rdf_model::{Ids, Pattern, Term, Triple, Triples};
 use shape_eval::Steps;
@@ -279,26 +280,25 @@ impl DataGraph {
         kept_by(self.alloc, &self.names, self.index(), &self.shapes, steps)
     }
 
-    // What checking the changes finds, by number.
-    fn checked_after<L: Ledger>(
+    // What checking the changes finds, by number; `later` has the triples after them.
+    fn checked_after<S: Triples, L: Ledger>(
         &self,
-        net: &Net,
-        hints: &NumberHints,
-        next: &DataGraph,
+        changes: &[NumberedChange],
+        later: &S,
         steps: &mut Steps<L>,
     ) -> Result<NumberedCheck, AllocError>
-        requires net { AreNamedChanges self.now.terms net.now }
-        requires next { next.now ≡ with_changes self.now net.now }
-        ensures checked { IfOk result (λ checked. IsCheckByNumber self.now.terms self.now.triples self.now.shapes net.now checked.pairs checked.looks) }
-        ensures steps { OnOk result (GrowsByCount (IsEvaluated self.now.triples self.now.shapes net.now) steps.old steps.new) }
+        requires changes { AllByRecursion (IsNumberedChange self.now.terms) changes.now }
+        requires later { IsIndexOf self.now.terms (S.triples later.now) (after self.now.triples (map (change_at self.now.terms) changes.now)) }
+        ensures checked { IfOk result (λ checked. IsCheckByNumber self.now.terms self.now.triples self.now.shapes (map (change_at self.now.terms) changes.now) checked.pairs checked.looks) }
+        ensures steps { OnOk result (GrowsByCount (IsEvaluated self.now.triples self.now.shapes (map (change_at self.now.terms) changes.now)) steps.old steps.new) }
         ensures counted { steps.old ≤ steps.new }
     {
-        let changed = number_changed(self.alloc, &self.names, net, hints)?;
+        let changed = triples_changed(self.alloc, changes)?;
         check_by_number(
             self.alloc,
             &self.names,
             self.index(),
-            next.index(),
+            later,
             &self.shapes,
             &changed,
             steps,
@@ -325,13 +325,14 @@ impl DataGraph {
         if is_without_shapes(self.shapes.graph()) {
             return Ok(Sequence::new(self.alloc));
         }
-        let checked = self.checked_after(net, hints, next, steps)?;
+        let changes = number_changes(self.alloc, &self.names, net, hints)?;
+        let checked = self.checked_after(&changes, next.index(), steps)?;
         Ok(checked.pairs)
     }
 
     /// The pairs that the changes touch, and all looks that were made, those by which it was found what they touch with them. All
-    /// terms of the changes are named, and so are those of the looks. The graph after the changes is made only where there are
-    /// shapes.
+    /// terms of the changes are named, and so are those of the looks. The graph after the changes isn't made: they are laid over
+    /// the triples of this one.
     pub fn paired_after<L: Ledger>(
         &self,
         net: &Net,
@@ -348,8 +349,12 @@ impl DataGraph {
         if is_without_shapes(self.shapes.graph()) {
             return Ok(PairedChanges::empty(self.alloc));
         }
-        let next = self.after(net, hints)?;
-        let checked = self.checked_after(net, hints, &next, steps)?;
+        self.names.recall_numbering();
+        let index = self.index();
+        index.recall_ascending();
+        let changes = number_changes(self.alloc, &self.names, net, hints)?;
+        let later = Overlay::new(self.alloc, index, &changes)?;
+        let checked = self.checked_after(&changes, &later, steps)?;
         Ok(paired_changes(self.alloc, &self.names, checked)?)
     }
 }

@@ -2,7 +2,6 @@
 ghost use Rattle.std.specs.Prelude.{◌≡◌, ◌≤◌, ◌<◌, IfOk, OnOk, length, map};
 ghost use Rattle.std.specs.List.{AllByRecursion};
 ghost use Rattle.rdf_model.specs.Numbers.{AreNumbered, graph_of};
-ghost use Rattle.store_model.specs.Store.{changed_triple};
 ghost use Rattle.parallel_validate.specs.Counting.{GrowsByCount, IsTargetPair};
 ghost use Rattle.bound_shapes.specs.Bound.{IsBoundTo};
 ghost use Rattle.kept_rows.specs.Laws.{KeepsResults};
@@ -103,29 +102,17 @@ pub(crate) fn number_changes(
     Ok(numbered)
 }
 
-// The numbers of the triples that the changes add or remove.
-fn triples_changed(alloc: Global, changes: &[NumberedChange]) -> Result<Vec<Ids>, AllocError>
+/// The numbers of the triples that the changes add or remove.
+pub(crate) fn triples_changed(
+    alloc: Global,
+    changes: &[NumberedChange],
+) -> Result<Vec<Ids>, AllocError>
     ensures { IfOk result (λ ids. ids.items ≡ map ids_changed changes.now) }
 {
     let mut ids = Vec::with_capacity(alloc, changes.len())?;
     for change in changes {
         ids.push(numbers_of(change))?;
     }
-    Ok(ids)
-}
-
-/// The triples that are added or removed, by the numbers of their terms.
-pub(crate) fn number_changed(
-    alloc: Global,
-    names: &Dict,
-    net: &Net,
-    hints: &NumberHints,
-) -> Result<Vec<Ids>, AllocError>
-    requires { AreNamedChanges names.now.terms net.now }
-    ensures { IfOk result (λ ids. AreNumbered names.now.terms ids.items × (graph_of names.now.terms ids.items ≡ map changed_triple net.now)) }
-{
-    let changes = number_changes(alloc, names, net, hints)?;
-    let ids = triples_changed(alloc, &changes)?;
     Ok(ids)
 }
 

@@ -4,7 +4,9 @@ pub mod Cursor
 pub mod Items
 pub mod Languages
 pub mod Lengths
+pub mod LineChecks
 pub mod OneSession
 pub mod Readable
 pub mod Pieces
 pub mod Selects
+pub mod Unshaped

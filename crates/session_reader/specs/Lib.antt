@@ -6,4 +6,5 @@ pub mod SessionFile
 pub mod Asked
 pub mod Faults
 pub mod Progress
+pub mod LineCheck
 pub mod Laws

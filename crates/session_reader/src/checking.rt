@@ -68,7 +68,8 @@ fn check_command<M: Maker>(
     }
 }
 
-/// The commands that the read ones become, one by one.
+/// The commands that the read ones become, one by one: shapes graphs are judged, and their patterns are asked of the maker, in
+/// the order of the commands. It fails only for want of memory.
 pub fn check_commands<M: Maker>(
     alloc: Global,
     maker: &mut M,

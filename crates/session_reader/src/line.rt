@@ -2,6 +2,7 @@
 ghost use Rattle.std.specs.Prelude.{◌≡◌, IfOk};
 ghost use Rattle.session_reader.specs.FindLine.{find_of};
 ghost use Rattle.session_reader.specs.SessionFile;
+ghost use Rattle.session_reader.specs.LineCheck.{is_shapes_line};
 ghost use Rattle.session_reader.specs.LineEnds.{without_cr};
 ghost use Rattle.session_reader.specs.SessionFile.{is_skipped};
 
@@ -93,6 +94,18 @@ impl Language {
         match self {
             Language::One => 0,
             Language::Two => 1,
+        }
+    }
+}
+
+impl LineKind {
+    /// Whether it is the command of a shapes graph.
+    pub fn is_shapes(&self) -> bool
+        ensures { result ≡ is_shapes_line self.now }
+    {
+        match self {
+            LineKind::Block(BlockKind::Shapes(_)) => true,
+            _ => false,
         }
     }
 }

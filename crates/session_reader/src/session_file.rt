@@ -128,8 +128,8 @@ fn read_block(
     }
 }
 
-// A line between commands without its end, which it has where lines follow.
-fn command_text<'a>(line: &'a [u8], after: &LineCursor<'_>) -> &'a [u8]
+/// A line between commands without its end, which it has where lines follow.
+pub fn command_text<'a>(line: &'a [u8], after: &LineCursor<'_>) -> &'a [u8]
     ensures { result.now ≡ SessionFile.command_text line.now after.now }
 {
     if after.is_empty() {
@@ -139,8 +139,8 @@ fn command_text<'a>(line: &'a [u8], after: &LineCursor<'_>) -> &'a [u8]
     }
 }
 
-// The language of a file with these lines, of which its header is then behind the cursor.
-fn take_header(lines: &mut LineCursor<'_>) -> Language
+/// The language of a file with these lines, of which its header is then behind the cursor.
+pub fn take_header(lines: &mut LineCursor<'_>) -> Language
     ensures language { result ≡ SessionFile.language_of lines.old }
     ensures lines { lines.new ≡ drop (header_lines result) lines.old }
 {
@@ -251,8 +251,12 @@ fn read_item(
     }
 }
 
-// The commands of the file of a session as its lines are read. The session's first blank node has this number.
-fn read_session(
+/// The commands of the file of a session, 1 to 64, as its lines are read, before a shapes graph is judged. Its first blank node
+/// has this number, and those of its blocks go on from there.
+///
+/// The error is the number of the first line that is no command, or of the command of a block that
+/// doesn't end, or memory.
+pub fn read_session(
     alloc: Global,
     session: u32,
     first: u32,

@@ -7,7 +7,12 @@ use Rattle.collections.specs.Listings.{IsListing}
 use Rattle.rdf_model.specs.declared.term.Term.{Term}
 use Rattle.rdf_model.specs.declared.triple.Triple.{Triple}
 use Rattle.rdf_model.specs.Terms.{term_cmp}
+use Rattle.shape_model.proofs.Listings.{listing_same}
 use Rattle.shape_model.specs.ShapeSyntax.{IsShape}
+use Rattle.shape_properties.specs.Syntax.{IsShape as IsRuleShape}
+use Rattle.shape_properties.proofs.Defined.{shape_same}
+use Rattle.shape_sizes.specs.declared.survey.Survey.{Survey}
+use Rattle.shape_sizes.specs.Surveys.{IsSurvey}
 use Rattle.shape_syntax.proofs.Items.{all_push, map_push}
 use Rattle.shape_rules.specs.Broken.{IsWellFormed}
 use Rattle.shape_ast.specs.declared.shape.Shape.{Shape}
@@ -58,3 +63,7 @@ module _ (s : List Triple) (nodes : List Term) where
 
   pub stand_for : IsWellFormed s → IsListing term_cmp (IsShape s) nodes → (shapes : List (Shape Term)) → AreShapes s nodes nodes shapes → StandFor (read_shapes shapes) s
   stand_for well listing shapes h = speak_for s well (read_shapes shapes) nodes listing h.at h.compiled
+
+-- the nodes of a survey are the shapes of its graph
+pub surveyed : (s : List Triple) (survey : Survey) (nodes : List Term) → nodes ≡ survey.shapes.items → IsSurvey s survey → IsListing term_cmp (IsShape s) nodes
+surveyed s survey nodes e h = subst (λ (ns : List Term). IsListing term_cmp (IsShape s) ns) (sym e) (listing_same term_cmp (IsRuleShape s) (IsShape s) (shape_same s) survey.shapes.items h.shapes)

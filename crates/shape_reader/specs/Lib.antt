@@ -1,4 +1,5 @@
 pub mod Kinds
+pub mod Declarations
 pub mod Parts
 pub mod Asked
 pub mod Faults

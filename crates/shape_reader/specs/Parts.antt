@@ -23,7 +23,7 @@ use Rattle.shape_ast.specs.declared.target.Target.{Target}
 use Rattle.shape_ast.specs.declared.target.Target.TheVariants.{Node, Class, ImplicitClass, SubjectsOf, ObjectsOf}
 use Rattle.shape_ast.specs.declared.shape.Shape.{Shape}
 use Rattle.shape_ast.specs.Readings.{HoldsOfShape, ReadShape, read_shape, read_shapes}
-use Rattle.shape_ast.specs.Standing.{AreBuilt, IsBuilt, StandsIn}
+use Rattle.shape_ast.specs.Standing.{AreBuilt, AreCompiled, IsBuilt, StandsIn}
 use Rattle.shape_reader.specs.declared.fault.CompileFault.{CompileFault}
 use Rattle.shape_reader.specs.declared.fault.CompileFault.TheVariants as faults
 use Rattle.outside.specs.declared.maker.MakeFault.{MakeFault}
@@ -31,7 +31,7 @@ use Rattle.outside.specs.declared.maker.MakeFault.TheVariants as make
 use Rattle.outside.specs.Faults.{Refusal}
 use Rattle.std.specs.Arc.{arc_value}
 use Rattle.shape_model.specs.Patterns.{IsPatternOf}
-use Rattle.shape_ast.specs.Once.{AreDistinct, IsOnce, constraint_triple}
+use Rattle.shape_ast.specs.Once.{AreDistinct, AreOnce, IsOnce, constraint_triple}
 use Rattle.shape_reader.specs.declared.kind.Kind.{Kind}
 use Rattle.shape_reader.specs.declared.kind.Kind.TheVariants as kinds
 use Rattle.shape_reader.specs.Kinds.{kind}
@@ -205,6 +205,11 @@ pub record AreShapes (s : List Triple) (nodes : List Term) (first : List Term) (
   pub once : (c : ReadShape) → Contains (read_shapes shapes) c → IsOnce c
   pub built : AreBuilt (λ t. t) shapes
   pub named : All (HoldsOfShape (StandsIn s) (length nodes)) shapes
+
+-- these are the compiled shapes of the graph, with each of their parts once
+pub record AreRead (s : List Triple) (shapes : List (Shape Term)) : Type 0 where
+  pub compiled : AreCompiled shapes s
+  pub once : AreOnce shapes
 
 -- the fault of its pattern
 abbrev pub IsPatternFault : Term → MakeFault → CompileFault → Type 0

@@ -17,6 +17,7 @@ mod pattern;
 mod place;
 mod read;
 mod shape;
+mod shape_node;
 mod shapes;
 mod target;
 mod values;

@@ -7,6 +7,7 @@ ghost use Rattle.shape_rules.specs.Broken.{IsWellFormed};
 ghost use Rattle.shape_sizes.specs.Surveys.{IsSurvey};
 ghost use Rattle.shape_reader.specs.Asked.{AsksAll, AsksBeforeFault};
 ghost use Rattle.shape_reader.specs.Faults.{IsCause};
+ghost use Rattle.shape_reader.specs.Parts.{AreRead};
 ghost use Rattle.shape_ast.specs.Once.{AreOnce};
 
 use crate::ShapeFault;
@@ -28,10 +29,9 @@ fn read_of<M: Maker>(
 ) -> Result<Shapes, ShapeFault>
     requires ascending { IsAscending triple_cmp graph.now }
     requires survey { IsSurvey graph.now survey.now }
-    ensures answer { MatchResult result (λ shapes. IsWellFormed graph.now × AreCompiled shapes.shapes graph.now)
+    ensures answer { MatchResult result
+        (λ shapes. IsWellFormed graph.now × (AreRead graph.now shapes.shapes × (M.refused maker.new ≡ M.refused maker.old)))
         (λ fault. IsCause graph.now fault (M.refused maker.old) (M.refused maker.new)) }
-    ensures once { IfOk result (λ shapes. AreOnce shapes.shapes) }
-    ensures refused { IfOk result (λ _. M.refused maker.new ≡ M.refused maker.old) }
     ensures asked { MatchResult result (λ _. AsksAll graph.now (M.asked maker.old) (M.asked maker.new))
         (λ fault. AsksBeforeFault graph.now fault (M.asked maker.old) (M.asked maker.new)) }
 {

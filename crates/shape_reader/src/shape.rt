@@ -2,38 +2,31 @@
 ghost use Rattle.std.specs.Prelude.{◌≡◌, ◌↔◌, ℕ, IfOk, IsTrue, MatchResult};
 ghost use Rattle.std.specs.List.{Contains};
 ghost use Rattle.collections.specs.Listings.{IsListing};
-ghost use Rattle.collections.specs.Ordered.{IsAscending};
 ghost use Rattle.rdf_model.specs.declared.term.Term.{Term as TermData};
-ghost use Rattle.rdf_model.specs.declared.triple.Triple.{Triple as TripleData};
-ghost use Rattle.rdf_model.specs.Terms.{term_cmp, triple_cmp};
-ghost use Rattle.shape_references.specs.Siblings.{IsReversed};
+ghost use Rattle.rdf_model.specs.Terms.{term_cmp};
 ghost use Rattle.shape_properties.specs.declared.property.ShapeProperty.TheVariants as properties;
-ghost use Rattle.shape_rules.specs.Broken.{IsWellFormed};
-ghost use Rattle.shape_properties.specs.Syntax.{HasProperty, IsShape};
-ghost use Rattle.shape_syntax.specs.PathNodes.{ArePathNodes};
+ghost use Rattle.shape_properties.specs.Syntax.{HasProperty};
 ghost use Rattle.shape_ast.specs.Readings.{read_optional_path};
 ghost use Rattle.shape_reader.specs.Asked.{AsksAt, AsksIfAny};
 ghost use Rattle.shape_reader.specs.Faults.{IsCompileCause};
-ghost use Rattle.shape_reader.specs.Parts.{AreConstraints, ArePartsOf, AreProperties, AreTargetsOf, HasOne, HasSibling, HasTexts, IsIgnored, IsKeptPath, IsOff, IsOptionalPattern, IsPatternFault, IsShapeOf, IsValue};
+ghost use Rattle.shape_reader.specs.Parts.{AreConstraints, ArePartsOf, AreProperties, AreTargetsOf, HasSibling, IsIgnored, IsKeptPath, IsOff, IsOptionalPattern, IsPatternFault, IsShapeOf, IsValue};
 
 use crate::CompileFault;
 use crate::constraint::constraints_of;
 use crate::path::kept_path;
 use crate::pattern::pattern_of;
+use crate::shape_node::ShapeNode;
 use crate::target::targets_of;
 use crate::values::{
-    copied_value, ignored_of, is_deactivated, messages_of, properties_of, qualified_of, siblings_of,
+    copied_value, ignored_of, is_deactivated, properties_of, qualified_of, siblings_of, values_once,
 };
 use collections::{Sequence, both};
 use outside::{MakeFault, Maker};
 use path_ast::Path;
-use rdf_model::{Term, Triple};
+use rdf_model::Term;
 use shape_ast::{CompiledPattern, Constraint, Shape, Target};
 use shape_properties::ShapeProperty;
-use shape_syntax::IndexedGraph;
-use shape_syntax::lookup::triples_of;
-use std::alloc::{AllocError, Global};
-use std::collections::BTreeSet;
+use std::alloc::AllocError;
 
 // The targets and the constraints; the property shapes and the siblings.
 type Lists = (
@@ -47,57 +40,30 @@ type Words = (
     (Sequence<Term>, Sequence<Term>),
 );
 
-fn lists_of(
-    alloc: Global,
-    graph: &IndexedGraph,
-    own: &[Triple],
-    reversed: &[Triple],
-    nodes: &[Term],
-    node: &Term,
-) -> Result<Lists, AllocError>
-    requires graph { IsAscending triple_cmp graph.now }
-    requires own { IsAscending triple_cmp own.now }
-    requires members { (t : TripleData) → Contains own.now t ↔ (Contains graph.now t × (t.subject ≡ node.now)) }
-    requires reversed { IsListing triple_cmp (IsReversed graph.now) reversed.now }
-    requires nodes { IsAscending term_cmp nodes.now }
-    ensures targets { IfOk result (λ lists. AreTargetsOf graph.now nodes.now node.now lists.0.0) }
-    ensures constraints { IfOk result (λ lists. AreConstraints graph.now nodes.now node.now lists.0.1) }
-    ensures properties { IfOk result (λ lists. AreProperties graph.now nodes.now node.now lists.1.0) }
-    ensures siblings { IfOk result (λ lists. (k : ℕ) → Contains lists.1.1 k ↔ HasSibling graph.now nodes.now node.now k) }
+fn lists_of(shape: &ShapeNode) -> Result<Lists, AllocError>
+    ensures targets { IfOk result (λ lists. AreTargetsOf shape.now.graph shape.now.nodes shape.now.node lists.0.0) }
+    ensures constraints { IfOk result (λ lists. AreConstraints shape.now.graph shape.now.nodes shape.now.node lists.0.1) }
+    ensures properties { IfOk result (λ lists. AreProperties shape.now.graph shape.now.nodes shape.now.node lists.1.0) }
+    ensures siblings { IfOk result (λ lists. (k : ℕ) → Contains lists.1.1 k ↔ HasSibling shape.now.graph shape.now.nodes shape.now.node k) }
 {
-    let parts = both(
-        targets_of(alloc, graph, nodes, node),
-        constraints_of(alloc, graph, nodes, node),
-    );
-    let places = both(
-        properties_of(alloc, graph, own, nodes, node),
-        siblings_of(alloc, graph, reversed, nodes, node),
-    );
+    let parts = both(targets_of(shape), constraints_of(shape));
+    let places = both(properties_of(shape), siblings_of(shape));
     both(parts, places)
 }
 
-fn words_of(
-    alloc: Global,
-    graph: &IndexedGraph,
-    own: &[Triple],
-    node: &Term,
-) -> Result<Words, AllocError>
-    requires graph { IsAscending triple_cmp graph.now }
-    requires own { IsAscending triple_cmp own.now }
-    requires members { (t : TripleData) → Contains own.now t ↔ (Contains graph.now t × (t.subject ≡ node.now)) }
-    requires one { HasOne graph.now node.now properties.IgnoredProperties }
-    ensures severity { IfOk result (λ words. IsValue graph.now node.now properties.Severity words.0.0) }
-    ensures flags { IfOk result (λ words. IsValue graph.now node.now properties.Flags words.0.1) }
-    ensures messages { IfOk result (λ words. IsListing term_cmp (HasProperty graph.now node.now properties.Message) words.1.0) }
-    ensures ignored { IfOk result (λ words. (t : TermData) → Contains words.1.1 t ↔ IsIgnored graph.now node.now t) }
+fn words_of(shape: &ShapeNode) -> Result<Words, AllocError>
+    ensures severity { IfOk result (λ words. IsValue shape.now.graph shape.now.node properties.Severity words.0.0) }
+    ensures flags { IfOk result (λ words. IsValue shape.now.graph shape.now.node properties.Flags words.0.1) }
+    ensures messages { IfOk result (λ words. IsListing term_cmp (HasProperty shape.now.graph shape.now.node properties.Message) words.1.0) }
+    ensures ignored { IfOk result (λ words. (t : TermData) → Contains words.1.1 t ↔ IsIgnored shape.now.graph shape.now.node t) }
 {
     let singles = both(
-        copied_value(graph, own, node, ShapeProperty::Severity),
-        copied_value(graph, own, node, ShapeProperty::Flags),
+        copied_value(shape, ShapeProperty::Severity),
+        copied_value(shape, ShapeProperty::Flags),
     );
     let lists = both(
-        messages_of(alloc, graph, own, node),
-        ignored_of(alloc, graph, own, node),
+        values_once(shape, ShapeProperty::Message),
+        ignored_of(shape),
     );
     both(singles, lists)
 }
@@ -114,23 +80,16 @@ fn pattern_fault(node: Term, fault: MakeFault) -> CompileFault
 
 // The node of the fault is made first, so that a refusal is always told.
 fn pattern_at<M: Maker>(
-    alloc: Global,
     maker: &mut M,
-    graph: &IndexedGraph,
-    own: &[Triple],
-    node: &Term,
+    shape: &ShapeNode,
 ) -> Result<Option<CompiledPattern<Term>>, CompileFault>
-    requires own { IsAscending triple_cmp own.now }
-    requires members { (t : TripleData) → Contains own.now t ↔ (Contains graph.now t × (t.subject ≡ node.now)) }
-    requires patterns { HasTexts graph.now node.now properties.Pattern }
-    requires flags { HasTexts graph.now node.now properties.Flags }
-    ensures answer { MatchResult result (λ found. IsOptionalPattern graph.now node.now found × (M.refused maker.new ≡ M.refused maker.old))
-        (λ fault. IsCompileCause graph.now fault (M.refused maker.old) (M.refused maker.new)) }
-    ensures asked { MatchResult result (λ _. AsksIfAny graph.now node.now (M.asked maker.old) (M.asked maker.new))
-        (λ fault. AsksAt graph.now node.now fault (M.asked maker.old) (M.asked maker.new)) }
+    ensures answer { MatchResult result (λ found. IsOptionalPattern shape.now.graph shape.now.node found × (M.refused maker.new ≡ M.refused maker.old))
+        (λ fault. IsCompileCause shape.now.graph fault (M.refused maker.old) (M.refused maker.new)) }
+    ensures asked { MatchResult result (λ _. AsksIfAny shape.now.graph shape.now.node (M.asked maker.old) (M.asked maker.new))
+        (λ fault. AsksAt shape.now.graph shape.now.node fault (M.asked maker.old) (M.asked maker.new)) }
 {
-    let copy = node.clone()?;
-    match pattern_of(alloc, maker, graph, own, node) {
+    let copy = shape.node().clone()?;
+    match pattern_of(maker, shape) {
         Ok(found) => Ok(found),
         Err(fault) => Err(pattern_fault(copy, fault)),
     }
@@ -138,85 +97,55 @@ fn pattern_at<M: Maker>(
 
 // What is kept of the path, and the pattern.
 fn made_of<M: Maker>(
-    alloc: Global,
     maker: &mut M,
-    graph: &IndexedGraph,
-    own: &[Triple],
-    paths: &BTreeSet<Term>,
-    node: &Term,
+    shape: &ShapeNode,
     is_deactivated: bool,
 ) -> Result<(Option<Path<Term>>, Option<CompiledPattern<Term>>), CompileFault>
-    requires graph { IsAscending triple_cmp graph.now }
-    requires own { IsAscending triple_cmp own.now }
-    requires members { (t : TripleData) → Contains own.now t ↔ (Contains graph.now t × (t.subject ≡ node.now)) }
-    requires well_formed { IsWellFormed graph.now }
-    requires paths { ArePathNodes graph.now paths.now.keys }
-    requires shape { IsShape graph.now node.now }
-    requires off { IsTrue is_deactivated ↔ IsOff graph.now node.now }
-    requires patterns { HasTexts graph.now node.now properties.Pattern }
-    requires flags { HasTexts graph.now node.now properties.Flags }
+    requires { IsTrue is_deactivated ↔ IsOff shape.now.graph shape.now.node }
     ensures answer { MatchResult result
-        (λ made. IsKeptPath graph.now node.now (read_optional_path (λ t. t) made.0) × (IsOptionalPattern graph.now node.now made.1 × (M.refused maker.new ≡ M.refused maker.old)))
-        (λ fault. IsCompileCause graph.now fault (M.refused maker.old) (M.refused maker.new)) }
-    ensures asked { MatchResult result (λ _. AsksIfAny graph.now node.now (M.asked maker.old) (M.asked maker.new))
-        (λ fault. AsksAt graph.now node.now fault (M.asked maker.old) (M.asked maker.new)) }
+        (λ made. IsKeptPath shape.now.graph shape.now.node (read_optional_path (λ t. t) made.0) × (IsOptionalPattern shape.now.graph shape.now.node made.1 × (M.refused maker.new ≡ M.refused maker.old)))
+        (λ fault. IsCompileCause shape.now.graph fault (M.refused maker.old) (M.refused maker.new)) }
+    ensures asked { MatchResult result (λ _. AsksIfAny shape.now.graph shape.now.node (M.asked maker.old) (M.asked maker.new))
+        (λ fault. AsksAt shape.now.graph shape.now.node fault (M.asked maker.old) (M.asked maker.new)) }
 {
-    let path = kept_path(alloc, graph, own, paths, node, is_deactivated)?;
-    let pattern = pattern_at(alloc, maker, graph, own, node)?;
+    let path = kept_path(shape, is_deactivated)?;
+    let pattern = pattern_at(maker, shape)?;
     Ok((path, pattern))
 }
 
 // What is made of the node's triples but for the path and the pattern, with a copy of the node.
 type Parts = ((Term, Lists), Words);
 
-fn parts_at(
-    alloc: Global,
-    graph: &IndexedGraph,
-    own: &[Triple],
-    reversed: &[Triple],
-    nodes: &[Term],
-    node: &Term,
-) -> Result<Parts, AllocError>
-    requires graph { IsAscending triple_cmp graph.now }
-    requires own { IsAscending triple_cmp own.now }
-    requires members { (t : TripleData) → Contains own.now t ↔ (Contains graph.now t × (t.subject ≡ node.now)) }
-    requires reversed { IsListing triple_cmp (IsReversed graph.now) reversed.now }
-    requires nodes { IsAscending term_cmp nodes.now }
-    requires one { HasOne graph.now node.now properties.IgnoredProperties }
-    ensures { IfOk result (λ parts. ArePartsOf graph.now nodes.now node.now parts.0.0 parts.0.1.0.0 parts.0.1.0.1
+fn parts_at(shape: &ShapeNode) -> Result<Parts, AllocError>
+    ensures { IfOk result (λ parts. ArePartsOf shape.now.graph shape.now.nodes shape.now.node parts.0.0 parts.0.1.0.0 parts.0.1.0.1
         parts.0.1.1.0 parts.0.1.1.1 parts.1.0.0 parts.1.0.1 parts.1.1.0 parts.1.1.1) }
 {
-    let lists = lists_of(alloc, graph, own, reversed, nodes, node);
-    let words = words_of(alloc, graph, own, node);
-    both(both(node.clone(), lists), words)
+    let lists = lists_of(shape);
+    let words = words_of(shape);
+    both(both(shape.node().clone(), lists), words)
 }
 
 // The shape of its parts.
 fn assembled(
-    graph: &IndexedGraph,
-    nodes: &[Term],
-    node: &Term,
+    shape: &ShapeNode,
     is_deactivated: bool,
     path: Option<Path<Term>>,
     pattern: Option<CompiledPattern<Term>>,
     parts: Parts,
 ) -> Shape<Term>
-    requires graph { IsAscending triple_cmp graph.now }
-    requires well_formed { IsWellFormed graph.now }
-    requires nodes { IsAscending term_cmp nodes.now }
-    requires shape { IsShape graph.now node.now }
-    requires off { IsTrue is_deactivated ↔ IsOff graph.now node.now }
-    requires path { IsKeptPath graph.now node.now (read_optional_path (λ t. t) path) }
-    requires pattern { IsOptionalPattern graph.now node.now pattern }
-    requires parts { ArePartsOf graph.now nodes.now node.now parts.0.0 parts.0.1.0.0 parts.0.1.0.1
+    requires off { IsTrue is_deactivated ↔ IsOff shape.now.graph shape.now.node }
+    requires path { IsKeptPath shape.now.graph shape.now.node (read_optional_path (λ t. t) path) }
+    requires pattern { IsOptionalPattern shape.now.graph shape.now.node pattern }
+    requires parts { ArePartsOf shape.now.graph shape.now.nodes shape.now.node parts.0.0 parts.0.1.0.0 parts.0.1.0.1
         parts.0.1.1.0 parts.0.1.1.1 parts.1.0.0 parts.1.0.1 parts.1.1.0 parts.1.1.1 }
-    ensures { IsShapeOf graph.now nodes.now node.now result }
+    ensures { IsShapeOf shape.now.graph shape.now.nodes shape.now.node result }
 {
-    let ((own, lists), words) = parts;
+    shape.recall();
+    let ((node, lists), words) = parts;
     let ((targets, constraints), (properties, siblings)) = lists;
     let ((severity, flags), (messages, ignored)) = words;
     Shape {
-        node: own,
+        node,
         path,
         is_deactivated,
         severity,
@@ -226,37 +155,25 @@ fn assembled(
         pattern,
         flags,
         properties,
-        qualified: qualified_of(graph, nodes, node),
+        qualified: qualified_of(shape),
         siblings,
         ignored,
     }
 }
 
-/// The shape at the node. The graph's `path_nodes` and `reversed_properties` are given, and the nodes that are shapes.
+/// The shape at the node.
 pub(crate) fn compile_shape<M: Maker>(
-    alloc: Global,
     maker: &mut M,
-    graph: &IndexedGraph,
-    paths: &BTreeSet<Term>,
-    reversed: &[Triple],
-    nodes: &[Term],
-    node: &Term,
+    shape: &ShapeNode,
 ) -> Result<Shape<Term>, CompileFault>
-    requires graph { IsAscending triple_cmp graph.now }
-    requires well_formed { IsWellFormed graph.now }
-    requires paths { ArePathNodes graph.now paths.now.keys }
-    requires reversed { IsListing triple_cmp (IsReversed graph.now) reversed.now }
-    requires nodes { IsAscending term_cmp nodes.now }
-    requires shape { IsShape graph.now node.now }
     ensures answer { MatchResult result
-        (λ shape. IsShapeOf graph.now nodes.now node.now shape × (M.refused maker.new ≡ M.refused maker.old))
-        (λ fault. IsCompileCause graph.now fault (M.refused maker.old) (M.refused maker.new)) }
-    ensures asked { MatchResult result (λ _. AsksIfAny graph.now node.now (M.asked maker.old) (M.asked maker.new))
-        (λ fault. AsksAt graph.now node.now fault (M.asked maker.old) (M.asked maker.new)) }
+        (λ compiled. IsShapeOf shape.now.graph shape.now.nodes shape.now.node compiled × (M.refused maker.new ≡ M.refused maker.old))
+        (λ fault. IsCompileCause shape.now.graph fault (M.refused maker.old) (M.refused maker.new)) }
+    ensures asked { MatchResult result (λ _. AsksIfAny shape.now.graph shape.now.node (M.asked maker.old) (M.asked maker.new))
+        (λ fault. AsksAt shape.now.graph shape.now.node fault (M.asked maker.old) (M.asked maker.new)) }
 {
-    let own = triples_of(graph, node);
-    let off = is_deactivated(graph, own, node);
-    let (path, pattern) = made_of(alloc, maker, graph, own, paths, node, off)?;
-    let parts = parts_at(alloc, graph, own, reversed, nodes, node)?;
-    Ok(assembled(graph, nodes, node, off, path, pattern, parts))
+    let off = is_deactivated(shape);
+    let (path, pattern) = made_of(maker, shape, off)?;
+    let parts = parts_at(shape)?;
+    Ok(assembled(shape, off, path, pattern, parts))
 }

@@ -1,9 +1,7 @@
 //! The targets of a shape (SHACL section 2.1.3).
 ghost use Rattle.std.specs.Prelude.{◌≡◌, ◌⊎◌, ◌↔◌, IsTrue, IfOk, OnOk};
 ghost use Rattle.std.specs.List.{Contains};
-ghost use Rattle.collections.specs.Ordered.{IsAscending};
 ghost use Rattle.rdf_model.specs.declared.term.Term.{Term as TermData};
-ghost use Rattle.rdf_model.specs.Terms.{term_cmp, triple_cmp};
 ghost use Rattle.shape_model.specs.Instances.{Instance};
 ghost use Rattle.shape_model.specs.Vocabulary.{rdfs_class};
 ghost use Rattle.shape_ast.specs.declared.target.Target.{Target as TargetData};
@@ -11,19 +9,19 @@ ghost use Rattle.shape_ast.specs.declared.target.Target.TheVariants.{ImplicitCla
 ghost use Rattle.shape_ast.specs.Once.{AreDistinct, target_triple};
 ghost use Rattle.shape_reader.specs.Parts.{AreTargetsOf, SaysTarget, target_of};
 
-use crate::part::{Part, parts_of};
+use crate::part::{Part, Said, parts_of};
+use crate::shape_node::ShapeNode;
 use collections::Sequence;
 use rdf_model::{Term, Triple};
 use shape_ast::Target;
 use shape_properties::ShapeProperty;
-use shape_syntax::IndexedGraph;
 use shape_syntax::instance::classes_of;
 use shape_syntax::terms::is_named;
-use std::alloc::{AllocError, Global};
+use std::alloc::AllocError;
 use vocabulary::RDFS_CLASS;
 
 // The target that the value declares, if the property declares targets.
-fn declared(property: ShapeProperty, value: &Term) -> Result<Option<Target<Term>>, AllocError>
+fn declared(property: ShapeProperty, value: &Term) -> Said<Target<Term>>
     ensures { IfOk result (λ found. found ≡ target_of property value.now) }
 {
     match property {
@@ -40,13 +38,7 @@ impl Part for Target<Term> {
 
     ghost triple = { target_triple };
 
-    fn read(
-        _alloc: Global,
-        _graph: &IndexedGraph,
-        _nodes: &[Term],
-        property: ShapeProperty,
-        value: &Term,
-    ) -> Result<Option<Target<Term>>, AllocError> {
+    fn read(_shape: &ShapeNode, property: ShapeProperty, value: &Term) -> Said<Target<Term>> {
         let found = declared(property, value)?;
         Ok(found)
     }
@@ -71,25 +63,18 @@ fn has_rdfs_class(classes: &[Term]) -> bool
 }
 
 // Whether the node is a class (section 2.1.3.3).
-fn is_class(alloc: Global, graph: &IndexedGraph, node: &Term) -> Result<bool, AllocError>
-    requires { IsAscending triple_cmp graph.now }
-    ensures { IfOk result (λ found. IsTrue found ↔ Instance graph.now node.now rdfs_class) }
+fn is_class(shape: &ShapeNode) -> Result<bool, AllocError>
+    ensures { IfOk result (λ found. IsTrue found ↔ Instance shape.now.graph shape.now.node rdfs_class) }
 {
-    let classes = classes_of(alloc, graph, node)?;
+    let classes = classes_of(shape.alloc(), shape.graph(), shape.node())?;
     Ok(has_rdfs_class(classes.as_slice()))
 }
 
-fn push_implicit(
-    alloc: Global,
-    graph: &IndexedGraph,
-    node: &Term,
-    targets: &mut Sequence<Target<Term>>,
-) -> Result<(), AllocError>
-    requires { IsAscending triple_cmp graph.now }
-    ensures said { OnOk result ((x : TargetData TermData) → Contains targets.new x ↔ (Contains targets.old x ⊎ ((ImplicitClass ≡ x) × Instance graph.now node.now rdfs_class))) }
+fn push_implicit(shape: &ShapeNode, targets: &mut Sequence<Target<Term>>) -> Result<(), AllocError>
+    ensures said { OnOk result ((x : TargetData TermData) → Contains targets.new x ↔ (Contains targets.old x ⊎ ((ImplicitClass ≡ x) × Instance shape.now.graph shape.now.node rdfs_class))) }
     ensures once { OnOk result ((Contains targets.old ImplicitClass → ⊥) → AreDistinct targets.old → AreDistinct targets.new) }
 {
-    let class = is_class(alloc, graph, node)?;
+    let class = is_class(shape)?;
     if class {
         targets.push(Target::ImplicitClass)?;
         return Ok(());
@@ -98,17 +83,10 @@ fn push_implicit(
 }
 
 /// The targets of the shape at the node, each once.
-pub(crate) fn targets_of(
-    alloc: Global,
-    graph: &IndexedGraph,
-    nodes: &[Term],
-    node: &Term,
-) -> Result<Sequence<Target<Term>>, AllocError>
-    requires graph { IsAscending triple_cmp graph.now }
-    requires nodes { IsAscending term_cmp nodes.now }
-    ensures { IfOk result (λ targets. AreTargetsOf graph.now nodes.now node.now targets) }
+pub(crate) fn targets_of(shape: &ShapeNode) -> Result<Sequence<Target<Term>>, AllocError>
+    ensures { IfOk result (λ targets. AreTargetsOf shape.now.graph shape.now.nodes shape.now.node targets) }
 {
-    let mut targets = parts_of(alloc, graph, nodes, node)?;
-    push_implicit(alloc, graph, node, &mut targets)?;
+    let mut targets = parts_of(shape)?;
+    push_implicit(shape, &mut targets)?;
     Ok(targets)
 }

@@ -18,10 +18,13 @@ use std::sync::Wait;
 use std::thread;
 use std::time::Duration;
 
-// How often a caller looks before it sleeps, and how often in all before it draws a ticket that isn't served yet.
-const LOOKS_BEFORE_SLEEP: u32 = 1_000;
+// How often a caller looks before it sleeps where others sleep already, and where none does. A look takes some ten nanoseconds.
+const LOOKS_BESIDE_SLEEPERS: u32 = 1_000;
 
-const LOOKS_BEFORE_TICKET: u32 = 100_000;
+const LOOKS_BEFORE_SLEEP: u32 = 100_000;
+
+// How often it looks in all before it draws a ticket that isn't served yet.
+const LOOKS_BEFORE_TICKET: u32 = 1_000_000;
 
 // The longest sleep. The end of a turn wakes a sleeper long before.
 const MILLISECONDS_OF_SLEEP: u64 = 100;
@@ -201,6 +204,13 @@ impl<S: Entries> Turns<S> {
         shared.store::<Note>(place, 2, 1);
     }
 
+    // Whether a caller that has looked so often in vain sleeps now. To fall asleep and to be woken takes longer than most turns,
+    // so that none does before long; but where others sleep there are more callers than processors, and it makes room for them.
+    fn is_tired(&self, look: u32) -> bool {
+        look % LOOKS_BESIDE_SLEEPERS == 0
+            && (look % LOOKS_BEFORE_SLEEP == 0 || self.board.shared.peek(2) != 0)
+    }
+
     // Draws a ticket: where nobody has a turn the one that is served, so that a caller that is awake needn't wait for one that
     // sleeps. A caller that looked very often in vain draws the next one, and then no other comes before it.
     fn draw<R: Wait>(&self, rt: &R, place: &mut TurnPlace<S>) -> u64
@@ -214,7 +224,7 @@ impl<S: Entries> Turns<S> {
             if self.draw_served(place, serving) {
                 return serving;
             }
-            if look % LOOKS_BEFORE_SLEEP == 0 {
+            if self.is_tired(look) {
                 self.sleep(rt, place, serving);
             } else {
                 spin_loop();
@@ -225,8 +235,8 @@ impl<S: Entries> Turns<S> {
 
     /// Waits for the caller's turn, and takes the state. The caller has then seen the whole history.
     ///
-    /// The turn is the next one where nobody has a turn; else the caller looks again for some tens of microseconds, about as long
-    /// as a turn takes, and then sleeps until the end of a turn wakes it. Callers don't come in the order in which they called.
+    /// The turn is the next one where nobody has a turn; else the caller looks again, for about a millisecond where no other
+    /// sleeps, and then sleeps until the end of a turn wakes it. Callers don't come in the order in which they called.
     pub fn enter<R: Wait>(&self, rt: &R, pass: Pass<S>) -> (Held<S>, S)
         requires { pass.lock ≡ self.now.id }
         ensures held { result.0 ≡ record pass { known = record pass.known { front = S.entries result.1 } } }

@@ -14,7 +14,7 @@ use Rattle.turtle_reader.specs.Parsers.{Outcome, Parser, and_then, ◌>>=◌, gi
 use Rattle.turtle_reader.specs.Tokens.{next, is_next, is_other, is_comma, is_semicolon, is_close_bracket, is_close_parenthesis, may_begin_verb, expected, where_next}
 use Rattle.turtle_reader.specs.Terms.{fresh}
 use Rattle.turtle_reader.specs.Grammar.{found, rdf_first, rdf_rest, rdf_nil, verb, one_object, more_objects, object_list, verb_objects, more_verbs, next_member, more_members, property_list, square, collection, object_of, too_deep, object}
-use Rattle.turtle_reader.specs.Stack.{more_properties, properties_from, all_closed, remaining, list_closed, node_after, square_first, round_first, square_open, round_open, token_object}
+use Rattle.turtle_reader.specs.Stack.{more_properties, properties_from, all_closed, remaining, list_closed, node_after, square_first, round_first, bracket_first, bracket_open, token_object}
 use Rattle.turtle_reader.specs.Progress.{Goes}
 use Rattle.turtle_reader.proofs.Progress.{many_more}
 use Rattle.turtle_reader.proofs.Productions.{takes_comma, takes_semicolon, takes_member, takes_object}
@@ -266,11 +266,8 @@ round_next text levels fs node last s t h f e =
     reopened_list (Ok r) f m e k = refl
     reopened_list (Err x) f m e k = refl
 
-pub square_suc : (text : List ℕ) (n l : ℕ) (t : Token) (fs : List Frame) (s : State) → n ≡ suc l → square_open text n t fs s ≡ square_first text l fs s
-square_suc text n l t fs s e = ap (λ k. square_open text k t fs s) e
-
-pub round_suc : (text : List ℕ) (n l : ℕ) (t : Token) (fs : List Frame) (s : State) → n ≡ suc l → round_open text n t fs s ≡ round_first text l fs s
-round_suc text n l t fs s e = ap (λ k. round_open text k t fs s) e
+pub bracket_suc : (text : List ℕ) (n l : ℕ) (kind : TokenKind) (t : Token) (fs : List Frame) (s : State) → n ≡ suc l → bracket_open text n kind t fs s ≡ bracket_first kind text l fs s
+bracket_suc text n l kind t fs s e = ap (λ k. bracket_open text k kind t fs s) e
 
 -- an object by its first token
 by_token : (k : TokenKind) (text : List ℕ) (levels : ℕ) (fs : List Frame) (t : Token) (s : State)

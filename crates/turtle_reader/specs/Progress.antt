@@ -1,5 +1,5 @@
 -- How far a reading has come, for the code's clauses.
-use Rattle.std.specs.Prelude.{◌≡◌, ℕ, ◌+◌, ◌-◌, true, ◌≤◌, List, length, Option, Some, None, Result, Ok, Err, IfOk, IfSome}
+use Rattle.std.specs.Prelude.{◌≡◌, ℕ, ◌+◌, ◌-◌, ◌^◌, true, ◌<◌, ◌≤◌, List, length, Option, Some, None, Result, Ok, Err, IfOk, IfSome}
 use Rattle.rdf_model.specs.declared.term.Term.{Term}
 use Rattle.iri_ref.specs.Scheme.{has_scheme}
 use Rattle.turtle_lex.specs.Places.{HasSpan}
@@ -46,6 +46,17 @@ unread text (Err fault) = 0
 -- the number that is next once all the rest is read is no larger than this
 abbrev pub need : List ℕ → State → ℕ
 need text s = s.next + unread text s.ahead
+
+-- A reading can go on, whatever is left: it is ready, and there are numbers for all blank nodes to come and for so many more.
+pub record CanRead (text : List ℕ) (more : ℕ) (s : State) : Type 0 where
+  pub ready : IsReady text s
+  pub room : need text s + more < 2 ^ 32
+
+-- The same behind a token, which may bring some of these nodes itself.
+pub record CanReadFrom (text : List ℕ) (t : Token) (s : State) : Type 0 where
+  pub token : IsTokenOf text t
+  pub ready : IsReady text s
+  pub room : need text s + weight t.kind < 2 ^ 32
 
 -- At least so many tokens were taken; the need shrank by the gain, less the debt.
 pub record Moved (text : List ℕ) (taken gain debt : ℕ) (old new : State) : Type 0 where

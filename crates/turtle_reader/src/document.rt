@@ -9,10 +9,11 @@ ghost use Rattle.turtle_reader.specs.Grammar;
 ghost use Rattle.turtle_reader.specs.Progress.{IsReady, need};
 
 use crate::grammar::read_statements;
+use crate::source::{Reading, Source};
 use crate::state::State;
 use crate::table::NameTable;
 use collections::Sequence;
-use rdf_lexical::{CharSlice, ReadFault, RefusalKind};
+use rdf_lexical::{ReadFault, RefusalKind};
 use rdf_model::Triple;
 use std::alloc::Global;
 use triple_table::TripleTable;
@@ -22,37 +23,31 @@ use turtle_lex::{TextPlace, next_token};
 const LEVELS: usize = 255;
 
 // Before the first token.
-fn opening(alloc: Global, text: &CharSlice<'_>, session: u32, first: u32) -> State
-    requires { length text.now < 2 ^ 32 }
+fn opening(text: &Source<'_>, session: u32, first: u32) -> State
     ensures opening { result ≡ Document.opening text.now session first }
     ensures ready { IsReady text.now result }
     ensures need { need text.now result ≤ first + length text.now }
 {
     State {
-        ahead: next_token(text, TextPlace::start(), false),
-        prefixes: NameTable::new(alloc),
+        ahead: next_token(text.characters(), TextPlace::start(), false),
+        prefixes: NameTable::new(text.alloc()),
         base: None,
-        labels: NameTable::new(alloc),
+        labels: NameTable::new(text.alloc()),
         session,
         next: first,
-        triples: TripleTable::new(alloc),
+        triples: TripleTable::new(text.alloc()),
     }
 }
 
 // The whole of a text: the state behind its last statement.
-fn read_document(
-    alloc: Global,
-    session: u32,
-    first: u32,
-    text: &CharSlice<'_>,
-) -> Result<State, ReadFault>
+fn read_document(text: &Source<'_>, session: u32, first: u32) -> Reading<State>
     requires { first + length text.now < 2 ^ 32 }
     ensures reads { let reading = Grammar.turtle_doc text.now 255 (Document.opening text.now session first) in
         MatchResult result (λ state. reading ≡ Ok (tt, state)) (λ fault. Refuses fault reading) }
     ensures room { IfOk result (λ state. (first ≤ state.next) × (state.next ≤ first + length text.now)) }
 {
-    let mut state = opening(alloc, text, session, first);
-    read_statements(alloc, text, &mut state, LEVELS)?;
+    let mut state = opening(text, session, first);
+    read_statements(text, &mut state, LEVELS)?;
     Ok(state)
 }
 
@@ -65,18 +60,13 @@ fn found_in(state: State) -> (TripleTable, u32)
 }
 
 // The triples of the characters in their order there, and the next number of a blank node.
-fn read_slice(
-    alloc: Global,
-    session: u32,
-    first: u32,
-    text: &CharSlice<'_>,
-) -> Result<(TripleTable, u32), ReadFault>
+fn read_source(text: &Source<'_>, session: u32, first: u32) -> Reading<(TripleTable, u32)>
     requires { first + length text.now < 2 ^ 32 }
     ensures reads { let reading = Document.found_in_text text.now session first in
         MatchResult result (λ found. reading ≡ Ok found) (λ fault. Refuses fault reading) }
     ensures room { IfOk result (λ found. (first ≤ found.1) × (found.1 ≤ first + length text.now)) }
 {
-    let state = read_document(alloc, session, first, text)?;
+    let state = read_document(text, session, first)?;
     Ok(found_in(state))
 }
 
@@ -86,22 +76,17 @@ fn read_characters(
     session: u32,
     first: u32,
     text: &str,
-) -> Result<(TripleTable, u32), ReadFault>
+) -> Reading<(TripleTable, u32)>
     requires { first + length text.now < 2 ^ 32 }
     ensures reads { let reading = Document.found_in_text (chars text.now) session first in
         MatchResult result (λ found. reading ≡ Ok found) (λ fault. Refuses fault reading) }
     ensures room { IfOk result (λ found. (first ≤ found.1) × (found.1 ≤ first + length text.now)) }
 {
-    read_slice(alloc, session, first, &CharSlice::of_text(text))
+    read_source(&Source::new(alloc, text), session, first)
 }
 
 // The triples of a text in their order there. Blank nodes are numbered from `next` on.
-fn read_text(
-    alloc: Global,
-    session: u32,
-    next: &mut u32,
-    text: &str,
-) -> Result<TripleTable, ReadFault>
+fn read_text(alloc: Global, session: u32, next: &mut u32, text: &str) -> Reading<TripleTable>
     requires { next.old + length text.now < 2 ^ 32 }
     ensures reads { let reading = text_read (chars text.now) session next.old in
         MatchResult result (λ table. reading ≡ Ok (with_each [] table, next.new)) (λ fault. Refuses fault reading) }

@@ -16,6 +16,7 @@ mod literals;
 mod names;
 mod objects;
 mod open;
+mod source;
 mod stack;
 mod state;
 mod table;

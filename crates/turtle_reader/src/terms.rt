@@ -1,16 +1,17 @@
 //! Terms, by their first token.
-ghost use Rattle.std.specs.Prelude.{◌≡◌, ℕ, ◌+◌, ◌<◌, ◌≤◌, ◌^◌, true, List, length, Ok, Some, IfOk, OnOk};
+ghost use Rattle.std.specs.Prelude.{◌≡◌, ℕ, ◌+◌, ◌<◌, ◌≤◌, ◌^◌, true, List, Ok, Some, IfOk, OnOk};
 ghost use Rattle.iri_ref.specs.Scheme;
 ghost use Rattle.turtle_reader.specs.Grammar;
-ghost use Rattle.turtle_reader.specs.Progress.{Gives, IsReady, IsTokenOf, Moved, need, weight};
+ghost use Rattle.turtle_reader.specs.Progress.{CanReadFrom, Gives, IsReady, IsTokenOf, Moved, weight};
 ghost use Rattle.turtle_reader.specs.Terms;
 
 use crate::literals::{plain, read_string};
 use crate::names::{labelled, prefix_of, read_iri, refused, resolved_iri};
+use crate::source::{Reading, Source};
 use crate::state::State;
 use crate::table::Name;
 use crate::tokens::{expect_prefix_name, next, unexpected};
-use rdf_lexical::{CharSlice, ReadFault, RefusalKind};
+use rdf_lexical::RefusalKind;
 use rdf_model::Term;
 use rdf_text::Text;
 use std::alloc::{AllocError, Global};
@@ -22,7 +23,7 @@ use vocabulary::{
 /// A new blank node.
 #[tactic(auto, unfolding(crate::specs::Terms::fresh))]
 pub fn fresh(state: &mut State) -> Term
-    requires room { state.old.next + 1 < 2 ^ 32 }
+    requires { state.old.next + 1 < 2 ^ 32 }
     ensures reads { Terms.fresh state.old ≡ Ok (result, state.new) }
     ensures moved { (text : List ℕ) → IsReady text state.old → Moved text 0 0 1 state.old state.new }
 {
@@ -50,44 +51,31 @@ pub fn found(
 }
 
 // The IRI of a token as a term.
-fn iri_term(
-    alloc: Global,
-    text: &CharSlice<'_>,
-    state: &State,
-    token: Token,
-) -> Result<Term, ReadFault>
+fn iri_term(text: &Source<'_>, state: &State, token: Token) -> Reading<Term>
     requires token { IsTokenOf text.now token }
     requires ready { IsReady text.now state.now }
     ensures { Gives result state.now (Grammar.iri_term text.now token state.now) }
 {
-    Ok(Term::Iri(read_iri(alloc, text, state, token)?))
+    Ok(Term::Iri(read_iri(text, state, token)?))
 }
 
 /// An IRI, the blank node of a label, or a literal, by its first token; another token is refused.
 #[tactic(auto, unfolding(crate::specs::Terms::xsd))]
-pub fn read_term(
-    alloc: Global,
-    text: &CharSlice<'_>,
-    state: &mut State,
-    token: Token,
-) -> Result<Term, ReadFault>
-    requires token { IsTokenOf text.now token }
-    requires ready { IsReady text.now state.old }
-    requires room { need text.now state.old + weight token.kind < 2 ^ 32 }
-    requires size { length text.now < 2 ^ 32 }
+pub fn read_term(text: &Source<'_>, state: &mut State, token: Token) -> Reading<Term>
+    requires { CanReadFrom text.now token state.old }
     ensures reads { Gives result state.new (Grammar.term_of token.kind text.now token state.old) }
     ensures moved { OnOk result (Moved text.now 0 1 (weight token.kind) state.old state.new) }
 {
     match token.kind {
         TokenKind::IriRef | TokenKind::PrefixName | TokenKind::PrefixedName => {
-            iri_term(alloc, text, state, token)
+            iri_term(text, state, token)
         }
-        TokenKind::BlankNodeLabel => labelled(alloc, text, state, token),
-        TokenKind::StringLiteral(quotes) => read_string(alloc, text, state, quotes, token),
-        TokenKind::Integer => plain(alloc, text, XSD_INTEGER, token),
-        TokenKind::Decimal => plain(alloc, text, XSD_DECIMAL, token),
-        TokenKind::Double => plain(alloc, text, XSD_DOUBLE, token),
-        TokenKind::True | TokenKind::False => plain(alloc, text, XSD_BOOLEAN, token),
+        TokenKind::BlankNodeLabel => labelled(text, state, token),
+        TokenKind::StringLiteral(quotes) => read_string(text, state, quotes, token),
+        TokenKind::Integer => plain(text, XSD_INTEGER, token),
+        TokenKind::Decimal => plain(text, XSD_DECIMAL, token),
+        TokenKind::Double => plain(text, XSD_DOUBLE, token),
+        TokenKind::True | TokenKind::False => plain(text, XSD_BOOLEAN, token),
         _ => Err(unexpected(token)),
     }
 }
@@ -101,20 +89,15 @@ fn rdf_type(alloc: Global) -> Result<Term, AllocError>
 }
 
 // A verb, by its token.
-fn verb_of(
-    alloc: Global,
-    text: &CharSlice<'_>,
-    state: &State,
-    token: Token,
-) -> Result<Term, ReadFault>
+fn verb_of(text: &Source<'_>, state: &State, token: Token) -> Reading<Term>
     requires token { IsTokenOf text.now token }
     requires ready { IsReady text.now state.now }
     ensures { Gives result state.now (Grammar.verb_of token.kind text.now token state.now) }
 {
     match token.kind {
-        TokenKind::A => Ok(rdf_type(alloc)?),
+        TokenKind::A => Ok(rdf_type(text.alloc())?),
         TokenKind::IriRef | TokenKind::PrefixName | TokenKind::PrefixedName => {
-            iri_term(alloc, text, state, token)
+            iri_term(text, state, token)
         }
         TokenKind::BlankNodeLabel | TokenKind::OpenBracket => {
             Err(refused(token, RefusalKind::BlankPredicate))
@@ -125,14 +108,13 @@ fn verb_of(
 
 /// A verb, which must come next: an IRI, or `a` for rdf:type (Turtle section 2.1).
 #[tactic(auto, unfolding(crate::specs::Grammar::verb))]
-pub fn read_verb(alloc: Global, text: &CharSlice<'_>, state: &mut State) -> Result<Term, ReadFault>
-    requires ready { IsReady text.now state.old }
-    requires size { length text.now < 2 ^ 32 }
+pub fn read_verb(text: &Source<'_>, state: &mut State) -> Reading<Term>
+    requires { IsReady text.now state.old }
     ensures reads { Gives result state.new (Grammar.verb text.now state.old) }
     ensures moved { OnOk result (Moved text.now 1 1 0 state.old state.new) }
 {
     let token = next(text, state)?;
-    verb_of(alloc, text, state, token)
+    verb_of(text, state, token)
 }
 
 /// The IRI rdf:first.
@@ -164,52 +146,41 @@ pub fn rdf_nil(alloc: Global) -> Result<Term, AllocError>
 
 // The IRI of an IRIREF, which comes next.
 #[tactic(auto, unfolding(crate::specs::Terms::iri))]
-fn iri_reference(alloc: Global, text: &CharSlice<'_>, state: &mut State) -> Result<Text, ReadFault>
-    requires ready { IsReady text.now state.old }
-    requires size { length text.now < 2 ^ 32 }
+fn iri_reference(text: &Source<'_>, state: &mut State) -> Reading<Text>
+    requires { IsReady text.now state.old }
     ensures reads { Gives result state.new (Grammar.iri_reference text.now state.old) }
     ensures moved { OnOk result (Moved text.now 1 1 0 state.old state.new) }
     ensures scheme { IfOk result (λ iri. Scheme.has_scheme iri ≡ true) }
 {
     let token = next(text, state)?;
     match token.kind {
-        TokenKind::IriRef => resolved_iri(alloc, text, state, token),
+        TokenKind::IriRef => resolved_iri(text, state, token),
         _ => Err(unexpected(token)),
     }
 }
 
 /// What a prefix stands for, after `@prefix` or `PREFIX`.
 #[tactic(auto, unfolding(crate::specs::Grammar::prefix_declared))]
-pub fn prefix_declared(
-    alloc: Global,
-    text: &CharSlice<'_>,
-    state: &mut State,
-) -> Result<(), ReadFault>
-    requires ready { IsReady text.now state.old }
-    requires size { length text.now < 2 ^ 32 }
+pub fn prefix_declared(text: &Source<'_>, state: &mut State) -> Reading<()>
+    requires { IsReady text.now state.old }
     ensures reads { Gives result state.new (Grammar.prefix_declared text.now state.old) }
     ensures moved { OnOk result (Moved text.now 0 0 0 state.old state.new) }
 {
     let token = expect_prefix_name(text, state)?;
-    let iri = iri_reference(alloc, text, state)?;
-    let prefix = Name::new(alloc, prefix_of(text, token))?;
+    let iri = iri_reference(text, state)?;
+    let prefix = Name::new(text.alloc(), prefix_of(text, token))?;
     state.prefixes.set(prefix, iri)?;
     Ok(())
 }
 
 /// The base, after `@base` or `BASE`.
 #[tactic(auto, unfolding(crate::specs::Grammar::base_declared))]
-pub fn base_declared(
-    alloc: Global,
-    text: &CharSlice<'_>,
-    state: &mut State,
-) -> Result<(), ReadFault>
-    requires ready { IsReady text.now state.old }
-    requires size { length text.now < 2 ^ 32 }
+pub fn base_declared(text: &Source<'_>, state: &mut State) -> Reading<()>
+    requires { IsReady text.now state.old }
     ensures reads { Gives result state.new (Grammar.base_declared text.now state.old) }
     ensures moved { OnOk result (Moved text.now 0 0 0 state.old state.new) }
 {
-    let iri = iri_reference(alloc, text, state)?;
+    let iri = iri_reference(text, state)?;
     state.base = Some(iri);
     Ok(())
 }

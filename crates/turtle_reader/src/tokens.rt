@@ -1,10 +1,11 @@
 //! The token that comes next.
-ghost use Rattle.std.specs.Prelude.{◌≡◌, ◌+◌, ◌<◌, ◌≤◌, ◌^◌, length, Ok, Some, IfOk, OnOk};
+ghost use Rattle.std.specs.Prelude.{◌≡◌, ◌+◌, ◌<◌, ◌≤◌, ◌^◌, Ok, Some, IfOk, OnOk};
 ghost use Rattle.turtle_reader.specs.Progress.{Gives, IsReady, IsTokenOf, Moved, need, weight};
 ghost use Rattle.turtle_reader.specs.Tokens;
 
+use crate::source::{Reading, Source};
 use crate::state::State;
-use rdf_lexical::{CharSlice, ReadFault, RefusalKind};
+use rdf_lexical::{ReadFault, RefusalKind};
 use turtle_lex::{Token, TokenKind, line_feeds, next_token};
 
 fn is_string(kind: TokenKind) -> bool
@@ -25,21 +26,20 @@ pub fn unexpected(token: Token) -> ReadFault
 
 // Goes past the token ahead.
 #[tactic(auto, unfolding(crate::specs::Tokens::next))]
-fn pass(text: &CharSlice<'_>, state: &mut State, token: Token)
+fn pass(text: &Source<'_>, state: &mut State, token: Token)
     requires ahead { state.old.ahead ≡ Ok (Some token) }
     requires token { IsTokenOf text.now token }
     requires ready { IsReady text.now state.old }
     ensures reads { Tokens.next text.now state.old ≡ Ok (token, state.new) }
     ensures moved { Moved text.now 1 (weight token.kind) 0 state.old state.new }
 {
-    state.ahead = next_token(text, token.end, is_string(token.kind));
+    state.ahead = next_token(text.characters(), token.end, is_string(token.kind));
 }
 
 /// The token that comes next, where there must be one; the reading goes past it.
 #[tactic(auto, unfolding(crate::specs::Tokens::next))]
-pub fn next(text: &CharSlice<'_>, state: &mut State) -> Result<Token, ReadFault>
-    requires ready { IsReady text.now state.old }
-    requires size { length text.now < 2 ^ 32 }
+pub fn next(text: &Source<'_>, state: &mut State) -> Reading<Token>
+    requires { IsReady text.now state.old }
     ensures reads { Gives result state.new (Tokens.next text.now state.old) }
     ensures token { IfOk result (IsTokenOf text.now) }
     ensures moved { OnOk result (Moved text.now 1 1 0 state.old state.new) }
@@ -51,7 +51,7 @@ pub fn next(text: &CharSlice<'_>, state: &mut State) -> Result<Token, ReadFault>
             Ok(token)
         }
         Ok(None) => Err(ReadFault::Refusal {
-            line: 1 + line_feeds(text),
+            line: 1 + line_feeds(text.characters()),
             kind: RefusalKind::UnexpectedEnd,
         }),
         Err(fault) => Err(ReadFault::Refusal {
@@ -167,9 +167,8 @@ pub fn is_unfinished(state: &State) -> bool
 
 /// The dot, which must come next; the reading goes past it.
 #[tactic(auto, unfolding(crate::specs::Tokens::expected))]
-pub fn expect_dot(text: &CharSlice<'_>, state: &mut State) -> Result<Token, ReadFault>
-    requires ready { IsReady text.now state.old }
-    requires size { length text.now < 2 ^ 32 }
+pub fn expect_dot(text: &Source<'_>, state: &mut State) -> Reading<Token>
+    requires { IsReady text.now state.old }
     ensures reads { Gives result state.new (Tokens.expected text.now Tokens.is_dot state.old) }
     ensures token { IfOk result (IsTokenOf text.now) }
     ensures moved { OnOk result (Moved text.now 1 1 0 state.old state.new) }
@@ -183,9 +182,8 @@ pub fn expect_dot(text: &CharSlice<'_>, state: &mut State) -> Result<Token, Read
 
 /// `]`, which must come next; the reading goes past it.
 #[tactic(auto, unfolding(crate::specs::Tokens::expected))]
-pub fn expect_close_bracket(text: &CharSlice<'_>, state: &mut State) -> Result<Token, ReadFault>
-    requires ready { IsReady text.now state.old }
-    requires size { length text.now < 2 ^ 32 }
+pub fn expect_close_bracket(text: &Source<'_>, state: &mut State) -> Reading<Token>
+    requires { IsReady text.now state.old }
     ensures reads { Gives result state.new (Tokens.expected text.now Tokens.is_close_bracket state.old) }
     ensures token { IfOk result (IsTokenOf text.now) }
     ensures moved { OnOk result (Moved text.now 1 1 0 state.old state.new) }
@@ -199,9 +197,8 @@ pub fn expect_close_bracket(text: &CharSlice<'_>, state: &mut State) -> Result<T
 
 /// `)`, which must come next; the reading goes past it.
 #[tactic(auto, unfolding(crate::specs::Tokens::expected))]
-pub fn expect_close_parenthesis(text: &CharSlice<'_>, state: &mut State) -> Result<Token, ReadFault>
-    requires ready { IsReady text.now state.old }
-    requires size { length text.now < 2 ^ 32 }
+pub fn expect_close_parenthesis(text: &Source<'_>, state: &mut State) -> Reading<Token>
+    requires { IsReady text.now state.old }
     ensures reads { Gives result state.new (Tokens.expected text.now Tokens.is_close_parenthesis state.old) }
     ensures token { IfOk result (IsTokenOf text.now) }
     ensures moved { OnOk result (Moved text.now 1 1 0 state.old state.new) }
@@ -215,9 +212,8 @@ pub fn expect_close_parenthesis(text: &CharSlice<'_>, state: &mut State) -> Resu
 
 /// PNAME_NS, which must come next; the reading goes past it.
 #[tactic(auto, unfolding(crate::specs::Tokens::expected))]
-pub fn expect_prefix_name(text: &CharSlice<'_>, state: &mut State) -> Result<Token, ReadFault>
-    requires ready { IsReady text.now state.old }
-    requires size { length text.now < 2 ^ 32 }
+pub fn expect_prefix_name(text: &Source<'_>, state: &mut State) -> Reading<Token>
+    requires { IsReady text.now state.old }
     ensures reads { Gives result state.new (Tokens.expected text.now Tokens.is_prefix_name state.old) }
     ensures token { IfOk result (IsTokenOf text.now) }
     ensures moved { OnOk result (Moved text.now 1 1 0 state.old state.new) }

@@ -26,8 +26,8 @@ returns-clause-checked g c =
     let made = c.in_ok-numbered.numbered.items in
     let same = subst (λ (p : PlannedShapes). (q : PairRows) → Contains (map (numbered p.bound.shapes) pairs) q ↔ Contains made q) c.planned-planned.ensures c.in_ok-numbered.ensures in
     let placed = subst (λ (p : PlannedShapes). ArePlacedPairs terms p.bound.shapes (map pair_of pairs)) c.planned-planned.ensures c.in_ok-checked.ensures.placed in
-    λ net numbers. subst (λ (ps : List PairRows). WhereIndexed terms c.args.before.now c.args.later.now net (λ g. IsCheckByNumber terms g b.graph net ps looked)) (sym c.from_vec.ensures)
-    (changed_check terms shapes c.args.before.now c.args.later.now c.args.changed.now b.graph net
+    λ net numbers. subst (λ (ps : List PairRows). WhereIndexed terms c.args.before.now (g.S.Triples.triples c.args.later.now) net (λ g. IsCheckByNumber terms g b.graph net ps looked)) (sym c.from_vec.ensures)
+    (changed_check terms shapes c.args.before.now (g.S.Triples.triples c.args.later.now) c.args.changed.now b.graph net
     c.requires.shapes.stand c.requires.shapes.acyclic c.requires.shapes.shallow numbers pairs made looked same c.requires.shapes.planned.bound placed (rw c.planned-planned.ensures at c.in_ok-checked.ensures.checked) (rw c.planned-planned.ensures at c.in_ok-checked.ensures.looks)
     (rw c.planned-planned.ensures at c.in_ok-checked.ensures.bound))
 
@@ -35,5 +35,5 @@ pub returns-clause-steps : goal.returns-clause-steps
 returns-clause-steps g c =
     let terms = c.args.names.now.terms in
     let b = c.args.shapes.now in
-    λ net numbers. changed_count terms b.planned.bound.shapes c.args.before.now c.args.later.now c.args.changed.now b.graph net
+    λ net numbers. changed_count terms b.planned.bound.shapes c.args.before.now (g.S.Triples.triples c.args.later.now) c.args.changed.now b.graph net
     c.requires.shapes.stand c.requires.shapes.acyclic c.requires.shapes.shallow numbers c.args.steps.now c.check.new.steps (rw c.planned-planned.ensures at c.in_ok-checked.ensures.steps)

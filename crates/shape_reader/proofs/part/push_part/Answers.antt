@@ -9,10 +9,10 @@ use Rattle.shape_reader.proofs.part.push_part.Goals as goal
 
 pub returns-in_ok-push_read-in-Some-clause-said : goal.returns-in_ok-push_read-in-Some-clause-said
 returns-in_ok-push_read-in-Some-clause-said g c =
-    let s = c.args.graph.now in
+    let s = c.args.shape.now.graph in
     let v = c.args.triple.now.object in
-    gave_as (λ x. g.P.Part.says s c.args.nodes.now c.in-Some.property v x) (λ x. OfTriple c.args.triple.now (λ p w. g.P.Part.says s c.args.nodes.now p w x)) c.args.parts.now c.push_read.new.parts
-    (λ x. (λ h. (c.in-Some.property, c.in-Some.ensures, h), λ h. subst (λ (p : ShapeProperty). g.P.Part.says s c.args.nodes.now p v x) (one_property h.0 c.in-Some.property (sym h.1 ∙ c.in-Some.ensures)) h.2))
+    gave_as (λ x. g.P.Part.says s c.args.shape.now.nodes c.in-Some.property v x) (λ x. OfTriple c.args.triple.now (λ p w. g.P.Part.says s c.args.shape.now.nodes p w x)) c.args.parts.now c.push_read.new.parts
+    (λ x. (λ h. (c.in-Some.property, c.in-Some.ensures, h), λ h. subst (λ (p : ShapeProperty). g.P.Part.says s c.args.shape.now.nodes p v x) (one_property h.0 c.in-Some.property (sym h.1 ∙ c.in-Some.ensures)) h.2))
     c.in_ok-push_read-in-Some.ensures.said
 
 pub returns-in_ok-push_read-in-Some-clause-by : goal.returns-in_ok-push_read-in-Some-clause-by

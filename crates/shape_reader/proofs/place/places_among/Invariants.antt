@@ -9,6 +9,6 @@ use Rattle.shape_reader.proofs.place.places_among.Given as goal
 
 abbrev pub invariant-loop-term : goal.invariant-loop-term
 invariant-loop-term l = record {
-  found : HasGathered (λ (t : Term) (k : ℕ). IsPlace l.nodes k t) (take l.term-index l.terms) [] l.places;
+  found : HasGathered (λ (t : Term) (k : ℕ). IsPlace l.shape.nodes k t) (take l.term-index l.terms) [] l.places;
   rising : IsAscending term_cmp l.terms → IsAscending nat_cmp l.places;
 }

@@ -17,7 +17,13 @@ pub compile_of-requires-clause-well_formed : goal.compile_of-requires-clause-wel
 compile_of-requires-clause-well_formed g c = subst (λ (ts : List Triple). IsWellFormed ts) (sym c.in_ok-indexed.ensures) c.requires.well_formed
 
 pub returns-clause-answer : goal.returns-clause-answer
-returns-clause-answer g c = rw c.in_ok-indexed.ensures at c.in_ok-shapes.ensures.answer
+returns-clause-answer g c = (rw c.in_ok-indexed.ensures at c.in_ok-shapes.ensures.answer).0.compiled
+
+pub returns-clause-once : goal.returns-clause-once
+returns-clause-once g c = c.in_ok-shapes.ensures.answer.0.once
+
+pub returns-clause-refused : goal.returns-clause-refused
+returns-clause-refused g c = c.in_ok-shapes.ensures.answer.1
 
 pub returns-clause-asked : goal.returns-clause-asked
 returns-clause-asked g c = rw c.in_ok-indexed.ensures at c.in_ok-shapes.ensures.asked

@@ -9,8 +9,8 @@ use Rattle.shape_reader.proofs.target.targets_of.Goals as goal
 
 pub returns : goal.returns
 returns c =
-    let s = c.args.graph.now in
-    let n = c.args.node.now in record {
+    let s = c.args.shape.now.graph in
+    let n = c.args.shape.now.node in record {
       said = λ x.
           let declared = c.in_ok-targets.ensures.said x in
           let all = c.in_ok-push_implicit.ensures.said x in (

@@ -1,7 +1,7 @@
 use Rattle.std.proofs.Common.{◌≡◌, take}
 use Rattle.shape_reader.specs.Asked.{AsksAmong}
 use Rattle.shape_reader.specs.Parts.{AreShapes}
-use Rattle.shape_reader.proofs.shapes.compile_nodes.Given as goal
+use Rattle.shape_reader.proofs.shapes.compile_of.Given as goal
 
 abbrev pub invariant-loop-node : goal.invariant-loop-node
 invariant-loop-node g l = record {
