@@ -8,7 +8,6 @@ pub mod Tests
 pub mod AtOnce
 mod ChangedTriples
 mod Checking
-mod Crossing
 mod NamedLooks
 mod Existing
 mod Keeping

@@ -10,4 +10,3 @@ mod explaining;
 mod firsts;
 
 pub use explaining::explanation_over;
-pub use result_evidence::NumberedData;

@@ -19,7 +19,6 @@ use shape_eval::Steps;
 use std::alloc::AllocError;
 use std::sync::Wait;
 use std::sync::ledger::Ledger;
-use std::thread::Threads;
 use store_model::{Action, NameKind, Reply};
 use turn_lock::Pass;
 
@@ -111,8 +110,8 @@ impl<D: Disk> Store<D> {
     }
 
     /// Commits a transaction that changes something or stages shapes, with what is kept of its check, and counts its
-    /// evaluations, which threads share out among each other. Without memory it is handed back.
-    pub(crate) fn take_commit<L: Ledger, R: Threads + Wait + Sync>(
+    /// evaluations. Without memory it is handed back.
+    pub(crate) fn take_commit<L: Ledger, R: Wait>(
         &self,
         rt: &R,
         pass: Pass<Shared<D>>,
@@ -133,7 +132,7 @@ impl<D: Disk> Store<D> {
             return (pass, Err(handed));
         };
         let (held, mut shared) = self.start(rt, pass);
-        match shared.commit(rt, number, handed, steps) {
+        match shared.commit(number, handed, steps) {
             Ok(committed) => (self.finish(held, shared), Ok(committed)),
             Err(handed) => {
                 shared.void(number, slip);

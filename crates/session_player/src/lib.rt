@@ -17,7 +17,6 @@ mod perform;
 mod player;
 mod print;
 mod replay;
-mod resources;
 mod run;
 mod stage;
 

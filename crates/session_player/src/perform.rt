@@ -6,7 +6,6 @@ ghost use Rattle.session_transaction.specs.Transactions.{FitsState, plain, plain
 ghost use Rattle.session_player.specs.Ready.{CommitsWith, IsReady, Performs, TakesHead};
 
 use crate::find::{abort, find, report, select};
-use crate::resources::Resources;
 use crate::stage::{change, refuse, stage};
 use collections::{Sequence, let_go};
 use commit_core::Core;
@@ -15,7 +14,6 @@ use session_transaction::{ChangeKind, OpenTransaction, commit, is_refused, reply
 use shape_eval::Steps;
 use std::alloc::{AllocError, Global};
 use std::sync::ledger::Ledger;
-use std::thread::Threads;
 
 fn begin(
     alloc: Global,
@@ -37,8 +35,8 @@ fn begin(
 }
 
 // Commits the transaction, and gives the session's reply.
-pub fn commit_reply<L: Ledger, T: Threads + Sync>(
-    resources: &Resources<'_, T>,
+pub fn commit_reply<L: Ledger>(
+    alloc: Global,
     core: &mut Core,
     session: u32,
     open: OpenTransaction,
@@ -51,10 +49,10 @@ pub fn commit_reply<L: Ledger, T: Threads + Sync>(
     ensures { IfOk result (CommitsWith session core.old core.new open.transaction) }
 {
     core.recall_consistent();
-    let (handed, snap) = open.into_parts(resources.alloc);
+    let (handed, snap) = open.into_parts(alloc);
     let_go(snap);
-    match commit(resources.rt, core, session, handed, steps) {
-        Ok(committed) => reply_of_commit(resources.alloc, committed),
+    match commit(core, session, handed, steps) {
+        Ok(committed) => reply_of_commit(alloc, committed),
         Err(handed) => {
             let_go(handed);
             Err(AllocError)
@@ -63,8 +61,7 @@ pub fn commit_reply<L: Ledger, T: Threads + Sync>(
 }
 
 // Takes the newest version for the commit of the transaction, and checks its changes there.
-pub fn take_head<L: Ledger, T: Threads + Sync>(
-    rt: &T,
+pub fn take_head<L: Ledger>(
     core: &mut Core,
     session: u32,
     open: &mut OpenTransaction,
@@ -78,12 +75,12 @@ pub fn take_head<L: Ledger, T: Threads + Sync>(
 {
     core.recall_consistent();
     let head = core.head(session)?;
-    open.check(rt, &head, steps)?;
+    open.check(&head, steps)?;
     Ok(())
 }
 
-fn commit_open<L: Ledger, T: Threads + Sync>(
-    resources: &Resources<'_, T>,
+fn commit_open<L: Ledger>(
+    alloc: Global,
     core: &mut Core,
     session: u32,
     current: Option<OpenTransaction>,
@@ -100,16 +97,15 @@ fn commit_open<L: Ledger, T: Threads + Sync>(
         return replies.push(SessionReply::ReadOnly(open.base()));
     }
     let mut open = open;
-    take_head(resources.rt, core, session, &mut open, steps)?;
-    let reply = commit_reply(resources, core, session, open, steps)?;
+    take_head(core, session, &mut open, steps)?;
+    let reply = commit_reply(alloc, core, session, open, steps)?;
     replies.push(reply)?;
     Ok(())
 }
 
-/// Does one command of a session, adds its reply, and gives the transaction that is open then. Threads share out the evaluations
-/// of a commit among each other.
-pub fn perform<L: Ledger, T: Threads + Sync>(
-    resources: &Resources<'_, T>,
+/// Does one command of a session, adds its reply, and gives the transaction that is open then.
+pub fn perform<L: Ledger>(
+    alloc: Global,
     core: &mut Core,
     session: u32,
     current: Option<OpenTransaction>,
@@ -123,7 +119,6 @@ pub fn perform<L: Ledger, T: Threads + Sync>(
     if is_refused(&command) {
         return refuse(core, session, current, &command, replies);
     }
-    let alloc = resources.alloc;
     let mut command = command;
     match &mut command {
         Command::Begin => begin(alloc, core, session, current, replies),
@@ -141,7 +136,7 @@ pub fn perform<L: Ledger, T: Threads + Sync>(
         }
         Command::Shapes(shapes) => stage(alloc, core, session, current, shapes, replies),
         Command::Commit => {
-            commit_open(resources, core, session, current, replies, steps)?;
+            commit_open(alloc, core, session, current, replies, steps)?;
             Ok(None)
         }
         Command::Find(pattern) => find(alloc, core, session, current, pattern, replies),

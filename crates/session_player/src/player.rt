@@ -7,7 +7,6 @@ ghost use Rattle.session_player.specs.Players.{DoesFirst, IsEvent, MayGoOn, Sett
 ghost use Rattle.session_player.specs.Ready;
 
 use crate::perform::{commit_reply, perform, take_head};
-use crate::resources::Resources;
 use collections::Sequence;
 use commit_core::Core;
 use session_model::{Command, SessionReply};
@@ -17,7 +16,6 @@ use std::alloc::{AllocError, Global};
 use std::collections::VecDeque;
 use std::marker::Model;
 use std::sync::ledger::Ledger;
-use std::thread::Threads;
 
 /// The commands that are left of a session's file, its open transaction, and what it was answered.
 pub struct Player {
@@ -89,8 +87,8 @@ fn is_commit(command: &Command) -> bool
 }
 
 // Does the player's first command.
-fn play_command<L: Ledger, T: Threads + Sync>(
-    resources: &Resources<'_, T>,
+fn play_command<L: Ledger>(
+    alloc: Global,
     core: &mut Core,
     session: u32,
     player: &mut Player,
@@ -108,7 +106,7 @@ fn play_command<L: Ledger, T: Threads + Sync>(
     };
     let current = player.current.take();
     player.current = perform(
-        resources,
+        alloc,
         core,
         session,
         current,
@@ -120,8 +118,8 @@ fn play_command<L: Ledger, T: Threads + Sync>(
 }
 
 // Does the commands that are no events, up to the next event or the end.
-fn settle<L: Ledger, T: Threads + Sync>(
-    resources: &Resources<'_, T>,
+fn settle<L: Ledger>(
+    alloc: Global,
     core: &mut Core,
     session: u32,
     player: &mut Player,
@@ -139,14 +137,13 @@ fn settle<L: Ledger, T: Threads + Sync>(
         if is_event(&player.current, command) {
             return Ok(());
         }
-        play_command(resources, core, session, player, steps)?;
+        play_command(alloc, core, session, player, steps)?;
     }
     Ok(())
 }
 
 // Takes the newest version for the commit of the open transaction, which is the next command, and checks its changes there.
-fn take_version<L: Ledger, T: Threads + Sync>(
-    rt: &T,
+fn take_version<L: Ledger>(
     core: &mut Core,
     session: u32,
     player: &mut Player,
@@ -162,15 +159,15 @@ fn take_version<L: Ledger, T: Threads + Sync>(
         unreachable!()
     };
     let mut open = open;
-    take_head(rt, core, session, &mut open, steps)?;
+    take_head(core, session, &mut open, steps)?;
     player.current = Some(open);
     player.head_taken = true;
     Ok(())
 }
 
 // Commits the open transaction, whose commit has the newest version.
-fn finish_commit<L: Ledger, T: Threads + Sync>(
-    resources: &Resources<'_, T>,
+fn finish_commit<L: Ledger>(
+    alloc: Global,
     core: &mut Core,
     session: u32,
     player: &mut Player,
@@ -185,7 +182,7 @@ fn finish_commit<L: Ledger, T: Threads + Sync>(
     let Some(open) = player.current.take() else {
         unreachable!()
     };
-    let reply = commit_reply(resources, core, session, open, steps)?;
+    let reply = commit_reply(alloc, core, session, open, steps)?;
     player.replies.push(reply)?;
     player.head_taken = false;
     player.commands.pop_front();
@@ -207,9 +204,9 @@ impl Player {
 
     /// Takes the session's next event, with the commands before it that are no events. Answers whether
     /// one was left.
-    pub fn take_event<L: Ledger, T: Threads + Sync>(
+    pub fn take_event<L: Ledger>(
         &mut self,
-        resources: &Resources<'_, T>,
+        alloc: Global,
         core: &mut Core,
         session: u32,
         steps: &mut Steps<L>,
@@ -218,24 +215,24 @@ impl Player {
         requires ready { MayGoOn core.old self.old }
         ensures { IfOk result (λ taken. MatchBool taken (TakesEvent session core.old core.new self.old self.new) ((state_of self.old).commands ≡ [])) }
     {
-        settle(resources, core, session, self, steps)?;
+        settle(alloc, core, session, self, steps)?;
         let Some(command) = self.commands.front() else {
             return Ok(false);
         };
         if !is_commit(command) {
-            play_command(resources, core, session, self, steps)?;
+            play_command(alloc, core, session, self, steps)?;
         } else if self.head_taken {
-            finish_commit(resources, core, session, self, steps)?;
+            finish_commit(alloc, core, session, self, steps)?;
         } else {
-            take_version(resources.rt, core, session, self, steps)?;
+            take_version(core, session, self, steps)?;
         }
         Ok(true)
     }
 
     /// The replies of the session, with the commands after its last event, where no event is left.
-    pub fn finish<L: Ledger, T: Threads + Sync>(
+    pub fn finish<L: Ledger>(
         self,
-        resources: &Resources<'_, T>,
+        alloc: Global,
         core: &mut Core,
         session: u32,
         steps: &mut Steps<L>,
@@ -246,7 +243,7 @@ impl Player {
         ensures replies { IfOk result (λ all. Players.Finishes self all) }
     {
         let mut player = self;
-        settle(resources, core, session, &mut player, steps)?;
+        settle(alloc, core, session, &mut player, steps)?;
         Ok(player.into_replies())
     }
 

@@ -82,7 +82,6 @@ fn run_sessions<R: Threads + Wait + Sync, F: Files, M: Maker, G: Gate>(
 {
     match &run.history {
         Some(history) => replay_files(
-            rt,
             alloc,
             run.limits,
             history.as_str(),

@@ -15,7 +15,6 @@ use std::alloc::{AllocError, Global};
 use std::marker::Brand;
 use std::sync::ledger::{Blank, Ledger};
 use std::test::Fail;
-use std::thread::Threads;
 
 const LIMITS: Limits = Limits {
     terms: 2,
@@ -167,8 +166,7 @@ fn staging(alloc: Global) -> Result<Transaction, AllocError>
     })
 }
 
-fn committed<L: Ledger, T: Threads + Sync>(
-    rt: &T,
+fn committed<L: Ledger>(
     alloc: Global,
     core: &mut Core,
     session: u32,
@@ -182,18 +180,13 @@ fn committed<L: Ledger, T: Threads + Sync>(
     let transaction = staging(alloc)?;
     let mut steps = Steps::<L>::begin(blank);
     let checked = CheckedTransaction::unchecked(alloc, transaction);
-    Ok(core.commit(rt, session, checked, &mut steps))
+    Ok(core.commit(session, checked, &mut steps))
 }
 
-fn committed_one<T: Threads + Sync>(
-    rt: &T,
-    alloc: Global,
-    core: &mut Core,
-    session: u32,
-) -> Result<Commit, AllocError>
+fn committed_one(alloc: Global, core: &mut Core, session: u32) -> Result<Commit, AllocError>
     requires { IsOpened core.old.state session }
 {
-    committed::<Brand, T>(rt, alloc, core, session, Blank::new(1))
+    committed::<Brand>(alloc, core, session, Blank::new(1))
 }
 
 // A shapes graph without triples is staged, so the graph is evaluated in the step.
@@ -201,7 +194,7 @@ fn committed_one<T: Threads + Sync>(
 fn shapes_are_committed(rt: HostRuntime) -> Result<(), Fail> {
     let alloc = rt.alloc();
     let (mut core, session) = opened(alloc)?;
-    let commit = committed_one(&rt, alloc, &mut core, session)?;
+    let commit = committed_one(alloc, &mut core, session)?;
     match &commit {
         Commit::Done {
             number,

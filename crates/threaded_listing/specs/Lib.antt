@@ -1,2 +1,1 @@
-pub mod ByNode
 pub mod Shares

@@ -1,5 +1,0 @@
-mod Counts
-mod Crossing
-mod Joining
-mod Parts
-mod Verdict
