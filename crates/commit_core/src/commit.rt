@@ -141,6 +141,13 @@ impl Reasons {
     }
 }
 
+/// A transaction that is committed, and why it is evaluated in its step.
+#[derive(Drop)]
+pub struct ReasonedTransaction {
+    pub checked: CheckedTransaction,
+    pub reasons: Reasons,
+}
+
 /// A commit whose graph would have a result that blocks: all its results, for the answer and for the history, and the shapes.
 pub struct Refusal {
     pub rows: Sequence<ResultRow>,
@@ -171,6 +178,13 @@ impl Refusal {
         } = self;
         (rows, recorded, shapes)
     }
+}
+
+/// What a commit changes, by the numbers of terms: the triples, in any order and maybe more than once, and its changes.
+#[derive(Drop)]
+pub struct NumberedChanges {
+    pub triples: Vec<Ids>,
+    pub net: Vec<NumberedChange>,
 }
 
 /// A commit whose graph has no result that blocks: the next graph with its shapes and its results, the numbers of the triples that it
@@ -254,19 +268,19 @@ pub fn refusing(alloc: Global, graph: &ValidatedGraph) -> Result<Refusal, AllocE
     })
 }
 
-/// The plan of a commit whose graph, after its changes, has no result that blocks: the triples of these numbers are in exactly one
-/// of the graph before and that one, and these are its changes by number. It takes no memory.
+/// The plan of a commit whose graph, after its changes, has no result that blocks: the triples that it changes are in exactly one
+/// of the graph before and that one. It takes no memory.
 pub fn accepting(
     next: ValidatedGraph,
-    changed: Vec<Ids>,
-    net: Vec<NumberedChange>,
+    changes: NumberedChanges,
     staged: &Option<ShapesGraph>,
 ) -> Acceptance
-    ensures { (result.graph ≡ next) × (result.changed.items ≡ changed.items) × (result.staged ≡ is_staged staged.now) × (result.net.items ≡ net.items) }
+    ensures { (result.graph ≡ next) × (result.changed.items ≡ changes.triples.items) × (result.staged ≡ is_staged staged.now) × (result.net.items ≡ changes.net.items) }
 {
+    let NumberedChanges { triples, net } = changes;
     Acceptance {
         graph: next,
-        changed,
+        changed: triples,
         staged: stages_shapes(staged),
         net,
     }

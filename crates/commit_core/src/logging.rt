@@ -13,7 +13,7 @@ ghost use Rattle.commit_core.specs.Logged.{IsBeside, IsInStep, IsLoggable, IsRec
 ghost use Rattle.commit_core.specs.Verdicts.{AreOfVerdict, AreReasons, IsHeld};
 ghost use Rattle.commit_core.specs.Work.{AnswerSteps, CommitSteps, IsByResults, is_no};
 
-use crate::commit::{Acceptance, CheckedTransaction, Commit, Plan, Reasons};
+use crate::commit::{Acceptance, CheckedTransaction, Commit, Plan, ReasonedTransaction, Reasons};
 use crate::reasons::{find_reasons, has_held};
 use crate::store::{Core, room_for, slip};
 use collections::Sequence;
@@ -27,6 +27,7 @@ use shape_eval::Steps;
 use shapes_graph::ShapesGraph;
 use std::alloc::{AllocError, Global};
 use std::sync::ledger::Ledger;
+use std::thread::Threads;
 use store_model::{Action, Event, Overtaker, Reply, Transaction};
 
 // Those of the triples that are in the graph, and those that aren't.
@@ -166,29 +167,30 @@ impl Core {
     }
 
     // Carries out the plan of a commit to a log.
-    fn commit_logged_by_plan<D: Disk, L: Ledger>(
+    fn commit_logged_by_plan<D: Disk, L: Ledger, T: Threads + Sync>(
         &mut self,
+        rt: &T,
         slip: Slip,
         session: u32,
-        checked: CheckedTransaction,
-        reasons: Reasons,
+        reasoned: ReasonedTransaction,
         log: &mut Log<D>,
         steps: &mut Steps<L>,
     ) -> Commit
         requires running { self.old.state.stopped ≡ false }
         requires opened { IsOpened self.old.state session }
-        requires committable { IsCommittable self.old.state checked.transaction }
-        requires reasons { AreReasons self.old.state.commits checked.transaction reasons }
-        requires found { MatchBool (is_no reasons.answer) (IsHeld self.old checked.transaction checked.pairs) (Unit {0}) }
+        requires committable { IsCommittable self.old.state reasoned.checked.transaction }
+        requires reasons { AreReasons self.old.state.commits reasoned.checked.transaction reasoned.reasons }
+        requires found { MatchBool (is_no reasoned.reasons.answer) (IsHeld self.old reasoned.checked.transaction reasoned.checked.pairs) (Unit {0}) }
         requires beside { IsBeside self.old log.old }
-        requires loggable { IsLoggable checked.transaction }
-        ensures answer { Answers result self.old self.new session checked }
-        ensures steps { AnswerSteps (is_no reasons.answer) reasons.answer self.old.state checked.transaction steps.old steps.new result }
-        ensures log { LogsCommit D.tells D.bytes D.history D.faults (record_of self.old.state.graph (version self.old.state) checked.transaction) log.old log.new result }
+        requires loggable { IsLoggable reasoned.checked.transaction }
+        ensures answer { Answers result self.old self.new session reasoned.checked }
+        ensures steps { AnswerSteps (is_no reasoned.reasons.answer) reasoned.reasons.answer self.old.state reasoned.checked.transaction steps.old steps.new result }
+        ensures log { LogsCommit D.tells D.bytes D.history D.faults (record_of self.old.state.graph (version self.old.state) reasoned.checked.transaction) log.old log.new result }
         ensures same { IsSameLater D.chosen D.faults log.old.disk log.new.disk }
     {
+        let ReasonedTransaction { checked, reasons } = reasoned;
         let held = has_held(&reasons.answer);
-        match self.plan(&checked, held, steps) {
+        match self.plan(rt, &checked, held, steps) {
             Err(_) => Commit::Memory(checked),
             Ok(Plan::Overtaken(overtaker, triple)) => {
                 let Overtaker {
@@ -214,8 +216,9 @@ impl Core {
     }
 
     // The commit of a transaction, by its answer.
-    fn commit_to_log<D: Disk, L: Ledger>(
+    fn commit_to_log<D: Disk, L: Ledger, T: Threads + Sync>(
         &mut self,
+        rt: &T,
         session: u32,
         checked: CheckedTransaction,
         log: &mut Log<D>,
@@ -243,7 +246,8 @@ impl Core {
         let Ok(reasons) = find_reasons(&self.commits, &checked.transaction) else {
             return Commit::Memory(checked);
         };
-        self.commit_logged_by_plan(slip, session, checked, reasons, log, steps)
+        let reasoned = ReasonedTransaction { checked, reasons };
+        self.commit_logged_by_plan(rt, slip, session, reasoned, log, steps)
     }
 
     /// Commits a transaction as `commit` does, and appends its record to the log of this core, after all memory is taken and
@@ -253,8 +257,9 @@ impl Core {
     /// Where the log fails, for which its disk is to blame, nothing is committed, and the core is stopped. `Done` is answered
     /// only where each crash leaves the record; at each moment of the call a crash leaves the records that there were, or these
     /// and the new one. After all other answers the log is as it was.
-    pub fn commit_logged<D: Disk, L: Ledger>(
+    pub fn commit_logged<D: Disk, L: Ledger, T: Threads + Sync>(
         &mut self,
+        rt: &T,
         session: u32,
         checked: CheckedTransaction,
         log: &mut Log<D>,
@@ -274,6 +279,6 @@ impl Core {
         ensures same { IsSameLater D.chosen D.faults log.old.disk log.new.disk }
     {
         self.recall_consistent();
-        self.commit_to_log(session, checked, log, steps)
+        self.commit_to_log(rt, session, checked, log, steps)
     }
 }

@@ -8,6 +8,7 @@ use data_graph::{DataGraph, ValidatedGraph};
 use shape_eval::Steps;
 use std::alloc::AllocError;
 use std::sync::ledger::Ledger;
+use std::thread::Threads;
 use store_model::BlockMode;
 
 /// A graph with its results, and whether one of them blocks.
@@ -35,8 +36,9 @@ fn is_blocked(mode: BlockMode, graph: &ValidatedGraph) -> Result<bool, AllocErro
 }
 
 impl Outcome {
-    /// That of the graph, by an evaluation of each pair of a shape and its target.
-    pub fn whole<L: Ledger>(
+    /// That of the graph, by an evaluation of each pair of a shape and its target, which threads share out among each other.
+    pub fn whole<L: Ledger, T: Threads + Sync>(
+        rt: &T,
         mode: BlockMode,
         graph: DataGraph,
         steps: &mut Steps<L>,
@@ -45,7 +47,7 @@ impl Outcome {
         ensures steps { OnOk result (GrowsByCount (IsTargetPair graph.triples graph.shapes) steps.old steps.new) }
         ensures counted { steps.old ≤ steps.new }
     {
-        let validated = ValidatedGraph::whole(graph, steps)?;
+        let validated = ValidatedGraph::whole(rt, graph, steps)?;
         let blocks = is_blocked(mode, &validated)?;
         Ok(Outcome {
             graph: validated,

@@ -15,6 +15,7 @@ use rdf_model::Term;
 use shape_eval::Steps;
 use std::alloc::{AllocError, Global};
 use std::sync::ledger::Ledger;
+use std::thread::Threads;
 use store_model::{Action, Event, Limits, NameKind, Reply, Transaction};
 
 /// Why a history was not replayed.
@@ -142,8 +143,9 @@ impl Core {
         Ok(())
     }
 
-    fn replay_commit<L: Ledger>(
+    fn replay_commit<L: Ledger, T: Threads + Sync>(
         &mut self,
+        rt: &T,
         session: u32,
         transaction: Transaction,
         steps: &mut Steps<L>,
@@ -154,7 +156,7 @@ impl Core {
         ensures { OnOk result (Performs self.old self.new session (Action.Commit transaction)) }
     {
         let checked = CheckedTransaction::unchecked(self.alloc, transaction);
-        match self.commit_anew(session, checked, steps) {
+        match self.commit_anew(rt, session, checked, steps) {
             Commit::Done { number: _, again } => {
                 let_go(again);
                 Ok(())
@@ -200,8 +202,9 @@ impl Core {
     }
 
     // Takes the one step of this session and this action.
-    fn perform<L: Ledger>(
+    fn perform<L: Ledger, T: Threads + Sync>(
         &mut self,
+        rt: &T,
         session: u32,
         action: Action,
         steps: &mut Steps<L>,
@@ -211,14 +214,15 @@ impl Core {
         ensures { OnOk result (Performs self.old self.new session action) }
     {
         match action.into_transaction() {
-            Ok(transaction) => self.replay_commit(session, transaction, steps),
+            Ok(transaction) => self.replay_commit(rt, session, transaction, steps),
             Err(other) => self.replay_other(session, &other),
         }
     }
 
     // Takes the step of an event, unless it is none of a store without a log.
-    fn replay_event<L: Ledger>(
+    fn replay_event<L: Ledger, T: Threads + Sync>(
         &mut self,
+        rt: &T,
         event: Event,
         steps: &mut Steps<L>,
     ) -> Result<bool, AllocError>
@@ -230,13 +234,14 @@ impl Core {
             return Ok(false);
         }
         let (session, action, reply) = event.into_parts();
-        self.perform(session, action, steps)?;
+        self.perform(rt, session, action, steps)?;
         Ok(self.history.newest_has(&reply))
     }
 
     /// The store without a log that a history leads to. A commit is evaluated anew, whatever its verdict says;
     /// how many evaluations `steps` allows for it is not promised.
-    pub fn replay<L: Ledger>(
+    pub fn replay<L: Ledger, T: Threads + Sync>(
+        rt: &T,
         alloc: Global,
         limits: Limits,
         events: Vec<Event>,
@@ -251,7 +256,7 @@ impl Core {
         let mut place = 0;
         while let Some(event) = rest.pop() {
             place += 1;
-            if !core.replay_event(event, steps)? {
+            if !core.replay_event(rt, event, steps)? {
                 return Err(ReplayFault::At(place));
             }
         }

@@ -25,6 +25,7 @@ use shapes_graph::ShapesGraph;
 use snapshot_store::Commits;
 use std::alloc::{AllocError, Global};
 use std::sync::ledger::Ledger;
+use std::thread::Threads;
 use store_model::Limits;
 use term_dict::{Dict, NameFault};
 use triple_index::NumberedChange;
@@ -274,8 +275,10 @@ impl Core {
     /// staged, or the empty one.
     ///
     /// `Misfit` comes before the other faults, and `TooLarge` before `Blocked`. The last graph is validated whole; the
-    /// evaluations are counted in `steps`, one for each pair of a shape and its target.
-    pub fn restore<L: Ledger>(
+    /// evaluations are counted in `steps`, one for each pair of a shape and its target, and threads share them out among each
+    /// other.
+    pub fn restore<L: Ledger, T: Threads + Sync>(
+        rt: &T,
         alloc: Global,
         limits: Limits,
         records: Vec<Record>,
@@ -291,7 +294,7 @@ impl Core {
     {
         let named = named_within(alloc, limits, &records)?;
         let graph = graph_within(alloc, limits, &named, &records, shapes)?;
-        let outcome = Outcome::whole(limits.mode, graph, steps)?;
+        let outcome = Outcome::whole(rt, limits.mode, graph, steps)?;
         let blocks = outcome.blocks;
         if blocks {
             return Err(RestoreFault::Blocked);

@@ -24,6 +24,7 @@ use shapes_graph::ShapesGraph;
 use std::alloc::{AllocError, Global};
 use std::marker::Model;
 use std::sync::ledger::Ledger;
+use std::thread::Threads;
 use store_model::{BlockMode, Verdict};
 use term_dict::Dict;
 use triple_index::Index;
@@ -133,10 +134,11 @@ impl Snap {
     /// Checks the changes at this version, beside the store: the verdict has this version as its head and all looks that were
     /// made, and the pairs are those that the changes touch, each with its results after them. All terms of the changes are named, and
     /// so are those of the looks. The evaluations are counted in `steps`: there are as many as there are pairs of a shape and
-    /// a node that a changed triple touches and that are targets after the changes. After an error the count is what it was,
-    /// or more.
-    pub fn check<L: Ledger>(
+    /// a node that a changed triple touches and that are targets after the changes, and threads share them out among each other.
+    /// After an error the count is what it was, or more.
+    pub fn check<L: Ledger, T: Threads + Sync>(
         &self,
+        rt: &T,
         net: &Net,
         hints: &NumberHints,
         steps: &mut Steps<L>,
@@ -148,7 +150,7 @@ impl Snap {
         ensures steps { OnOk result (GrowsByCount (IsEvaluated self.now.graph self.now.shapes net.now) steps.old steps.new) }
         ensures counted { steps.old ≤ steps.new }
     {
-        let found = self.graph.graph().paired_after(net, hints, steps)?;
+        let found = self.graph.graph().paired_after(rt, net, hints, steps)?;
         let (pairs, looks) = found.into_parts();
         Ok(CheckedNet {
             verdict: Verdict {

@@ -20,8 +20,8 @@ ghost use Rattle.commit_core.specs.Naming.{IsNaming};
 
 use crate::bounds::Bounds;
 use crate::commit::{
-    Acceptance, CheckedTransaction, Commit, Plan, Reasons, Refusal, accepting, refusing,
-    stage_shapes,
+    Acceptance, CheckedTransaction, Commit, NumberedChanges, Plan, ReasonedTransaction, Reasons,
+    Refusal, accepting, refusing, stage_shapes,
 };
 use crate::naming::{NamedTerms, NamingFault, name_terms, unknown_node};
 use crate::outcome::Outcome;
@@ -42,6 +42,7 @@ use snapshot_store::Commits;
 use std::alloc::{AllocError, Global};
 use std::marker::Model;
 use std::sync::ledger::Ledger;
+use std::thread::Threads;
 use store_model::{Action, Event, Limits, NameKind, Overtaker, Reply, Transaction};
 use term_dict::{Dict, NameFault};
 use triple_index::NumberedChange;
@@ -362,8 +363,9 @@ impl Core {
 
     // The next graph with its results, where no shapes are staged: those of what the changes touch by an evaluation, all others as
     // they are kept.
-    fn changed<L: Ledger>(
+    fn changed<L: Ledger, T: Threads + Sync>(
         &self,
+        rt: &T,
         next: DataGraph,
         net: &Net,
         hints: &NumberHints,
@@ -376,15 +378,16 @@ impl Core {
         ensures counted { steps.old ≤ steps.new }
     {
         let graph = self.graph.graph();
-        let pairs = graph.pairs_after(net, hints, &next, steps)?;
+        let pairs = graph.pairs_after(rt, net, hints, &next, steps)?;
         let outcome = self.merged(next, pairs.as_slice())?;
         Ok(outcome)
     }
 
     // The next graph with its results by an evaluation: of each shape at its targets under staged shapes, else of what the changes
     // touch.
-    fn evaluated<L: Ledger>(
+    fn evaluated<L: Ledger, T: Threads + Sync>(
         &self,
+        rt: &T,
         next: DataGraph,
         checked: &CheckedTransaction,
         steps: &mut Steps<L>,
@@ -398,15 +401,16 @@ impl Core {
         self.recall_consistent();
         let transaction = &checked.transaction;
         match &transaction.staged {
-            Some(_) => Outcome::whole(self.bounds.mode, next, steps),
-            None => self.changed(next, &transaction.net, &checked.hints, steps),
+            Some(_) => Outcome::whole(rt, self.bounds.mode, next, steps),
+            None => self.changed(rt, next, &transaction.net, &checked.hints, steps),
         }
     }
 
     // The next graph with its results, and whether one blocks: by the pairs that a verdict found, where it held, else by an
     // evaluation.
-    fn validated<L: Ledger>(
+    fn validated<L: Ledger, T: Threads + Sync>(
         &self,
+        rt: &T,
         next: DataGraph,
         checked: &CheckedTransaction,
         held: bool,
@@ -423,24 +427,24 @@ impl Core {
             let outcome = self.merged(next, checked.pairs.as_slice())?;
             return Ok(outcome);
         }
-        self.evaluated(next, checked, steps)
+        self.evaluated(rt, next, checked, steps)
     }
 
-    // What a commit that nothing overtook and whose graph is within the limit is going to do; it changes these triples, by these
-    // changes. The listing is made only where a result blocks.
-    fn judge<L: Ledger>(
+    // What a commit that nothing overtook and whose graph is within the limit is going to do; it makes these changes. The listing
+    // is made only where a result blocks.
+    fn judge<L: Ledger, T: Threads + Sync>(
         &self,
+        rt: &T,
         next: DataGraph,
-        changed: Vec<Ids>,
-        net: Vec<NumberedChange>,
+        changes: NumberedChanges,
         checked: &CheckedTransaction,
         held: bool,
         steps: &mut Steps<L>,
     ) -> Result<Plan, AllocError>
         requires committable { IsCommittable self.now.state checked.now.transaction }
         requires next { next ≡ with_changes (data_of self.now) checked.now.transaction.net }
-        requires changed { AreChanged (data_of self.now) checked.now.transaction.net changed.items }
-        requires net { AreNumberedChanges (data_of self.now) checked.now.transaction.net net.items }
+        requires changed { AreChanged (data_of self.now) checked.now.transaction.net changes.triples.items }
+        requires net { AreNumberedChanges (data_of self.now) checked.now.transaction.net changes.net.items }
         requires found { MatchBool held (IsHeld self.now checked.now.transaction checked.now.pairs) (Unit {0}) }
         ensures judged { IfOk result (IsJudged self.now.limits.mode (data_of self.now) checked.now.transaction) }
         ensures steps { IfOk result (PlanSteps held self.now.state checked.now.transaction steps.old steps.new) }
@@ -449,7 +453,7 @@ impl Core {
         let mut next = next;
         let staged = &checked.transaction.staged;
         stage_shapes(&mut next, staged)?;
-        let outcome = self.validated(next, checked, held, steps)?;
+        let outcome = self.validated(rt, next, checked, held, steps)?;
         let blocks = outcome.blocks;
         if blocks {
             let refusal = refusing(self.alloc, &outcome.graph)?;
@@ -457,12 +461,13 @@ impl Core {
         }
         let validated = outcome.into_graph();
         validated.recall_listing();
-        Ok(Plan::Accept(accepting(validated, changed, net, staged)))
+        Ok(Plan::Accept(accepting(validated, changes, staged)))
     }
 
     // What the commit of the transaction does to this store; a verdict may have held.
-    pub(crate) fn plan<L: Ledger>(
+    pub(crate) fn plan<L: Ledger, T: Threads + Sync>(
         &self,
+        rt: &T,
         checked: &CheckedTransaction,
         held: bool,
         steps: &mut Steps<L>,
@@ -487,7 +492,11 @@ impl Core {
         if count > self.bounds.triples {
             return Ok(Plan::TooLarge(count));
         }
-        self.judge(next, changed, net, checked, held, steps)
+        let changes = NumberedChanges {
+            triples: changed,
+            net,
+        };
+        self.judge(rt, next, changes, checked, held, steps)
     }
 
     // Records a commit that changes nothing.
@@ -580,25 +589,26 @@ impl Core {
     }
 
     // Carries out the plan of a commit; its verdict may have held.
-    fn commit_by_plan<L: Ledger>(
+    fn commit_by_plan<L: Ledger, T: Threads + Sync>(
         &mut self,
+        rt: &T,
         slip: Slip,
         session: u32,
-        checked: CheckedTransaction,
-        reasons: Reasons,
+        reasoned: ReasonedTransaction,
         held: bool,
         steps: &mut Steps<L>,
     ) -> Commit
         requires running { self.old.state.stopped ≡ false }
         requires opened { IsOpened self.old.state session }
-        requires committable { IsCommittable self.old.state checked.transaction }
-        requires reasons { AreReasons self.old.state.commits checked.transaction reasons }
-        requires found { MatchBool held (IsHeld self.old checked.transaction checked.pairs) (Unit {0}) }
-        ensures answer { Answers result self.old self.new session checked }
-        ensures steps { AnswerSteps held reasons.answer self.old.state checked.transaction steps.old steps.new result }
+        requires committable { IsCommittable self.old.state reasoned.checked.transaction }
+        requires reasons { AreReasons self.old.state.commits reasoned.checked.transaction reasoned.reasons }
+        requires found { MatchBool held (IsHeld self.old reasoned.checked.transaction reasoned.checked.pairs) (Unit {0}) }
+        ensures answer { Answers result self.old self.new session reasoned.checked }
+        ensures steps { AnswerSteps held reasoned.reasons.answer self.old.state reasoned.checked.transaction steps.old steps.new result }
         ensures no_fault { HasNoFault result }
     {
-        match self.plan(&checked, held, steps) {
+        let ReasonedTransaction { checked, reasons } = reasoned;
+        match self.plan(rt, &checked, held, steps) {
             Err(_) => Commit::Memory(checked),
             Ok(Plan::Overtaken(overtaker, triple)) => {
                 let Overtaker {
@@ -626,10 +636,11 @@ impl Core {
     /// Commits a transaction that changes something or stages shapes, whose terms are named and whose
     /// base is a version of this store. The graph that it would make is validated whole under staged shapes; else just those
     /// pairs of a shape and a node are evaluated that the changes touch, since the results of all others are kept; and none
-    /// where a verdict held: then its pairs have theirs. The evaluations are counted in `steps`. No log is written to, so that
-    /// none fails. A store that is stopped answers so, and nothing else.
-    pub fn commit<L: Ledger>(
+    /// where a verdict held: then its pairs have theirs. The evaluations are counted in `steps`, and threads share them out among
+    /// each other. No log is written to, so that none fails. A store that is stopped answers so, and nothing else.
+    pub fn commit<L: Ledger, T: Threads + Sync>(
         &mut self,
+        rt: &T,
         session: u32,
         checked: CheckedTransaction,
         steps: &mut Steps<L>,
@@ -654,12 +665,14 @@ impl Core {
             return Commit::Memory(checked);
         };
         let held = has_held(&reasons.answer);
-        self.commit_by_plan(slip, session, checked, reasons, held, steps)
+        let reasoned = ReasonedTransaction { checked, reasons };
+        self.commit_by_plan(rt, slip, session, reasoned, held, steps)
     }
 
     // Commits a transaction whose graph is evaluated, whatever its verdict says, to a store that isn't stopped.
-    pub(crate) fn commit_anew<L: Ledger>(
+    pub(crate) fn commit_anew<L: Ledger, T: Threads + Sync>(
         &mut self,
+        rt: &T,
         session: u32,
         checked: CheckedTransaction,
         steps: &mut Steps<L>,
@@ -676,7 +689,8 @@ impl Core {
         let Ok(reasons) = find_reasons(&self.commits, &checked.transaction) else {
             return Commit::Memory(checked);
         };
-        self.commit_by_plan(slip, session, checked, reasons, false, steps)
+        let reasoned = ReasonedTransaction { checked, reasons };
+        self.commit_by_plan(rt, slip, session, reasoned, false, steps)
     }
 
     /// Records a step that ran out of memory. It takes none itself.

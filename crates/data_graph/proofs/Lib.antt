@@ -8,6 +8,7 @@ pub mod Tests
 pub mod AtOnce
 mod ChangedTriples
 mod Checking
+mod Crossing
 mod NamedLooks
 mod Existing
 mod Keeping

@@ -12,12 +12,14 @@ use crate::pairs::numbered_pairs;
 use bound_shapes::BoundShapes;
 use collections::Sequence;
 use kept_rows::PairRows;
-use parallel_validate::{Checked, check};
+use parallel_validate::Checked;
 use rdf_model::{Footprint, Ids, Look, Term, Triples};
 use shape_eval::Steps;
 use std::alloc::{AllocError, Global};
 use std::sync::ledger::Ledger;
+use std::thread::Threads;
 use term_dict::Dict;
+use threaded_check::check_by_threads;
 use triple_index::Index;
 
 /// What checking changes found, by number: the touched pairs, each with its results after the changes, and all looks.
@@ -62,8 +64,10 @@ impl PairedChanges {
     }
 }
 
-/// What checking the changes finds, by number: by the triples that they add or remove, and those before and after them.
-pub(crate) fn check_by_number<S: Triples, L: Ledger>(
+/// What checking the changes finds, by number: by the triples that they add or remove, and those before and after them. Threads
+/// share out the evaluations among each other.
+pub(crate) fn check_by_number<S: Triples + Sync, L: Ledger, T: Threads + Sync>(
+    rt: &T,
     alloc: Global,
     names: &Dict,
     before: &Index,
@@ -82,7 +86,7 @@ pub(crate) fn check_by_number<S: Triples, L: Ledger>(
 {
     names.recall_numbering();
     let planned = shapes.planned();
-    let checked = check(alloc, before, later, names, planned, changed, steps)?;
+    let checked = check_by_threads(rt, alloc, before, later, names, planned, changed, steps)?;
     let Checked { pairs, looks } = checked;
     let numbered = numbered_pairs(alloc, planned, pairs)?;
     Ok(NumberedCheck {

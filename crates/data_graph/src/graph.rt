@@ -40,6 +40,7 @@ use shapes_graph::ShapesGraph;
 use std::alloc::{AllocError, Global};
 use std::marker::Model;
 use std::sync::ledger::Ledger;
+use std::thread::Threads;
 use term_dict::{Dict, NameFault};
 use triple_index::{Index, NumberedChange};
 
@@ -268,8 +269,13 @@ impl DataGraph {
 
     /// The results of validating the graph by its shapes graph (SHACL section 3.6), each with the pair of a shape and a focus
     /// node that gives it. Without shapes the graph isn't read. The evaluations are counted in `steps`: there are as many as
-    /// there are pairs of a shape and its target. After an error the count is what it was, or more.
-    pub fn kept_results<L: Ledger>(&self, steps: &mut Steps<L>) -> Result<KeptRows, AllocError>
+    /// there are pairs of a shape and its target, and threads share them out among each other. After an error the count is what it
+    /// was, or more.
+    pub fn kept_results<L: Ledger, T: Threads + Sync>(
+        &self,
+        rt: &T,
+        steps: &mut Steps<L>,
+    ) -> Result<KeptRows, AllocError>
         ensures rows { IfOk result (KeepsResults self.now.terms self.now.triples self.now.shapes) }
         ensures steps { OnOk result (GrowsByCount (IsTargetPair self.now.triples self.now.shapes) steps.old steps.new) }
         ensures counted { steps.old ≤ steps.new }
@@ -277,12 +283,20 @@ impl DataGraph {
         if is_without_shapes(self.shapes.graph()) {
             return Ok(KeptRows::new(self.alloc));
         }
-        kept_by(self.alloc, &self.names, self.index(), &self.shapes, steps)
+        kept_by(
+            rt,
+            self.alloc,
+            &self.names,
+            self.index(),
+            &self.shapes,
+            steps,
+        )
     }
 
     // What checking the changes finds, by number; `later` has the triples after them.
-    fn checked_after<S: Triples, L: Ledger>(
+    fn checked_after<S: Triples + Sync, L: Ledger, T: Threads + Sync>(
         &self,
+        rt: &T,
         changes: &[NumberedChange],
         later: &S,
         steps: &mut Steps<L>,
@@ -295,6 +309,7 @@ impl DataGraph {
     {
         let changed = triples_changed(self.alloc, changes)?;
         check_by_number(
+            rt,
             self.alloc,
             &self.names,
             self.index(),
@@ -307,10 +322,11 @@ impl DataGraph {
 
     /// The pairs of a shape and a node that the changes touch, each with its results after them, whatever results the graph has
     /// besides. All terms of the changes are named. The evaluations are counted in `steps`: there are as many as there are pairs
-    /// of a shape and a node that a changed triple touches and that are targets after the changes. After an error the count is
-    /// what it was, or more.
-    pub fn pairs_after<L: Ledger>(
+    /// of a shape and a node that a changed triple touches and that are targets after the changes, and threads share them out
+    /// among each other. After an error the count is what it was, or more.
+    pub fn pairs_after<L: Ledger, T: Threads + Sync>(
         &self,
+        rt: &T,
         net: &Net,
         hints: &NumberHints,
         next: &DataGraph,
@@ -326,15 +342,16 @@ impl DataGraph {
             return Ok(Sequence::new(self.alloc));
         }
         let changes = number_changes(self.alloc, &self.names, net, hints)?;
-        let checked = self.checked_after(&changes, next.index(), steps)?;
+        let checked = self.checked_after(rt, &changes, next.index(), steps)?;
         Ok(checked.pairs)
     }
 
     /// The pairs that the changes touch, and all looks that were made, those by which it was found what they touch with them. All
     /// terms of the changes are named, and so are those of the looks. The graph after the changes isn't made: they are laid over
-    /// the triples of this one.
-    pub fn paired_after<L: Ledger>(
+    /// the triples of this one. Threads share out the evaluations among each other.
+    pub fn paired_after<L: Ledger, T: Threads + Sync>(
         &self,
+        rt: &T,
         net: &Net,
         hints: &NumberHints,
         steps: &mut Steps<L>,
@@ -354,7 +371,7 @@ impl DataGraph {
         index.recall_ascending();
         let changes = number_changes(self.alloc, &self.names, net, hints)?;
         let later = Overlay::new(self.alloc, index, &changes)?;
-        let checked = self.checked_after(&changes, &later, steps)?;
+        let checked = self.checked_after(rt, &changes, &later, steps)?;
         Ok(paired_changes(self.alloc, &self.names, checked)?)
     }
 }

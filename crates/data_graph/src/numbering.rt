@@ -22,6 +22,7 @@ use rdf_model::{Ids, Term};
 use shape_eval::Steps;
 use std::alloc::{AllocError, Global};
 use std::sync::ledger::Ledger;
+use std::thread::Threads;
 use term_dict::Dict;
 use triple_index::{Index, NumberedChange};
 
@@ -133,8 +134,10 @@ pub(crate) fn index_after(
     set_after(alloc, index, &changes)
 }
 
-/// The results of the graph that an index stands for, each with the pair that gives it.
-pub(crate) fn kept_by<L: Ledger>(
+/// The results of the graph that an index stands for, each with the pair that gives it. Threads share out the evaluations among
+/// each other.
+pub(crate) fn kept_by<L: Ledger, T: Threads + Sync>(
+    rt: &T,
     alloc: Global,
     names: &Dict,
     index: &Index,
@@ -149,5 +152,13 @@ pub(crate) fn kept_by<L: Ledger>(
 {
     names.recall_numbering();
     let planned = shapes.planned();
-    Ok(whole_kept(alloc, index, names, planned.words, &planned.bound, steps)?)
+    Ok(whole_kept(
+        rt,
+        alloc,
+        index,
+        names,
+        planned.words,
+        &planned.bound,
+        steps,
+    )?)
 }

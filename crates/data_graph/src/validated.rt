@@ -21,6 +21,7 @@ use shapes_graph::ShapesGraph;
 use std::alloc::{AllocError, Global};
 use std::marker::Model;
 use std::sync::ledger::Ledger;
+use std::thread::Threads;
 use term_dict::{Dict, NameFault};
 
 /// A data graph with the results of validating it by its shapes graph, each with the pair of a shape and a focus node that gives
@@ -61,9 +62,10 @@ impl ValidatedGraph {
         })
     }
 
-    /// The graph with its results by an evaluation of each pair of a shape and its target, counted in `steps`. After an error
-    /// the count is what it was, or more.
-    pub fn whole<L: Ledger>(
+    /// The graph with its results by an evaluation of each pair of a shape and its target, counted in `steps`. Threads share them
+    /// out among each other. After an error the count is what it was, or more.
+    pub fn whole<L: Ledger, T: Threads + Sync>(
+        rt: &T,
         graph: DataGraph,
         steps: &mut Steps<L>,
     ) -> Result<ValidatedGraph, AllocError>
@@ -71,7 +73,7 @@ impl ValidatedGraph {
         ensures steps { OnOk result (GrowsByCount (IsTargetPair graph.triples graph.shapes) steps.old steps.new) }
         ensures counted { steps.old ≤ steps.new }
     {
-        let rows = graph.kept_results(steps)?;
+        let rows = graph.kept_results(rt, steps)?;
         Ok(ValidatedGraph { graph, rows })
     }
 

@@ -6,7 +6,7 @@ ghost use Rattle.parallel_validate.specs.Named.{AreNamedTriples};
 
 use crate::rows;
 use collections::Sequence;
-use graph_explanation::explanation_over;
+use graph_explanation::{NumberedData, explanation_over};
 use outside::RegexMaker;
 use parallel_validate::number_triple;
 use path_eval::ClassWords;
@@ -51,7 +51,8 @@ fn explained_in<L: Ledger>(
 {
     let mut steps = Steps::<L>::begin(blank);
     let graph = ListGraph::from_triples(ids_of(alloc, names, graph)?);
-    explanation_over(alloc, &graph, names, words, shapes, &mut steps)
+    let data = NumberedData::new(alloc, &graph, names, words);
+    explanation_over(&data, shapes, &mut steps)
 }
 
 fn explained(alloc: Global, graph: &[Triple], shapes: &ShapesGraph) -> Result<String, AllocError>

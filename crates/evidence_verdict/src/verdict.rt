@@ -1,7 +1,6 @@
 //! The verdict on a text.
 ghost use Rattle.std.specs.Prelude.{◌≡◌, ◌+◌, ◌<◌, ◌≤◌, ◌^◌, IfOk, IfSome, MatchResult, length};
-ghost use Rattle.rdf_model.specs.Numbers.{AreNumbered, IsNumbering, graph_of, term_at};
-ghost use Rattle.path_eval.specs.Instances.{AreClassWords};
+ghost use Rattle.rdf_model.specs.Numbers.{graph_of, term_at};
 ghost use Rattle.shape_ast.specs.Readings.{AreBound};
 ghost use Rattle.shape_ast.specs.Standing.{AreBuilt};
 ghost use Rattle.parallel_validate.specs.Named.{AreNamedTriples};
@@ -13,12 +12,12 @@ ghost use Rattle.evidence_verdict.specs.Judging.{IsNextShown};
 use crate::VerdictFault;
 use crate::judging::shows;
 use evidence_reader::read_block;
-use path_eval::ClassWords;
 use rdf_model::{Names, Triples};
+use result_evidence::NumberedData;
 use shape_ast::{Bound, bind};
 use shape_eval::{Evaluation, Steps};
 use shapes_graph::ShapesGraph;
-use std::alloc::{AllocError, Global};
+use std::alloc::AllocError;
 use std::sync::ledger::Ledger;
 
 // What follows the block with this number, if the text begins with it and it shows its result.
@@ -77,46 +76,34 @@ fn count_of<R: Triples, N: Names, L: Ledger>(
 /// Else the first block, from 1, that isn't so, or memory. Each block is evaluated once, over its own triples, which is counted
 /// in `steps`.
 pub fn verify<R: Triples, N: Names, L: Ledger>(
-    alloc: Global,
-    graph: &R,
-    names: &N,
-    words: ClassWords,
+    data: &NumberedData<'_, R, N>,
     bound: &Bound,
     text: &[u8],
     steps: &mut Steps<L>,
 ) -> Result<u32, VerdictFault>
-    requires numbering { IsNumbering (N.terms names.now) }
-    requires graph { AreNumbered (N.terms names.now) (R.triples graph.now) }
-    requires words { AreClassWords (N.terms names.now) words }
-    requires bound { AreBound (N.terms names.now) bound.now.shapes }
-    requires built { AreBuilt (term_at (N.terms names.now)) bound.now.shapes }
-    requires shapes { HaveGraph (N.terms names.now) bound.now.shapes }
+    requires bound { AreBound data.now.terms bound.now.shapes }
+    requires built { AreBuilt (term_at data.now.terms) bound.now.shapes }
+    requires shapes { HaveGraph data.now.terms bound.now.shapes }
     requires text { length text.now < 2 ^ 32 }
-    ensures { ForEach (N.terms names.now) bound.now.shapes
-        (λ s. MatchResult result (IsVerified (graph_of (N.terms names.now) (R.triples graph.now)) s text.now) (IsCause (graph_of (N.terms names.now) (R.triples graph.now)) s text.now)) }
+    ensures { ForEach data.now.terms bound.now.shapes
+        (λ s. MatchResult result (IsVerified (graph_of data.now.terms data.now.ids) s text.now) (IsCause (graph_of data.now.terms data.now.ids) s text.now)) }
 {
-    let evaluation = Evaluation::new(alloc, graph, names, words, bound);
-    count_of(&evaluation, names, text, steps)
+    let evaluation = data.evaluation(bound);
+    count_of(&evaluation, data.names(), text, steps)
 }
 
 /// How many blocks of evidence a text has under a shapes graph, each of which shows its result, or the first that doesn't. All terms
-/// of the shapes, rdf:type and rdfs:subClassOf are among the names.
+/// of the shapes are among the names of the data.
 pub fn verdict_over<R: Triples, N: Names, L: Ledger>(
-    alloc: Global,
-    graph: &R,
-    names: &N,
-    words: ClassWords,
+    data: &NumberedData<'_, R, N>,
     shapes: &ShapesGraph,
     text: &[u8],
     steps: &mut Steps<L>,
 ) -> Result<u32, VerdictFault>
-    requires numbering { IsNumbering (N.terms names.now) }
-    requires words { AreClassWords (N.terms names.now) words }
-    requires graph { AreNumbered (N.terms names.now) (R.triples graph.now) }
-    requires shapes { AreNamedTriples (N.terms names.now) shapes.now }
+    requires shapes { AreNamedTriples data.now.terms shapes.now }
     requires text { length text.now < 2 ^ 32 }
-    ensures { MatchResult result (IsVerified (graph_of (N.terms names.now) (R.triples graph.now)) shapes.now text.now) (IsCause (graph_of (N.terms names.now) (R.triples graph.now)) shapes.now text.now) }
+    ensures { MatchResult result (IsVerified (graph_of data.now.terms data.now.ids) shapes.now text.now) (IsCause (graph_of data.now.terms data.now.ids) shapes.now text.now) }
 {
-    let bound = bind(alloc, shapes.shapes(), names)?;
-    verify(alloc, graph, names, words, &bound, text, steps)
+    let bound = bind(data.alloc(), shapes.shapes(), data.names())?;
+    verify(data, &bound, text, steps)
 }

@@ -13,7 +13,7 @@ use crate::EvidenceVerdict;
 use crate::naming::{IndexedTriples, NumberedGraph};
 use collections::Sequence;
 use evidence_verdict::{VerdictFault, verdict_over};
-use graph_explanation::explanation_over;
+use graph_explanation::{NumberedData, explanation_over};
 use shape_eval::Steps;
 use shape_model::ResultRow;
 use shapes_graph::ShapesGraph;
@@ -22,6 +22,8 @@ use std::marker::Brand;
 use std::sync::ledger::{Blank, Ledger};
 use std::thread::Threads;
 use threaded_listing::listing_by_threads;
+use triple_index::Index;
+use triple_table::NumberedTerms;
 
 // The results, in an own ledger of evaluations.
 fn listing_in<L: Ledger, R: Threads + Sync>(
@@ -70,6 +72,18 @@ pub(crate) fn listing<R: Threads + Sync>(
     Ok(Sequence::from_vec(rows))
 }
 
+// The graph as its results are explained and evidence is judged.
+fn numbered_data(alloc: Global, graph: &NumberedGraph) -> NumberedData<'_, Index, NumberedTerms>
+    requires words { AreClassWords graph.now.names graph.now.words }
+    requires graph { AreNumbered graph.now.names graph.now.triples }
+    ensures terms { result.terms ≡ graph.entry.now.names }
+    ensures ids { result.ids ≡ graph.entry.now.triples }
+{
+    let names = &graph.names;
+    names.recall_numbering();
+    NumberedData::new(alloc, &graph.triples, names, graph.words)
+}
+
 // The text that explains the validation, in an own ledger of evaluations.
 fn explanation_in<L: Ledger>(
     alloc: Global,
@@ -86,17 +100,8 @@ fn explanation_in<L: Ledger>(
     ensures { IfOk result (λ text. IsExplanation (graph_of graph.now.names graph.now.triples) shapes.now (string_bytes text)) }
 {
     let mut steps = Steps::<L>::begin(blank);
-    let names = &graph.names;
-    names.recall_numbering();
-    let text = explanation_over(
-        alloc,
-        &graph.triples,
-        names,
-        graph.words,
-        shapes,
-        &mut steps,
-    )?;
-    Ok(text)
+    let data = numbered_data(alloc, graph);
+    explanation_over(&data, shapes, &mut steps)
 }
 
 /// The text that explains the validation of the graph by the shapes graph (SHACL section 3.6).
@@ -131,17 +136,8 @@ fn verdict_in<L: Ledger>(
     ensures { IfOk result (IsVerdict (graph_of graph.now.names graph.now.triples) shapes.now evidence.now) }
 {
     let mut steps = Steps::<L>::begin(blank);
-    let names = &graph.names;
-    names.recall_numbering();
-    match verdict_over(
-        alloc,
-        &graph.triples,
-        names,
-        graph.words,
-        shapes,
-        evidence,
-        &mut steps,
-    ) {
+    let data = numbered_data(alloc, graph);
+    match verdict_over(&data, shapes, evidence, &mut steps) {
         Ok(blocks) => Ok(EvidenceVerdict::Verified { blocks }),
         Err(VerdictFault::Block { number }) => Ok(EvidenceVerdict::Wrong { block: number }),
         Err(VerdictFault::Memory) => Err(AllocError),

@@ -10,3 +10,4 @@ mod explaining;
 mod firsts;
 
 pub use explaining::explanation_over;
+pub use result_evidence::NumberedData;

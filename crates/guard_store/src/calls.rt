@@ -23,6 +23,7 @@ use shape_eval::Steps;
 use shapes_graph::ShapesGraph;
 use std::sync::Wait;
 use std::sync::ledger::Ledger;
+use std::thread::Threads;
 use store_model::NameKind;
 
 // The answer to a block whose blank nodes need not have been given out.
@@ -274,7 +275,7 @@ impl<D: Disk> Store<D> {
     }
 
     // Commits the open transaction, which changes something or stages shapes.
-    fn commit_work<L: Ledger, R: Wait>(
+    fn commit_work<L: Ledger, R: Threads + Wait + Sync>(
         &self,
         rt: &R,
         session: Session<D>,
@@ -302,8 +303,8 @@ impl<D: Disk> Store<D> {
 
     /// Commits the open transaction. One that changes nothing and stages no shapes is answered ReadOnly, which is no
     /// event; nor is NoTransaction, which comes where none is open. Each answer ends the transaction. Its evaluations are
-    /// counted in `steps`, by why it was evaluated.
-    pub fn commit<L: Ledger, R: Wait>(
+    /// counted in `steps`, by why it was evaluated, and threads share them out among each other.
+    pub fn commit<L: Ledger, R: Threads + Wait + Sync>(
         &self,
         rt: &R,
         session: Session<D>,

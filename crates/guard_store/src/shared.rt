@@ -23,6 +23,7 @@ use std::alloc::AllocError;
 use std::marker::Model;
 use std::snapshot::Snapshot;
 use std::sync::ledger::Ledger;
+use std::thread::Threads;
 use store_model::{Action, Event, NameKind, Reply};
 use turn_lock::Entries;
 
@@ -186,9 +187,10 @@ impl<D: Disk> Shared<D> {
         self.core.void(session, slip);
     }
 
-    /// Commits a transaction to the core, and to its log where it has one.
-    pub(crate) fn commit<L: Ledger>(
+    /// Commits a transaction to the core, and to its log where it has one. Threads share out its evaluations among each other.
+    pub(crate) fn commit<L: Ledger, T: Threads + Sync>(
         &mut self,
+        rt: &T,
         session: u32,
         checked: CheckedTransaction,
         steps: &mut Steps<L>,
@@ -202,6 +204,6 @@ impl<D: Disk> Shared<D> {
             (λ back. (back ≡ checked) × (self.new.core ≡ self.old.core) × (steps.old ≤ steps.new)) }
         ensures origin { self.new.origin ≡ self.old.origin }
     {
-        commit_beside(&mut self.core, &mut self.log, session, checked, steps)
+        commit_beside(rt, &mut self.core, &mut self.log, session, checked, steps)
     }
 }

@@ -19,6 +19,7 @@ use shape_eval::Steps;
 use std::alloc::AllocError;
 use std::sync::Wait;
 use std::sync::ledger::Ledger;
+use std::thread::Threads;
 use store_model::{Action, NameKind, Reply};
 use turn_lock::Pass;
 
@@ -110,8 +111,8 @@ impl<D: Disk> Store<D> {
     }
 
     /// Commits a transaction that changes something or stages shapes, with what is kept of its check, and counts its
-    /// evaluations. Without memory it is handed back.
-    pub(crate) fn take_commit<L: Ledger, R: Wait>(
+    /// evaluations, which threads share out among each other. Without memory it is handed back.
+    pub(crate) fn take_commit<L: Ledger, R: Threads + Wait + Sync>(
         &self,
         rt: &R,
         pass: Pass<Shared<D>>,
@@ -132,7 +133,7 @@ impl<D: Disk> Store<D> {
             return (pass, Err(handed));
         };
         let (held, mut shared) = self.start(rt, pass);
-        match shared.commit(number, handed, steps) {
+        match shared.commit(rt, number, handed, steps) {
             Ok(committed) => (self.finish(held, shared), Ok(committed)),
             Err(handed) => {
                 shared.void(number, slip);

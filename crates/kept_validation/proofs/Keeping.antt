@@ -1,10 +1,10 @@
 -- The results of a graph with their pairs, shape by shape and target by target.
 use Rattle.std.proofs.Common.{◌≡◌, ◌∙◌, ℕ, ◌+◌, ◌<◌, ◌≤◌, List, [], ◌∷◌, ◌++◌, length, map, take, get_or, refl, sym, ap, arith, subst, inl, inr}
 use Rattle.std.specs.Prelude.{◌↔◌, ◌⊎◌, Some, slice_get}
-use Rattle.std.specs.List.{Contains}
+use Rattle.std.specs.List.{All, AllZip, Contains}
 use Rattle.std.proofs.lemmas.List.{length-map, map-append, take_all}
-use Rattle.std.proofs.lemmas.List.Elements.{Contains-append_cases, Contains-append_left, Contains-append_right}
-use Rattle.collections.proofs.Members.{has_cases, has_head}
+use Rattle.std.proofs.lemmas.List.Elements.{All-contains, Contains-append_cases, Contains-append_left, Contains-append_right}
+use Rattle.collections.proofs.Members.{has_cases, has_head, has_tail}
 use Rattle.rdf_model.specs.declared.term.Term.{Term}
 use Rattle.rdf_model.specs.declared.ids.Ids.{Ids}
 use Rattle.rdf_model.specs.Numbers.{graph_of, term_at}
@@ -17,7 +17,6 @@ use Rattle.component_rows.proofs.Collecting.{mapped_from, mapped_to}
 use Rattle.shape_ast.specs.declared.shape.Shape.{Shape}
 use Rattle.shape_ast.specs.Readings.{AreBound, ReadShape, named_shapes, read_shape}
 use Rattle.target_nodes.specs.ShapeTargets.{AreTargets, AtShape}
-use Rattle.shape_eval.specs.Results.{ListsResults}
 use Rattle.shape_eval.specs.Told.{node_at}
 use Rattle.shape_eval.proofs.Asking.{node_bound}
 use Rattle.shape_eval.proofs.Growing.{joined}
@@ -25,7 +24,9 @@ use Rattle.shape_eval.proofs.Lookups.{at_place, got_at, is_at, only_some}
 use Rattle.change_laws.specs.Pairs.{PairRow, PairedRow}
 use Rattle.kept_rows.specs.declared.kept_row.KeptRow.{KeptRow}
 use Rattle.kept_rows.specs.Laws.{paired_row, paired_rows}
-use Rattle.kept_validation.specs.Keeping.{IsAtNode, IsAtNodes, IsOfPair, IsOfShape, IsOfSome, KeepsAtNode, KeepsAtNodes, KeepsGraph, KeepsOfFirst, KeepsOfShape, KeepsWhere}
+use Rattle.threaded_listing.specs.declared.visit.NodeRows.{NodeRows}
+use Rattle.threaded_listing.specs.ByNode.{HasResults, HaveResults}
+use Rattle.kept_validation.specs.Keeping.{IsAtNodes, IsOfPair, IsOfShape, IsOfSome, IsOfSomeNode, KeepsAtNodes, KeepsGraph, KeepsOfFirst, KeepsOfShape, KeepsWhere}
 
 -- results that are given their pair one after another, from the end
 abbrev pub AreGiven : ℕ → ℕ → List ResultRow → List KeptRow → List ResultRow → Type 0
@@ -86,6 +87,48 @@ module _ (shape focus : ℕ) (all : List ResultRow) where
     λ c. (given k).1 (inl c),
   )
 
+-- the results at the nodes so far have their pairs
+abbrev pub HavePairs : ℕ → List NodeRows → List KeptRow → Type 0
+HavePairs shape found kept = (k : KeptRow) → IsOfSomeNode shape found k ↔ Contains kept k
+
+module _ (shape : ℕ) where
+  pub none_paired : (kept : List KeptRow) → kept ≡ [] → HavePairs shape [] kept
+  none_paired kept e k = (
+    λ h. let c = h.1 in absurd (omega (arith, c.1)),
+    λ c. let d : Contains [] k = subst (λ (ks : List KeptRow). Contains ks k) e c in absurd (omega (arith, d.1)),
+  )
+
+  -- those at one node more
+  pub node_paired : (done : List NodeRows) (node : NodeRows) (kept more new : List KeptRow) → new ≡ kept ++ more → HavePairs shape done kept
+      → ((k : KeptRow) → IsOfPair shape node.node node.rows k ↔ Contains more k) → HavePairs shape (done ++ node ∷ []) new
+  node_paired done node kept more new e before own k = (
+    λ h. subst (λ (ks : List KeptRow). Contains ks k) (sym e) (elim (Contains-append_cases done (node ∷ []) h.0 h.1) [
+      | inl d ↦ Contains-append_left kept more k ((before k).0 (h.0, d, h.2))
+      | inr d ↦ Contains-append_right kept more k ((own k).0 (subst (λ (n : NodeRows). IsOfPair shape n.node n.rows k) (sym (one_only node h.0 d)) h.2))
+    ]),
+    λ c. elim (Contains-append_cases kept more k (subst (λ (ks : List KeptRow). Contains ks k) e c)) [
+      | inl d ↦ let h = (before k).1 d in (h.0, Contains-append_left done (node ∷ []) h.0 h.1, h.2)
+      | inr d ↦ (node, Contains-append_right done (node ∷ []) node (has_head node []), (own k).1 d)
+    ],
+  )
+
+-- what holds of two lists place by place leads from an item of the one to one of the other
+zip_from : {A B : Type 0} → (P : A → B → Type 0) (xs : List A) (ys : List B) → AllZip P xs ys → (x : A) → Contains xs x → (y : B) × Contains ys y × P x y
+zip_from P [] ys z x c = absurd (omega (arith, c.1))
+zip_from P (w ∷ xs) [] z x c = absurd z
+zip_from P (w ∷ xs) (y ∷ ys) z x c = elim (has_cases w xs x c) [
+  | inl e ↦ (y, has_head y ys, subst (λ v. P v y) e z.0)
+  | inr d ↦ let h = zip_from P xs ys z.1 x d in (h.0, has_tail y ys h.0 h.1, h.2)
+]
+
+zip_back : {A B : Type 0} → (P : A → B → Type 0) (xs : List A) (ys : List B) → AllZip P xs ys → (y : B) → Contains ys y → (x : A) × Contains xs x × P x y
+zip_back P xs [] z y c = absurd (omega (arith, c.1))
+zip_back P [] (w ∷ ys) z y c = absurd z
+zip_back P (x ∷ xs) (w ∷ ys) z y c = elim (has_cases w ys y c) [
+  | inl e ↦ (x, has_head x xs, subst (λ v. P x v) e z.0)
+  | inr d ↦ let h = zip_back P xs ys z.1 y d in (h.0, has_tail x xs h.0 h.1, h.2)
+]
+
 module _ (terms : List Term) where
   keeps_none : (P : PairedRow → Type 0) → ((p : PairedRow) → P p → ⊥) → KeepsWhere terms [] P
   keeps_none P none = record {
@@ -122,60 +165,41 @@ module _ (terms : List Term) where
       keeps_same (λ p. P p ⊎ Q p) R new same (subst (λ (ks : List KeptRow). KeepsWhere terms ks (λ p. P p ⊎ Q p)) (sym e) (keeps_more P Q kept more h k))
 
   module _ (ids : List Ids) (shapes : List (Shape ℕ)) where
-    -- the results of a shape at a node, with its number and the node's
-    pub at_node : (k m n : ℕ) (rows : List ResultRow) (kept : List KeptRow) → AreBound terms shapes → k < length shapes → m ≡ node_at shapes k → n < length terms
-        → ((q : KeptRow) → IsOfPair m n rows q ↔ Contains kept q) → ListsResults terms ids shapes k n rows → KeepsAtNode terms ids shapes k n kept
-    at_node k m n rows kept bound lt number within only lists s c stand at acyclic shallow =
+    -- the results of a shape at some nodes, with its number and theirs
+    pub at_nodes : (k m : ℕ) (nodes : List ℕ) (found : List NodeRows) (kept : List KeptRow) → AreBound terms shapes → k < length shapes → m ≡ node_at shapes k → All (λ n. n < length terms) nodes
+        → HavePairs m found kept → HaveResults terms ids shapes k nodes found → KeepsAtNodes terms ids shapes k nodes kept
+    at_nodes k m nodes found kept bound lt number within only have s c stand at acyclic shallow =
         let g = graph_of terms ids in
         let here = is_at terms shapes k lt in
         let node : c.node ≡ term_at terms m =
         ap (λ (r : ReadShape). r.node) (only_some (slice_get (named_shapes terms shapes) k) c here.0 at here.1) ∙ here.2 ∙ sym (ap (term_at terms) number) in
         let own : m < length terms = subst (λ (w : ℕ). w < length terms) (sym number) (node_bound terms shapes bound k lt) in
-        let own_rows = lists s c stand at acyclic shallow in
         record {
           bound = λ q i.
               let o = (only q).1 i in
-              (subst (λ (w : ℕ). w < length terms) (sym o.0) own, subst (λ (w : ℕ). w < length terms) (sym o.1) within);
+              let n = zip_back (HasResults terms ids shapes k) nodes found have o.0 o.1 in
+              (subst (λ (w : ℕ). w < length terms) (sym o.2.0) own, subst (λ (w : ℕ). w < length terms) (sym (o.2.1 ∙ n.2.0)) (All-contains (λ (w : ℕ). w < length terms) nodes n.0 within n.1));
           rows = λ p. (
             λ i.
                 let f = mapped_from (paired_row terms) kept p i in
                 let o = (only f.0).1 f.1 in
-                let shape : p.shape ≡ c.node = sym (ap (λ (w : PairedRow). w.shape) f.2) ∙ ap (term_at terms) o.0 ∙ sym node in
-                let focus : p.focus ≡ term_at terms n = sym (ap (λ (w : PairedRow). w.focus) f.2) ∙ ap (term_at terms) o.1 in
+                let n = zip_back (HasResults terms ids shapes k) nodes found have o.0 o.1 in
+                let shape : p.shape ≡ c.node = sym (ap (λ (w : PairedRow). w.shape) f.2) ∙ ap (term_at terms) o.2.0 ∙ sym node in
+                let focus : p.focus ≡ term_at terms n.0 = sym (ap (λ (w : PairedRow). w.focus) f.2) ∙ ap (term_at terms) (o.2.1 ∙ n.2.0) in
                 let row : f.0.row ≡ p.row = ap (λ (w : PairedRow). w.row) f.2 in
-                let found : At g s c.node (term_at terms n) f.0.row = (own_rows.members f.0.row).0 o.2 in
-                (shape, focus, subst (λ (v : Term). At g s c.node v p.row) (sym focus) (subst (λ (r : ResultRow). At g s c.node (term_at terms n) r) row found)),
+                let is : At g s c.node (term_at terms n.0) f.0.row = ((n.2.1 s c stand at acyclic shallow).members f.0.row).0 o.2.2 in
+                (shape, (n.0, n.1, focus), subst (λ (v : Term). At g s c.node v p.row) (sym focus) (subst (λ (r : ResultRow). At g s c.node (term_at terms n.0) r) row is)),
             λ h.
-                let q : KeptRow = record { shape = m; focus = n; row = p.row } in
-                let there : Contains rows p.row = (own_rows.members p.row).1 (subst (λ (v : Term). At g s c.node v p.row) h.1 h.2) in
-                let is : Contains kept q = (only q).0 (refl, refl, there) in
+                let f = zip_from (HasResults terms ids shapes k) nodes found have h.1.0 h.1.1 in
+                let q : KeptRow = record { shape = m; focus = f.0.node; row = p.row } in
+                let there : Contains f.0.rows p.row = ((f.2.1 s c stand at acyclic shallow).members p.row).1 (subst (λ (v : Term). At g s c.node v p.row) h.1.2 h.2) in
+                let is : Contains kept q = (only q).0 (f.0, f.1, (refl, refl, there)) in
                 let shape : term_at terms m ≡ p.shape = sym node ∙ sym h.0 in
-                let focus : term_at terms n ≡ p.focus = sym h.1 in
+                let focus : term_at terms f.0.node ≡ p.focus = ap (term_at terms) f.2.0 ∙ sym h.1.2 in
                 let same : paired_row terms q ≡ p = λ i. record { shape = shape i; focus = focus i; row = p.row } in
                 subst (λ (w : PairedRow). Contains (paired_rows terms kept) w) same (mapped_to (paired_row terms) kept q is),
           );
         }
-
-    pub no_node : (k : ℕ) → KeepsAtNodes terms ids shapes k [] []
-    no_node k s c stand at acyclic shallow = keeps_none (IsAtNodes terms (graph_of terms ids) s c.node []) (λ p h. let d = h.1.1 in absurd (omega (arith, d.1)))
-
-    pub more_node : (k : ℕ) (nodes : List ℕ) (i : ℕ) (kept more new : List KeptRow) → i < length nodes → new ≡ kept ++ more
-        → KeepsAtNodes terms ids shapes k (take i nodes) kept → KeepsAtNode terms ids shapes k (get_or nodes i 0) more → KeepsAtNodes terms ids shapes k (take (i + 1) nodes) new
-    more_node k nodes i kept more new lt e before own s c stand at acyclic shallow =
-        let g = graph_of terms ids in
-        next (IsAtNodes terms g s c.node (take i nodes)) (IsAtNode terms g s c.node (get_or nodes i 0)) (IsAtNodes terms g s c.node (take (i + 1) nodes)) kept more new e (λ p. (
-          elim [
-            | inl h ↦ (h.0, (h.1.0, (joined nodes i 0 lt h.1.0).1 (inl h.1.1), h.1.2), h.2)
-            | inr h ↦ (h.0, (get_or nodes i 0, (joined nodes i 0 lt (get_or nodes i 0)).1 (inr refl), h.1), h.2)
-          ],
-          λ h. elim ((joined nodes i 0 lt h.1.0).0 h.1.1) [
-            | inl d ↦ inl (h.0, (h.1.0, d, h.1.2), h.2)
-            | inr d ↦ inr (h.0, h.1.2 ∙ sym (ap (term_at terms) d), h.2)
-          ],
-        )) (before s c stand at acyclic shallow) (own s c stand at acyclic shallow)
-
-    pub all_nodes : (k : ℕ) (nodes : List ℕ) (i : ℕ) (kept : List KeptRow) → length nodes ≤ i → KeepsAtNodes terms ids shapes k (take i nodes) kept → KeepsAtNodes terms ids shapes k nodes kept
-    all_nodes k nodes i kept le before = subst (λ (ns : List ℕ). KeepsAtNodes terms ids shapes k ns kept) (take_all i nodes le) before
 
     -- the nodes are the targets of the shape
     pub at_targets : (k : ℕ) (nodes : List ℕ) (kept : List KeptRow) → AtShape terms shapes k (λ s own. AreTargets terms ids s own nodes) → KeepsAtNodes terms ids shapes k nodes kept → KeepsOfShape terms ids shapes k kept

@@ -17,20 +17,22 @@ use Rattle.parallel_validate.specs.Counting.{IsNodeOf}
 use Rattle.change_laws.specs.Pairs.{PairRow, PairedRow}
 use Rattle.kept_rows.specs.declared.kept_row.KeptRow.{KeptRow}
 use Rattle.kept_rows.specs.Laws.{AreBoundRows, KeepsResults, paired_rows}
+use Rattle.threaded_listing.specs.declared.visit.NodeRows.{NodeRows}
 
 -- the result is one of these, with the pair of both numbers
 abbrev pub IsOfPair : ℕ → ℕ → List ResultRow → KeptRow → Type 0
 IsOfPair shape focus rows k = (k.shape ≡ shape) × (k.focus ≡ focus) × Contains rows k.row
+
+-- it is one of those of some of the nodes, with the pair of the shape and that node
+abbrev pub IsOfSomeNode : ℕ → List NodeRows → KeptRow → Type 0
+IsOfSomeNode shape found k = (node : NodeRows) × Contains found node × IsOfPair shape node.node node.rows k
 
 -- just the results of which P holds are there, read as terms, and each number has a term
 pub record KeepsWhere (terms : List Term) (kept : List KeptRow) (P : PairedRow → Type 0) : Type 0 where
   pub bound : AreBoundRows terms kept
   pub rows : (p : PairedRow) → Contains (paired_rows terms kept) p ↔ P p
 
--- it is one of the shape at the node with this number, and at one of the nodes with these numbers
-abbrev pub IsAtNode : List Term → List Triple → List Triple → Term → ℕ → PairedRow → Type 0
-IsAtNode terms g s shape n p = (p.shape ≡ shape) × (p.focus ≡ term_at terms n) × At g s shape p.focus p.row
-
+-- it is one of the shape at one of the nodes with these numbers
 abbrev pub IsAtNodes : List Term → List Triple → List Triple → Term → List ℕ → PairedRow → Type 0
 IsAtNodes terms g s shape nodes p = (p.shape ≡ shape) × ((n : ℕ) × Contains nodes n × (p.focus ≡ term_at terms n)) × At g s shape p.focus p.row
 
@@ -41,10 +43,7 @@ IsOfShape g s shape p = (p.shape ≡ shape) × PairRow g s shape p.focus p.row
 abbrev pub IsOfSome : List Triple → List Triple → List ReadShape → PairedRow → Type 0
 IsOfSome g s shapes p = IsNodeOf shapes p.shape × PairRow g s p.shape p.focus p.row
 
--- those of the shape at the place k, at a node and at some
-abbrev pub KeepsAtNode : List Term → List Ids → List (Shape ℕ) → ℕ → ℕ → List KeptRow → Type 0
-KeepsAtNode terms ids shapes k n kept = AtPlace terms shapes k (λ s c. IsAcyclic s → IsShallow levels_limit s → KeepsWhere terms kept (IsAtNode terms (graph_of terms ids) s c.node n))
-
+-- those of the shape at the place k, at some nodes
 abbrev pub KeepsAtNodes : List Term → List Ids → List (Shape ℕ) → ℕ → List ℕ → List KeptRow → Type 0
 KeepsAtNodes terms ids shapes k nodes kept = AtPlace terms shapes k (λ s c. IsAcyclic s → IsShallow levels_limit s → KeepsWhere terms kept (IsAtNodes terms (graph_of terms ids) s c.node nodes))
 

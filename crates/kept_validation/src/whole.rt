@@ -8,17 +8,19 @@ ghost use Rattle.shape_ast.specs.Standing.{AreBuilt};
 ghost use Rattle.shape_eval.specs.Told.{node_at};
 ghost use Rattle.parallel_validate.specs.Counting.{StepsOfFirst, StepsOfGraph, StepsOfShape};
 ghost use Rattle.kept_rows.specs.declared.kept_row.KeptRow.{KeptRow as KeptData};
-ghost use Rattle.kept_validation.specs.Keeping.{IsOfPair, KeepsAtNode, KeepsAtNodes, KeepsGraph, KeepsOfFirst, KeepsOfShape};
+ghost use Rattle.kept_validation.specs.Keeping.{IsOfPair, IsOfSomeNode, KeepsAtNodes, KeepsGraph, KeepsOfFirst, KeepsOfShape};
 
 use kept_rows::{KeptRow, KeptRows};
 use parallel_validate::targets_of;
 use path_eval::ClassWords;
-use rdf_model::{Footprint, Names, Triples};
+use rdf_model::{Names, Triples};
 use shape_ast::Bound;
-use shape_eval::{Evaluation, Matchers, Permit, Steps, eval, permit};
+use shape_eval::{Evaluation, Steps};
 use shape_model::ResultRow;
 use std::alloc::{AllocError, Global};
 use std::sync::ledger::Ledger;
+use std::thread::Threads;
+use threaded_listing::{NodeRows, rows_by_node};
 
 // Results with the pair that gives them.
 fn with_pair(
@@ -37,29 +39,21 @@ fn with_pair(
     Ok(kept)
 }
 
-// The results of a shape at a focus node. How they were found is not kept.
-fn rows_at_node<'a, R: Triples, N: Names>(
-    evaluation: &Evaluation<'a, R, N>,
-    shape: usize,
-    node: u32,
-    focus: u32,
-    matchers: &mut Matchers<'a>,
-    allowed: Permit,
-) -> Result<Vec<KeptRow>, AllocError>
-    requires shape { shape < length evaluation.now.shapes }
-    requires node { node ≡ node_at evaluation.now.shapes shape }
-    requires focus { focus < length evaluation.now.terms }
-    ensures { IfOk result (λ kept. KeepsAtNode evaluation.now.terms evaluation.now.ids evaluation.now.shapes shape focus kept.items) }
+// The results at some nodes with the pairs that give them.
+fn with_pairs(alloc: Global, shape: u32, found: Vec<NodeRows>) -> Result<Vec<KeptRow>, AllocError>
+    ensures { IfOk result (λ kept. (k : KeptData) → IsOfSomeNode shape found.items k ↔ Contains kept.items k) }
 {
-    evaluation.recall();
-    let alloc = evaluation.alloc();
-    let mut looks = Footprint::new(alloc);
-    let rows = eval(evaluation, shape, focus, &mut looks, matchers, allowed)?;
-    Ok(with_pair(alloc, node, focus, rows)?)
+    let mut kept = Vec::new(alloc);
+    for node in found {
+        let mut more = with_pair(alloc, shape, node.node, node.rows.into_vec())?;
+        kept.append(&mut more)?;
+    }
+    Ok(kept)
 }
 
-// The results of a shape at some focus nodes.
-fn rows_at<R: Triples, N: Names, L: Ledger>(
+// The results of a shape at some focus nodes, whichever thread found which.
+fn rows_at<R: Triples + Sync, N: Names + Sync, L: Ledger, T: Threads + Sync>(
+    rt: &T,
     evaluation: &Evaluation<'_, R, N>,
     shape: usize,
     node: u32,
@@ -73,14 +67,9 @@ fn rows_at<R: Triples, N: Names, L: Ledger>(
     ensures steps { OnOk result (steps.new ≡ steps.old + length nodes.now) }
     ensures counted { steps.old ≤ steps.new }
 {
-    let mut rows = Vec::new(evaluation.alloc());
-    let mut matchers = Matchers::new(evaluation.alloc());
-    for focus in nodes {
-        let allowed = permit(steps);
-        let mut more = rows_at_node(evaluation, shape, node, *focus, &mut matchers, allowed)?;
-        rows.append(&mut more)?;
-    }
-    Ok(rows)
+    evaluation.recall();
+    let found = rows_by_node(rt, evaluation, shape, nodes, steps)?;
+    Ok(with_pairs(evaluation.alloc(), node, found)?)
 }
 
 // The number of a shape's node.
@@ -92,7 +81,8 @@ fn node_of(bound: &Bound, shape: usize) -> u32
 }
 
 // The results of a shape at all its targets.
-fn rows_of_shape<R: Triples, N: Names, L: Ledger>(
+fn rows_of_shape<R: Triples + Sync, N: Names + Sync, L: Ledger, T: Threads + Sync>(
+    rt: &T,
     evaluation: &Evaluation<'_, R, N>,
     shape: usize,
     steps: &mut Steps<L>,
@@ -106,11 +96,12 @@ fn rows_of_shape<R: Triples, N: Names, L: Ledger>(
     let bound = evaluation.bound();
     let node = node_of(bound, shape);
     let nodes = targets_of(evaluation, shape)?;
-    Ok(rows_at(evaluation, shape, node, &nodes, steps)?)
+    Ok(rows_at(rt, evaluation, shape, node, &nodes, steps)?)
 }
 
 // The results of all shapes at their targets.
-fn all_rows<R: Triples, N: Names, L: Ledger>(
+fn all_rows<R: Triples + Sync, N: Names + Sync, L: Ledger, T: Threads + Sync>(
+    rt: &T,
     evaluation: &Evaluation<'_, R, N>,
     steps: &mut Steps<L>,
 ) -> Result<Vec<KeptRow>, AllocError>
@@ -121,7 +112,7 @@ fn all_rows<R: Triples, N: Names, L: Ledger>(
     let bound = evaluation.bound();
     let mut rows = Vec::new(evaluation.alloc());
     for shape in 0..bound.shapes.len() {
-        let mut more = rows_of_shape(evaluation, shape, steps)?;
+        let mut more = rows_of_shape(rt, evaluation, shape, steps)?;
         rows.append(&mut more)?;
     }
     Ok(rows)
@@ -129,9 +120,13 @@ fn all_rows<R: Triples, N: Names, L: Ledger>(
 
 /// The results of validating the data graph (SHACL section 3.6), each with the pair of a shape and a focus node that gives it.
 /// They are those of each shapes graph that the shapes stand for, where no shape refers to itself and no chain of references
-/// is longer than 256. Each evaluation, of one shape at one of its targets, is counted in `steps`: there are as many as there
-/// are pairs of a shape and its target. After an error the count is what it was, or more.
-pub fn whole_kept<R: Triples, N: Names, L: Ledger>(
+/// is longer than 256. The targets of each shape are shared out among as many threads as there are processors; where none can
+/// be started, the caller does all.
+///
+/// Each evaluation, of one shape at one of its targets, is counted in `steps`: there are as many as there are pairs of a shape
+/// and its target. It fails only for want of memory, and then the count is what it was, or more.
+pub fn whole_kept<R: Triples + Sync, N: Names + Sync, L: Ledger, T: Threads + Sync>(
+    rt: &T,
     alloc: Global,
     graph: &R,
     names: &N,
@@ -149,6 +144,6 @@ pub fn whole_kept<R: Triples, N: Names, L: Ledger>(
     ensures counted { steps.old ≤ steps.new }
 {
     let evaluation = Evaluation::new(alloc, graph, names, words, bound);
-    let rows = all_rows(&evaluation, steps)?;
+    let rows = all_rows(rt, &evaluation, steps)?;
     Ok(KeptRows::from_rows(alloc, rows)?)
 }

@@ -11,6 +11,7 @@ use commit_log::{CreateFault, Log, OpenLogFault, create, open};
 use disk::{Disk, DiskFault};
 use outside::Maker;
 use std::alloc::Global;
+use std::thread::Threads;
 
 /// A store with its log.
 #[derive(Drop)]
@@ -60,11 +61,13 @@ fn open_fault(fault: OpenLogFault) -> LogFault
 }
 
 /// Opens the log of this name, and restores the store of its records, in which every result blocks: it is in step with the
-/// log. It also says at which numbers so many sessions may begin to number their blank nodes.
+/// log. It also says at which numbers so many sessions may begin to number their blank nodes. The last graph is validated whole,
+/// and threads share out the evaluations among each other.
 ///
 /// What is wrong comes in this order: the disk; the bytes; a blank number; the last shapes graph; a record that doesn't fit; the
 /// limits; a result of the last graph. A read gives the same bytes afterwards, whatever the answer.
-pub fn open_log<D: Disk, M: Maker>(
+pub fn open_log<D: Disk, M: Maker, T: Threads + Sync>(
+    rt: &T,
     alloc: Global,
     mut disk: D,
     limits: Limits,
@@ -90,7 +93,7 @@ pub fn open_log<D: Disk, M: Maker>(
         Err(DiskFault::Memory) => return Err((LogFault::Memory, disk)),
     }
     match open(alloc, disk) {
-        Ok((log, records)) => match restore(alloc, limits, records, sessions, maker) {
+        Ok((log, records)) => match restore(rt, alloc, limits, records, sessions, maker) {
             Ok((core, first_numbers)) => Ok(StoredLog {
                 core,
                 log,

@@ -17,9 +17,11 @@ use shapes_graph::ShapesGraph;
 use std::alloc::Global;
 use std::marker::Brand;
 use std::sync::ledger::{Blank, Ledger};
+use std::thread::Threads;
 
 // The store, whose evaluations are counted by this ledger.
-fn restore_counted<L: Ledger>(
+fn restore_counted<L: Ledger, T: Threads + Sync>(
+    rt: &T,
     alloc: Global,
     limits: Limits,
     records: Vec<Record>,
@@ -35,7 +37,7 @@ fn restore_counted<L: Ledger>(
     ensures { MatchResult result (IsRestored limits records.items) (IsRestoreFault limits records.items) }
 {
     let mut steps = Steps::<L>::begin(blank);
-    Core::restore(alloc, limits, records, shapes, &mut steps)
+    Core::restore(rt, alloc, limits, records, shapes, &mut steps)
 }
 
 // A fault of restoring so many records, as one of the log.
@@ -74,8 +76,10 @@ fn shapes_and_numbers<M: Maker>(
     Ok((shapes, numbers))
 }
 
-/// The store that the records of a log restore, and the first numbers that so many sessions may give to their blank nodes.
-pub(crate) fn restore<M: Maker>(
+/// The store that the records of a log restore, and the first numbers that so many sessions may give to their blank nodes. Threads
+/// share out the evaluations among each other.
+pub(crate) fn restore<M: Maker, T: Threads + Sync>(
+    rt: &T,
     alloc: Global,
     limits: Limits,
     records: Vec<Record>,
@@ -94,7 +98,7 @@ pub(crate) fn restore<M: Maker>(
         Err(fault) => return Err(fault),
     };
     let count = records.len() as u64;
-    match restore_counted::<Brand>(alloc, limits, records, shapes, Blank::new(1)) {
+    match restore_counted::<Brand, T>(rt, alloc, limits, records, shapes, Blank::new(1)) {
         Ok(core) => Ok((core, numbers)),
         Err(fault) => Err(restore_fault(fault, count)),
     }

@@ -15,6 +15,7 @@ use std::marker::Brand;
 use std::process::Abort;
 use std::sync::ledger::{Blank, Ledger};
 use std::test::Fail;
+use std::thread::Threads;
 
 const LIMITS: Limits = Limits {
     terms: 2,
@@ -61,8 +62,8 @@ fn staging(alloc: Global) -> Result<Transaction, AllocError>
 }
 
 // Commits it in a session of its own.
-fn commit_one<L: Ledger>(
-    rt: &impl Abort,
+fn commit_one<L: Ledger, R: Threads + Abort + Sync>(
+    rt: &R,
     alloc: Global,
     core: &mut Core,
     log: &mut Log<MemDisk>,
@@ -78,16 +79,16 @@ fn commit_one<L: Ledger>(
     let transaction = staging(alloc)?;
     let mut steps = Steps::<L>::begin(blank);
     let checked = CheckedTransaction::unchecked(alloc, transaction);
-    Ok(core.commit_logged(session, checked, log, &mut steps))
+    Ok(core.commit_logged(rt, session, checked, log, &mut steps))
 }
 
-fn commit(
-    rt: &impl Abort,
+fn commit<R: Threads + Abort + Sync>(
+    rt: &R,
     alloc: Global,
     core: &mut Core,
     log: &mut Log<MemDisk>,
 ) -> Result<Commit, Fail> {
-    commit_one::<Brand>(rt, alloc, core, log, Blank::new(1))
+    commit_one::<Brand, R>(rt, alloc, core, log, Blank::new(1))
 }
 
 #[test]

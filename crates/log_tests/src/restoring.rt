@@ -16,6 +16,7 @@ use std::marker::Brand;
 use std::process::Abort;
 use std::sync::ledger::{Blank, Ledger};
 use std::test::Fail;
+use std::thread::Threads;
 
 const LIMITS: Limits = Limits {
     terms: 5,
@@ -51,8 +52,8 @@ fn records_of(rt: &impl Abort, alloc: Global, texts: &[&str]) -> Result<Vec<Reco
 }
 
 // What the records with these texts restore, none of which stages shapes.
-fn restored<L: Ledger>(
-    rt: &impl Abort,
+fn restored<L: Ledger, R: Threads + Abort + Sync>(
+    rt: &R,
     alloc: Global,
     limits: Limits,
     texts: &[&str],
@@ -70,19 +71,19 @@ fn restored<L: Ledger>(
     }
     let shapes = ShapesGraph::empty(alloc)?;
     let mut steps = Steps::<L>::begin(blank);
-    Ok(Core::restore(alloc, limits, records, shapes, &mut steps))
+    Ok(Core::restore(rt, alloc, limits, records, shapes, &mut steps))
 }
 
 // Why no store is restored of records without shapes.
-fn fault_of(
-    rt: &impl Abort,
+fn fault_of<R: Threads + Abort + Sync>(
+    rt: &R,
     alloc: Global,
     limits: Limits,
     texts: &[&str],
 ) -> Result<RestoreFault, Fail>
     requires { limits.terms + 2 < 2 ^ 32 }
 {
-    match restored::<Brand>(rt, alloc, limits, texts, Blank::new(1))? {
+    match restored::<Brand, R>(rt, alloc, limits, texts, Blank::new(1))? {
         Ok(_) => Err(Fail::new("no store is restored")),
         Err(fault) => Ok(fault),
     }
@@ -98,7 +99,8 @@ const FIRST: &str = "commit 1\n+ <e:a> <e:p> <e:b> .\n+ <e:c> <e:p> _:s1x1 .\n";
 fn two_records(rt: HostRuntime) -> Result<(), Fail> {
     let alloc = rt.alloc();
     let texts = [FIRST, "commit 2\n- <e:a> <e:p> <e:b> .\n"];
-    let Ok(mut core) = restored::<Brand>(&rt, alloc, LIMITS, &texts, Blank::new(1))? else {
+    let Ok(mut core) = restored::<Brand, HostRuntime>(&rt, alloc, LIMITS, &texts, Blank::new(1))?
+    else {
         return Err(Fail::new("two records are restored"));
     };
     assert_eq!(rt; core.version(), 2);
@@ -120,7 +122,8 @@ fn two_records(rt: HostRuntime) -> Result<(), Fail> {
 #[test]
 fn other_nodes_were_not_given(rt: HostRuntime) -> Result<(), Fail> {
     let alloc = rt.alloc();
-    let Ok(mut core) = restored::<Brand>(&rt, alloc, LIMITS, &[FIRST], Blank::new(1))? else {
+    let Ok(mut core) = restored::<Brand, HostRuntime>(&rt, alloc, LIMITS, &[FIRST], Blank::new(1))?
+    else {
         return Err(Fail::new("a record is restored"));
     };
     let Ok(session) = core.session() else {
@@ -172,7 +175,7 @@ fn records_beyond_the_limits(rt: HostRuntime) -> Result<(), Fail> {
     )?;
     assert_eq!(rt; misfit, RestoreFault::Misfit { record: 2 });
     let removed = [FIRST, "commit 2\n- <e:a> <e:p> <e:b> .\n"];
-    let one = restored::<Brand>(&rt, alloc, triples, &removed, Blank::new(1))?;
+    let one = restored::<Brand, HostRuntime>(&rt, alloc, triples, &removed, Blank::new(1))?;
     assert!(rt; one.is_ok());
     Ok(())
 }

@@ -1,7 +1,6 @@
 //! The evidence of a result.
 ghost use Rattle.std.specs.Prelude.{◌≡◌, ◌<◌, IfOk, Some, length, slice_get, string_bytes};
-ghost use Rattle.rdf_model.specs.Numbers.{AreNumbered, IsNumbering, graph_of, term_at};
-ghost use Rattle.path_eval.specs.Instances.{AreClassWords};
+ghost use Rattle.rdf_model.specs.Numbers.{graph_of, term_at};
 ghost use Rattle.shape_ast.specs.Readings.{AreBound, ReadShape, named_shapes};
 ghost use Rattle.shape_ast.specs.Standing.{AreBuilt};
 ghost use Rattle.result_evidence.specs.AimedRows.{IsLeastAimed};
@@ -9,19 +8,18 @@ ghost use Rattle.evidence_blocks.specs.BlockText.{block_text};
 ghost use Rattle.evidence_blocks.specs.Blocks.{IsLeastAim};
 ghost use Rattle.result_evidence.specs.Standing.{ForShape, HaveGraph, IsEvidenceOf, IsSomeResult};
 
-use crate::AimedRow;
 use crate::aims::{Aim, aim_of};
 use crate::looks::looks_of;
 use crate::shown::shown_looks;
+use crate::{AimedRow, NumberedData};
 use collections::both;
 use component_rows::named;
 use evidence_blocks::{Block, write_block};
-use path_eval::ClassWords;
 use rdf_model::{Names, Term, Triples};
 use shape_ast::Bound;
 use shape_eval::{Evaluation, Steps};
 use shape_model::ResultRow;
-use std::alloc::{AllocError, Global};
+use std::alloc::AllocError;
 use std::sync::ledger::Ledger;
 
 // The node that is the shape at the place.
@@ -93,52 +91,41 @@ fn block_of<R: Triples, N: Names, L: Ledger>(
 /// and `end`. It is that of each shapes graph that the shapes stand for, in which no shape refers to itself and no chain of
 /// references is longer than 256. It fails only for want of memory.
 pub fn evidence<R: Triples, N: Names, L: Ledger>(
-    alloc: Global,
-    graph: &R,
-    names: &N,
-    words: ClassWords,
+    data: &NumberedData<'_, R, N>,
     bound: &Bound,
     row: &ResultRow,
     steps: &mut Steps<L>,
 ) -> Result<String, AllocError>
-    requires numbering { IsNumbering (N.terms names.now) }
-    requires graph { AreNumbered (N.terms names.now) (R.triples graph.now) }
-    requires words { AreClassWords (N.terms names.now) words }
-    requires bound { AreBound (N.terms names.now) bound.now.shapes }
-    requires built { AreBuilt (term_at (N.terms names.now)) bound.now.shapes }
-    requires row { IsSomeResult (N.terms names.now) (R.triples graph.now) bound.now.shapes row.now }
-    ensures { IfOk result (λ text. (block : _) × IsEvidenceOf (N.terms names.now) (R.triples graph.now) bound.now.shapes row.now block × (string_bytes text ≡ block_text block)) }
+    requires bound { AreBound data.now.terms bound.now.shapes }
+    requires built { AreBuilt (term_at data.now.terms) bound.now.shapes }
+    requires row { IsSomeResult data.now.terms data.now.ids bound.now.shapes row.now }
+    ensures { IfOk result (λ text. (block : _) × IsEvidenceOf data.now.terms data.now.ids bound.now.shapes row.now block × (string_bytes text ≡ block_text block)) }
 {
-    let evaluation = Evaluation::new(alloc, graph, names, words, bound);
+    let evaluation = data.evaluation(bound);
+    let names = data.names();
     let aim = aim_of(&evaluation, names, row, steps)?;
     let block = block_of(&evaluation, names, row, aim, steps)?;
-    write_block(alloc, &block)
+    write_block(data.alloc(), &block)
 }
 
 /// The text of a result's block, where the least shape and focus node that give the result are known.
 pub fn evidence_at<R: Triples, N: Names, L: Ledger>(
-    alloc: Global,
-    graph: &R,
-    names: &N,
-    words: ClassWords,
+    data: &NumberedData<'_, R, N>,
     bound: &Bound,
     aimed: &AimedRow,
     steps: &mut Steps<L>,
 ) -> Result<String, AllocError>
-    requires numbering { IsNumbering (N.terms names.now) }
-    requires graph { AreNumbered (N.terms names.now) (R.triples graph.now) }
-    requires words { AreClassWords (N.terms names.now) words }
-    requires bound { AreBound (N.terms names.now) bound.now.shapes }
-    requires built { AreBuilt (term_at (N.terms names.now)) bound.now.shapes }
-    requires shapes { HaveGraph (N.terms names.now) bound.now.shapes }
-    requires aimed { IsLeastAimed (N.terms names.now) (R.triples graph.now) bound.now.shapes aimed.now }
-    ensures { IfOk result (λ text. (block : _) × IsEvidenceOf (N.terms names.now) (R.triples graph.now) bound.now.shapes aimed.now.row block × (string_bytes text ≡ block_text block)) }
+    requires bound { AreBound data.now.terms bound.now.shapes }
+    requires built { AreBuilt (term_at data.now.terms) bound.now.shapes }
+    requires shapes { HaveGraph data.now.terms bound.now.shapes }
+    requires aimed { IsLeastAimed data.now.terms data.now.ids bound.now.shapes aimed.now }
+    ensures { IfOk result (λ text. (block : _) × IsEvidenceOf data.now.terms data.now.ids bound.now.shapes aimed.now.row block × (string_bytes text ≡ block_text block)) }
 {
-    let evaluation = Evaluation::new(alloc, graph, names, words, bound);
+    let evaluation = data.evaluation(bound);
     let aim = Aim {
         place: aimed.place,
         focus: aimed.number,
     };
-    let block = block_of(&evaluation, names, &aimed.row, aim, steps)?;
-    write_block(alloc, &block)
+    let block = block_of(&evaluation, data.names(), &aimed.row, aim, steps)?;
+    write_block(data.alloc(), &block)
 }

@@ -1,18 +1,16 @@
 //! All results of a graph, with the shapes and the focus nodes that give them.
 ghost use Rattle.std.specs.Prelude.{◌≡◌, ◌<◌, IfOk, length, map};
 ghost use Rattle.std.specs.List.{All};
-ghost use Rattle.rdf_model.specs.Numbers.{AreNumbered, IsNumbering, term_at};
-ghost use Rattle.path_eval.specs.Instances.{AreClassWords};
+ghost use Rattle.rdf_model.specs.Numbers.{term_at};
 ghost use Rattle.shape_ast.specs.Readings.{AreBound};
 ghost use Rattle.shape_ast.specs.Standing.{AreBuilt};
 ghost use Rattle.result_evidence.specs.AimedRows.{AreAimedRows, AreAimsBelow, AreAimsOf, FindsAt, FindsAtSome, aimed_at};
 ghost use Rattle.result_evidence.specs.Standing.{ForEach, ForShape};
 
-use crate::AimedRow;
 use crate::aims::targets_of;
+use crate::{AimedRow, NumberedData};
 use collections::{both, sorted_once};
 use component_rows::named;
-use path_eval::ClassWords;
 use rdf_model::{Footprint, Names, Term, Triples};
 use shape_ast::Bound;
 use shape_eval::{Evaluation, Matchers, Steps, eval, permit};
@@ -145,21 +143,15 @@ fn aimed_of_all<R: Triples, N: Names, L: Ledger>(
 /// under each shapes graph that the shapes stand for, in which no shape refers to itself and no chain of references is longer
 /// than 256. It fails only for want of memory.
 pub fn aimed_rows<R: Triples, N: Names, L: Ledger>(
-    alloc: Global,
-    graph: &R,
-    names: &N,
-    words: ClassWords,
+    data: &NumberedData<'_, R, N>,
     bound: &Bound,
     steps: &mut Steps<L>,
 ) -> Result<Vec<AimedRow>, AllocError>
-    requires numbering { IsNumbering (N.terms names.now) }
-    requires graph { AreNumbered (N.terms names.now) (R.triples graph.now) }
-    requires words { AreClassWords (N.terms names.now) words }
-    requires bound { AreBound (N.terms names.now) bound.now.shapes }
-    requires built { AreBuilt (term_at (N.terms names.now)) bound.now.shapes }
-    ensures { IfOk result (λ rows. AreAimedRows (N.terms names.now) (R.triples graph.now) bound.now.shapes rows.items) }
+    requires bound { AreBound data.now.terms bound.now.shapes }
+    requires built { AreBuilt (term_at data.now.terms) bound.now.shapes }
+    ensures { IfOk result (λ rows. AreAimedRows data.now.terms data.now.ids bound.now.shapes rows.items) }
 {
-    let evaluation = Evaluation::new(alloc, graph, names, words, bound);
-    let rows = aimed_of_all(&evaluation, names, steps)?;
+    let evaluation = data.evaluation(bound);
+    let rows = aimed_of_all(&evaluation, data.names(), steps)?;
     sorted_once(rows)
 }

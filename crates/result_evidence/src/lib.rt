@@ -16,6 +16,7 @@ mod aims;
 mod evidence_text;
 mod gathering;
 mod looks;
+mod numbered_data;
 mod shown;
 mod triples;
 
@@ -23,4 +24,5 @@ pub use aimed_row::AimedRow;
 pub use evidence_text::{evidence, evidence_at};
 pub use gathering::aimed_rows;
 pub use looks::listed_looks;
+pub use numbered_data::NumberedData;
 pub use triples::triples_under;

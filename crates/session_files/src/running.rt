@@ -76,7 +76,8 @@ fn run_sessions<D: Disk + Drop + Send, R: Threads + Wait + Sync, G: Gate>(
 }
 
 // All that the sessions print in the order of a history.
-fn print_replay(
+fn print_replay<R: Threads + Sync>(
+    rt: &R,
     alloc: Global,
     limits: Limits,
     history: &[u8],
@@ -92,7 +93,7 @@ fn print_replay(
         Ok(None) => return Err(RunFault::BadHistory { place: 0 }),
         Err(_) => return Err(RunFault::Memory),
     };
-    match replay_all(alloc, limits, all.into_vec(), places.as_slice()) {
+    match replay_all(rt, alloc, limits, all.into_vec(), places.as_slice()) {
         Ok(run) => match text_of(alloc, &run) {
             Ok(text) => Ok(text),
             Err(_) => Err(RunFault::Memory),
@@ -136,7 +137,8 @@ fn load_behind<F: Files, M: Maker>(
 }
 
 // What the session files print in the order of a history.
-fn replay_sessions<F: Files, M: Maker>(
+fn replay_sessions<R: Threads + Sync, F: Files, M: Maker>(
+    rt: &R,
     alloc: Global,
     limits: Limits,
     history: &str,
@@ -161,12 +163,13 @@ fn replay_sessions<F: Files, M: Maker>(
         Ok(all) => all,
         Err(fault) => return Err(fault),
     };
-    print_replay(alloc, limits, &text, all)
+    print_replay(rt, alloc, limits, &text, all)
 }
 
 /// What at most 64 session files print in the order of a history, over an empty store: what a plain store gives, asked one step
-/// at a time in that order, which is valid for them.
-pub fn replay_files<F: Files, M: Maker>(
+/// at a time in that order, which is valid for them. Threads share out the evaluations of each commit among each other.
+pub fn replay_files<R: Threads + Sync, F: Files, M: Maker>(
+    rt: &R,
     alloc: Global,
     limits: Limits,
     history: &str,
@@ -184,7 +187,7 @@ pub fn replay_files<F: Files, M: Maker>(
     if names.len() > MOST_FILES {
         return Err(RunFault::TooManyFiles);
     }
-    replay_sessions(alloc, limits, history, names, files, maker)
+    replay_sessions(rt, alloc, limits, history, names, files, maker)
 }
 
 /// What at most 64 session files print, run beside each other in threads over a core and its log, if it has one: what a plain

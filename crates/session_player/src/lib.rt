@@ -17,6 +17,7 @@ mod perform;
 mod player;
 mod print;
 mod replay;
+mod resources;
 mod run;
 mod stage;
 

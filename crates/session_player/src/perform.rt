@@ -6,6 +6,7 @@ ghost use Rattle.session_transaction.specs.Transactions.{FitsState, plain, plain
 ghost use Rattle.session_player.specs.Ready.{CommitsWith, IsReady, Performs, TakesHead};
 
 use crate::find::{abort, find, report, select};
+use crate::resources::Resources;
 use crate::stage::{change, refuse, stage};
 use collections::{Sequence, let_go};
 use commit_core::Core;
@@ -14,6 +15,7 @@ use session_transaction::{ChangeKind, OpenTransaction, commit, is_refused, reply
 use shape_eval::Steps;
 use std::alloc::{AllocError, Global};
 use std::sync::ledger::Ledger;
+use std::thread::Threads;
 
 fn begin(
     alloc: Global,
@@ -35,8 +37,8 @@ fn begin(
 }
 
 // Commits the transaction, and gives the session's reply.
-pub fn commit_reply<L: Ledger>(
-    alloc: Global,
+pub fn commit_reply<L: Ledger, T: Threads + Sync>(
+    resources: &Resources<'_, T>,
     core: &mut Core,
     session: u32,
     open: OpenTransaction,
@@ -49,10 +51,10 @@ pub fn commit_reply<L: Ledger>(
     ensures { IfOk result (CommitsWith session core.old core.new open.transaction) }
 {
     core.recall_consistent();
-    let (handed, snap) = open.into_parts(alloc);
+    let (handed, snap) = open.into_parts(resources.alloc);
     let_go(snap);
-    match commit(core, session, handed, steps) {
-        Ok(committed) => reply_of_commit(alloc, committed),
+    match commit(resources.rt, core, session, handed, steps) {
+        Ok(committed) => reply_of_commit(resources.alloc, committed),
         Err(handed) => {
             let_go(handed);
             Err(AllocError)
@@ -61,7 +63,8 @@ pub fn commit_reply<L: Ledger>(
 }
 
 // Takes the newest version for the commit of the transaction, and checks its changes there.
-pub fn take_head<L: Ledger>(
+pub fn take_head<L: Ledger, T: Threads + Sync>(
+    rt: &T,
     core: &mut Core,
     session: u32,
     open: &mut OpenTransaction,
@@ -75,12 +78,12 @@ pub fn take_head<L: Ledger>(
 {
     core.recall_consistent();
     let head = core.head(session)?;
-    open.check(&head, steps)?;
+    open.check(rt, &head, steps)?;
     Ok(())
 }
 
-fn commit_open<L: Ledger>(
-    alloc: Global,
+fn commit_open<L: Ledger, T: Threads + Sync>(
+    resources: &Resources<'_, T>,
     core: &mut Core,
     session: u32,
     current: Option<OpenTransaction>,
@@ -97,15 +100,16 @@ fn commit_open<L: Ledger>(
         return replies.push(SessionReply::ReadOnly(open.base()));
     }
     let mut open = open;
-    take_head(core, session, &mut open, steps)?;
-    let reply = commit_reply(alloc, core, session, open, steps)?;
+    take_head(resources.rt, core, session, &mut open, steps)?;
+    let reply = commit_reply(resources, core, session, open, steps)?;
     replies.push(reply)?;
     Ok(())
 }
 
-/// Does one command of a session, adds its reply, and gives the transaction that is open then.
-pub fn perform<L: Ledger>(
-    alloc: Global,
+/// Does one command of a session, adds its reply, and gives the transaction that is open then. Threads share out the evaluations
+/// of a commit among each other.
+pub fn perform<L: Ledger, T: Threads + Sync>(
+    resources: &Resources<'_, T>,
     core: &mut Core,
     session: u32,
     current: Option<OpenTransaction>,
@@ -119,6 +123,7 @@ pub fn perform<L: Ledger>(
     if is_refused(&command) {
         return refuse(core, session, current, &command, replies);
     }
+    let alloc = resources.alloc;
     let mut command = command;
     match &mut command {
         Command::Begin => begin(alloc, core, session, current, replies),
@@ -136,7 +141,7 @@ pub fn perform<L: Ledger>(
         }
         Command::Shapes(shapes) => stage(alloc, core, session, current, shapes, replies),
         Command::Commit => {
-            commit_open(alloc, core, session, current, replies, steps)?;
+            commit_open(resources, core, session, current, replies, steps)?;
             Ok(None)
         }
         Command::Find(pattern) => find(alloc, core, session, current, pattern, replies),

@@ -7,6 +7,7 @@ ghost use Rattle.session_player.specs.Players.{DoesFirst, IsEvent, MayGoOn, Sett
 ghost use Rattle.session_player.specs.Ready;
 
 use crate::perform::{commit_reply, perform, take_head};
+use crate::resources::Resources;
 use collections::Sequence;
 use commit_core::Core;
 use session_model::{Command, SessionReply};
@@ -16,6 +17,7 @@ use std::alloc::{AllocError, Global};
 use std::collections::VecDeque;
 use std::marker::Model;
 use std::sync::ledger::Ledger;
+use std::thread::Threads;
 
 /// The commands that are left of a session's file, its open transaction, and what it was answered.
 pub struct Player {
@@ -87,8 +89,8 @@ fn is_commit(command: &Command) -> bool
 }
 
 // Does the player's first command.
-fn play_command<L: Ledger>(
-    alloc: Global,
+fn play_command<L: Ledger, T: Threads + Sync>(
+    resources: &Resources<'_, T>,
     core: &mut Core,
     session: u32,
     player: &mut Player,
@@ -106,7 +108,7 @@ fn play_command<L: Ledger>(
     };
     let current = player.current.take();
     player.current = perform(
-        alloc,
+        resources,
         core,
         session,
         current,
@@ -118,8 +120,8 @@ fn play_command<L: Ledger>(
 }
 
 // Does the commands that are no events, up to the next event or the end.
-fn settle<L: Ledger>(
-    alloc: Global,
+fn settle<L: Ledger, T: Threads + Sync>(
+    resources: &Resources<'_, T>,
     core: &mut Core,
     session: u32,
     player: &mut Player,
@@ -137,13 +139,14 @@ fn settle<L: Ledger>(
         if is_event(&player.current, command) {
             return Ok(());
         }
-        play_command(alloc, core, session, player, steps)?;
+        play_command(resources, core, session, player, steps)?;
     }
     Ok(())
 }
 
 // Takes the newest version for the commit of the open transaction, which is the next command, and checks its changes there.
-fn take_version<L: Ledger>(
+fn take_version<L: Ledger, T: Threads + Sync>(
+    rt: &T,
     core: &mut Core,
     session: u32,
     player: &mut Player,
@@ -159,15 +162,15 @@ fn take_version<L: Ledger>(
         unreachable!()
     };
     let mut open = open;
-    take_head(core, session, &mut open, steps)?;
+    take_head(rt, core, session, &mut open, steps)?;
     player.current = Some(open);
     player.head_taken = true;
     Ok(())
 }
 
 // Commits the open transaction, whose commit has the newest version.
-fn finish_commit<L: Ledger>(
-    alloc: Global,
+fn finish_commit<L: Ledger, T: Threads + Sync>(
+    resources: &Resources<'_, T>,
     core: &mut Core,
     session: u32,
     player: &mut Player,
@@ -182,7 +185,7 @@ fn finish_commit<L: Ledger>(
     let Some(open) = player.current.take() else {
         unreachable!()
     };
-    let reply = commit_reply(alloc, core, session, open, steps)?;
+    let reply = commit_reply(resources, core, session, open, steps)?;
     player.replies.push(reply)?;
     player.head_taken = false;
     player.commands.pop_front();
@@ -204,9 +207,9 @@ impl Player {
 
     /// Takes the session's next event, with the commands before it that are no events. Answers whether
     /// one was left.
-    pub fn take_event<L: Ledger>(
+    pub fn take_event<L: Ledger, T: Threads + Sync>(
         &mut self,
-        alloc: Global,
+        resources: &Resources<'_, T>,
         core: &mut Core,
         session: u32,
         steps: &mut Steps<L>,
@@ -215,24 +218,24 @@ impl Player {
         requires ready { MayGoOn core.old self.old }
         ensures { IfOk result (λ taken. MatchBool taken (TakesEvent session core.old core.new self.old self.new) ((state_of self.old).commands ≡ [])) }
     {
-        settle(alloc, core, session, self, steps)?;
+        settle(resources, core, session, self, steps)?;
         let Some(command) = self.commands.front() else {
             return Ok(false);
         };
         if !is_commit(command) {
-            play_command(alloc, core, session, self, steps)?;
+            play_command(resources, core, session, self, steps)?;
         } else if self.head_taken {
-            finish_commit(alloc, core, session, self, steps)?;
+            finish_commit(resources, core, session, self, steps)?;
         } else {
-            take_version(core, session, self, steps)?;
+            take_version(resources.rt, core, session, self, steps)?;
         }
         Ok(true)
     }
 
     /// The replies of the session, with the commands after its last event, where no event is left.
-    pub fn finish<L: Ledger>(
+    pub fn finish<L: Ledger, T: Threads + Sync>(
         self,
-        alloc: Global,
+        resources: &Resources<'_, T>,
         core: &mut Core,
         session: u32,
         steps: &mut Steps<L>,
@@ -243,7 +246,7 @@ impl Player {
         ensures replies { IfOk result (λ all. Players.Finishes self all) }
     {
         let mut player = self;
-        settle(alloc, core, session, &mut player, steps)?;
+        settle(resources, core, session, &mut player, steps)?;
         Ok(player.into_replies())
     }
 

@@ -10,6 +10,7 @@ ghost use Rattle.session_player.specs.Players.{AreReady, EndsAll, Plays, PlaysAl
 ghost use Rattle.session_player.specs.Refused.{RefusesFrom, RefusesHistory};
 
 use crate::player::Player;
+use crate::resources::Resources;
 use crate::run::Run;
 use collections::Sequence;
 use commit_core::{Core, Limits, SessionFault};
@@ -18,6 +19,7 @@ use shape_eval::Steps;
 use std::alloc::{AllocError, Global};
 use std::marker::Brand;
 use std::sync::ledger::{Blank, Ledger};
+use std::thread::Threads;
 
 /// Why a history gave no run.
 #[derive(Clone, Copy, Debug, PartialEq, Eq)]
@@ -62,8 +64,8 @@ fn open_next(core: &mut Core) -> Result<(), AllocError>
 }
 
 // Takes the place of a session, if it may have the next one. So many sessions are open.
-fn take_place<L: Ledger>(
-    alloc: Global,
+fn take_place<L: Ledger, T: Threads + Sync>(
+    resources: &Resources<'_, T>,
     core: &mut Core,
     players: &mut [Player],
     opened: &mut u32,
@@ -87,12 +89,12 @@ fn take_place<L: Ledger>(
         return Ok(false);
     }
     let player = &mut players[session as usize - 1];
-    player.take_event(alloc, core, session, steps)
+    player.take_event(resources, core, session, steps)
 }
 
 // Takes all places, in order, and answers how many sessions are open then.
-fn play_places<L: Ledger>(
-    alloc: Global,
+fn play_places<L: Ledger, T: Threads + Sync>(
+    resources: &Resources<'_, T>,
     core: &mut Core,
     players: &mut [Player],
     places: &[Option<u32>],
@@ -107,7 +109,7 @@ fn play_places<L: Ledger>(
         let Some(session) = place else {
             return Err(HistoryFault::Place(i + 1));
         };
-        if !take_place(alloc, core, players, &mut opened, *session, steps)? {
+        if !take_place(resources, core, players, &mut opened, *session, steps)? {
             return Err(HistoryFault::Place(i + 1));
         }
     }
@@ -116,8 +118,8 @@ fn play_places<L: Ledger>(
 
 // The replies of the sessions, which are all open, with the commands after their last events, where no
 // event is left.
-fn finish_all<L: Ledger>(
-    alloc: Global,
+fn finish_all<L: Ledger, T: Threads + Sync>(
+    resources: &Resources<'_, T>,
     core: &mut Core,
     players: Vec<Player>,
     steps: &mut Steps<L>,
@@ -127,11 +129,11 @@ fn finish_all<L: Ledger>(
     ensures same { OnOk result (core.new ≡ core.old) }
     ensures ends { IfOk result (λ r. MatchOption r (AllByRecursion (λ s. s.commands ≡ []) (states_of players.items) → ⊥) (λ all. EndsAll (states_of players.items) all.items)) }
 {
-    let mut all = Vec::new(alloc);
+    let mut all = Vec::new(resources.alloc);
     let mut session = 0;
     for player in players {
         session += 1;
-        match player.finish(alloc, core, session, steps)? {
+        match player.finish(resources, core, session, steps)? {
             Some(replies) => all.push(replies)?,
             None => return Ok(None),
         }
@@ -140,7 +142,8 @@ fn finish_all<L: Ledger>(
 }
 
 // Plays the files over a new store, in an own ledger of evaluations.
-fn replay_in<L: Ledger>(
+fn replay_in<L: Ledger, T: Threads + Sync>(
+    rt: &T,
     alloc: Global,
     limits: Limits,
     files: Vec<Sequence<Command>>,
@@ -158,14 +161,15 @@ fn replay_in<L: Ledger>(
     let mut core = Core::open(alloc, limits)?;
     let mut steps = Steps::<L>::begin(blank);
     let mut players = players_of(alloc, files)?;
-    let opened = match play_places(alloc, &mut core, &mut players, places, &mut steps) {
+    let resources = Resources { rt, alloc };
+    let opened = match play_places(&resources, &mut core, &mut players, places, &mut steps) {
         Ok(opened) => opened,
         Err(fault) => return Err(fault),
     };
     if (opened as usize) < count {
         return Err(HistoryFault::Place(places.len() + 1));
     }
-    let Some(replies) = finish_all(alloc, &mut core, players, &mut steps)? else {
+    let Some(replies) = finish_all(&resources, &mut core, players, &mut steps)? else {
         return Err(HistoryFault::Place(places.len() + 1));
     };
     let order = core.order()?;
@@ -173,14 +177,15 @@ fn replay_in<L: Ledger>(
 }
 
 /// Plays session files beside each other over a new store, in the order of the places of a history; the
-/// I-th file is session I.
+/// I-th file is session I. Threads share out the evaluations of each commit among each other.
 ///
 /// # Errors
 ///
 /// The first place that isn't valid: it is an opening other than the next, no number of a session, or it
 /// names a session without an event left. Where the history ends before the sessions do, that is the
 /// place after its last.
-pub fn replay_all(
+pub fn replay_all<T: Threads + Sync>(
+    rt: &T,
     alloc: Global,
     limits: Limits,
     files: Vec<Sequence<Command>>,
@@ -190,5 +195,5 @@ pub fn replay_all(
     requires few { length files.items ≤ 64 }
     ensures { MatchResult result (λ run. IsReplayed files.items limits empty_store places.now run.order.items run.replies.items) (RefusesHistory files.items limits empty_store places.now) }
 {
-    replay_in::<Brand>(alloc, limits, files, places, Blank::new(1))
+    replay_in::<Brand, T>(rt, alloc, limits, files, places, Blank::new(1))
 }

@@ -6,6 +6,7 @@ ghost use Rattle.session_player.specs.Progress.{HasRun, OpensSessions};
 ghost use Rattle.session_player.specs.Ready.{PerformsAll};
 
 use crate::perform::perform;
+use crate::resources::Resources;
 use collections::Sequence;
 use commit_core::{Core, Limits, SessionFault};
 use session_model::{Command, SessionReply};
@@ -13,10 +14,11 @@ use shape_eval::Steps;
 use std::alloc::{AllocError, Global};
 use std::marker::Brand;
 use std::sync::ledger::{Blank, Ledger};
+use std::thread::Threads;
 
 // Runs the commands of a session that was given out.
-fn perform_all<L: Ledger>(
-    alloc: Global,
+fn perform_all<L: Ledger, T: Threads + Sync>(
+    resources: &Resources<'_, T>,
     core: &mut Core,
     session: u32,
     commands: Sequence<Command>,
@@ -25,10 +27,18 @@ fn perform_all<L: Ledger>(
     requires { IsOpened core.old.state session }
     ensures { IfOk result (PerformsAll session core.old core.new commands) }
 {
-    let mut replies = Sequence::new(alloc);
+    let mut replies = Sequence::new(resources.alloc);
     let mut current = None;
     for command in commands.into_vec() {
-        current = perform(alloc, core, session, current, command, &mut replies, steps)?;
+        current = perform(
+            resources,
+            core,
+            session,
+            current,
+            command,
+            &mut replies,
+            steps,
+        )?;
     }
     Ok(replies)
 }
@@ -56,8 +66,8 @@ pub struct Run {
 }
 
 // Runs the files, whose sessions were opened, one after another.
-fn play_all<L: Ledger>(
-    alloc: Global,
+fn play_all<L: Ledger, T: Threads + Sync>(
+    resources: &Resources<'_, T>,
     core: &mut Core,
     files: Vec<Sequence<Command>>,
     steps: &mut Steps<L>,
@@ -66,18 +76,19 @@ fn play_all<L: Ledger>(
     requires few { length files.items ≤ 64 }
     ensures { IfOk result (λ all. HasRun files.items core.old.limits empty_store core.new (length files.items) all.items) }
 {
-    let mut all = Vec::new(alloc);
+    let mut all = Vec::new(resources.alloc);
     let mut session = 0;
     for commands in files {
         session += 1;
-        let replies = perform_all(alloc, core, session, commands, steps)?;
+        let replies = perform_all(resources, core, session, commands, steps)?;
         all.push(replies)?;
     }
     Ok(all)
 }
 
 // Runs the files over a new store, in an own ledger of evaluations.
-fn run_in<L: Ledger>(
+fn run_in<L: Ledger, T: Threads + Sync>(
+    rt: &T,
     alloc: Global,
     limits: Limits,
     files: Vec<Sequence<Command>>,
@@ -93,13 +104,16 @@ fn run_in<L: Ledger>(
     let mut core = Core::open(alloc, limits)?;
     let mut steps = Steps::<L>::begin(blank);
     open_all(&mut core, files.len())?;
-    let replies = play_all(alloc, &mut core, files, &mut steps)?;
+    let resources = Resources { rt, alloc };
+    let replies = play_all(&resources, &mut core, files, &mut steps)?;
     let order = core.order()?;
     Ok(Run { replies, order })
 }
 
-/// Runs session files one after another over a new store; the I-th file is session I.
-pub fn run_all(
+/// Runs session files one after another over a new store; the I-th file is session I. Threads share out the evaluations of each
+/// commit among each other.
+pub fn run_all<T: Threads + Sync>(
+    rt: &T,
     alloc: Global,
     limits: Limits,
     files: Vec<Sequence<Command>>,
@@ -108,5 +122,5 @@ pub fn run_all(
     requires few { length files.items ≤ 64 }
     ensures { IfOk result (λ run. HasReplies files.items limits empty_store run.order.items None run.replies.items) }
 {
-    run_in::<Brand>(alloc, limits, files, Blank::new(1))
+    run_in::<Brand, T>(rt, alloc, limits, files, Blank::new(1))
 }

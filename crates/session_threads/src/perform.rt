@@ -25,6 +25,7 @@ use shapes_graph::ShapesGraph;
 use std::alloc::AllocError;
 use std::sync::Wait;
 use std::sync::ledger::Ledger;
+use std::thread::Threads;
 
 // Adds the reply that an answer gives. There may be no memory for it.
 fn tell(
@@ -178,7 +179,7 @@ fn abort<D: Disk>(
 }
 
 // Commits where that is no event.
-fn end_reading<D: Disk, L: Ledger, R: Wait>(
+fn end_reading<D: Disk, L: Ledger, R: Threads + Wait + Sync>(
     rt: &R,
     store: &Store<D>,
     session: Session<D>,
@@ -196,7 +197,7 @@ fn end_reading<D: Disk, L: Ledger, R: Wait>(
 }
 
 // Takes the newest version, checks the changes there beside the turns of others, then commits.
-fn commit_work<D: Disk, L: Ledger, R: Wait, G: Gate>(
+fn commit_work<D: Disk, L: Ledger, R: Threads + Wait + Sync, G: Gate>(
     rt: &R,
     store: &Store<D>,
     watch: &mut Watch<G>,
@@ -215,7 +216,7 @@ fn commit_work<D: Disk, L: Ledger, R: Wait, G: Gate>(
         return (session, Err(AllocError));
     };
     let mut session = session;
-    let checked = session.check(steps);
+    let checked = session.check(rt, steps);
     let Ok(_) = checked else {
         return (session, Err(AllocError));
     };
@@ -227,7 +228,7 @@ fn commit_work<D: Disk, L: Ledger, R: Wait, G: Gate>(
     (session, tell(replies, reply))
 }
 
-fn commit<D: Disk, L: Ledger, R: Wait, G: Gate>(
+fn commit<D: Disk, L: Ledger, R: Threads + Wait + Sync, G: Gate>(
     rt: &R,
     store: &Store<D>,
     watch: &mut Watch<G>,
@@ -266,9 +267,9 @@ fn refuse<D: Disk>(
     (session, tell(replies, Ok(reply)))
 }
 
-/// Does one command of a session, and adds its reply. The gate is told of each of its events. Where memory runs out the session
-/// may still be met.
-pub fn perform<D: Disk, L: Ledger, R: Wait, G: Gate>(
+/// Does one command of a session, and adds its reply. The gate is told of each of its events. Threads share out the evaluations of
+/// a commit among each other. Where memory runs out the session may still be met.
+pub fn perform<D: Disk, L: Ledger, R: Threads + Wait + Sync, G: Gate>(
     rt: &R,
     store: &Store<D>,
     watch: &mut Watch<G>,

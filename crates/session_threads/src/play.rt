@@ -15,9 +15,10 @@ use std::alloc::{AllocError, Global};
 use std::marker::Brand;
 use std::sync::Wait;
 use std::sync::ledger::{Blank, Ledger};
+use std::thread::Threads;
 
 // Plays all commands of a file, in an own ledger of evaluations.
-fn play_in<D: Disk, L: Ledger, R: Wait, G: Gate>(
+fn play_in<D: Disk, L: Ledger, R: Threads + Wait + Sync, G: Gate>(
     rt: &R,
     alloc: Global,
     store: &Store<D>,
@@ -56,9 +57,9 @@ fn play_in<D: Disk, L: Ledger, R: Wait, G: Gate>(
     (session, Ok(replies))
 }
 
-/// Plays all commands of a file. The gate is told of the session's events but its opening. Where memory runs out the session may
-/// still be met.
-pub fn play_file<D: Disk, R: Wait, G: Gate>(
+/// Plays all commands of a file. The gate is told of the session's events but its opening. More threads share out the evaluations
+/// of each commit among each other. Where memory runs out the session may still be met.
+pub fn play_file<D: Disk, R: Threads + Wait + Sync, G: Gate>(
     rt: &R,
     alloc: Global,
     store: &Store<D>,

@@ -57,7 +57,13 @@ impl<D: Disk + Drop> Drop for Player<D> {
 
 impl<D: Disk + Drop> Player<D> {
     // Plays its file. Without the memory for it the player has no replies.
-    fn work<R: Wait, G: Gate>(&mut self, rt: &R, alloc: Global, store: &Store<D>, gate: &G)
+    fn work<R: Threads + Wait + Sync, G: Gate>(
+        &mut self,
+        rt: &R,
+        alloc: Global,
+        store: &Store<D>,
+        gate: &G,
+    )
         requires { IsStarting store.now self.old }
         ensures ended { HasPlayedFile store.now self.old.commands self.new }
         ensures number { self.new.number ≡ self.old.number }

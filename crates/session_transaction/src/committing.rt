@@ -17,6 +17,7 @@ use shape_eval::Steps;
 use shape_model::ResultRow;
 use shapes_graph::ShapesGraph;
 use std::sync::ledger::Ledger;
+use std::thread::Threads;
 use store_model::Again;
 
 /// What a commit is answered.
@@ -80,9 +81,10 @@ impl Drop for Committed {
 }
 
 /// Commits a transaction that changes something or stages shapes, with the results of its verdict, if it has one, and counts its
-/// evaluations in `steps`. No log is written to, so that none fails. Without memory it is handed back, and nothing has happened
-/// but what was counted.
-pub fn commit<L: Ledger>(
+/// evaluations in `steps`, which threads share out among each other. No log is written to, so that none fails. Without memory it is
+/// handed back, and nothing has happened but what was counted.
+pub fn commit<L: Ledger, T: Threads + Sync>(
+    rt: &T,
     core: &mut Core,
     session: u32,
     checked: CheckedTransaction,
@@ -94,7 +96,7 @@ pub fn commit<L: Ledger>(
     ensures answer { MatchResult result (IsCommitted core.old core.new session checked.transaction steps.old steps.new) (λ back. (back ≡ checked) × (core.new ≡ core.old) × (steps.old ≤ steps.new)) }
     ensures no_fault { IfOk result IsNoFault }
 {
-    match core.commit(session, checked, steps) {
+    match core.commit(rt, session, checked, steps) {
         Commit::Done { number, again } => Ok(Committed::Done { number, again }),
         Commit::Conflict { commit, triple } => Ok(Committed::Conflict { commit, triple }),
         Commit::FullTriples { count } => Ok(Committed::FullTriples { count }),
@@ -114,7 +116,8 @@ pub fn commit<L: Ledger>(
 }
 
 // The answer of the core, whose log, where it has one, is appended to.
-fn answer_beside<D: Disk, L: Ledger>(
+fn answer_beside<D: Disk, L: Ledger, T: Threads + Sync>(
+    rt: &T,
     core: &mut Core,
     log: &mut Option<Log<D>>,
     session: u32,
@@ -132,14 +135,15 @@ fn answer_beside<D: Disk, L: Ledger>(
 {
     core.recall_consistent();
     match log {
-        Some(log) => core.commit_logged(session, checked, log, steps),
-        None => core.commit(session, checked, steps),
+        Some(log) => core.commit_logged(rt, session, checked, log, steps),
+        None => core.commit(rt, session, checked, steps),
     }
 }
 
 /// Commits a transaction as `commit` does, and appends its record to the log of the core, where it has one. Where the log fails,
 /// for which its disk is to blame, the store is stopped.
-pub fn commit_beside<D: Disk, L: Ledger>(
+pub fn commit_beside<D: Disk, L: Ledger, T: Threads + Sync>(
+    rt: &T,
     core: &mut Core,
     log: &mut Option<Log<D>>,
     session: u32,
@@ -154,7 +158,7 @@ pub fn commit_beside<D: Disk, L: Ledger>(
     ensures answer { MatchResult result (IsCommitted core.old core.new session checked.transaction steps.old steps.new) (λ back. (back ≡ checked) × (core.new ≡ core.old) × (steps.old ≤ steps.new)) }
     ensures log { KeepsLog D.tells D.bytes D.history D.chosen D.faults core.old core.new log.old log.new }
 {
-    match answer_beside(core, log, session, checked, steps) {
+    match answer_beside(rt, core, log, session, checked, steps) {
         Commit::Done { number, again } => Ok(Committed::Done { number, again }),
         Commit::Conflict { commit, triple } => Ok(Committed::Conflict { commit, triple }),
         Commit::FullTriples { count } => Ok(Committed::FullTriples { count }),

@@ -16,6 +16,7 @@ use shape_eval::Steps;
 use shapes_graph::ShapesGraph;
 use std::alloc::{AllocError, Global};
 use std::sync::ledger::Ledger;
+use std::thread::Threads;
 use store_model::NameKind;
 
 /// A session's open transaction, with the snapshot of its begin, and with what was checked of its changes since the last of them.
@@ -223,9 +224,11 @@ impl OpenTransaction {
 
     /// Checks its changes at the head, a version of the store in which all their terms are named, and keeps the verdict with its
     /// results until a change is staged. Of a transaction that stages shapes nothing is kept, and false is answered. The
-    /// evaluations are counted in `steps`. After an error it is as it was, and the count is what it was, or more.
-    pub fn check<L: Ledger>(
+    /// evaluations are counted in `steps`, and threads share them out among each other. After an error it is as it was, and the
+    /// count is what it was, or more.
+    pub fn check<L: Ledger, T: Threads + Sync>(
         &mut self,
+        rt: &T,
         head: &Snap,
         steps: &mut Steps<L>,
     ) -> Result<bool, AllocError>
@@ -239,7 +242,7 @@ impl OpenTransaction {
             self.checked = None;
             return Ok(false);
         }
-        let found = head.check(&self.transaction.net, &self.hints, steps)?;
+        let found = head.check(rt, &self.transaction.net, &self.hints, steps)?;
         self.checked = Some(found);
         Ok(true)
     }

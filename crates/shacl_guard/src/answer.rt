@@ -82,6 +82,7 @@ fn run_sessions<R: Threads + Wait + Sync, F: Files, M: Maker, G: Gate>(
 {
     match &run.history {
         Some(history) => replay_files(
+            rt,
             alloc,
             run.limits,
             history.as_str(),

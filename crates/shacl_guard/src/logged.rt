@@ -141,6 +141,7 @@ fn answer_logged<D: Disk + Drop + Send, R: Threads + Wait + Sync, F: Files, M: M
         return (Err(Status::TooManyFiles), disk);
     }
     match open_log(
+        rt,
         alloc,
         disk,
         logged.run.limits,

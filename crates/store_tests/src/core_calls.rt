@@ -15,6 +15,7 @@ use std::alloc::{AllocError, Global};
 use std::marker::Brand;
 use std::sync::ledger::{Blank, Ledger};
 use std::test::Fail;
+use std::thread::Threads;
 
 const LIMITS: Limits = Limits {
     terms: 2,
@@ -166,7 +167,8 @@ fn staging(alloc: Global) -> Result<Transaction, AllocError>
     })
 }
 
-fn committed<L: Ledger>(
+fn committed<L: Ledger, T: Threads + Sync>(
+    rt: &T,
     alloc: Global,
     core: &mut Core,
     session: u32,
@@ -180,13 +182,18 @@ fn committed<L: Ledger>(
     let transaction = staging(alloc)?;
     let mut steps = Steps::<L>::begin(blank);
     let checked = CheckedTransaction::unchecked(alloc, transaction);
-    Ok(core.commit(session, checked, &mut steps))
+    Ok(core.commit(rt, session, checked, &mut steps))
 }
 
-fn committed_one(alloc: Global, core: &mut Core, session: u32) -> Result<Commit, AllocError>
+fn committed_one<T: Threads + Sync>(
+    rt: &T,
+    alloc: Global,
+    core: &mut Core,
+    session: u32,
+) -> Result<Commit, AllocError>
     requires { IsOpened core.old.state session }
 {
-    committed::<Brand>(alloc, core, session, Blank::new(1))
+    committed::<Brand, T>(rt, alloc, core, session, Blank::new(1))
 }
 
 // A shapes graph without triples is staged, so the graph is evaluated in the step.
@@ -194,7 +201,7 @@ fn committed_one(alloc: Global, core: &mut Core, session: u32) -> Result<Commit,
 fn shapes_are_committed(rt: HostRuntime) -> Result<(), Fail> {
     let alloc = rt.alloc();
     let (mut core, session) = opened(alloc)?;
-    let commit = committed_one(alloc, &mut core, session)?;
+    let commit = committed_one(&rt, alloc, &mut core, session)?;
     match &commit {
         Commit::Done {
             number,

@@ -6,6 +6,7 @@ use session_model::{Block, Command};
 use session_player::{run_all, text_of};
 use std::alloc::{AllocError, Global};
 use std::test::Fail;
+use std::thread::Threads;
 
 // A command; a find asks for all triples of a predicate.
 #[derive(Clone, Copy)]
@@ -60,20 +61,21 @@ pub fn commands_of(alloc: Global, rows: &[Row]) -> Result<Sequence<Command>, Fai
 }
 
 // What the session of these commands prints.
-fn printed(alloc: Global, rows: &[Row]) -> Result<String, Fail> {
+fn printed<T: Threads + Sync>(rt: &T, alloc: Global, rows: &[Row]) -> Result<String, Fail> {
     let limits = Limits {
         terms: 100,
         triples: 100,
         mode: BlockMode::All,
     };
     let commands = commands_of(alloc, rows)?;
-    let run = run_all(alloc, limits, vec![in alloc; commands]?)?;
+    let run = run_all(rt, alloc, limits, vec![in alloc; commands]?)?;
     Ok(text_of(alloc, &run)?)
 }
 
 #[test]
 fn an_abort_forgets(rt: HostRuntime) -> Result<(), Fail> {
     let text = printed(
+        &rt,
         rt.alloc(),
         &[
             Row::Begin,

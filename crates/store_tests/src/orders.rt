@@ -11,6 +11,7 @@ use session_model::Command;
 use session_player::{HistoryFault, replay_all, text_of};
 use std::alloc::{AllocError, Global};
 use std::test::Fail;
+use std::thread::Threads;
 
 const LIMITS: Limits = Limits {
     terms: 100,
@@ -198,7 +199,8 @@ fn sessions(alloc: Global) -> Result<Vec<Sequence<Command>>, Fail>
 }
 
 // What the sessions print in the order of a history's text; nothing where it isn't valid.
-fn replayed(
+fn replayed<T: Threads + Sync>(
+    rt: &T,
     alloc: Global,
     files: Vec<Sequence<Command>>,
     history: &str,
@@ -208,7 +210,7 @@ fn replayed(
     let Some(places) = read_history(alloc, history.as_bytes())? else {
         return Ok(String::new(alloc));
     };
-    match replay_all(alloc, LIMITS, files, places.as_slice()) {
+    match replay_all(rt, alloc, LIMITS, files, places.as_slice()) {
         Ok(run) => text_of(alloc, &run),
         Err(HistoryFault::Place(_)) => Ok(String::new(alloc)),
         Err(HistoryFault::Memory) => Err(AllocError),
@@ -216,17 +218,17 @@ fn replayed(
 }
 
 // Whether in this order the store's events are steps, and the sessions print what those answer.
-fn is_played(alloc: Global, order: Order) -> Result<bool, Fail> {
+fn is_played<T: Threads + Sync>(rt: &T, alloc: Global, order: Order) -> Result<bool, Fail> {
     let rows = rows_of(alloc, order)?;
     let events = events_of(alloc, &rows)?;
-    if first_no_step(alloc, LIMITS, events)? != 0 {
+    if first_no_step(rt, alloc, LIMITS, events)? != 0 {
         return Ok(false);
     }
     let history = history_of(alloc, &rows)?;
     let own = own_text(alloc, order)?;
     let other = other_text(alloc, order)?;
     let want = format!(in alloc; "{own}{other}{history}")?;
-    let text = replayed(alloc, sessions(alloc)?, &history)?;
+    let text = replayed(rt, alloc, sessions(alloc)?, &history)?;
     Ok(text.as_str() == want.as_str())
 }
 
@@ -243,7 +245,7 @@ fn sessions_are_answered_by_the_store_in_every_order(rt: HostRuntime) -> Result<
                         head,
                         commit,
                     };
-                    let played = is_played(alloc, order)?;
+                    let played = is_played(&rt, alloc, order)?;
                     assert!(rt; played, "{begin} {name} {head} {commit}");
                 }
             }

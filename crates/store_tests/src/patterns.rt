@@ -5,6 +5,7 @@ use session_player::{run_all, text_of};
 use session_reader::prepare;
 use std::alloc::{AllocError, Global};
 use std::test::Fail;
+use std::thread::Threads;
 
 const LIMITS: Limits = Limits {
     terms: 100,
@@ -122,7 +123,7 @@ fn replies_with(alloc: Global, reply: &str, event: &str) -> Result<String, Alloc
 }
 
 // What the session of a file prints.
-fn printed(alloc: Global, file: &str) -> Result<String, Fail> {
+fn printed<T: Threads + Sync>(rt: &T, alloc: Global, file: &str) -> Result<String, Fail> {
     if file.len() > 5000 {
         return Err(Fail::new("the file is short"));
     }
@@ -130,14 +131,14 @@ fn printed(alloc: Global, file: &str) -> Result<String, Fail> {
     let Ok(commands) = prepare(alloc, &mut maker, 1, 1, file.as_bytes()) else {
         return Err(Fail::new("the file is read"));
     };
-    let run = run_all(alloc, LIMITS, vec![in alloc; commands]?)?;
+    let run = run_all(rt, alloc, LIMITS, vec![in alloc; commands]?)?;
     Ok(text_of(alloc, &run)?)
 }
 
 #[test]
 fn patterns_before_a_validation(rt: HostRuntime) -> Result<(), Fail> {
     let alloc = rt.alloc();
-    let text = printed(alloc, session_with(alloc, "")?.as_str())?;
+    let text = printed(&rt, alloc, session_with(alloc, "")?.as_str())?;
     let want = replies_with(alloc, "", "")?;
     assert_eq!(rt; text.as_str(), want.as_str());
     Ok(())
@@ -146,7 +147,7 @@ fn patterns_before_a_validation(rt: HostRuntime) -> Result<(), Fail> {
 #[test]
 fn patterns_after_a_validation(rt: HostRuntime) -> Result<(), Fail> {
     let alloc = rt.alloc();
-    let text = printed(alloc, session_with(alloc, SHAPES)?.as_str())?;
+    let text = printed(&rt, alloc, session_with(alloc, SHAPES)?.as_str())?;
     let want = replies_with(alloc, "shapes 1\n", " 1")?;
     assert_eq!(rt; text.as_str(), want.as_str());
     Ok(())

@@ -5,6 +5,7 @@ use session_player::{run_all, text_of};
 use session_reader::prepare;
 use std::alloc::Global;
 use std::test::Fail;
+use std::thread::Threads;
 
 const LIMITS: Limits = Limits {
     terms: 100,
@@ -22,7 +23,12 @@ commit
 ";
 
 // What the session of a file prints where these builds are refused.
-fn printed(alloc: Global, file: &str, refuse: Vec<u64>) -> Result<String, Fail> {
+fn printed<T: Threads + Sync>(
+    rt: &T,
+    alloc: Global,
+    file: &str,
+    refuse: Vec<u64>,
+) -> Result<String, Fail> {
     if file.len() > 1000 {
         return Err(Fail::new("the file is short"));
     }
@@ -30,7 +36,7 @@ fn printed(alloc: Global, file: &str, refuse: Vec<u64>) -> Result<String, Fail> 
     let Ok(commands) = prepare(alloc, &mut maker, 1, 1, file.as_bytes()) else {
         return Err(Fail::new("the file is read"));
     };
-    let run = run_all(alloc, LIMITS, vec![in alloc; commands]?)?;
+    let run = run_all(rt, alloc, LIMITS, vec![in alloc; commands]?)?;
     Ok(text_of(alloc, &run)?)
 }
 
@@ -51,7 +57,7 @@ fn the_shape_of_a_refused_pattern_is_told(rt: HostRuntime) -> Result<(), Fail> {
             "session 1\nbegin 0\nbad shapes pattern <e:P>\nread only 0\nhistory 1 1\n",
         ),
     ] {
-        let text = printed(alloc, FILE, vec![in alloc; refuse]?)?;
+        let text = printed(&rt, alloc, FILE, vec![in alloc; refuse]?)?;
         assert_eq!(rt; text.as_str(), want, "{refuse}");
     }
     Ok(())

@@ -10,6 +10,7 @@ use std::alloc::{AllocError, Global};
 use std::marker::Brand;
 use std::sync::ledger::{Blank, Ledger};
 use std::test::Fail;
+use std::thread::Threads;
 use store_model::{Action, Reply};
 
 const LIMITS: Limits = Limits {
@@ -156,7 +157,8 @@ fn events_of(
     Ok(events)
 }
 
-fn replayed<L: Ledger>(
+fn replayed<L: Ledger, T: Threads + Sync>(
+    rt: &T,
     alloc: Global,
     limits: Limits,
     events: Vec<Event>,
@@ -168,7 +170,7 @@ fn replayed<L: Ledger>(
     requires some { 0 < L.parts }
 {
     let mut steps = Steps::<L>::begin(blank);
-    match Core::replay(alloc, limits, events, &mut steps) {
+    match Core::replay(rt, alloc, limits, events, &mut steps) {
         Ok(core) => {
             let _ = core;
             Ok(0)
@@ -179,18 +181,24 @@ fn replayed<L: Ledger>(
 }
 
 /// The first of the events that is no step within these limits, from 1; 0 where all are.
-pub fn first_no_step(alloc: Global, limits: Limits, events: Vec<Event>) -> Result<usize, AllocError>
+pub fn first_no_step<T: Threads + Sync>(
+    rt: &T,
+    alloc: Global,
+    limits: Limits,
+    events: Vec<Event>,
+) -> Result<usize, AllocError>
     requires { limits.terms ≤ 2000000 }
 {
-    replayed::<Brand>(alloc, limits, events, Blank::new(1))
+    replayed::<Brand, T>(rt, alloc, limits, events, Blank::new(1))
 }
 
-fn first_wrong(
+fn first_wrong<T: Threads + Sync>(
+    rt: &T,
     alloc: Global,
     opened: u32,
     rows: &[(u32, Ask, Answer)],
 ) -> Result<usize, AllocError> {
-    first_no_step(alloc, LIMITS, events_of(alloc, opened, rows)?)
+    first_no_step(rt, alloc, LIMITS, events_of(alloc, opened, rows)?)
 }
 
 pub const FIRST: Iris = Iris {
@@ -252,7 +260,7 @@ fn commits_are_overtaken_by_what_was_found(rt: HostRuntime) -> Result<(), Fail> 
         (None, Answer::Done(2), Answer::FullTriples(2), 14),
     ] {
         let rows = overtaken(found, second, last);
-        assert_eq!(rt; first_wrong(rt.alloc(), 2, &rows)?, want);
+        assert_eq!(rt; first_wrong(&rt, rt.alloc(), 2, &rows)?, want);
     }
     Ok(())
 }
@@ -269,7 +277,7 @@ fn terms_are_named_up_to_the_limit(rt: HostRuntime) -> Result<(), Fail> {
             (1, Ask::Name(three("e:d", "e:e", "e:f")), Answer::Named),
             (1, Ask::Name(three("e:g", "e:h", "e:i")), last),
         ];
-        assert_eq!(rt; first_wrong(rt.alloc(), 1, &rows)?, want);
+        assert_eq!(rt; first_wrong(&rt, rt.alloc(), 1, &rows)?, want);
     }
     Ok(())
 }
@@ -293,7 +301,7 @@ fn sessions_take_their_turns(rt: HostRuntime) -> Result<(), Fail> {
         (1, 1, Ask::Commit(0, None, OWN), Answer::Done(1), 2),
     ] {
         let rows = [(session, ask, answer)];
-        assert_eq!(rt; first_wrong(rt.alloc(), opened, &rows)?, want);
+        assert_eq!(rt; first_wrong(&rt, rt.alloc(), opened, &rows)?, want);
     }
     Ok(())
 }

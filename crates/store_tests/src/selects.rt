@@ -5,6 +5,7 @@ use session_player::{run_all, text_of};
 use session_reader::prepare;
 use std::alloc::{AllocError, Global};
 use std::test::Fail;
+use std::thread::Threads;
 
 const LIMITS: Limits = Limits {
     terms: 1000,
@@ -23,7 +24,7 @@ fn pairs(alloc: Global, count: u32) -> Result<String, AllocError> {
 }
 
 // What the session prints.
-fn printed(alloc: Global, count: u32) -> Result<String, Fail> {
+fn printed<T: Threads + Sync>(rt: &T, alloc: Global, count: u32) -> Result<String, Fail> {
     let file = pairs(alloc, count)?;
     if file.len() > 50000 {
         return Err(Fail::new("the file is short"));
@@ -32,13 +33,13 @@ fn printed(alloc: Global, count: u32) -> Result<String, Fail> {
     let Ok(commands) = prepare(alloc, &mut maker, 1, 1, file.as_bytes()) else {
         return Err(Fail::new("the file is read"));
     };
-    let run = run_all(alloc, LIMITS, vec![in alloc; commands]?)?;
+    let run = run_all(rt, alloc, LIMITS, vec![in alloc; commands]?)?;
     Ok(text_of(alloc, &run)?)
 }
 
 #[test]
 fn more_than_100000_bindings_are_none(rt: HostRuntime) -> Result<(), Fail> {
-    let text = printed(rt.alloc(), 317)?;
+    let text = printed(&rt, rt.alloc(), 317)?;
     let want = "session 1\nbegin 0\nadd 317\nselect full\ncommit 1\nhistory 1 1 1 1 1\n";
     assert_eq!(rt; text.as_str(), want);
     Ok(())
@@ -46,7 +47,7 @@ fn more_than_100000_bindings_are_none(rt: HostRuntime) -> Result<(), Fail> {
 
 #[test]
 fn fewer_are_answered(rt: HostRuntime) -> Result<(), Fail> {
-    let text = printed(rt.alloc(), 316)?;
+    let text = printed(&rt, rt.alloc(), 316)?;
     let begin = "session 1\nbegin 0\nadd 316\nselect 99856\n\
         <e:a0> <e:b0> <e:a0> <e:b0> .\n<e:a0> <e:b0> <e:a1> <e:b1> .\n";
     let end = "<e:a99> <e:b99> <e:a99> <e:b99> .\ncommit 1\nhistory 1 1 1 1 1\n";

@@ -14,6 +14,7 @@ use std::process::Abort;
 use std::sync::Wait;
 use std::sync::ledger::{Blank, Ledger};
 use std::test::*;
+use std::thread::Threads;
 
 const LIMITS: Limits = Limits {
     terms: 4,
@@ -140,7 +141,11 @@ const ALL: Pattern = Pattern {
     object: None,
 };
 
-fn run<L: Ledger, R: Wait + Abort>(rt: &R, alloc: Global, blank: Blank) -> Result<(), Fail>
+fn run<L: Ledger, R: Threads + Wait + Abort + Sync>(
+    rt: &R,
+    alloc: Global,
+    blank: Blank,
+) -> Result<(), Fail>
     requires name { blank.name ≡ L.name }
     requires parts { blank.parts ≡ L.parts }
     requires some { 0 < L.parts }
@@ -173,7 +178,7 @@ fn run<L: Ledger, R: Wait + Abort>(rt: &R, alloc: Global, blank: Blank) -> Resul
     let Ok(events) = core.into_events() else {
         return Err(Fail::new("there is memory for the events"));
     };
-    let Ok(again) = Core::replay(alloc, LIMITS, events, &mut steps) else {
+    let Ok(again) = Core::replay(rt, alloc, LIMITS, events, &mut steps) else {
         return Err(Fail::new("each event is a step"));
     };
     assert_eq!(rt; again.triples(), 2);

@@ -22,6 +22,7 @@ use std::process::Abort;
 use std::sync::Wait;
 use std::sync::ledger::{Blank, Ledger};
 use std::test::*;
+use std::thread::Threads;
 
 const LIMITS: Limits = Limits {
     terms: 3,
@@ -126,7 +127,7 @@ fn is_read_only(answer: &Result<Committed, CommitFault>, wanted: u64) -> bool {
 }
 
 // One session commits while another reads; the history of both is then replayed.
-fn commit_and_read<L: Ledger, R: Wait + Abort>(
+fn commit_and_read<L: Ledger, R: Threads + Wait + Abort + Sync>(
     rt: &R,
     alloc: Global,
     blank: Blank,
@@ -161,7 +162,7 @@ fn commit_and_read<L: Ledger, R: Wait + Abort>(
     let Ok(events) = core.into_events() else {
         return Err(Fail::new("there is memory for the events"));
     };
-    let Ok(again) = Core::replay(alloc, LIMITS, events, &mut steps) else {
+    let Ok(again) = Core::replay(rt, alloc, LIMITS, events, &mut steps) else {
         return Err(Fail::new("each event is a step"));
     };
     assert_eq!(rt; again.triples(), 1);
@@ -174,7 +175,7 @@ fn a_store_by_hand(rt: HostRuntime) -> Result<(), Fail> {
 }
 
 // Begins, adds triples, takes a head, and checks there; before the head nothing can be checked.
-fn add_checked<L: Ledger, R: Wait + Abort>(
+fn add_checked<L: Ledger, R: Threads + Wait + Abort + Sync>(
     rt: &R,
     store: &Store<MemDisk>,
     session: Session<MemDisk>,
@@ -190,18 +191,18 @@ fn add_checked<L: Ledger, R: Wait + Abort>(
     let (session, added) = store.stage_add(rt, session, triples);
     assert_eq!(rt; added, Ok(()));
     let mut session = session;
-    let early = session.check(steps);
+    let early = session.check(rt, steps);
     assert_eq!(rt; early, Err(CheckFault::NoHead));
     let (session, head) = store.head(rt, session);
     assert!(rt; head.is_ok());
     let mut session = session;
-    let kept = session.check(steps);
+    let kept = session.check(rt, steps);
     assert_eq!(rt; kept, Ok(true));
     Ok(session)
 }
 
 // Commits shapes, of which a check keeps nothing.
-fn commit_shapes<L: Ledger, R: Wait + Abort>(
+fn commit_shapes<L: Ledger, R: Threads + Wait + Abort + Sync>(
     rt: &R,
     store: &Store<MemDisk>,
     session: Session<MemDisk>,
@@ -219,7 +220,7 @@ fn commit_shapes<L: Ledger, R: Wait + Abort>(
     let (session, head) = store.head(rt, session);
     assert_eq!(rt; head, Ok(0));
     let mut session = session;
-    let kept = session.check(steps);
+    let kept = session.check(rt, steps);
     assert_eq!(rt; kept, Ok(false));
     let (session, done) = store.commit(rt, session, steps);
     assert!(rt; has_shapes(&done, 1));
@@ -228,7 +229,7 @@ fn commit_shapes<L: Ledger, R: Wait + Abort>(
 
 // The answer to the commit of a value of e:p at e:a, under shapes that allow one value, where another session commits this block
 // between its check and its turn.
-fn overtaken<L: Ledger, R: Wait + Abort>(
+fn overtaken<L: Ledger, R: Threads + Wait + Abort + Sync>(
     rt: &R,
     alloc: Global,
     shapes: ShapesGraph,
@@ -274,7 +275,7 @@ fn staged_shapes(alloc: Global, file: &str) -> Result<ShapesGraph, Fail>
 
 // A verdict that the other commit touched is no longer taken: the commit is evaluated again, and refused. One that it didn't
 // touch holds: nothing is evaluated in the turn.
-fn overtaken_rows<L: Ledger, R: Wait + Abort>(
+fn overtaken_rows<L: Ledger, R: Threads + Wait + Abort + Sync>(
     rt: &R,
     alloc: Global,
     blank: Blank,
@@ -341,7 +342,7 @@ fn reported(session: &Session<MemDisk>) -> Result<(usize, usize), ReportFault> {
 }
 
 // What a session reports before, within and after a transaction that stages shapes by which its graph has a warning.
-fn report_around_shapes<L: Ledger, R: Wait + Abort>(
+fn report_around_shapes<L: Ledger, R: Threads + Wait + Abort + Sync>(
     rt: &R,
     alloc: Global,
     blank: Blank,

@@ -112,7 +112,7 @@ fn run_and_replay<R: Threads + Wait + Abort + Sync>(
         log: _,
     } = run_new(rt, alloc, LIMITS, files, &OpenGate)?;
     let text = text_of(alloc, &run)?;
-    let again = replayed(alloc, files_of(alloc, count)?, &run.order)?;
+    let again = replayed(rt, alloc, files_of(alloc, count)?, &run.order)?;
     assert_eq!(rt; text.as_str(), again.as_str());
     Ok(())
 }

@@ -535,7 +535,8 @@ fn places_of(alloc: Global, order: &[u32]) -> Result<Vec<Option<u32>>, AllocErro
 }
 
 // What the files print in this order.
-pub fn replayed(
+pub fn replayed<R: Threads + Sync>(
+    rt: &R,
     alloc: Global,
     files: Vec<Sequence<Command>>,
     order: &[u32],
@@ -544,7 +545,7 @@ pub fn replayed(
         return Err(Fail::new("there are few files"));
     }
     let places = places_of(alloc, order)?;
-    let Ok(run) = replay_all(alloc, LIMITS, files, &places) else {
+    let Ok(run) = replay_all(rt, alloc, LIMITS, files, &places) else {
         return Err(Fail::new("each place is valid"));
     };
     Ok(text_of(alloc, &run)?)
@@ -558,7 +559,7 @@ fn orders_are_forced(rt: HostRuntime) -> Result<(), Fail> {
         let holds = holds_of(alloc, row.order)?;
         let run = run_held(&rt, alloc, files, row.kinds, &holds, row.unready)?;
         assert_eq!(rt; text_of(alloc, &run)?.as_str(), row.printed);
-        let again = replayed(alloc, commands_of(alloc, row.files)?, &run.order)?;
+        let again = replayed(&rt, alloc, commands_of(alloc, row.files)?, &run.order)?;
         assert_eq!(rt; again.as_str(), row.printed);
     }
     Ok(())

@@ -13,11 +13,12 @@ use Rattle.shape_model.specs.Validation.{At}
 use Rattle.component_rows.specs.Listed.{Collects}
 use Rattle.component_rows.proofs.Collecting.{from_more, from_none}
 use Rattle.shape_ast.specs.declared.shape.Shape.{Shape}
-use Rattle.shape_eval.specs.Results.{ListsResults}
 use Rattle.shape_eval.specs.ShapeRows.{FromSome}
 use Rattle.parallel_validate.specs.Whole.{CollectsAtNodes}
+use Rattle.threaded_listing.specs.declared.visit.NodeRows.{NodeRows}
 use Rattle.threaded_listing.specs.declared.visit.PermittedVisit.{PermittedVisit}
 use Rattle.threaded_listing.specs.declared.visit.Share.{Share}
+use Rattle.threaded_listing.specs.ByNode.{HasResults, HaveResults}
 use Rattle.threaded_listing.specs.Shares.{nodes_of, nodes_of_shares}
 
 -- where each item gave a result, the results are those of the items
@@ -53,27 +54,41 @@ both_of {X} Gives xs ys first rows h k r = (
   ],
 )
 
+-- what holds of two lists place by place, and of two others, holds of both together
+both_zipped : {A B : Type 0} → (P : A → B → Type 0) (xs ys : List A) (us vs : List B) → AllZip P xs us → AllZip P ys vs → AllZip P (xs ++ ys) (us ++ vs)
+both_zipped P [] ys [] vs z w = w
+both_zipped P [] ys (u ∷ us) vs z w = absurd z
+both_zipped P (x ∷ xs) ys [] vs z w = absurd z
+both_zipped P (x ∷ xs) ys (u ∷ us) vs z w = (z.0, both_zipped P xs ys us vs z.1 w)
+
 module _ (terms : List Term) (ids : List Ids) (shapes : List (Shape ℕ)) (k : ℕ) where
-  -- no visit so far, and one visit more
-  pub at_none : CollectsAtNodes terms ids shapes k [] []
-  at_none s c stand at acyclic shallow = from_none (λ n. At (graph_of terms ids) s c.node (term_at terms n))
-
-  pub at_one_more : (visits : List PermittedVisit) (v : PermittedVisit) (rows more new : List ResultRow) → new ≡ rows ++ more
-      → CollectsAtNodes terms ids shapes k (nodes_of visits) rows → ListsResults terms ids shapes k v.node more → CollectsAtNodes terms ids shapes k (nodes_of (visits ++ v ∷ [])) new
-  at_one_more visits v rows more new joined before lists s c stand at acyclic shallow =
-      subst (λ (p : List ℕ × List ResultRow). Collects (FromSome p.0 (λ n. At (graph_of terms ids) s c.node (term_at terms n))) p.1)
+  -- one visit more
+  pub at_one_more : (visits : List PermittedVisit) (v : PermittedVisit) (found new : List NodeRows) (next : NodeRows) → new ≡ found ++ next ∷ []
+      → HaveResults terms ids shapes k (nodes_of visits) found → HasResults terms ids shapes k v.node next → HaveResults terms ids shapes k (nodes_of (visits ++ v ∷ [])) new
+  at_one_more visits v found new next joined before own =
+      subst (λ (p : List ℕ × List NodeRows). HaveResults terms ids shapes k p.0 p.1)
       (λ i. (sym (map-append (λ (w : PermittedVisit). w.node) visits (v ∷ [])) i, sym joined i))
-      (from_more (λ n. At (graph_of terms ids) s c.node (term_at terms n)) (nodes_of visits) v.node rows more (before s c stand at acyclic shallow) (λ row. (lists s c stand at acyclic shallow).members row))
+      (both_zipped (HasResults terms ids shapes k) (nodes_of visits) (v.node ∷ []) found (next ∷ []) before (own, tt))
 
-  -- the results at the nodes of all shares are those of each
-  pub collects_at_shares : (shares : List Share) (found : List (Vec ResultRow Global)) → AllZip (λ share rows. CollectsAtNodes terms ids shapes k (nodes_of share.visits.items) rows.items) shares found
-      → CollectsAtNodes terms ids shapes k (nodes_of_shares shares) (flat_map (λ list. list.items) found)
-  collects_at_shares [] [] z s c stand at acyclic shallow = from_none (λ n. At (graph_of terms ids) s c.node (term_at terms n))
-  collects_at_shares [] (r ∷ rs) z s c stand at acyclic shallow = absurd z
-  collects_at_shares (v ∷ vs) [] z s c stand at acyclic shallow = absurd z
-  collects_at_shares (v ∷ vs) (r ∷ rs) z s c stand at acyclic shallow =
-      both_of (λ n. At (graph_of terms ids) s c.node (term_at terms n)) (nodes_of v.visits.items) (nodes_of_shares vs) r.items (flat_map (λ list. list.items) rs)
-      (z.0 s c stand at acyclic shallow) (collects_at_shares vs rs z.1 s c stand at acyclic shallow)
+  -- the nodes of all shares have their results where those of each have
+  pub have_in_shares : (shares : List Share) (lists : List (Vec NodeRows Global)) → AllZip (λ share found. HaveResults terms ids shapes k (nodes_of share.visits.items) found.items) shares lists
+      → HaveResults terms ids shapes k (nodes_of_shares shares) (flat_map (λ list. list.items) lists)
+  have_in_shares [] [] z = tt
+  have_in_shares [] (r ∷ rs) z = absurd z
+  have_in_shares (v ∷ vs) [] z = absurd z
+  have_in_shares (v ∷ vs) (r ∷ rs) z =
+      both_zipped (HasResults terms ids shapes k) (nodes_of v.visits.items) (nodes_of_shares vs) r.items (flat_map (λ (list : Vec NodeRows Global). list.items) rs) z.0 (have_in_shares vs rs z.1)
+
+  -- the results at some nodes are those of each
+  pub collects_by_node : (nodes : List ℕ) (found : List NodeRows) → HaveResults terms ids shapes k nodes found → CollectsAtNodes terms ids shapes k nodes (flat_map (λ node. node.rows) found)
+  collects_by_node [] [] z s c stand at acyclic shallow = from_none (λ n. At (graph_of terms ids) s c.node (term_at terms n))
+  collects_by_node [] (r ∷ rs) z s c stand at acyclic shallow = absurd z
+  collects_by_node (n ∷ ns) [] z s c stand at acyclic shallow = absurd z
+  collects_by_node (n ∷ ns) (r ∷ rs) z s c stand at acyclic shallow =
+      let own : ℕ → ResultRow → Type 0 = λ m. At (graph_of terms ids) s c.node (term_at terms m) in
+      both_of own (n ∷ []) ns r.rows (flat_map (λ (node : NodeRows). node.rows) rs)
+      (from_more own [] n [] r.rows (from_none own) (λ row. (z.0.1 s c stand at acyclic shallow).members row))
+      (collects_by_node ns rs z.1 s c stand at acyclic shallow)
 
 -- what holds of each item of two lists
 all_front : {X : Type 0} → (P : X → Type 0) (xs ys : List X) → All P (xs ++ ys) → All P xs
@@ -106,7 +121,7 @@ one_share_more shares new share front back rest nodes joined is whole before =
     ∙ (ap (λ (ns : List ℕ). nodes_of_shares shares ++ (ns ++ back)) (append-nil (nodes_of share.visits.items) ∙ is)
     ∙ (ap (λ (ns : List ℕ). nodes_of_shares shares ++ ns) whole ∙ before))))
 
--- where nothing is left of a share, its visits are those before
-pub whole_share : (done left all : List PermittedVisit) → length left ≡ 0 → done ++ left ≡ all → done ≡ all
-whole_share done [] all none whole = sym (append-nil done) ∙ whole
-whole_share done (v ∷ vs) all none whole = absurd (omega (arith, none))
+-- where nothing is left, all have gone before
+pub all_done : {X : Type 0} → (done left all : List X) → length left ≡ 0 → done ++ left ≡ all → done ≡ all
+all_done done [] all none whole = sym (append-nil done) ∙ whole
+all_done done (x ∷ xs) all none whole = absurd (omega (arith, none))

@@ -1,1 +1,2 @@
+pub mod ByNode
 pub mod Shares

@@ -1,7 +1,8 @@
-//! The listing of a whole graph, whose evaluations threads share out among each other.
+//! The results of a whole graph, whose evaluations threads share out among each other.
 //!
 //! `listing_by_threads` ensures exactly the listing of a data graph by numbers under a shapes graph, as
-//! `parallel_validate::listing_over` does: which threads evaluated what makes no difference.
+//! `parallel_validate::listing_over` does, and `rows_by_node` exactly the results of a shape at each of some nodes: which
+//! threads evaluated what makes no difference.
 //!
 //! Storey: validation.
 #![tactic(auto)]
@@ -12,3 +13,5 @@ mod shapes;
 pub mod visit;
 
 pub use listing::listing_by_threads;
+pub use nodes::rows_by_node;
+pub use visit::NodeRows;

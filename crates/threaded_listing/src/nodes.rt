@@ -1,11 +1,12 @@
 //! The results of a shape at some focus nodes, which threads share out among each other.
 ghost use Rattle.std.specs.Prelude.{◌≡◌, ◌+◌, ◌<◌, ◌≤◌, IfOk, OnOk, length};
 ghost use Rattle.std.specs.List.{All, AllZip, flat_map};
-ghost use Rattle.shape_eval.specs.Results.{ListsResults};
 ghost use Rattle.parallel_validate.specs.Whole.{CollectsAtNodes};
+ghost use Rattle.threaded_listing.specs.ByNode.{HasResults, HaveResults};
 ghost use Rattle.threaded_listing.specs.Shares.{nodes_of, nodes_of_shares};
 
-use crate::visit::{PermittedVisit, Share};
+use crate::visit::{NodeRows, PermittedVisit, Share};
+use collections::Sequence;
 use rayon::prelude::*;
 use rdf_model::{Footprint, Names, Triples};
 use shape_eval::{Evaluation, Matchers, Steps, eval, permit};
@@ -67,79 +68,113 @@ fn shares_of<L: Ledger>(
     Ok(shares)
 }
 
-// The results of the shape at the node of a visit. How they were found is not kept.
+// The node of a visit with the results of the shape there. How they were found is not kept.
 fn rows_at_visit<'a, R: Triples, N: Names>(
     evaluation: &Evaluation<'a, R, N>,
     shape: usize,
     visit: PermittedVisit,
     matchers: &mut Matchers<'a>,
-) -> Result<Vec<ResultRow>, AllocError>
+) -> Result<NodeRows, AllocError>
     requires shape { shape < length evaluation.now.shapes }
     requires node { visit.node < length evaluation.now.terms }
-    ensures { IfOk result (λ rows. ListsResults evaluation.now.terms evaluation.now.ids evaluation.now.shapes shape visit.node rows.items) }
+    ensures { IfOk result (HasResults evaluation.now.terms evaluation.now.ids evaluation.now.shapes shape visit.node) }
 {
     let mut looks = Footprint::new(evaluation.alloc());
-    Ok(eval(
-        evaluation,
-        shape,
-        visit.node,
-        &mut looks,
-        matchers,
-        visit.allowed,
-    )?)
+    let PermittedVisit { node, allowed } = visit;
+    let rows = eval(evaluation, shape, node, &mut looks, matchers, allowed)?;
+    Ok(NodeRows {
+        node,
+        rows: Sequence::from_vec(rows),
+    })
 }
 
-// The results of the shape at the nodes of a share, one node after another.
+// The nodes of a share with the results of the shape there, one after another.
 fn rows_at_share<R: Triples, N: Names>(
     evaluation: &Evaluation<'_, R, N>,
     shape: usize,
     share: Share,
-) -> Result<Vec<ResultRow>, AllocError>
+) -> Result<Vec<NodeRows>, AllocError>
     requires shape { shape < length evaluation.now.shapes }
     requires nodes { All (λ v. v.node < length evaluation.now.terms) share.visits.items }
-    ensures { IfOk result (λ rows. CollectsAtNodes evaluation.now.terms evaluation.now.ids evaluation.now.shapes shape (nodes_of share.visits.items) rows.items) }
+    ensures { IfOk result (λ found. HaveResults evaluation.now.terms evaluation.now.ids evaluation.now.shapes shape (nodes_of share.visits.items) found.items) }
 {
     let mut matchers = Matchers::new(evaluation.alloc());
-    let mut rows = Vec::new(evaluation.alloc());
+    let mut found = Vec::with_capacity(evaluation.alloc(), share.visits.len())?;
     for visit in share.visits {
-        let mut more = rows_at_visit(evaluation, shape, visit, &mut matchers)?;
-        rows.append(&mut more)?;
+        let rows = rows_at_visit(evaluation, shape, visit, &mut matchers)?;
+        found.push(rows)?;
     }
-    Ok(rows)
+    Ok(found)
 }
 
-// The results of the shape at the nodes of each share, in their order, whichever thread found them.
+// The nodes of each share with the results of the shape there, in their order, whichever thread found them.
 fn rows_at_shares<R: Triples + Sync, N: Names + Sync, T: Threads + Sync>(
     rt: &T,
     evaluation: &Evaluation<'_, R, N>,
     shape: usize,
     shares: Vec<Share>,
-) -> Result<Vec<Vec<ResultRow>>, AllocError>
+) -> Result<Vec<Vec<NodeRows>>, AllocError>
     requires shape { shape < length evaluation.now.shapes }
     requires nodes { All (λ share. All (λ v. v.node < length evaluation.now.terms) share.visits.items) shares.items }
-    ensures { IfOk result (λ found. AllZip (λ share rows. CollectsAtNodes evaluation.now.terms evaluation.now.ids evaluation.now.shapes shape (nodes_of share.visits.items) rows.items) shares.items found.items) }
+    ensures { IfOk result (λ lists. AllZip (λ share found. HaveResults evaluation.now.terms evaluation.now.ids evaluation.now.shapes shape (nodes_of share.visits.items) found.items) shares.items lists.items) }
 {
-    let found: Result<Vec<Vec<ResultRow>>, AllocError> = shares
+    let lists: Result<Vec<Vec<NodeRows>>, AllocError> = shares
         .into_par_iter()
         .with_min_len(1)
         .map(
-            |share: Share| -> Result<Vec<ResultRow>, AllocError>
+            |share: Share| -> Result<Vec<NodeRows>, AllocError>
                 requires { (shape < length evaluation.now.shapes) × All (λ v. v.node < length evaluation.now.terms) share.visits.items }
-                ensures { IfOk result (λ rows. CollectsAtNodes evaluation.entry.now.terms evaluation.entry.now.ids evaluation.entry.now.shapes shape (nodes_of share.visits.items) rows.items) }
+                ensures { IfOk result (λ found. HaveResults evaluation.entry.now.terms evaluation.entry.now.ids evaluation.entry.now.shapes shape (nodes_of share.visits.items) found.items) }
             { rows_at_share(evaluation, shape, share) },
         )
-        .collect::<Result<Vec<Vec<ResultRow>>, AllocError>>(rt, evaluation.alloc())?;
-    found
+        .collect::<Result<Vec<Vec<NodeRows>>, AllocError>>(rt, evaluation.alloc())?;
+    lists
 }
 
 // The lists one after another.
-fn joined(alloc: Global, lists: Vec<Vec<ResultRow>>) -> Result<Vec<ResultRow>, AllocError>
-    ensures { IfOk result (λ rows. rows.items ≡ flat_map (λ list. list.items) lists.items) }
+fn joined(alloc: Global, lists: Vec<Vec<NodeRows>>) -> Result<Vec<NodeRows>, AllocError>
+    ensures { IfOk result (λ found. found.items ≡ flat_map (λ list. list.items) lists.items) }
 {
-    let mut rows = Vec::new(alloc);
+    let mut found = Vec::new(alloc);
     for list in lists {
         let mut list = list;
-        rows.append(&mut list)?;
+        found.append(&mut list)?;
+    }
+    Ok(found)
+}
+
+/// The nodes in their order, each with the results of the shape there (SHACL section 3.4), whichever thread found which. The
+/// shape is given by its place among the shapes, a node by its number. The nodes are shared out among as many threads as there
+/// are processors; where none can be started, the caller does all.
+///
+/// Each evaluation, of the shape at one of the nodes, is counted in `steps`. It fails only for want of memory, and then the
+/// count is what it was, or more.
+pub fn rows_by_node<R: Triples + Sync, N: Names + Sync, L: Ledger, T: Threads + Sync>(
+    rt: &T,
+    evaluation: &Evaluation<'_, R, N>,
+    shape: usize,
+    nodes: &[u32],
+    steps: &mut Steps<L>,
+) -> Result<Vec<NodeRows>, AllocError>
+    requires shape { shape < length evaluation.now.shapes }
+    requires nodes { All (λ n. n < length evaluation.now.terms) nodes.now }
+    ensures rows { IfOk result (λ found. HaveResults evaluation.now.terms evaluation.now.ids evaluation.now.shapes shape nodes.now found.items) }
+    ensures steps { OnOk result (steps.new ≡ steps.old + length nodes.now) }
+    ensures counted { steps.old ≤ steps.new }
+{
+    let shares = shares_of(evaluation.alloc(), nodes, steps)?;
+    let lists = rows_at_shares(rt, evaluation, shape, shares)?;
+    joined(evaluation.alloc(), lists)
+}
+
+// The results alone, node after node.
+fn without_nodes(alloc: Global, found: Vec<NodeRows>) -> Result<Vec<ResultRow>, AllocError>
+    ensures { IfOk result (λ rows. rows.items ≡ flat_map (λ node. node.rows) found.items) }
+{
+    let mut rows = Vec::new(alloc);
+    for node in found {
+        let mut more = node.rows.into_vec();
+        rows.append(&mut more)?;
     }
     Ok(rows)
 }
@@ -159,7 +194,6 @@ pub(crate) fn rows_at<R: Triples + Sync, N: Names + Sync, L: Ledger, T: Threads 
     ensures steps { OnOk result (steps.new ≡ steps.old + length nodes.now) }
     ensures counted { steps.old ≤ steps.new }
 {
-    let shares = shares_of(evaluation.alloc(), nodes, steps)?;
-    let found = rows_at_shares(rt, evaluation, shape, shares)?;
-    joined(evaluation.alloc(), found)
+    let found = rows_by_node(rt, evaluation, shape, nodes, steps)?;
+    without_nodes(evaluation.alloc(), found)
 }

@@ -1,5 +1,7 @@
-//! The focus nodes that a shape is evaluated at.
+//! The focus nodes that a shape is evaluated at, and what is found there.
+use collections::Sequence;
 use shape_eval::Permit;
+use shape_model::ResultRow;
 
 /// A focus node with the permit for one evaluation there.
 #[derive(Drop)]
@@ -12,4 +14,11 @@ pub struct PermittedVisit {
 #[derive(Drop)]
 pub struct Share {
     pub visits: Vec<PermittedVisit>,
+}
+
+/// A focus node, by its number, with the results of a shape there.
+#[derive(Debug, Drop)]
+pub struct NodeRows {
+    pub node: u32,
+    pub rows: Sequence<ResultRow>,
 }

@@ -8,10 +8,13 @@ use Rattle.kept_rows.specs.declared.pair_rows.PairRows.{PairRows}
 use Rattle.data_graph.specs.Changes.{IsCheckByNumber, WhereIndexed}
 use Rattle.data_graph.specs.Pairs.{numbered}
 use Rattle.data_graph.proofs.Checking.{changed_check, changed_count}
+use Rattle.std.proofs.Crossing.{crosses}
+use denote.Param.Send.{sendable}
+use Rattle.data_graph.proofs.Crossing.{names_sync, by_hash_sync, keys_sync}
 use Rattle.data_graph.proofs.changes.check_by_number.Goals as goal
 
-pub check-requires-clause-planned : goal.check-requires-clause-planned
-check-requires-clause-planned g c = rw c.planned-planned.ensures c.requires.shapes.planned
+pub check_by_threads-requires-clause-planned : goal.check_by_threads-requires-clause-planned
+check_by_threads-requires-clause-planned g c κs within = rw c.planned-planned.ensures c.requires.shapes.planned
 
 pub numbered_pairs-requires : goal.numbered_pairs-requires
 numbered_pairs-requires g c = λ k i. (c.in_ok-checked.ensures.placed (pair_of k) (mapped_to pair_of c.in_ok-checked.checked.pairs k i)).0
@@ -36,4 +39,10 @@ returns-clause-steps g c =
     let terms = c.args.names.now.terms in
     let b = c.args.shapes.now in
     λ net numbers. changed_count terms b.planned.bound.shapes c.args.before.now (g.S.Triples.triples c.args.later.now) c.args.changed.now b.graph net
-    c.requires.shapes.stand c.requires.shapes.acyclic c.requires.shapes.shallow numbers c.args.steps.now c.check.new.steps (rw c.planned-planned.ensures at c.in_ok-checked.ensures.steps)
+    c.requires.shapes.stand c.requires.shapes.acyclic c.requires.shapes.shallow numbers c.args.steps.now c.check_by_threads.new.steps (rw c.planned-planned.ensures at c.in_ok-checked.ensures.steps)
+
+pub check_by_threads-requires-sync-R : goal.check_by_threads-requires-sync-R
+check_by_threads-requires-sync-R g c κs within = search (keys_sync, crosses, sendable) depth 60 fits 20000
+
+pub check_by_threads-requires-sync-N : goal.check_by_threads-requires-sync-N
+check_by_threads-requires-sync-N g c κs within = search (names_sync, by_hash_sync, crosses, sendable) depth 60 fits 20000

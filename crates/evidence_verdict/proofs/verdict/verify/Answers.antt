@@ -10,4 +10,4 @@ use Rattle.evidence_verdict.proofs.verdict.verify.Goals as goal
 pub returns : goal.returns
 returns g c =
     let text = c.args.text.now in
-    subst (λ (t : Setting). ForEach t.terms t.shapes (λ s. MatchResult c.count_of.result (IsVerified (graph_of t.terms t.ids) s text) (IsCause (graph_of t.terms t.ids) s text))) c.new-evaluation.ensures c.count_of.ensures
+    subst (λ (t : Setting). ForEach t.terms t.shapes (λ s. MatchResult c.count_of.result (IsVerified (graph_of t.terms t.ids) s text) (IsCause (graph_of t.terms t.ids) s text))) c.evaluation-evaluation.ensures c.count_of.ensures

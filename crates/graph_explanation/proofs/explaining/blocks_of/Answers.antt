@@ -7,8 +7,8 @@ use Rattle.graph_explanation.proofs.explaining.blocks_of.Goals.{then-is_first+in
 
 pub loop-place-init : goal.loop-place-init
 loop-place-init g c =
-    let terms = g.N.Names.terms c.args.names.now in
-    let ids = g.R.Triples.triples c.args.graph.now in
+    let terms = c.args.data.now.terms in
+    let ids = c.args.data.now.ids in
     let shapes = c.args.bound.now.shapes in
     record {
       text = subst (λ (bytes : List ℕ). IsTextOfEach terms ids shapes [] 0 bytes) (sym c.new-out.ensures.bytes) (none_written terms ids shapes c.args.aimed.now c.requires.aimed.0);
@@ -17,16 +17,16 @@ loop-place-init g c =
 
 pub evidence_at-requires-clause-aimed : goal.evidence_at-requires-clause-aimed
 evidence_at-requires-clause-aimed g c =
-    let terms = g.N.Names.terms c.args.names.now in
-    let ids = g.R.Triples.triples c.args.graph.now in
+    let terms = c.args.data.now.terms in
+    let ids = c.args.data.now.ids in
     let row = c.index-aimed-place.result in
     let new = c.is_first.ensures.new c.if-is_first.true in
     first_is_least terms ids c.args.bound.now.shapes c.args.aimed.now c.requires.aimed c.loop-place.place row c.loop-place-test.true c.index-aimed-place.is (λ x before same. new row x c.index-aimed-place.is before same) c.requires.shapes
 
 pub loop-place-preserved : goal.loop-place-preserved
 loop-place-preserved g c =
-    let terms = g.N.Names.terms c.args.names.now in
-    let ids = g.R.Triples.triples c.args.graph.now in
+    let terms = c.args.data.now.terms in
+    let ids = c.args.data.now.ids in
     let shapes = c.args.bound.now.shapes in
     let all = c.args.aimed.now in
     let i = c.loop-place.place in
@@ -43,6 +43,6 @@ loop-place-preserved g c =
 
 pub returns : goal.returns
 returns g c =
-    let terms = g.N.Names.terms c.args.names.now in
-    let ids = g.R.Triples.triples c.args.graph.now in
+    let terms = c.args.data.now.terms in
+    let ids = c.args.data.now.ids in
     (c.loop-place.number, all_written terms ids c.args.bound.now.shapes c.args.aimed.now c.loop-place.place c.loop-place.number (string_bytes c.loop-place.out) c.loop-place-test.false c.loop-place.invariant.text)

@@ -4,6 +4,6 @@ use Rattle.graph_explanation.proofs.explaining.blocks_of.Given as goal
 
 abbrev pub invariant-loop-place : goal.invariant-loop-place
 invariant-loop-place g l = record {
-  text : IsTextOfEach (g.N.Names.terms l.names) (g.R.Triples.triples l.graph) l.bound.shapes (take l.place l.aimed) l.number (string_bytes l.out);
+  text : IsTextOfEach l.data.terms l.data.ids l.bound.shapes (take l.place l.aimed) l.number (string_bytes l.out);
   count : l.number ≤ l.place;
 }

@@ -11,10 +11,10 @@ pub node_of-node-requires : goal.node_of-node-requires
 node_of-node-requires g c = subst (λ (xs : List (Shape ℕ)). c.args.shape < length xs) (sym c.bound-bound.ensures) c.requires
 
 pub rows_at-requires-clause-node : goal.rows_at-requires-clause-node
-rows_at-requires-clause-node g c = c.node_of-node.ensures ∙ ap (λ (xs : List (Shape ℕ)). node_at xs c.args.shape) c.bound-bound.ensures
+rows_at-requires-clause-node g c κs within = c.node_of-node.ensures ∙ ap (λ (xs : List (Shape ℕ)). node_at xs c.args.shape) c.bound-bound.ensures
 
 pub rows_at-requires-clause-nodes : goal.rows_at-requires-clause-nodes
-rows_at-requires-clause-nodes g c = subst (λ (ns : List ℕ). All (λ n. n < length c.args.evaluation.now.terms) ns) (sym c.deref.ensures.value) c.in_ok-nodes.ensures.numbers
+rows_at-requires-clause-nodes g c κs within = subst (λ (ns : List ℕ). All (λ n. n < length c.args.evaluation.now.terms) ns) (sym c.deref.ensures.value) c.in_ok-nodes.ensures.numbers
 
 pub returns-clause-rows : goal.returns-clause-rows
 returns-clause-rows g c =

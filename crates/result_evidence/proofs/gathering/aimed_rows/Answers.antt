@@ -11,10 +11,10 @@ use Rattle.result_evidence.proofs.gathering.aimed_rows.Goals as goal
 
 pub returns : goal.returns
 returns g c =
-    let terms = g.N.Names.terms c.args.names.now in
-    let ids = g.R.Triples.triples c.args.graph.now in
+    let terms = c.args.data.now.terms in
+    let ids = c.args.data.now.ids in
     let shapes = c.args.bound.now.shapes in
     let rows = c.in_ok-rows.rows.items in
-    let all = subst (λ (t : Setting). ForEach t.terms t.shapes (λ s. AreAimsBelow t.terms t.ids t.shapes (length t.shapes) s rows)) c.new-evaluation.ensures c.in_ok-rows.ensures in
+    let all = subst (λ (t : Setting). ForEach t.terms t.shapes (λ s. AreAimsBelow t.terms t.ids t.shapes (length t.shapes) s rows)) c.evaluation-evaluation.ensures c.in_ok-rows.ensures in
     IfOk-weaker c.sorted_once.result (λ sorted. IsListing aimed_cmp (Contains rows) sorted.items) (λ sorted. AreAimedRows terms ids shapes sorted.items)
     (λ sorted l. in_order terms ids shapes rows sorted.items all l) c.sorted_once.ensures

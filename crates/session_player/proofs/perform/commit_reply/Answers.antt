@@ -5,12 +5,12 @@ use Rattle.session_player.proofs.Playing.{commits_with}
 use Rattle.session_player.proofs.perform.commit_reply.Goals as goal
 
 pub commit-requires-clause-committable : goal.commit-requires-clause-committable
-commit-requires-clause-committable g c =
+commit-requires-clause-committable g c κs within =
     let s = c.args.core.now in
     rw c.into_parts-handed.ensures (committable_kept s.limits s.start s.history c.args.open.transaction c.args.open.checked s.state c.requires.fits c.requires.change c.requires.kept c.recall_consistent.ensures.replays)
 
 pub commit-requires-clause-verdict : goal.commit-requires-clause-verdict
-commit-requires-clause-verdict g c =
+commit-requires-clause-verdict g c κs within =
     let s = c.args.core.now in
     rw c.into_parts-handed.ensures (pairs_kept s.limits s.start s.history c.args.open.transaction.net c.args.open.checked c.requires.kept)
 

@@ -4,7 +4,7 @@ use Rattle.session_player.proofs.Playing.{head_keeps}
 use Rattle.session_player.proofs.perform.take_head.Goals as goal
 
 pub check-requires : goal.check-requires
-check-requires g c = named_now c.args.core.now.limits.mode c.args.open.now.transaction c.args.core.now.state c.in_ok-head.head c.requires.fits c.in_ok-head.ensures.snapshot
+check-requires g c = (c.type_bounds.sync-T, named_now c.args.core.now.limits.mode c.args.open.now.transaction c.args.core.now.state c.in_ok-head.head c.requires.fits c.in_ok-head.ensures.snapshot)
 
 pub returns-clause-head : goal.returns-clause-head
 returns-clause-head g c = record { number = _; step = c.in_ok-head.ensures.step }

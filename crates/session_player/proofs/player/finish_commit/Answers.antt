@@ -7,17 +7,17 @@ use Rattle.session_player.proofs.Seats.{commit_taken, fits_now, popped, ready_he
 use Rattle.session_player.proofs.player.finish_commit.Goals as goal
 
 pub commit_reply-requires-clause-fits : goal.commit_reply-requires-clause-fits
-commit_reply-requires-clause-fits g c =
+commit_reply-requires-clause-fits g c κs within =
     let t = c.take.ensures in
     fits_now _ _ _ (plain c.in-Some.open) c.player.view_is c.requires.ready (ap plain_in (sym t.value ∙ c.in-Some.is))
 
 pub commit_reply-requires-clause-change : goal.commit_reply-requires-clause-change
-commit_reply-requires-clause-change g c =
+commit_reply-requires-clause-change g c κs within =
     let t = c.take.ensures in
     (ready_held _ _ _ _ (plain c.in-Some.open) c.player.view_is c.requires.ready c.requires.held (popped _ _ c.requires.some refl) (ap plain_in (sym t.value ∙ c.in-Some.is))).0
 
 pub commit_reply-requires-clause-kept : goal.commit_reply-requires-clause-kept
-commit_reply-requires-clause-kept g c =
+commit_reply-requires-clause-kept g c κs within =
     let t = c.take.ensures in
     let s = c.args.core.now in
     subst (λ (o : Option CheckedNet). KeepsIn s.limits s.start s.history c.in-Some.open.transaction.net o) (ap checked_in (sym t.value ∙ c.in-Some.is))

@@ -4,7 +4,7 @@ use Rattle.session_player.proofs.Seats.{fits_now, version_taken}
 use Rattle.session_player.proofs.player.take_version.Goals as goal
 
 pub take_head-requires-clause-fits : goal.take_head-requires-clause-fits
-take_head-requires-clause-fits g c =
+take_head-requires-clause-fits g c κs within =
     let t = c.take.ensures in
     fits_now _ _ _ (plain c.in-Some.open) c.player.view_is c.requires.ready (ap plain_in (sym t.value ∙ c.in-Some.is))
 

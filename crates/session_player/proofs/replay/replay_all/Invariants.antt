@@ -1,4 +1,4 @@
 use Rattle.session_player.proofs.replay.replay_all.Given as goal
 
 abbrev pub ghosts-replay_in : goal.ghosts-replay_in
-ghosts-replay_in a = record { name = a.blank.name; parts = a.blank.parts }
+ghosts-replay_in g a = record { name = a.blank.name; parts = a.blank.parts }

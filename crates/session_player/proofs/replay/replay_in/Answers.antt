@@ -5,7 +5,7 @@ use Rattle.session_player.proofs.Seats.{are_ready_start, stops_start, ends_unope
 use Rattle.session_player.proofs.replay.replay_in.Goals as goal
 
 pub play_places-requires-clause-ready : goal.play_places-requires-clause-ready
-play_places-requires-clause-ready g c =
+play_places-requires-clause-ready g c κs within =
     are_ready_start c.args.limits _ _ c.args.files.items c.in_ok-core.ensures (c.deref_mut.ensures.value ∙ c.in_ok-players.ensures) c.requires.few
 
 pub returns-in-Err : goal.returns-in-Err

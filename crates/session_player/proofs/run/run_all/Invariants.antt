@@ -1,4 +1,4 @@
 use Rattle.session_player.proofs.run.run_all.Given as goal
 
 abbrev pub ghosts-run_in : goal.ghosts-run_in
-ghosts-run_in a = record { name = a.blank.name; parts = a.blank.parts }
+ghosts-run_in g a = record { name = a.blank.name; parts = a.blank.parts }

@@ -6,7 +6,7 @@ use Rattle.session_player.proofs.Advancing.{HasRun-start, HasReplies-HasRun}
 use Rattle.session_player.proofs.run.run_in.Goals as goal
 
 pub play_all-requires-clause-opened : goal.play_all-requires-clause-opened
-play_all-requires-clause-opened g c =
+play_all-requires-clause-opened g c κs within =
     let start = HasRun-start c.args.files.items c.args.limits _ c.open_all.new.core _ c.in_ok-core.ensures refl (subst (λ (n : ℕ). OpensSessions c.in_ok-core.core c.open_all.new.core n) (search rules) c.in_ok-open_all.ensures) in
     subst (λ (l : Limits). HasRun c.args.files.items l empty_store c.open_all.new.core 0 []) (sym start.limits) start
 

@@ -2,10 +2,10 @@ use Rattle.session_threads.proofs.Playing.{checked_ready, listed, on_told, plays
 use Rattle.session_threads.proofs.perform.commit_work.Goals as goal
 
 pub check-checked-requires : goal.check-checked-requires
-check-checked-requires g c = (c.args.store.now, c.head-session.ensures.session)
+check-checked-requires g c = (c.type_bounds.sync-R, (c.args.store.now, c.head-session.ensures.session))
 
 pub commit-session-requires : goal.commit-session-requires
-commit-session-requires g c = c.check-checked.ensures.session c.args.store.now c.head-session.ensures.session
+commit-session-requires g c = (c.type_bounds.sync-R, c.check-checked.ensures.session c.args.store.now c.head-session.ensures.session)
 
 pub commit_reply-reply-requires : goal.commit_reply-reply-requires
 commit_reply-reply-requires g c = listed c.args.store.now c.check-checked.new.self c.commit-session.result.0 c.commit-session.result.1 c.commit-session.ensures.commits

@@ -1,4 +1,4 @@
 use Rattle.store_tests.proofs.replay.first_no_step.Given as goal
 
 abbrev pub ghosts-replayed : goal.ghosts-replayed
-ghosts-replayed a = record { name = a.blank.name; parts = a.blank.parts }
+ghosts-replayed g a = record { name = a.blank.name; parts = a.blank.parts }

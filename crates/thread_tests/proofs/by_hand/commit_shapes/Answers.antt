@@ -1,7 +1,7 @@
 use Rattle.thread_tests.proofs.by_hand.commit_shapes.Goals as goal
 
 pub check-kept-requires : goal.check-kept-requires
-check-kept-requires g c = (c.args.store.now, c.head-session.ensures.session)
+check-kept-requires g c = (search, (c.args.store.now, c.head-session.ensures.session))
 
 pub commit-session-requires : goal.commit-session-requires
-commit-session-requires g c = c.check-kept.ensures.session c.args.store.now c.head-session.ensures.session
+commit-session-requires g c = (search, c.check-kept.ensures.session c.args.store.now c.head-session.ensures.session)

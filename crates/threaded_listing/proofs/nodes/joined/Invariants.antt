@@ -6,5 +6,5 @@ use Rattle.threaded_listing.proofs.nodes.joined.Given as goal
 abbrev pub invariant-loop-list : goal.invariant-loop-list
 invariant-loop-list l = record {
   rest : l.yielded ++ into_iter_items l.list-iterator ≡ l.fn.lists.items;
-  rows : l.rows.items ≡ flat_map (λ list. list.items) l.yielded;
+  found : l.found.items ≡ flat_map (λ list. list.items) l.yielded;
 }

@@ -10,7 +10,7 @@ use Rattle.commit_core.proofs.NamedTerms.{net_named}
 use Rattle.commit_core.proofs.snapshot.Snap.check.Goals as goal
 
 pub paired_after-requires : goal.paired_after-requires
-paired_after-requires g c = subst (λ (d : NamedGraph). AreNamedChanges d.terms c.args.net.now) (sym c.graph.ensures) (subst (λ (s : Snapshot). AreNamedChanges s.named c.args.net.now) (sym c.self.view_is) (net_named c.args.self.now.named c.args.net.now c.requires))
+paired_after-requires g c = (c.type_bounds.sync-T, subst (λ (d : NamedGraph). AreNamedChanges d.terms c.args.net.now) (sym c.graph.ensures) (subst (λ (s : Snapshot). AreNamedChanges s.named c.args.net.now) (sym c.self.view_is) (net_named c.args.self.now.named c.args.net.now c.requires)))
 
 pub returns-clause-head : goal.returns-clause-head
 returns-clause-head g c = ap (λ (s : Snapshot). s.number) c.self.view_is

@@ -10,13 +10,13 @@ use Rattle.commit_core.proofs.NamedTerms.{net_named}
 use Rattle.commit_core.proofs.store.Core.changed.Goals as goal
 
 pub pairs_after-requires-clause-net : goal.pairs_after-requires-clause-net
-pairs_after-requires-clause-net g c =
+pairs_after-requires-clause-net g c κs within =
     let net = c.args.net.now in
     let named = subst (λ (s : RecordedStore). AreNamedChanges s.state.named net) (sym c.self.view_is) (net_named _ _ c.requires.named) in
     subst (λ (d : NamedGraph). AreNamedChanges d.terms net) (sym c.graph-graph.ensures) named
 
 pub pairs_after-requires-clause-next : goal.pairs_after-requires-clause-next
-pairs_after-requires-clause-next g c =
+pairs_after-requires-clause-next g c κs within =
     let net = c.args.net.now in
     let own = c.requires.next ∙ ap (λ (s : RecordedStore). with_changes (data_of s) net) (sym c.self.view_is) in
     subst (λ (d : NamedGraph). c.args.next ≡ with_changes d net) (sym c.graph-graph.ensures) own

@@ -19,7 +19,7 @@ refuse-requires g c =
     rw c.into_transaction.ensures (subst (λ (n : ℕ). StepOf c.args.self.now.limits s c.args.session (Commit x) (Stopped n) s) (sym count) (stops c.args.self.now.limits s c.args.session x c.requires.opened c.requires.committable on))
 
 pub commit_by_plan-requires-clause-found : goal.commit_by_plan-requires-clause-found
-commit_by_plan-requires-clause-found g c =
+commit_by_plan-requires-clause-found g c κs within =
     let x = c.args.checked.transaction in
     let commits : c.self.inside.commits.commits ≡ c.args.self.now.state.commits = ap (λ (s : RecordedStore). s.state.commits) c.self.view_is in
     let why = c.in-Ok-find_reasons.ensures.0 ∙ ap (λ (cs : List Accepted). again cs x.staged x.verdict) commits in

@@ -12,10 +12,10 @@ use Rattle.commit_core.proofs.Work.{changed_steps, on_ok, whole_steps}
 use Rattle.commit_core.proofs.store.Core.evaluated.Goals as goal
 
 pub changed-requires-clause-named : goal.changed-requires-clause-named
-changed-requires-clause-named g c = c.requires.committable.net
+changed-requires-clause-named g c κs within = c.requires.committable.net
 
 pub changed-requires-clause-next : goal.changed-requires-clause-next
-changed-requires-clause-next g c =
+changed-requires-clause-next g c κs within =
     c.requires.next ∙ unstaged (data_of c.args.self.now) c.args.checked.now.transaction c.in-None.is
 
 pub returns-in-Some-clause-outcome : goal.returns-in-Some-clause-outcome

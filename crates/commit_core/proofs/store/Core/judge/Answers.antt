@@ -18,7 +18,7 @@ stage_shapes-requires g c =
     subst (λ (d : NamedGraph). StagedNamed d.terms staged) (sym c.requires.next) c.requires.committable.staged
 
 pub validated-requires-clause-next : goal.validated-requires-clause-next
-validated-requires-clause-next g c =
+validated-requires-clause-next g c κs within =
     let x = c.args.checked.now.transaction in
     c.in_ok-stage_shapes.ensures ∙ ap (λ (d : NamedGraph). with_shapes d (shapes_under d.shapes x.staged)) c.requires.next
 

@@ -7,7 +7,7 @@ use Rattle.commit_core.proofs.Conditions.{both, committable}
 use Rattle.commit_core.proofs.store.Core.perform.Goals as goal
 
 pub replay_commit-requires-clause-committable : goal.replay_commit-requires-clause-committable
-replay_commit-requires-clause-committable g c =
+replay_commit-requires-clause-committable g c κs within =
     let s = c.args.self.now.state in
     let i = c.args.session in
     let x = c.in-Ok.transaction in

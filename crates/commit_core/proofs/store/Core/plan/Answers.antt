@@ -13,19 +13,19 @@ after_with_changed-requires g c =
     subst (λ (d : NamedGraph). AreNamedChanges d.terms net) (sym c.graph.ensures) named
 
 pub judge-requires-clause-next : goal.judge-requires-clause-next
-judge-requires-clause-next g c =
+judge-requires-clause-next g c κs within =
     let net = c.args.checked.now.transaction.net in
     c.in_ok-next.ensures.next ∙ ap (λ (d : NamedGraph). with_changes d net) c.graph.ensures ∙ ap (λ (s : RecordedStore). with_changes (data_of s) net) c.self.view_is
 
 pub judge-requires-clause-changed : goal.judge-requires-clause-changed
-judge-requires-clause-changed g c =
+judge-requires-clause-changed g c κs within =
     let changed = c.in_ok-next.changed.items in
     let net = c.args.checked.now.transaction.net in
     let told = subst (λ (d : NamedGraph). AreChanged d net changed) c.graph.ensures c.in_ok-next.ensures.changed in
     subst (λ (s : RecordedStore). AreChanged (data_of s) net changed) c.self.view_is told
 
 pub judge-requires-clause-net : goal.judge-requires-clause-net
-judge-requires-clause-net g c =
+judge-requires-clause-net g c κs within =
     let numbered = c.in_ok-next.net.items in
     let net = c.args.checked.now.transaction.net in
     let told = subst (λ (d : NamedGraph). AreNumberedChanges d net numbered) c.graph.ensures c.in_ok-next.ensures.net in

@@ -14,19 +14,19 @@ use Rattle.data_graph.proofs.ByPlaces.{ids_of_changes}
 use Rattle.data_graph.proofs.graph.DataGraph.checked_after.Goals as goal
 
 pub check_by_number-requires-clause-before : goal.check_by_number-requires-clause-before
-check_by_number-requires-clause-before g c = (subst (λ (d : NamedGraph). IsIndexOf d.terms c.index.result.now d.triples) (sym c.self.view_is) c.index.ensures.index).numbered
+check_by_number-requires-clause-before g c κs within = (subst (λ (d : NamedGraph). IsIndexOf d.terms c.index.result.now d.triples) (sym c.self.view_is) c.index.ensures.index).numbered
 
 pub check_by_number-requires-clause-later : goal.check_by_number-requires-clause-later
-check_by_number-requires-clause-later g c =
+check_by_number-requires-clause-later g c κs within =
     let cs = c.args.changes.now in
     let laid = g.S.Triples.triples c.args.later.now in
     (subst (λ (d : NamedGraph). IsIndexOf d.terms laid (after c.args.self.now.triples (map (change_at d.terms) cs))) (sym c.self.view_is) c.requires.later).numbered
 
 pub check_by_number-requires-clause-shapes : goal.check_by_number-requires-clause-shapes
-check_by_number-requires-clause-shapes g c = c.self.invariant.2
+check_by_number-requires-clause-shapes g c κs within = c.self.invariant.2
 
 pub check_by_number-requires-clause-changed : goal.check_by_number-requires-clause-changed
-check_by_number-requires-clause-changed g c =
+check_by_number-requires-clause-changed g c κs within =
     let terms = c.self.inside.names.terms in
     let cs = c.args.changes.now in
     let named = subst (λ (d : NamedGraph). AllByRecursion (IsNumberedChange d.terms) cs) (sym c.self.view_is) c.requires.changes in

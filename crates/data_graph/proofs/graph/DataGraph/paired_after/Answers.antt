@@ -24,6 +24,9 @@ use Rattle.data_graph.proofs.NamedLooks.{looks_named}
 use Rattle.data_graph.proofs.Keeping.{none_checked}
 use Rattle.data_graph.proofs.NoChecks.{no_checks, no_looks}
 use Rattle.data_graph.proofs.Overlaid.{index_overlaid}
+use Rattle.std.proofs.Crossing.{crosses}
+use denote.Param.Send.{sendable}
+use Rattle.data_graph.proofs.Crossing.{keys_sync}
 use Rattle.data_graph.proofs.graph.DataGraph.paired_after.Goals as goal
 
 pub returns-then-is_without_shapes-clause-checks : goal.returns-then-is_without_shapes-clause-checks
@@ -56,12 +59,12 @@ pub number_changes-requires : goal.number_changes-requires
 number_changes-requires g c = subst (λ (d : NamedGraph). AreNamedChanges d.terms c.args.net.now) (sym c.self.view_is) c.requires
 
 pub checked_after-requires-clause-changes : goal.checked_after-requires-clause-changes
-checked_after-requires-clause-changes g c =
+checked_after-requires-clause-changes g c κs within =
     let named = subst (λ (cs : List NumberedChange). AllByRecursion (IsNumberedChange c.self.inside.names.terms) cs) (sym c.deref-2.ensures.value) c.in_ok-changes.ensures.0 in
     subst (λ (d : NamedGraph). AllByRecursion (IsNumberedChange d.terms) c.deref-2.result.now) c.self.view_is named
 
 pub checked_after-requires-clause-later : goal.checked_after-requires-clause-later
-checked_after-requires-clause-later g c =
+checked_after-requires-clause-later g c κs within =
     let terms = c.self.inside.names.terms in
     let triples = c.args.self.now.triples in
     let base = c.index-index.result.now in
@@ -106,3 +109,6 @@ returns-clause-named g c =
     let looked = c.in_ok-checked.checked.looks in
     let looks = subst (λ (d : NamedGraph). found.looks ≡ map (look_of d.terms) looked) c.self.view_is c.in_ok-paired_changes.ensures.looks in
     looks_named x.terms looked found.looks c.in_ok-checked.ensures.checked.bound looks
+
+pub checked_after-requires-sync-S : goal.checked_after-requires-sync-S
+checked_after-requires-sync-S g c κs within = search (keys_sync, crosses, sendable) depth 60 fits 20000

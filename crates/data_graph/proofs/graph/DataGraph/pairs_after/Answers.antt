@@ -14,6 +14,9 @@ use Rattle.kept_rows.specs.Laws.{ChecksPairs}
 use Rattle.data_graph.specs.DataGraphs.{AreNamedChanges, IsIndexOf, NamedGraph}
 use Rattle.data_graph.proofs.Keeping.{none_checked}
 use Rattle.data_graph.proofs.NoChecks.{no_checks}
+use Rattle.std.proofs.Crossing.{crosses}
+use denote.Param.Send.{sendable}
+use Rattle.data_graph.proofs.Crossing.{keys_sync}
 use Rattle.data_graph.proofs.graph.DataGraph.pairs_after.Goals as goal
 
 pub returns-then-is_without_shapes-clause-checks : goal.returns-then-is_without_shapes-clause-checks
@@ -34,12 +37,12 @@ pub number_changes-requires : goal.number_changes-requires
 number_changes-requires g c = subst (λ (d : NamedGraph). AreNamedChanges d.terms c.args.net.now) (sym c.self.view_is) c.requires.net
 
 pub checked_after-requires-clause-changes : goal.checked_after-requires-clause-changes
-checked_after-requires-clause-changes g c =
+checked_after-requires-clause-changes g c κs within =
     let named = subst (λ (cs : List NumberedChange). AllByRecursion (IsNumberedChange c.self.inside.names.terms) cs) (sym c.deref.ensures.value) c.in_ok-changes.ensures.0 in
     subst (λ (d : NamedGraph). AllByRecursion (IsNumberedChange d.terms) c.deref.result.now) c.self.view_is named
 
 pub checked_after-requires-clause-later : goal.checked_after-requires-clause-later
-checked_after-requires-clause-later g c =
+checked_after-requires-clause-later g c κs within =
     let x = c.args.self.now in
     let same = subst (λ (d : NamedGraph). map (change_at d.terms) c.deref.result.now ≡ c.args.net.now) c.self.view_is (ap (map (change_at c.self.inside.names.terms)) c.deref.ensures.value ∙ c.in_ok-changes.ensures.1) in
     subst (λ (net : List Change). IsIndexOf x.terms c.index.result.now (after x.triples net)) (sym same) (subst (λ (d : NamedGraph). IsIndexOf d.terms c.index.result.now d.triples) c.requires.next c.index.ensures.index)
@@ -55,3 +58,6 @@ returns-clause-steps g c =
     let x = c.args.self.now in
     let same = subst (λ (d : NamedGraph). map (change_at d.terms) c.deref.result.now ≡ c.args.net.now) c.self.view_is (ap (map (change_at c.self.inside.names.terms)) c.deref.ensures.value ∙ c.in_ok-changes.ensures.1) in
     subst (λ (net : List Change). GrowsByCount (IsEvaluated x.triples x.shapes net) c.args.steps.now c.checked_after.new.steps) same c.in_ok-checked.ensures.steps
+
+pub checked_after-requires-sync-S : goal.checked_after-requires-sync-S
+checked_after-requires-sync-S g c κs within = search (keys_sync, crosses, sendable) depth 60 fits 20000

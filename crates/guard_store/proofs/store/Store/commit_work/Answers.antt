@@ -11,20 +11,20 @@ use Rattle.guard_store.proofs.Fitting.{committable_open, commits_session, commit
 use Rattle.guard_store.proofs.store.Store.commit_work.Goals as goal
 
 pub take_commit-pass-requires-clause-caller : goal.take_commit-pass-requires-clause-caller
-take_commit-pass-requires-clause-caller g c = rw c.into_parts-pass.ensures c.requires.session.caller
+take_commit-pass-requires-clause-caller g c κs within = rw c.into_parts-pass.ensures c.requires.session.caller
 
 pub take_commit-pass-requires-clause-committable : goal.take_commit-pass-requires-clause-committable
-take_commit-pass-requires-clause-committable g c =
+take_commit-pass-requires-clause-committable g c κs within =
     let o : IsOpen c.args.session c.in-Some.open = rw c.into_parts-pass.ensures at c.in-Some.is in
     rw (c.into_parts-pass.ensures, c.into_parts-handed.ensures) (committable_open c.args.self.now c.args.session c.in-Some.open c.requires.session o (subst HasWork o c.requires.work))
 
 pub take_commit-pass-requires-clause-loggable : goal.take_commit-pass-requires-clause-loggable
-take_commit-pass-requires-clause-loggable g c =
+take_commit-pass-requires-clause-loggable g c κs within =
     let o : IsOpen c.args.session c.in-Some.open = rw c.into_parts-pass.ensures at c.in-Some.is in
     rw c.into_parts-handed.ensures (loggable_open c.args.self.now c.args.session c.in-Some.open c.requires.session o)
 
 pub take_commit-pass-requires-clause-kept : goal.take_commit-pass-requires-clause-kept
-take_commit-pass-requires-clause-kept g c =
+take_commit-pass-requires-clause-kept g c κs within =
     let o : IsOpen c.args.session c.in-Some.open = rw c.into_parts-pass.ensures at c.in-Some.is in
     rw (c.into_parts-pass.ensures, c.into_parts-handed.ensures) (verdict_open c.args.self.now c.args.session c.in-Some.open c.requires.session o)
 

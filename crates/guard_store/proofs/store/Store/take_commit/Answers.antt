@@ -8,13 +8,13 @@ use Rattle.guard_store.proofs.Calling.{turn_commits, turn_counts}
 use Rattle.guard_store.proofs.store.Store.take_commit.Goals as goal
 
 pub commit-requires-clause-opened : goal.commit-requires-clause-opened
-commit-requires-clause-opened g c = opened_now c.args.self.now c.args.number c.args.pass c.start-held.result.0 c.start-held.result.1.core c.requires.caller c.start-held.ensures.entered
+commit-requires-clause-opened g c κs within = opened_now c.args.self.now c.args.number c.args.pass c.start-held.result.0 c.start-held.result.1.core c.requires.caller c.start-held.ensures.entered
 
 pub commit-requires-clause-committable : goal.commit-requires-clause-committable
-commit-requires-clause-committable g c = committable_now c.args.self.now c.args.pass c.start-held.result.0 c.start-held.result.1.core c.args.handed.transaction c.start-held.ensures.entered c.requires.committable
+commit-requires-clause-committable g c κs within = committable_now c.args.self.now c.args.pass c.start-held.result.0 c.start-held.result.1.core c.args.handed.transaction c.start-held.ensures.entered c.requires.committable
 
 pub commit-requires-clause-verdict : goal.commit-requires-clause-verdict
-commit-requires-clause-verdict g c =
+commit-requires-clause-verdict g c κs within =
     let x = c.args.handed in
     verdict_now c.args.self.now c.args.pass c.start-held.result.0 c.start-held.result.1.core x.transaction.net x.transaction.verdict x.pairs c.start-held.ensures.entered c.requires.kept
 

@@ -1,0 +1,7 @@
+use Rattle.std.proofs.Common.{List, subst, sym}
+use Rattle.rdf_model.specs.declared.term.Term.{Term}
+use Rattle.parallel_validate.specs.Named.{AreNamedTriples}
+use Rattle.file_validation.proofs.results.verdict_in.Goals as goal
+
+pub verdict_over-requires-clause-shapes : goal.verdict_over-requires-clause-shapes
+verdict_over-requires-clause-shapes g c = subst (λ (ts : List Term). AreNamedTriples ts c.args.shapes.now) (sym c.numbered_data-data.ensures.terms) c.requires.shapes

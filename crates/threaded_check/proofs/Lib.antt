@@ -1,0 +1,5 @@
+mod Counts
+mod Crossing
+mod Joining
+mod Parts
+mod Verdict
