@@ -9,14 +9,14 @@
 //! Storey: shapes.
 #![tactic(auto)]
 
-mod deep;
-mod large;
 pub mod laws;
 mod least;
-mod many_looks;
+mod limits;
 mod passes;
 mod rows;
 mod rule_row;
+mod statement;
+mod surveyed;
 
 pub use least::{least_broken, least_broken_of};
 pub use rule_row::RuleRow;

@@ -3,12 +3,12 @@ ghost use Rattle.std.specs.Prelude.{◌≢◌, ◌<◌, ◌↔◌, IsTrue, IfOk,
 ghost use Rattle.collections.specs.Ordered.{IsAscending};
 ghost use Rattle.rdf_model.specs.declared.term.Term.{Term as TermData};
 ghost use Rattle.rdf_model.specs.Terms.{triple_cmp};
-ghost use Rattle.shape_syntax.specs.PathNodes.{ArePathNodes};
 ghost use Rattle.shape_model.specs.Triples.{IsIri, IsMember, IsLiteral};
 ghost use Rattle.shape_model.specs.ShapeSyntax.{ListOf};
 ghost use Rattle.shape_properties.specs.Syntax.{HasPath, HasProperty};
 ghost use Rattle.shape_rules.specs.Broken.{AreIris, IsLong, Passes};
 
+use crate::surveyed::SurveyedGraph;
 use rdf_model::{Term, Triple};
 use shape_properties::terms::{
     is_boolean, is_flags, is_integer, is_message, is_node_kind, is_text, is_true_or_false, text_len,
@@ -20,7 +20,6 @@ use shape_syntax::list::list_members;
 use shape_syntax::paths::is_path;
 use shape_syntax::terms::{is_blank, is_iri, is_literal, is_same};
 use std::alloc::{AllocError, Global};
-use std::collections::BTreeSet;
 
 /// Whether the node has a value of the property other than this one.
 pub(crate) fn has_another(
@@ -96,17 +95,10 @@ fn is_property_shape(graph: &IndexedGraph, node: &Term) -> bool
 }
 
 /// Whether the term passes the test.
-pub(crate) fn passes(
-    alloc: Global,
-    graph: &IndexedGraph,
-    paths: &BTreeSet<Term>,
-    test: Test,
-    term: &Term,
-) -> Result<bool, AllocError>
-    requires graph { IsAscending triple_cmp graph.now }
-    requires paths { ArePathNodes graph.now paths.now.keys }
+pub(crate) fn passes(graph: &SurveyedGraph, test: Test, term: &Term) -> Result<bool, AllocError>
     ensures { IfOk result (λ passed. IsTrue passed ↔ Passes graph.now test term.now) }
 {
+    let indexed = graph.indexed();
     match test {
         Test::Anything => Ok(true),
         Test::Iri => Ok(is_iri(term)),
@@ -120,9 +112,9 @@ pub(crate) fn passes(
         Test::Message => Ok(is_message(term)),
         Test::TrueOrFalse => Ok(is_true_or_false(term)),
         Test::NodeKind => Ok(is_node_kind(term)),
-        Test::Path => Ok(is_path(graph, paths, term)),
-        Test::PropertyShape => Ok(is_property_shape(graph, term)),
-        Test::List => is_list(alloc, graph, term),
-        Test::ListOfIris => are_iris(alloc, graph, term),
+        Test::Path => Ok(is_path(indexed, &graph.survey().paths, term)),
+        Test::PropertyShape => Ok(is_property_shape(indexed, term)),
+        Test::List => is_list(graph.alloc(), indexed, term),
+        Test::ListOfIris => are_iris(graph.alloc(), indexed, term),
     }
 }
