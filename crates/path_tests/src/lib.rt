@@ -5,8 +5,4 @@
 #![tactic(auto)]
 
 #[cfg(test)]
-mod random;
-#[cfg(test)]
-mod targets;
-#[cfg(test)]
-pub(crate) mod walks;
+mod tests;

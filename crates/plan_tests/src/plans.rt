@@ -1,4 +1,5 @@
 //! Plans of shapes that are put together by hand.
+use bare_shapes::bare_shape;
 use collections::{Sequence, both};
 use path_ast::Path;
 use rdf_model::Term;
@@ -19,21 +20,11 @@ fn shape_with(
     constraints: Sequence<Constraint<Term>>,
     alloc: Global,
 ) -> Shape<Term> {
-    Shape {
-        node,
-        path,
-        is_deactivated: false,
-        severity: None,
-        messages: Sequence::new(alloc),
-        targets,
-        constraints,
-        pattern: None,
-        flags: None,
-        properties: Sequence::new(alloc),
-        qualified: None,
-        siblings: Sequence::new(alloc),
-        ignored: Sequence::new(alloc),
-    }
+    let mut shape = bare_shape(alloc, node);
+    shape.path = path;
+    shape.targets = targets;
+    shape.constraints = constraints;
+    shape
 }
 
 // So many constraints that have no shape in them: a letter for each, c for sh:class, e for sh:equals, v for sh:hasValue.
@@ -135,16 +126,23 @@ fn told(rows: &[PlannedLook]) -> u64 {
     all
 }
 
-fn circle_rows(alloc: Global) -> Result<u64, AllocError> {
-    let path = circle(alloc)?;
-    let shapes = alone(alloc, Some(path), b"v", Sequence::new(alloc))?;
+// What is told of the rows of the first shape.
+fn rows_of(alloc: Global, shapes: &Shapes) -> Result<u64, AllocError> {
     if shapes.shapes.is_empty() {
         return Ok(0);
     }
-    match plan(alloc, &shapes, 0) {
+    match plan(alloc, shapes, 0) {
         Ok(rows) => Ok(told(&rows)),
         Err(_) => Err(AllocError),
     }
+}
+
+fn circle_rows(alloc: Global) -> Result<u64, AllocError> {
+    let path = circle(alloc)?;
+    rows_of(
+        alloc,
+        &alone(alloc, Some(path), b"v", Sequence::new(alloc))?,
+    )
 }
 
 // In e:p at the focus node; Out e:q after ^e:p and any number of e:q.
@@ -187,14 +185,7 @@ fn class_target(alloc: Global) -> Result<Sequence<Target<Term>>, AllocError> {
 
 fn target_rows(alloc: Global) -> Result<u64, AllocError> {
     let targets = class_target(alloc)?;
-    let shapes = alone(alloc, None, b"", targets)?;
-    if shapes.shapes.is_empty() {
-        return Ok(0);
-    }
-    match plan(alloc, &shapes, 0) {
-        Ok(rows) => Ok(told(&rows)),
-        Err(_) => Err(AllocError),
-    }
+    rows_of(alloc, &alone(alloc, None, b"", targets)?)
 }
 
 // Out rdf:type at the focus node, Out rdfs:subClassOf after rdf:type and any number of superclasses; In e:p.

@@ -5,16 +5,4 @@
 #![tactic(auto)]
 
 #[cfg(test)]
-mod characters;
-#[cfg(test)]
-mod iris;
-#[cfg(test)]
-mod literals;
-#[cfg(test)]
-mod ntriples;
-#[cfg(test)]
-mod rows;
-#[cfg(test)]
-mod turtle;
-#[cfg(test)]
-mod turtle_tokens;
+mod tests;

@@ -1,0 +1,6 @@
+//! The tests of walks and targets, by tables and at random.
+
+mod digits;
+mod random;
+mod targets;
+mod walks;
