@@ -1,3 +1,4 @@
+pub mod Preparing
 pub mod SoFar
 pub mod Answering
 pub mod Replaying

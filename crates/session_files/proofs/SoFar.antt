@@ -1,4 +1,4 @@
--- The loading of session files, one after another.
+-- The loading of session files in their order.
 use Rattle.std.proofs.Common.{◌≡◌, ℕ, zero, suc, ◌+◌, ◌<◌, ◌≤◌, ◌⊎◌, inl, inr, List, [], ◌∷◌, ◌++◌, length, take, get_or, Option, refl, sym, ap, ◌∙◌, subst, arith, append_assoc, add-one}
 use Rattle.std.proofs.lemmas.List.{take_all, append-nil}
 use Rattle.std.proofs.Math.Seq.{take-suc}
@@ -12,19 +12,22 @@ use Rattle.input_files.specs.Lengths.{HoldsText, IsTooLong}
 use Rattle.input_files.specs.Loads.{Loads, LoadsOne, LoadsSome, NoneFailed, NoneRefused, OnlyFailed}
 use Rattle.session_files.specs.declared.fault.RunFault.{RunFault}
 use Rattle.session_files.specs.declared.fault.RunFault.TheVariants.{TooManyFiles, ReadFault, TooLong, BadSession, BadHistory, Memory}
+use Rattle.session_files.specs.declared.reading.LoadedFile.{LoadedFile}
 use Rattle.std.specs.Prelude.{MatchResult, Result, Ok, Err}
-use Rattle.session_files.specs.Loading.{AreSession, HoldsSession, HoldSessions, FirstAt, HasBadLine, first_of}
+use Rattle.session_files.specs.Loading.{HoldSessions, FirstAt, HasBadLine, first_of}
+use Rattle.session_files.specs.Reading.{HoldFiles, HoldsFile, IsLoaded}
 use Rattle.session_files.specs.Runs.{LoadsAll}
 use Rattle.session_files.specs.Faults.{Stops, Unloaded, Unread, of_file}
 use Rattle.session_files.specs.Progress.{LoadedSoFar}
+use Rattle.session_files.proofs.Preparing.{sessions_of}
 
-HoldSessions-next : (held : Option Contents) (firsts : List ℕ) (i : ℕ) (names : List (List ℕ)) (all : List (List Command)) (name : List ℕ) (commands : List Command) (old mid new : List Refusal) → HoldSessions held firsts i names all old mid → HoldsSession held firsts (i + length names) name commands mid new → HoldSessions held firsts i (names ++ name ∷ []) (all ++ commands ∷ []) old new
-HoldSessions-next held firsts i [] [] name commands old mid new g h =
-    (new, subst (λ (k : ℕ). HoldsSession held firsts k name commands old new) (omega arith) (subst (λ (xs : List Refusal). HoldsSession held firsts (i + 0) name commands xs new) g h), refl)
-HoldSessions-next held firsts i [] (c ∷ cs) name commands old mid new g h = absurd g
-HoldSessions-next held firsts i (n ∷ ns) [] name commands old mid new g h = absurd g
-HoldSessions-next held firsts i (n ∷ ns) (c ∷ cs) name commands old mid new g h =
-    (g.0, g.1, HoldSessions-next held firsts (i + 1) ns cs name commands g.0 mid new g.2 (subst (λ (k : ℕ). HoldsSession held firsts k name commands mid new) (omega arith) h))
+HoldFiles-next : (held : Option Contents) (firsts : List ℕ) (i : ℕ) (names : List (List ℕ)) (all : List LoadedFile) (name : List ℕ) (file : LoadedFile) (old mid new : List Refusal) → HoldFiles held firsts i names all old mid → HoldsFile held firsts (i + length names) name file mid new → HoldFiles held firsts i (names ++ name ∷ []) (all ++ file ∷ []) old new
+HoldFiles-next held firsts i [] [] name file old mid new g h =
+    (new, subst (λ (k : ℕ). HoldsFile held firsts k name file old new) (omega arith) (subst (λ (xs : List Refusal). HoldsFile held firsts (i + 0) name file xs new) g h), refl)
+HoldFiles-next held firsts i [] (f ∷ fs) name file old mid new g h = absurd g
+HoldFiles-next held firsts i (n ∷ ns) [] name file old mid new g h = absurd g
+HoldFiles-next held firsts i (n ∷ ns) (f ∷ fs) name file old mid new g h =
+    (g.0, g.1, HoldFiles-next held firsts (i + 1) ns fs name file g.0 mid new g.2 (subst (λ (k : ℕ). HoldsFile held firsts k name file mid new) (omega arith) h))
 
 -- an item is the same, whatever stands for one that isn't there
 same_item : {X : Type 0} (xs : List X) (k : ℕ) (d e : X) → k < length xs → get_or xs k d ≡ get_or xs k e
@@ -45,29 +48,29 @@ loaded-next : (names : List (List ℕ)) (k : ℕ) (name : List ℕ) (old mid new
 loaded-next names k name old mid new lt is m n = n ∙ (ap (λ xs. xs ++ name ∷ []) m ∙ (append_assoc old (take k names) (name ∷ []) ∙ ap (λ xs. old ++ xs) (sym (take-next names k name lt is))))
 
 pub SoFar-start : (held : Option Contents) (firsts : List ℕ) (names : List (List ℕ)) (before : Loads) → LoadedSoFar held firsts names 0 before before []
-SoFar-start held firsts names before = record { sessions = refl; loaded = sym (append-nil before.loaded); failed = refl }
+SoFar-start held firsts names before = record { files = refl; loaded = sym (append-nil before.loaded); failed = refl }
 
-pub SoFar-next : (held : Option Contents) (firsts : List ℕ) (names : List (List ℕ)) (k : ℕ) (before mid after : Loads) (name : List ℕ) (all : List (List Command)) (commands : List Command) → k < length names → name ≡ get_or names k name → LoadedSoFar held firsts names k before mid all
-    → HoldsSession held firsts (k + 1) name commands mid.refused after.refused → LoadsOne name mid after → NoneFailed mid after → LoadedSoFar held firsts names (k + 1) before after (all ++ commands ∷ [])
-SoFar-next held firsts names k before mid after name all commands lt is so h one none =
+pub SoFar-next : (held : Option Contents) (firsts : List ℕ) (names : List (List ℕ)) (k : ℕ) (before mid after : Loads) (name : List ℕ) (all : List LoadedFile) (file : LoadedFile) → k < length names → name ≡ get_or names k name → LoadedSoFar held firsts names k before mid all
+    → HoldsFile held firsts (k + 1) name file mid.refused after.refused → LoadsOne name mid after → NoneFailed mid after → LoadedSoFar held firsts names (k + 1) before after (all ++ file ∷ [])
+SoFar-next held firsts names k before mid after name all file lt is so h one none =
     let count : length (take k names) ≡ k = length-take-le names k (omega (arith, lt)) in
     let here : k + 1 ≡ 1 + length (take k names) = omega (arith, count) in
     record {
-      sessions = subst (λ (xs : List (List ℕ)). HoldSessions held firsts 1 xs (all ++ commands ∷ []) before.refused after.refused) (sym (take-next names k name lt is))
-          (HoldSessions-next held firsts 1 (take k names) all name commands before.refused mid.refused after.refused so.sessions (subst (λ (i : ℕ). HoldsSession held firsts i name commands mid.refused after.refused) here h));
+      files = subst (λ (xs : List (List ℕ)). HoldFiles held firsts 1 xs (all ++ file ∷ []) before.refused after.refused) (sym (take-next names k name lt is))
+          (HoldFiles-next held firsts 1 (take k names) all name file before.refused mid.refused after.refused so.files (subst (λ (i : ℕ). HoldsFile held firsts i name file mid.refused after.refused) here h));
       loaded = loaded-next names k name before.loaded mid.loaded after.loaded lt is so.loaded one;
       failed = none ∙ so.failed;
     }
 
-pub SoFar-all : (held : Option Contents) (firsts : List ℕ) (names : List (List ℕ)) (k : ℕ) (before after : Loads) (all : List (List Command)) → length names ≤ k → LoadedSoFar held firsts names k before after all → HoldSessions held firsts 1 names all before.refused after.refused × LoadsAll names before after
+pub SoFar-all : (held : Option Contents) (firsts : List ℕ) (names : List (List ℕ)) (k : ℕ) (before after : Loads) (all : List LoadedFile) → length names ≤ k → LoadedSoFar held firsts names k before after all → HoldFiles held firsts 1 names all before.refused after.refused × LoadsAll names before after
 SoFar-all held firsts names k before after all le so =
     let whole : take k names ≡ names = take_all k names le in
     let count : take (length names) names ≡ names = take_all (length names) names (omega arith) in
-    (subst (λ (xs : List (List ℕ)). HoldSessions held firsts 1 xs all before.refused after.refused) whole so.sessions, (so.loaded ∙ ap (λ xs. before.loaded ++ xs) (whole ∙ sym count), so.failed))
+    (subst (λ (xs : List (List ℕ)). HoldFiles held firsts 1 xs all before.refused after.refused) whole so.files, (so.loaded ∙ ap (λ xs. before.loaded ++ xs) (whole ∙ sym count), so.failed))
 
-first_at : (held : Option Contents) (firsts : List ℕ) (names : List (List ℕ)) (k i : ℕ) (before mid after : Loads) (name : List ℕ) (all : List (List Command)) (P : List ℕ → Type 0) → i ≡ k + 1 → k < length names → name ≡ get_or names k name → LoadedSoFar held firsts names k before mid all → NoneRefused mid after → P name → FirstAt held firsts names i before.refused after.refused P
+first_at : (held : Option Contents) (firsts : List ℕ) (names : List (List ℕ)) (k i : ℕ) (before mid after : Loads) (name : List ℕ) (all : List LoadedFile) (P : List ℕ → Type 0) → i ≡ k + 1 → k < length names → name ≡ get_or names k name → LoadedSoFar held firsts names k before mid all → NoneRefused mid after → P name → FirstAt held firsts names i before.refused after.refused P
 first_at held firsts names k i before mid after name all P e lt is so none p =
-    (k, e, lt, (all, subst (λ (xs : List Refusal). HoldSessions held firsts 1 (take k names) all before.refused xs) (sym none) so.sessions), subst P (is ∙ same_item names k name [] lt) p)
+    (k, e, lt, sessions_of held firsts 1 (take k names) all before.refused after.refused (subst (λ (xs : List Refusal). HoldFiles held firsts 1 (take k names) all before.refused xs) (sym none) so.files), subst P (is ∙ same_item names k name [] lt) p)
 
 -- where memory ran out in a load, the name was noted or not
 memory : (names : List (List ℕ)) (k : ℕ) (name : List ℕ) (old mid new : List (List ℕ)) → k < length names → name ≡ get_or names k name → mid ≡ old ++ take k names → (new ≡ mid) ⊎ (new ≡ mid ++ name ∷ []) → (m : ℕ) × (new ≡ old ++ take m names)
@@ -75,7 +78,7 @@ memory names k name old mid new lt is m (inl e) = (k, e ∙ m)
 memory names k name old mid new lt is m (inr e) = (k + 1, loaded-next names k name old mid new lt is m e)
 
 -- why the loading of all files stopped, from why that of the next one did
-pub SoFar-stops : (s : RunFault) (held : Option Contents) (firsts : List ℕ) (names : List (List ℕ)) (k : ℕ) (before mid after : Loads) (name : List ℕ) (all : List (List Command)) → length names ≤ 64 → k < length names → name ≡ get_or names k name → LoadedSoFar held firsts names k before mid all
+pub SoFar-stops : (s : RunFault) (held : Option Contents) (firsts : List ℕ) (names : List (List ℕ)) (k : ℕ) (before mid after : Loads) (name : List ℕ) (all : List LoadedFile) → length names ≤ 64 → k < length names → name ≡ get_or names k name → LoadedSoFar held firsts names k before mid all
     → Unloaded s held firsts (k + 1) name mid after → Stops s held firsts names before after
 SoFar-stops ReadFault held firsts names k before mid after name all few lt is so u =
     (k + 1, few, first_at held firsts names k (k + 1) before mid after name all (λ x. OnlyFailed x before after) refl lt is so u.2 (u.0 ∙ ap (λ xs. xs ++ name ∷ []) so.failed), loaded-next names k name before.loaded mid.loaded after.loaded lt is so.loaded u.1)
@@ -96,7 +99,7 @@ SoFar-stops TooManyFiles held firsts names k before mid after name all few lt is
 SoFar-stops (BadHistory j) held firsts names k before mid after name all few lt is so u = absurd u
 
 -- memory ran out in the loop itself
-pub SoFar-memory : (held : Option Contents) (firsts : List ℕ) (names : List (List ℕ)) (k : ℕ) (before after : Loads) (all : List (List Command)) → LoadedSoFar held firsts names k before after all → Stops Memory held firsts names before after
+pub SoFar-memory : (held : Option Contents) (firsts : List ℕ) (names : List (List ℕ)) (k : ℕ) (before after : Loads) (all : List LoadedFile) → LoadedSoFar held firsts names k before after all → Stops Memory held firsts names before after
 SoFar-memory held firsts names k before after all so = ((k, so.loaded), so.failed)
 
 -- why a load gave no session, from why its bytes are none
@@ -108,9 +111,9 @@ unloaded ReadFault held firsts i name bytes before after l one none u = absurd u
 unloaded TooManyFiles held firsts i name bytes before after l one none u = absurd u
 unloaded (BadHistory j) held firsts i name bytes before after l one none u = absurd u
 
-pub loaded_session : (held : Option Contents) (firsts : List ℕ) (i : ℕ) (name bytes : List ℕ) (before after : Loads) (r : Result (List Command) RunFault) → HoldsText held name bytes → LoadsOne name before after → NoneFailed before after → MatchResult r (λ commands. AreSession i (first_of firsts i) bytes commands before.refused after.refused) (λ s. Unread s i (first_of firsts i) bytes before.refused after.refused)
-    → MatchResult r (λ commands. HoldsSession held firsts i name commands before.refused after.refused × LoadsOne name before after × NoneFailed before after) (λ s. Unloaded s held firsts i name before after)
-loaded_session held firsts i name bytes before after (Ok commands) l one none h = ((bytes, l.0, h), one, none)
+pub loaded_session : (held : Option Contents) (firsts : List ℕ) (i : ℕ) (name bytes : List ℕ) (before after : Loads) (r : Result LoadedFile RunFault) → HoldsText held name bytes → LoadsOne name before after → NoneFailed before after → MatchResult r (λ file. IsLoaded file i (first_of firsts i) bytes before.refused after.refused) (λ s. Unread s i (first_of firsts i) bytes before.refused after.refused)
+    → MatchResult r (λ file. HoldsFile held firsts i name file before.refused after.refused × LoadsOne name before after × NoneFailed before after) (λ s. Unloaded s held firsts i name before after)
+loaded_session held firsts i name bytes before after (Ok file) l one none h = ((bytes, l.0, h), one, none)
 loaded_session held firsts i name bytes before after (Err s) l one none h = unloaded s held firsts i name bytes before after l one none h
 
 -- or from why there are no bytes
@@ -129,14 +132,14 @@ count_sessions held firsts i (n ∷ ns) [] old new h = absurd h
 count_sessions held firsts i (n ∷ ns) (c ∷ cs) old new h = ap suc (count_sessions held firsts (i + 1) ns cs h.0 new h.2)
 
 -- the next one, as a loop loads it
-pub SoFar-loaded : (held now : Option Contents) (firsts : List ℕ) (names : List (List ℕ)) (k i : ℕ) (before mid after : Loads) (name given : List ℕ) (all more : List (List Command)) (commands : List Command) → now ≡ held → i ≡ k → given ≡ name → k < length names → name ≡ get_or names k name → LoadedSoFar held firsts names k before mid all → more ≡ all ++ commands ∷ []
-    → HoldsSession now firsts (i + 1) given commands mid.refused after.refused → LoadsOne given mid after → NoneFailed mid after → LoadedSoFar held firsts names (k + 1) before after more
-SoFar-loaded held now firsts names k i before mid after name given all more commands eh ei eg lt is so em h one none =
-    let there = subst (λ (x : Option Contents). HoldsSession x firsts (k + 1) name commands mid.refused after.refused) eh (subst (λ (j : ℕ). HoldsSession now firsts (j + 1) name commands mid.refused after.refused) ei (subst (λ (n : List ℕ). HoldsSession now firsts (i + 1) n commands mid.refused after.refused) eg h)) in
-    subst (λ (x : List (List Command)). LoadedSoFar held firsts names (k + 1) before after x) (sym em)
-    (SoFar-next held firsts names k before mid after name all commands lt is so there (subst (λ (n : List ℕ). LoadsOne n mid after) eg one) none)
+pub SoFar-loaded : (held now : Option Contents) (firsts : List ℕ) (names : List (List ℕ)) (k i : ℕ) (before mid after : Loads) (name given : List ℕ) (all more : List LoadedFile) (file : LoadedFile) → now ≡ held → i ≡ k → given ≡ name → k < length names → name ≡ get_or names k name → LoadedSoFar held firsts names k before mid all → more ≡ all ++ file ∷ []
+    → HoldsFile now firsts (i + 1) given file mid.refused after.refused → LoadsOne given mid after → NoneFailed mid after → LoadedSoFar held firsts names (k + 1) before after more
+SoFar-loaded held now firsts names k i before mid after name given all more file eh ei eg lt is so em h one none =
+    let there = subst (λ (x : Option Contents). HoldsFile x firsts (k + 1) name file mid.refused after.refused) eh (subst (λ (j : ℕ). HoldsFile now firsts (j + 1) name file mid.refused after.refused) ei (subst (λ (n : List ℕ). HoldsFile now firsts (i + 1) n file mid.refused after.refused) eg h)) in
+    subst (λ (x : List LoadedFile). LoadedSoFar held firsts names (k + 1) before after x) (sym em)
+    (SoFar-next held firsts names k before mid after name all file lt is so there (subst (λ (n : List ℕ). LoadsOne n mid after) eg one) none)
 
-pub SoFar-unloaded : (s : RunFault) (held now : Option Contents) (firsts : List ℕ) (names : List (List ℕ)) (k i : ℕ) (before mid after : Loads) (name given : List ℕ) (all : List (List Command)) → now ≡ held → i ≡ k → given ≡ name → length names ≤ 64 → k < length names → name ≡ get_or names k name → LoadedSoFar held firsts names k before mid all
+pub SoFar-unloaded : (s : RunFault) (held now : Option Contents) (firsts : List ℕ) (names : List (List ℕ)) (k i : ℕ) (before mid after : Loads) (name given : List ℕ) (all : List LoadedFile) → now ≡ held → i ≡ k → given ≡ name → length names ≤ 64 → k < length names → name ≡ get_or names k name → LoadedSoFar held firsts names k before mid all
     → Unloaded s now firsts (i + 1) given mid after → Stops s held firsts names before after
 SoFar-unloaded s held now firsts names k i before mid after name given all eh ei eg few lt is so u =
     SoFar-stops s held firsts names k before mid after name all few lt is so

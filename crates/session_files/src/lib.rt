@@ -11,6 +11,7 @@
 mod fault;
 mod laws;
 mod loading;
+mod reading;
 mod running;
 mod session_run;
 mod stored;

@@ -117,7 +117,8 @@ fn behind_history(fault: RunFault) -> RunFault
 }
 
 // The commands of the session files behind a history.
-fn load_behind<F: Files, M: Maker>(
+fn load_behind<T: Threads + Sync, F: Files, M: Maker>(
+    rt: &T,
     alloc: Global,
     names: &[Text],
     files: &mut F,
@@ -130,7 +131,7 @@ fn load_behind<F: Files, M: Maker>(
         (λ fault. (other : RunFault) × (fault ≡ Faults.behind_history other) × Stops other (F.holds files.old) [] names.now before after) }
     ensures refused { OnlyGrows (M.refused maker.old) (M.refused maker.new) }
 {
-    match load_all(alloc, files, maker, &[], names) {
+    match load_all(rt, alloc, files, maker, &[], names) {
         Ok(all) => Ok(all),
         Err(fault) => Err(behind_history(fault)),
     }
@@ -159,7 +160,7 @@ fn replay_sessions<R: Threads + Sync, F: Files, M: Maker>(
         Ok(text) => text,
         Err(fault) => return Err(run_fault(fault, 1)),
     };
-    let all = match load_behind(alloc, names, files, maker) {
+    let all = match load_behind(rt, alloc, names, files, maker) {
         Ok(all) => all,
         Err(fault) => return Err(fault),
     };
@@ -224,7 +225,7 @@ pub fn run_files<D: Disk + Drop + Send, R: Threads + Wait + Sync, F: Files, M: M
     if names.len() > MOST_FILES {
         return (Err(RunFault::TooManyFiles), log);
     }
-    match load_all(alloc, files, maker, first_numbers.as_slice(), names) {
+    match load_all(rt, alloc, files, maker, first_numbers.as_slice(), names) {
         Ok(all) => run_sessions(rt, alloc, core, log, all, gate),
         Err(fault) => (Err(fault), log),
     }

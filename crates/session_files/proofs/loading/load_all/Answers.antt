@@ -1,17 +1,15 @@
-use Rattle.std.proofs.Common.{◌+◌, ap, ◌∙◌}
-use Rattle.session_reader.proofs.Checks.{grows_on}
-use Rattle.session_files.proofs.SoFar.{SoFar-loaded, SoFar-unloaded}
+use Rattle.std.proofs.Common.{List, subst, sym}
+use Rattle.outside.specs.Faults.{Refusal}
+use Rattle.session_files.specs.Loading.{HoldSessions}
+use Rattle.session_files.proofs.Preparing.{files_finished, texts_readable}
 use Rattle.session_files.proofs.loading.load_all.Goals as goal
 
-pub loop-name-preserved : goal.loop-name-preserved
-loop-name-preserved g c =
-    let h = c.in-Ok.ensures.answer in
-    record {
-      session = ap (λ n. n + 1) c.loop-name.invariant.session;
-      holds = c.load_next.ensures.holds ∙ c.loop-name.invariant.holds;
-      refused = grows_on _ _ _ c.loop-name.invariant.refused c.load_next.ensures.refused;
-      so_far = SoFar-loaded _ _ _ _ _ _ _ _ _ c.name-item.result _ _ _ h.0 c.loop-name.invariant.holds c.loop-name.invariant.session c.as_str-name.ensures c.loop-name-test.true c.name-item.is c.loop-name.invariant.so_far h.1 h.2 h.3 h.4;
-    }
+pub prepare_files-requires : goal.prepare_files-requires
+prepare_files-requires g c = (c.type_bounds.sync-T, texts_readable _ _ _ _ _ _ _ c.in_ok-loaded.ensures.answer.0)
 
-pub returns-in-Err-clause-answer : goal.returns-in-Err-clause-answer
-returns-in-Err-clause-answer g c = SoFar-unloaded c.in-Err.fault _ _ _ _ _ _ _ _ _ c.name-item.result _ _ c.loop-name.invariant.holds c.loop-name.invariant.session c.as_str-name.ensures c.requires.few c.loop-name-test.true c.name-item.is c.loop-name.invariant.so_far c.in-Err.ensures.answer
+pub returns-clause-answer : goal.returns-clause-answer
+returns-clause-answer g c =
+    let loaded = c.in_ok-loaded.ensures.answer in
+    let prepared = c.in_ok-all.ensures.finished in
+    let finished = files_finished _ _ _ _ _ _ _ _ _ _ _ loaded.0 prepared.1 prepared.2 in
+    (subst (λ (refused : List Refusal). HoldSessions (g.F.Files.holds c.args.files.now) c.args.first_numbers.now 1 c.args.names.now c.in_ok-all.all (g.M.Maker.refused c.args.maker.now) refused) (sym finished.0) finished.1, loaded.1)

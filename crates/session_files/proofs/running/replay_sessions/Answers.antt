@@ -11,6 +11,9 @@ returns-in-Err-load_behind-clause-answer g c =
     let h = c.in-Ok.ensures.answer (g.M.Maker.refused c.args.maker.now) in
     stopped_behind c.in-Err-load_behind.fault (g.F.Files.holds c.args.files.now) _ c.args.limits c.args.history.now _ c.args.names.now _ _ _ c.load_file.ensures.holds h.0 h.1 h.2 refl c.requires.few c.in-Err-load_behind.ensures.answer
 
+pub load_behind-requires : goal.load_behind-requires
+load_behind-requires g c = (c.type_bounds.sync-R, c.requires.few)
+
 pub print_replay-requires-clause-few : goal.print_replay-requires-clause-few
 print_replay-requires-clause-few g c κs within =
     let n : length c.in-Ok-load_behind.all ≡ length c.args.names.now = count_sessions _ [] 1 _ _ (g.M.Maker.refused c.args.maker.now) (g.M.Maker.refused c.load_behind.new.maker) c.in-Ok-load_behind.ensures.answer.0 in

@@ -1,7 +1,7 @@
 use Rattle.std.proofs.Common.{◌≡◌}
 use Rattle.session_reader.specs.Checking.{OnlyGrows}
 use Rattle.session_files.specs.Progress.{LoadedSoFar}
-use Rattle.session_files.proofs.loading.load_all.Given as goal
+use Rattle.session_files.proofs.loading.load_files.Given as goal
 
 abbrev pub invariant-loop-name : goal.invariant-loop-name
 invariant-loop-name g l = record {
