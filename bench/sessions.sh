@@ -1,7 +1,7 @@
 #!/usr/bin/env bash
 # How long 1, 2 and 4 sessions take that run beside each other, each with many transactions of ten triples of its own, a product with nine
 # properties: without shapes, under shapes that have something to say of each of these properties, and under them over a store of 100,000 triples.
-# How long it takes to read the session files is told beside it: they are read one after another before the first begins. The filling
+# How long it takes to read the session files is told beside it: all are read before the first session begins, their blocks beside each other. The filling
 # isn't counted. Then how long it takes where each of 1, 2 and 4 guarded sessions has a process and a store of its own, so that nothing is shared:
 # no store does better on this machine. Last, how long, with which time of the processors and of the system, 6,400 commits of one triple take by 1, 4, 16 and 64 sessions.
 # Usage: bench/sessions.sh [TRANSACTIONS]
@@ -79,13 +79,13 @@ filling() {
   }'
 }
 
-# timed FILE..: runs the session files five times, and sets milliseconds to the least.
+# timed WORD..: has the program do what the words ask for five times, and sets milliseconds to the least.
 timed() {
   local start taken
   milliseconds=
   for _ in 1 2 3 4 5; do
     start=$(date +%s%N)
-    "$root/guard" run "$@" >"$folder/printed" || true
+    "$root/guard" "$@" >"$folder/printed" || true
     taken=$((($(date +%s%N) - start) / 1000000))
     [ -n "$milliseconds" ] && [ "$milliseconds" -le "$taken" ] || milliseconds=$taken
   done
@@ -105,23 +105,24 @@ files_of() {
   done
 }
 
-# read_by KIND SESSIONS WHAT: milliseconds of reading their files. Behind them one is named that isn't there, so that none is run.
+# read_by KIND SESSIONS WHAT: milliseconds of reading their files, which are replayed by a text that is no history, so that none is run.
 read_by() {
   files_of "$1" "$2" "$3"
-  timed "${files[@]}" "$folder/none.session" 2>"$folder/refused"
+  echo none >"$folder/none.history"
+  timed replay "$folder/none.history" "${files[@]}"
 }
 
 for kind in plain guarded filled; do
   for sessions in 1 2 4; do
     files_of "$kind" "$sessions" filling
-    timed "${files[@]}"
+    timed run "${files[@]}"
     before=$milliseconds
     read_by "$kind" "$sessions" filling
     read_before=$milliseconds
     read_by "$kind" "$sessions" all
     reading=$((milliseconds - read_before))
     files_of "$kind" "$sessions" all
-    timed "${files[@]}"
+    timed run "${files[@]}"
     commits=$(grep -c '^commit ' "$folder/printed")
     echo "$kind: $sessions sessions, $commits commits, $((milliseconds - before)) ms, of which $reading ms to read the files"
   done
